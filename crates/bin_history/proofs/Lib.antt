@@ -1,0 +1,11 @@
+pub mod Entries
+pub mod Runs
+pub mod Parts
+pub mod Cells
+pub mod Counts
+pub mod Orders
+pub mod Changes
+pub mod Keys
+pub mod Lawful
+pub mod Filters
+pub mod Histories

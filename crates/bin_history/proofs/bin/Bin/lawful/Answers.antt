@@ -1,0 +1,8 @@
+use Rattle.bin_history.proofs.Keys.{key_tells}
+use Rattle.bin_history.proofs.Lawful.{IsLawful-from_replayed}
+use Rattle.bin_history.proofs.bin.Bin.lawful.Goals as goal
+
+pub returns : goal.returns
+returns g c =
+    let tells = key_tells g.met.K.Eq.laws g.met.K.HashKey.equal_is_same in
+    rw (← c.self.view_is) (IsLawful-from_replayed g.K.PartialEq.eq tells _ _ _ c.self.invariant)

@@ -1,0 +1,10 @@
+use Rattle.bin_history.proofs.Keys.{key_tells}
+use Rattle.bin_history.proofs.Changes.{changed-to}
+use Rattle.bin_history.proofs.fold.store_record.Goals as goal
+
+pub returns-clause-items : goal.returns-clause-items
+returns-clause-items g c =
+    let tells = key_tells g.met.K.Eq.laws g.met.K.HashKey.equal_is_same in
+    let found = rw (c.deref.ensures.value, c.into_key-key.ensures) at c.find-found.ensures in
+    rw (c.carry_out.ensures.items, c.to.ensures, c.into_key-key.ensures)
+    (changed-to g.K.PartialEq.eq tells _ _ _ c.args.entry.after found)

@@ -1,0 +1,18 @@
+-- The history of a bin: the records that were kept of it since an opening map, whichever of them it still stores.
+use Rattle.std.specs.Prelude.{◌≡◌, Bool, Option, List, ◌++◌}
+use Rattle.bin_history.specs.Plain.{run, IsLegal}
+use Rattle.bin_history.specs.Entries.{lookup}
+use Rattle.bin_history.specs.Lawful.{BinView}
+use Rattle.bin_history.specs.declared.call.Call.{Call}
+use Rattle.bin_history.specs.declared.call.Record.{Record}
+
+module _ {K V F : Type 0} (same_key : K → K → Bool) (after : Call K V F → Option V → Option V) where
+  -- the records kept are a front and then the bin's records; the front is legal on the opening map, and the bin's base is its run
+  pub record FollowsFront (opening : List (K × V)) (kept front : List (Record K V F)) (b : BinView K V F) : Type 0 where
+    pub kept_is : kept ≡ front ++ b.records
+    pub legal : IsLegal same_key after (lookup same_key opening) front
+    pub base_is : (k : K) → lookup same_key b.base k ≡ run same_key (lookup same_key opening) front k
+
+  -- the bin is what the kept records made of the opening map
+  abbrev pub HasHistory : List (K × V) → List (Record K V F) → BinView K V F → Type 0
+  HasHistory opening kept b = (front : List (Record K V F)) × FollowsFront opening kept front b

@@ -1,0 +1,13 @@
+pub mod Calls
+pub mod Plain
+pub mod Cells
+pub mod Entries
+pub mod Births
+pub mod Deltas
+pub mod Part
+pub mod Lawful
+pub mod BinPart
+pub mod Histories
+pub mod Copies
+pub mod Changes
+pub mod Readiness

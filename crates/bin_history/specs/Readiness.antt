@@ -1,0 +1,59 @@
+-- A call that is ready to be made on a bin.
+use Rattle.std.specs.Prelude.{◌≡◌, ℕ, ◌<◌, Bool, true, Option, List, length, take, drop, ◌⊎◌}
+use Rattle.hashkeys.specs.Classes.{is_of}
+use Rattle.bin_history.specs.Calls.{key_of, after, reply}
+use Rattle.bin_history.specs.Entries.{lookup, store, replay}
+use Rattle.bin_history.specs.Changes.{changed, HasPlace}
+use Rattle.bin_history.specs.Lawful.{BinView}
+use Rattle.bin_history.specs.declared.call.Call.{Call}
+use Rattle.bin_history.specs.declared.call.Reply.{Reply}
+use Rattle.bin_history.specs.declared.call.Record.{Record}
+use Rattle.bin_history.specs.declared.change.Change.{Change}
+
+-- a call whose effects are worked out, as contracts see it
+pub record ReadyView (K V F : Type 0) : Type 0 where
+  pub call : Call K V F
+  pub before : Option V
+  pub after : Option V
+  pub reply : Reply V
+  pub change : Change K V
+
+module _ {K V F : Type 0} (same_key : K → K → Bool) (same_value : V → V → Bool) (remapped : F → K → Option V → Option V) (merged : F → V → V → Option V) where
+  -- all that the call does to these entries is worked out
+  pub record IsWorkedOut (ready : ReadyView K V F) (entries : List (K × V)) : Type 0 where
+    pub before_is : ready.before ≡ lookup same_key entries (key_of ready.call)
+    pub after_is : ready.after ≡ after same_value remapped merged ready.call ready.before
+    pub reply_is : ready.reply ≡ reply same_value ready.call ready.before ready.after
+    pub has_place : HasPlace entries ready.change
+    pub change_is : changed entries ready.change ≡ store same_key entries (key_of ready.call) ready.after
+
+-- there is room for one more record and one more entry
+pub record HasRoom {K V F : Type 0} (b : BinView K V F) : Type 0 where
+  pub record_room : 0 < b.record_room
+  pub entry_room : 0 < b.entry_room
+  pub few : length b.records < 1024
+
+module _ {K V F : Type 0} (same_key : K → K → Bool) (code : K → ℕ) (same_value : V → V → Bool) (remapped : F → K → Option V → Option V) (merged : F → V → V → Option V) where
+  -- the call was prepared on this bin, and nothing was applied since
+  pub record IsPrepared (ready : ReadyView K V F) (b : BinView K V F) : Type 0 where
+    pub worked_out : IsWorkedOut same_key same_value remapped merged ready b.entries
+    pub room : HasRoom b
+    pub of_class : is_of code b.salt b.class (key_of ready.call) ≡ true
+
+-- the record of a call that is ready
+abbrev pub recorded : {K V F : Type 0} → ℕ → ℕ → ReadyView K V F → Record K V F
+recorded client ordinal ready = record { client = client; ordinal = ordinal; call = ready.call; before = ready.before; after = ready.after }
+
+-- base and records as they were
+pub record KeepsRecords {K V F : Type 0} (b c : BinView K V F) : Type 0 where
+  pub base : c.base ≡ b.base
+  pub records : c.records ≡ b.records
+
+-- the oldest 512 of 1,024 records folded into the base
+pub record FoldsRecords {K V F : Type 0} (same_key : K → K → Bool) (b c : BinView K V F) : Type 0 where
+  pub full : length b.records ≡ 1024
+  pub base : c.base ≡ replay same_key b.base (take 512 b.records)
+  pub records : c.records ≡ drop 512 b.records
+
+abbrev pub KeepsOrFolds : {K V F : Type 0} → (K → K → Bool) → BinView K V F → BinView K V F → Type 0
+KeepsOrFolds same_key b c = KeepsRecords b c ⊎ FoldsRecords same_key b c

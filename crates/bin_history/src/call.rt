@@ -1,0 +1,115 @@
+//! Calls, what they reply, and records of them.
+ghost use Rattle.std.specs.Prelude.{◌≡◌, Option, IfOk, option_copied};
+ghost use Rattle.bin_history.specs.Calls.{key_of};
+ghost use Rattle.bin_history.specs.Deltas.{delta};
+
+use std::alloc::AllocError;
+
+/// A remapping function of keys `K` and values `V`, which may answer that the key is to have no value.
+/// It states which function it computes; it may fail only for want of memory.
+pub trait Remap<K, V> {
+    ghost remapped: { Self → K → Option V → Option V };
+
+    ghost merged: { Self → V → V → Option V };
+
+    /// The value that the key is to have, by the value that it has. The three compute calls ask it.
+    fn remap(&self, key: &K, value: Option<&V>) -> Result<Option<V>, AllocError>
+        ensures { IfOk result (λ r. r ≡ remapped self.now key.now (option_copied value.entry)) };
+
+    /// The value that a present key is to have, by its value and the one given to a merge.
+    fn merge(&self, old: &V, given: &V) -> Result<Option<V>, AllocError>
+        ensures { IfOk result (λ r. r ≡ merged self.now old.now given.now) };
+}
+
+/// A call on a key, with its arguments.
+#[derive(Drop)]
+pub enum Call<K, V, F> {
+    Get(K),
+    Contains(K),
+    Put(K, V),
+    PutIfAbsent(K, V),
+    Remove(K),
+    RemoveIf(K, V),
+    Replace(K, V),
+    /// The value to be replaced, and the new one.
+    ReplaceIf(K, V, V),
+    ComputeIfAbsent(K, F),
+    ComputeIfPresent(K, F),
+    Compute(K, F),
+    Merge(K, V, F),
+}
+
+/// What a call answers: the value at its key, if any, or whether something was so.
+#[derive(Debug, Drop, PartialEq, Eq)]
+pub enum Reply<V> {
+    Value(Option<V>),
+    Truth(bool),
+}
+
+/// A call that was made: the client's number, the call's place among the client's calls, and the
+/// value at its key just before it and just after it.
+#[derive(Drop)]
+pub struct Record<K, V, F> {
+    pub client: u32,
+    pub ordinal: u64,
+    pub call: Call<K, V, F>,
+    pub before: Option<V>,
+    pub after: Option<V>,
+}
+
+impl<K, V, F> Call<K, V, F> {
+    /// The key that the call is on.
+    pub fn key(&self) -> &K
+        ensures { result.now ≡ key_of self.now }
+    {
+        match self {
+            Call::Get(key) => key,
+            Call::Contains(key) => key,
+            Call::Put(key, _) => key,
+            Call::PutIfAbsent(key, _) => key,
+            Call::Remove(key) => key,
+            Call::RemoveIf(key, _) => key,
+            Call::Replace(key, _) => key,
+            Call::ReplaceIf(key, _, _) => key,
+            Call::ComputeIfAbsent(key, _) => key,
+            Call::ComputeIfPresent(key, _) => key,
+            Call::Compute(key, _) => key,
+            Call::Merge(key, _, _) => key,
+        }
+    }
+}
+
+impl<K: Drop, V: Drop, F: Drop> Call<K, V, F> {
+    /// The key, without the rest of the call.
+    pub(crate) fn into_key(self) -> K
+        ensures { result ≡ key_of self }
+    {
+        match self {
+            Call::Get(key) => key,
+            Call::Contains(key) => key,
+            Call::Put(key, _) => key,
+            Call::PutIfAbsent(key, _) => key,
+            Call::Remove(key) => key,
+            Call::RemoveIf(key, _) => key,
+            Call::Replace(key, _) => key,
+            Call::ReplaceIf(key, _, _) => key,
+            Call::ComputeIfAbsent(key, _) => key,
+            Call::ComputeIfPresent(key, _) => key,
+            Call::Compute(key, _) => key,
+            Call::Merge(key, _, _) => key,
+        }
+    }
+}
+
+impl<K, V, F> Record<K, V, F> {
+    /// How the call changed the number of keys: by 1, 0 or -1.
+    pub fn delta(&self) -> i64
+        ensures { result ≡ delta self.now }
+    {
+        match (&self.before, &self.after) {
+            (None, Some(_)) => 1,
+            (Some(_), None) => -1,
+            _ => 0,
+        }
+    }
+}

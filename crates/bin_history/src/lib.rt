@@ -1,0 +1,19 @@
+//! One bin of a map: its entries, and the records of the calls that made them.
+#![tactic(auto)]
+
+mod bin;
+mod call;
+mod change;
+mod copies;
+mod effect;
+mod fold;
+mod laws;
+mod ready;
+mod split;
+#[cfg(test)]
+mod tests;
+
+pub use bin::{Bin, MOST_RECORDS};
+pub use call::{Call, Record, Remap, Reply};
+pub use laws::{cells_of_a_run, count_after_a_run, part_of_a_run};
+pub use ready::Ready;

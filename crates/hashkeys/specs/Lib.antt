@@ -1,0 +1,3 @@
+pub mod Hashing
+pub mod Classes
+pub mod Text

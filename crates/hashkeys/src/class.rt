@@ -1,0 +1,79 @@
+//! Classes of hashes.
+ghost use Rattle.std.specs.Prelude.{◌≡◌, ℕ, ◌<◌};
+
+use std::marker::Model;
+
+/// The hashes that leave `index` when divided by `n`. `n` is a power of two from 1 to 65,536, and
+/// `index` is below it. A table of `n` bins has one bin for each class of size `n`.
+#[derive(Clone, Copy, PartialEq, Eq, Debug)]
+pub struct Class {
+    n: u32,
+    index: u32,
+}
+
+impl Model for Class {
+    ghost use Rattle.hashkeys.specs.Classes.{ClassView, IsClass};
+
+    ghost Value = { ClassView };
+
+    ghost view = { λ c. record { n = c.n; index = c.index } };
+
+    ghost invariant = { λ c. IsClass (record { n = c.n; index = c.index }) };
+
+    ghost inverse = { λ c. record { n = c.n; index = c.index } };
+}
+
+impl Class {
+    ghost use Rattle.std.specs.Prelude.{◌||◌, ◌&&◌, false};
+    ghost use Rattle.hashkeys.specs.Classes.{ClassView, IsClass, covers, low_half, high_half};
+
+    /// The class of size `n` at `index`.
+    pub fn new(n: u32, index: u32) -> Class
+        requires { IsClass (record { n = n; index = index }) }
+        ensures { result ≡ record { n = n; index = index } }
+    {
+        Class { n, index }
+    }
+
+    /// The size of the table that the class is of.
+    pub fn n(&self) -> u32
+        ensures value { result ≡ self.now.n }
+        ensures class { IsClass self.now }
+    {
+        self.n
+    }
+
+    /// The class's place among those of its size.
+    pub fn index(&self) -> u32
+        ensures { result ≡ self.now.index }
+    {
+        self.index
+    }
+
+    /// Whether the hash is in the class.
+    pub fn covers(&self, hash: u32) -> bool
+        ensures { result ≡ covers self.now hash }
+    {
+        hash % self.n == self.index
+    }
+
+    /// The low and the high half: a hash of the class is in exactly one of them, and no other hash is.
+    pub fn halves(&self) -> (Class, Class)
+        requires { self.now.n < 65536 }
+        ensures low { result.0 ≡ low_half self.now }
+        ensures high { result.1 ≡ high_half self.now }
+        ensures one { (hash : ℕ) → covers self.now hash ≡ (covers result.0 hash || covers result.1 hash) }
+        ensures apart { (hash : ℕ) → (covers result.0 hash && covers result.1 hash) ≡ false }
+    {
+        let n = 2 * self.n;
+        let low = Class {
+            n,
+            index: self.index,
+        };
+        let high = Class {
+            n,
+            index: self.index + self.n,
+        };
+        (low, high)
+    }
+}

@@ -1,0 +1,120 @@
+//! The program's keys: short words of ASCII letters, digits and `_`.
+ghost use Rattle.std.specs.Prelude.{◌≡◌, true, false, MatchOption};
+ghost use Rattle.hashkeys.specs.Text.{is_key, is_word_byte, are_word_bytes, code_of};
+
+use crate::hashing::HashKey;
+use std::alloc::AllocError;
+use std::marker::Model;
+
+/// A key of 1 to 32 bytes, each an ASCII letter, a digit or `_`. The bytes lie inline, so a clone
+/// takes no memory. Contracts see a key as its bytes.
+#[derive(Drop)]
+pub struct Key {
+    bytes: [u8; 32],
+    len: u8,
+}
+
+impl Model for Key {
+    ghost use Rattle.std.specs.Prelude.{◌≡◌, ◌≤◌, ℕ, List, true, take};
+    ghost use Rattle.hashkeys.specs.Text.{is_key};
+
+    ghost Value = { List ℕ };
+
+    ghost view = { λ k. take k.len k.bytes };
+
+    ghost invariant = { λ k. (k.len ≤ 32) × (is_key (take k.len k.bytes) ≡ true) };
+}
+
+fn is_word_byte(byte: u8) -> bool
+    ensures { result ≡ is_word_byte byte }
+{
+    byte.is_ascii_alphanumeric() || byte == b'_'
+}
+
+fn are_word_bytes(bytes: &[u8]) -> bool
+    ensures { result ≡ are_word_bytes bytes.now }
+{
+    for byte in bytes {
+        if !is_word_byte(*byte) {
+            return false;
+        }
+    }
+    true
+}
+
+impl Key {
+    /// The key of these bytes, or none where they are no key.
+    pub fn read(bytes: &[u8]) -> Option<Key>
+        ensures { MatchOption result (is_key bytes.now ≡ false) (λ key. (key ≡ bytes.now) × (is_key bytes.now ≡ true)) }
+    {
+        let len = bytes.len();
+        if len < 1 || len > 32 || !are_word_bytes(bytes) {
+            return None;
+        }
+        let mut copy = [0u8; 32];
+        copy[..len].copy_from_slice(bytes);
+        Some(Key {
+            bytes: copy,
+            len: len as u8,
+        })
+    }
+
+    /// The key's bytes: 1 to 32 of them.
+    pub fn bytes(&self) -> &[u8]
+        ensures value { result.now ≡ self.now }
+        ensures key { is_key self.now ≡ true }
+    {
+        &self.bytes[..self.len as usize]
+    }
+}
+
+impl Clone for Key {
+    ghost use Rattle.std.specs.Prelude.{◌≡◌, ⊤};
+
+    ghost is_clone = { λ x y. y ≡ x };
+
+    ghost is_infallible = { λ _. ⊤ };
+
+    fn clone(&self) -> Result<Key, AllocError> {
+        Ok(Key {
+            bytes: self.bytes,
+            len: self.len,
+        })
+    }
+}
+
+impl PartialEq for Key {
+    ghost use Rattle.std.specs.Prelude.{nat_eq};
+    ghost use Rattle.std.specs.Cmp.{partial_equiv_from_equiv};
+    ghost use Rattle.std.specs.Cmp.Lexicographic.{pointwise, nat_list_eq_equiv};
+
+    ghost eq = { pointwise nat_eq };
+
+    ghost laws = { partial_equiv_from_equiv nat_list_eq_equiv };
+
+    fn eq(&self, other: &Key) -> bool {
+        self.bytes() == other.bytes()
+    }
+}
+
+impl Eq for Key {
+    ghost use Rattle.std.specs.Cmp.Lexicographic.{nat_list_eq_equiv};
+
+    ghost laws = { nat_list_eq_equiv };
+}
+
+impl HashKey for Key {
+    ghost use Rattle.std.specs.Cmp.Lexicographic.{bytes_decides};
+
+    ghost code = { code_of };
+
+    fn hash_code(&self) -> u32 {
+        let mut code = 0u32;
+        for byte in self.bytes() {
+            code = code.wrapping_mul(31).wrapping_add(u32::from(*byte));
+        }
+        code
+    }
+
+    ghost equal_is_same = { λ x y e. (bytes_decides x y).0 e };
+}
