@@ -1,0 +1,4 @@
+pub mod Functions
+pub mod Lines
+pub mod Forms
+pub mod Grammar
