@@ -50,7 +50,7 @@ impl<K: HashKey, V: Clone + Eq, F: Remap<K, V> + Clone, A: Allocator + Clone> Bi
     ghost use Rattle.hashkeys.specs.Classes.{is_of};
     ghost use Rattle.bin_history.specs.Calls.{after};
     ghost use Rattle.bin_history.specs.Copies.{IsExact};
-    ghost use Rattle.bin_history.specs.Entries.{HasDistinctKeys};
+    ghost use Rattle.bin_history.specs.Entries.{HasDistinctKeys, replay};
     ghost use Rattle.bin_history.specs.Lawful.{IsLawful};
 
     /// A bin with these pairs, in their order, and no records. The pairs' keys are distinct and of the class.
@@ -118,7 +118,8 @@ impl<K: HashKey, V: Clone + Eq, F: Remap<K, V> + Clone, A: Allocator + Clone> Bi
 
     /// What holds of each bin. It does nothing when it runs.
     pub fn lawful(&self)
-        ensures { IsLawful K.eq K.code (after V.eq F.remapped F.merged) self.now }
+        ensures lawful { IsLawful K.eq K.code (after V.eq F.remapped F.merged) self.now }
+        ensures replayed { self.now.entries ≡ replay K.eq self.now.base self.now.records }
     {
         let _ = &self.entries;
     }

@@ -55,3 +55,9 @@ pub enum Kind {
     /// There is no line, though the script is not whole.
     Missing,
 }
+
+impl std::fmt::Display for Kind {
+    fn fmt<W: std::fmt::Write>(&self, f: &mut std::fmt::Formatter<W>) -> std::fmt::Result {
+        f.write_str("kind")
+    }
+}

@@ -5,4 +5,7 @@ use Rattle.bin_history.proofs.bin.Bin.lawful.Goals as goal
 pub returns : goal.returns
 returns g c =
     let tells = key_tells g.met.K.Eq.laws g.met.K.HashKey.equal_is_same in
-    rw (← c.self.view_is) (IsLawful-from_replayed g.K.PartialEq.eq tells _ _ _ c.self.invariant)
+    rw (← c.self.view_is) (record {
+      lawful = IsLawful-from_replayed g.K.PartialEq.eq tells _ _ _ c.self.invariant;
+      replayed = c.self.invariant.replayed;
+    })

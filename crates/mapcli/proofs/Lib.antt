@@ -1,0 +1,5 @@
+pub mod Values
+pub mod Kept
+pub mod Histories
+pub mod Allowed
+pub mod Answered

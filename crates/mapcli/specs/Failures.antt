@@ -1,0 +1,20 @@
+-- How a result and the count of a device's failures go together.
+use Rattle.std.specs.Prelude.{ℕ, Result, Ok, Err}
+use Rattle.mapcli.specs.Devices.{one_more}
+use Rattle.mapcli.specs.declared.fault.Fault.{Fault}
+use Rattle.mapcli.specs.declared.fault.Fault.TheVariants.{NoMemory, BadCapacity, BadWorkers, ScriptFault, Device, BinMissing, Usage, Help}
+
+-- the count of the one device is one more where the fault is of a device, and else as it was
+abbrev pub count_after_fault : Fault → ℕ → ℕ
+count_after_fault Device n = one_more n
+count_after_fault NoMemory n = n
+count_after_fault BadCapacity n = n
+count_after_fault BadWorkers n = n
+count_after_fault (ScriptFault line kind) n = n
+count_after_fault BinMissing n = n
+count_after_fault (Usage text) n = n
+count_after_fault (Help text) n = n
+
+abbrev pub count_after : {T : Type 0} → Result T Fault → ℕ → ℕ
+count_after (Ok x) n = n
+count_after (Err fault) n = count_after_fault fault n

@@ -1,0 +1,15 @@
+-- The status that the program exits with.
+use Rattle.std.specs.Prelude.{ℕ}
+use Rattle.mapcli.specs.declared.fault.Fault.{Fault}
+use Rattle.mapcli.specs.declared.fault.Fault.TheVariants.{NoMemory, BadCapacity, BadWorkers, ScriptFault, Device, BinMissing, Usage, Help}
+
+-- 0 where help was asked, 1 for a script's fault, 2 for a wrong command line, 3 for what went wrong outside
+abbrev pub status_of : Fault → ℕ
+status_of (Help text) = 0
+status_of (ScriptFault line kind) = 1
+status_of (Usage text) = 2
+status_of BadCapacity = 2
+status_of BadWorkers = 2
+status_of NoMemory = 3
+status_of Device = 3
+status_of BinMissing = 3

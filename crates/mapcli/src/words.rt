@@ -1,0 +1,99 @@
+//! The words of the command line, and how a run's end is told.
+ghost use Rattle.std.specs.Prelude.{◌≡◌};
+ghost use Rattle.mapcli.specs.Statuses.{status_of};
+
+use crate::fault::Fault;
+use crate::options::Options;
+use clap::error::ErrorKind;
+use clap::{Arg, ArgAction, Command};
+use hashkeys::Salt;
+use std::alloc::{AllocError, Global};
+
+/// The options and FILE that the words after the program's name give.
+pub fn words(alloc: Global, words: &[String]) -> Result<(Options, String), Fault> {
+    let mut line: Vec<&str> = Vec::with_capacity(alloc, words.len().saturating_add(1))?;
+    line.push("mapcli")?;
+    for word in words {
+        line.push(word.as_str())?;
+    }
+    read_words(alloc, &line)
+}
+
+fn read_words<'a>(alloc: Global, line: &'a [&'a str]) -> Result<(Options, String), Fault> {
+    match command(alloc)?.try_get_matches_from(line) {
+        Ok(matches) => {
+            let workers = matches.get_one::<u16>("workers").unwrap_or(4);
+            let capacity = matches.get_one::<u16>("capacity").unwrap_or(16);
+            let salt = matches.get_one::<u32>("salt").unwrap_or(0);
+            let options = Options::with_salt(usize::from(workers), usize::from(capacity), Salt(salt))?;
+            let file = matches.get_str("FILE").unwrap_or("");
+            Ok((options, String::from_str(alloc, file)?))
+        }
+        Err(error) => Err(refusal(alloc, &error)),
+    }
+}
+
+/// The fault that a refused command line is.
+fn refusal(alloc: Global, error: &clap::Error) -> Fault {
+    let kind = error.kind();
+    match error.to_string(alloc) {
+        Ok(text) if kind == ErrorKind::DisplayHelp => Fault::Help(text),
+        Ok(text) if kind != ErrorKind::OutOfMemory => Fault::Usage(text),
+        _ => Fault::NoMemory,
+    }
+}
+
+/// The command line that the program takes.
+fn command<'a>(alloc: Global) -> Result<Command<'a>, AllocError> {
+    let workers = Arg::new(alloc, "workers")
+        .long("workers")
+        .value_name("N")
+        .help("How many workers answer the queries, 1 to 16")
+        .action(ArgAction::Set)
+        .value_parser(clap::value_parser!(u16).range(1..=16))
+        .default_value("4");
+    let capacity = Arg::new(alloc, "capacity")
+        .long("capacity")
+        .value_name("N")
+        .help("How many bins the map opens with at least, 1 to 4096")
+        .action(ArgAction::Set)
+        .value_parser(clap::value_parser!(u16).range(1..=4096))
+        .default_value("16");
+    let salt = Arg::new(alloc, "salt")
+        .long("salt")
+        .value_name("N")
+        .help("What the hashes of keys are mixed with, 0 to 4294967295")
+        .action(ArgAction::Set)
+        .value_parser(clap::value_parser!(u32))
+        .default_value("0");
+    let file = Arg::new(alloc, "FILE")
+        .required(true)
+        .help("The script")
+        .action(ArgAction::Set);
+    Command::new(alloc, "mapcli")
+        .about("Runs a script of client blocks over a concurrent hash map, and answers its queries")
+        .arg(workers)?
+        .arg(capacity)?
+        .arg(salt)?
+        .arg(file)
+}
+
+/// The status that the program exits with after this end of a run.
+pub fn status(fault: &Fault) -> u8
+    ensures { result ≡ status_of fault.now }
+{
+    match fault {
+        Fault::Help(_) => 0,
+        Fault::ScriptFault { line: _, kind: _ } => 1,
+        Fault::Usage(_) | Fault::BadCapacity | Fault::BadWorkers => 2,
+        Fault::NoMemory | Fault::Device | Fault::BinMissing => 3,
+    }
+}
+
+/// What is told of this end of a run: `clap`'s text, or one line.
+pub fn line(alloc: Global, fault: &Fault) -> Result<String, AllocError> {
+    match fault {
+        Fault::Help(text) | Fault::Usage(text) => String::from_str(alloc, text),
+        _ => format!(in alloc; "mapcli: {fault}\n"),
+    }
+}
