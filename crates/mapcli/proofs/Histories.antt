@@ -7,11 +7,12 @@ use Rattle.std.specs.Cmp.Lexicographic.{bytes_decides}
 use Rattle.hashkeys.specs.Text.{code_of}
 use Rattle.bin_history.specs.Calls.{reply}
 use Rattle.bin_history.specs.Histories.{HasHistory}
-use Rattle.bin_history.specs.Lawful.{IsLawful}
+use Rattle.bin_history.specs.Entries.{lookup}
+use Rattle.bin_history.specs.Plain.{IsLegal}
 use Rattle.bin_history.specs.Readiness.{KeepsOrFolds}
 use Rattle.bin_history.specs.declared.call.Record.{Record}
 use Rattle.bin_history.specs.declared.call.Reply.{Reply}
-use Rattle.bin_history.proofs.Histories.{HasHistory-applied, HasHistory-prepared, HasHistory-new}
+use Rattle.bin_history.proofs.Histories.{HasHistory-applied, HasHistory-prepared}
 use Rattle.script.specs.Grammar.{ScriptCall}
 use Rattle.mapcli.specs.Outcomes.{same_key, value_after, told}
 use Rattle.mapcli.specs.Played.{ScriptBin, ScriptRecord, Makes}
@@ -27,17 +28,17 @@ Makes-none client b = ([], All-nil (λ (r : ScriptRecord). r.client ≡ client),
 
 -- a prepared call is one call more
 pub Makes-more : (client : ℕ) (calls : List ScriptCall) (replies : List (Reply ℤ)) (b c d e : ScriptBin) (r : ScriptRecord) (call : ScriptCall) (answer : Reply ℤ)
-    → Makes client calls replies b c → IsLawful same_key code_of value_after c → KeepsOrFolds same_key c d → e.base ≡ d.base → e.records ≡ d.records ++ r ∷ []
+    → Makes client calls replies b c → IsLegal same_key value_after (lookup same_key c.base) c.records → KeepsOrFolds same_key c d → e.base ≡ d.base → e.records ≡ d.records ++ r ∷ []
     → r.client ≡ client → told r ≡ (call, answer)
     → Makes client (calls ++ call ∷ []) (replies ++ answer ∷ []) b e
-Makes-more client calls replies b c d e r call answer (rs, of_client, told_is, answered, history) lawful folds base records is_client tells = (
+Makes-more client calls replies b c d e r call answer (rs, of_client, told_is, answered, history) legal folds base records is_client tells = (
   rs ++ r ∷ [],
   All-push (λ (x : ScriptRecord). x.client ≡ client) rs r of_client is_client,
   map-append told rs (r ∷ []) ∙ ap (λ (l : List (ScriptCall × Reply ℤ)). l ++ told r ∷ []) told_is ∙ ap (λ (m : ScriptCall × Reply ℤ). zip calls replies ++ m ∷ []) tells ∙ sym (zip-push calls replies call answer answered),
   length_push replies answer ∙ ap (λ (n : ℕ). n + 1) answered ∙ sym (length_push calls call),
   λ kept h.
-    let next = HasHistory-prepared same_key bytes_decides code_of value_after [] (kept ++ rs) c d (history kept h) lawful folds in
-    let posted = HasHistory-applied same_key bytes_decides code_of value_after [] (kept ++ rs) d e r next base records in
-    let P : List ScriptRecord → Type 0 = λ l. HasHistory same_key value_after [] l e in
-    subst P (append_assoc kept rs (r ∷ [])) posted,
+      let next = HasHistory-prepared same_key bytes_decides code_of value_after [] (kept ++ rs) c d (history kept h) legal folds in
+      let posted = HasHistory-applied same_key bytes_decides code_of value_after [] (kept ++ rs) d e r next base records in
+      let P : List ScriptRecord → Type 0 = λ l. HasHistory same_key value_after [] l e in
+      subst P (append_assoc kept rs (r ∷ [])) posted,
 )

@@ -49,24 +49,24 @@ IsKept-more blocks replies kept rs client calls answers h is own told_is answere
     let same : length replies ≡ length blocks = sym (length-map replies length) ∙ ap length h.answered ∙ length-map blocks length in
     record {
       clients = All-append (λ (r : ScriptRecord). r.client < length (blocks ++ calls ∷ [])) kept rs
-        (All-weaker (λ (r : ScriptRecord). r.client < length blocks) (λ r. r.client < length (blocks ++ calls ∷ [])) (λ r l. omega arith) kept h.clients)
-        (All-weaker (λ (r : ScriptRecord). r.client ≡ client) (λ r. r.client < length (blocks ++ calls ∷ [])) (λ r e. omega arith) rs own);
+          (All-weaker (λ (r : ScriptRecord). r.client < length blocks) (λ r. r.client < length (blocks ++ calls ∷ [])) (λ r l. omega arith) kept h.clients)
+          (All-weaker (λ (r : ScriptRecord). r.client ≡ client) (λ r. r.client < length (blocks ++ calls ∷ [])) (λ r e. omega arith) rs own);
       answered = map-append length replies (answers ∷ []) ∙ ap (λ (ns : List ℕ). ns ++ length answers ∷ []) h.answered ∙ ap (λ (n : ℕ). map length blocks ++ n ∷ []) answered ∙ sym (map-append length blocks (calls ∷ []));
       made = λ c l. elim (cases_lt c (length blocks)) [
-        inl low ↦
-          ap (map told) (filter-append (λ (r : ScriptRecord). r.client == c) kept rs ∙ ap (λ (xs : List ScriptRecord). by_client c kept ++ xs) (by_client_none client c rs (omega arith) own) ∙ append-nil (by_client c kept))
-          ∙ h.made c low
-          ∙ ap (λ (xs : List ScriptCall). zip xs (slice_index_or replies c [])) (sym (get_or-append blocks (calls ∷ []) [] c low))
-          ∙ ap (zip (slice_index_or (blocks ++ calls ∷ []) c [])) (sym (get_or-append replies (answers ∷ []) [] c (omega arith)))
-      | inr high ↦
-          let last : c ≡ length blocks = omega arith in
-          let later : by_client c kept ≡ [] = rw last (by_client_later (length blocks) kept h.clients) in
-          let all : by_client c rs ≡ rs = rw (last ∙ sym is) (by_client_all client rs own) in
-          let left : slice_index_or (blocks ++ calls ∷ []) c [] ≡ calls = rw last (get_or-append_seam blocks calls [] []) in
-          let right : slice_index_or (replies ++ answers ∷ []) c [] ≡ answers = rw (last ∙ sym same) (get_or-append_seam replies answers [] []) in
-          ap (map told) (filter-append (λ (r : ScriptRecord). r.client == c) kept rs ∙ ap (λ (xs : List ScriptRecord). xs ++ by_client c rs) later ∙ all)
-          ∙ told_is
-          ∙ ap (λ (xs : List ScriptCall). zip xs answers) (sym left)
-          ∙ ap (zip (slice_index_or (blocks ++ calls ∷ []) c [])) (sym right)
+        | inl low ↦
+            ap (map told) (filter-append (λ (r : ScriptRecord). r.client == c) kept rs ∙ ap (λ (xs : List ScriptRecord). by_client c kept ++ xs) (by_client_none client c rs (omega arith) own) ∙ append-nil (by_client c kept))
+            ∙ h.made c low
+            ∙ ap (λ (xs : List ScriptCall). zip xs (slice_index_or replies c [])) (sym (get_or-append blocks (calls ∷ []) [] c low))
+            ∙ ap (zip (slice_index_or (blocks ++ calls ∷ []) c [])) (sym (get_or-append replies (answers ∷ []) [] c (omega arith)))
+        | inr high ↦
+            let last : c ≡ length blocks = omega arith in
+            let later : by_client c kept ≡ [] = rw last (by_client_later (length blocks) kept h.clients) in
+            let all : by_client c rs ≡ rs = rw (last ∙ sym is) (by_client_all client rs own) in
+            let left : slice_index_or (blocks ++ calls ∷ []) c [] ≡ calls = rw last (get_or-append_seam blocks calls [] []) in
+            let right : slice_index_or (replies ++ answers ∷ []) c [] ≡ answers = rw (last ∙ sym same) (get_or-append_seam replies answers [] []) in
+            ap (map told) (filter-append (λ (r : ScriptRecord). r.client == c) kept rs ∙ ap (λ (xs : List ScriptRecord). xs ++ by_client c rs) later ∙ all)
+            ∙ told_is
+            ∙ ap (λ (xs : List ScriptCall). zip xs answers) (sym left)
+            ∙ ap (zip (slice_index_or (blocks ++ calls ∷ []) c [])) (sym right)
       ];
     }

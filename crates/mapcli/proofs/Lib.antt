@@ -3,3 +3,7 @@ pub mod Kept
 pub mod Histories
 pub mod Allowed
 pub mod Answered
+pub mod OneClient
+pub mod SamePairs
+pub mod Sorted
+pub mod Determined

@@ -27,8 +27,7 @@ IsGreatest-push vs (Some x) v h =
     let m : ℤ = int_max x v in
     let C : ℤ → Type 0 = λ y. Contains (vs ++ v ∷ []) y in
     let there : (b : Bool) → C (cond b x v) = elim [ true ↦ Contains-append_left vs (v ∷ []) x h.0 | false ↦ Contains-push vs v ] in
-    let over : x ≤ℤ m = omega (arith, clamps, ints) in
-    (
+    let over : x ≤ℤ m = omega (arith, clamps, ints) in (
       there (lt_z v x),
       All-push (λ y. y ≤ℤ m) vs v (All-weaker (λ y. y ≤ℤ x) (λ y. y ≤ℤ m) (λ y l. omega (arith, ints)) vs h.1) (omega (arith, clamps, ints)),
     )

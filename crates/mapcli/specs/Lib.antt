@@ -5,4 +5,5 @@ pub mod Outcomes
 pub mod Played
 pub mod Texts
 pub mod Greater
+pub mod Determined
 pub mod Statuses

@@ -16,11 +16,10 @@ pub use device::{DeviceError, Input, Output, Reader, Writer};
 pub use fault::Fault;
 pub use gate::{ClientGate, Gate, OpenGate};
 pub use options::Options;
-pub use words::{line, status, words};
-
 use std::alloc::Global;
 use std::fs::File;
 use std::process::ExitCode;
 use std::{env, io};
+pub use words::{line, status, words};
 
 fn main() {}

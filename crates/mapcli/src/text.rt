@@ -17,7 +17,10 @@ pub(crate) fn push<A: Allocator>(text: &mut Vec<u8, A>, bytes: &[u8]) -> Result<
 }
 
 /// Appends a number.
-pub(crate) fn push_number<I: Integer, A: Allocator>(text: &mut Vec<u8, A>, number: I) -> Result<(), AllocError>
+pub(crate) fn push_number<I: Integer, A: Allocator>(
+    text: &mut Vec<u8, A>,
+    number: I,
+) -> Result<(), AllocError>
     ensures { OnOk result (text.new.items ≡ text.old.items ++ I.text number) }
 {
     let mut buffer = Buffer::new();
@@ -25,7 +28,10 @@ pub(crate) fn push_number<I: Integer, A: Allocator>(text: &mut Vec<u8, A>, numbe
 }
 
 /// Appends `some V` or `none`, and ends the line.
-pub(crate) fn push_option<A: Allocator>(text: &mut Vec<u8, A>, value: Option<i64>) -> Result<(), AllocError>
+pub(crate) fn push_option<A: Allocator>(
+    text: &mut Vec<u8, A>,
+    value: Option<i64>,
+) -> Result<(), AllocError>
     ensures { OnOk result (text.new.items ≡ text.old.items ++ ended (option_text value)) }
 {
     match value {
@@ -80,7 +86,10 @@ pub(crate) fn push_clients<A: Allocator, B: Allocator>(
 }
 
 /// Appends the lines of pairs.
-pub(crate) fn push_pairs<A: Allocator>(text: &mut Vec<u8, A>, pairs: &[(Key, i64)]) -> Result<(), AllocError>
+pub(crate) fn push_pairs<A: Allocator>(
+    text: &mut Vec<u8, A>,
+    pairs: &[(Key, i64)],
+) -> Result<(), AllocError>
     ensures { OnOk result (text.new.items ≡ text.old.items ++ flat_map (λ e. ended (pair_text e)) pairs.now) }
 {
     for (key, value) in pairs {

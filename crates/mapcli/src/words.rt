@@ -25,7 +25,11 @@ fn read_words<'a>(alloc: Global, line: &'a [&'a str]) -> Result<(Options, String
             let workers = matches.get_one::<u16>("workers").unwrap_or(4);
             let capacity = matches.get_one::<u16>("capacity").unwrap_or(16);
             let salt = matches.get_one::<u32>("salt").unwrap_or(0);
-            let options = Options::with_salt(usize::from(workers), usize::from(capacity), Salt(salt))?;
+            let options = Options::with_salt(
+                usize::from(workers),
+                usize::from(capacity),
+                Salt(salt),
+            )?;
             let file = matches.get_str("FILE").unwrap_or("");
             Ok((options, String::from_str(alloc, file)?))
         }
