@@ -1,0 +1,15 @@
+pub mod Together
+pub mod Holding
+pub mod WordSums
+pub mod Filters
+pub mod Posting
+pub mod Division
+pub mod Keeping
+pub mod Openings
+pub mod Gathering
+pub mod Tallies
+pub mod Covering
+pub mod Settlement
+pub mod Agreements
+pub mod Totals
+pub mod Crossing

@@ -1,0 +1,86 @@
+-- A post: the pass and the role get the record, and the client's word its delta.
+use Rattle.std.proofs.Common.{◌≡◌, ◌≢◌, ℕ, ◌+◌, ◌*◌, ◌%◌, ◌^◌, ◌<◌, ◌≤◌, ◌==◌, ◌&&◌, Bool, true, false, List, [], ◌∷◌, ◌++◌, length, set, get_or, sym, refl, ap, subst, ◌∙◌, arith, All}
+use Rattle.std.specs.Prelude.{slice_index}
+use Rattle.std.specs.List.{AllByRecursion as Each}
+use Rattle.std.proofs.lemmas.List.{get_or-set_same, get_or-set_other, length_push}
+use Rattle.std.proofs.lemmas.List.Elements.{All-push}
+use Rattle.std.proofs.lemmas.Bool.{eq-eqb, ne_eqb}
+use Rattle.hashkeys.specs.Classes.{ClassView, covers, is_of, AreApart}
+use Rattle.hashkeys.specs.Hashing.{hash_of}
+use Rattle.hashkeys.specs.declared.hashing.Salt.{Salt}
+use Rattle.bin_history.specs.Calls.{key_of}
+use Rattle.bin_history.specs.Deltas.{delta, sum_of_deltas}
+use Rattle.bin_history.specs.declared.call.Record.{Record}
+use Rattle.count_ledger.specs.declared.books.Book.{Book}
+use Rattle.count_ledger.specs.declared.books.Book.TheVariants.{Pass, Role}
+use Rattle.count_ledger.specs.Terms.{TermsView}
+use Rattle.count_ledger.specs.Words.{word_of}
+use Rattle.count_ledger.specs.Books.{AreNumbered}
+use Rattle.count_ledger.specs.Rule.{Among, Across, IsSound, AreTogether}
+use Rattle.count_ledger.specs.Steps.{posted}
+use Rattle.count_ledger.proofs.Filters.{filter_push_kept, filter_push_left}
+use Rattle.count_ledger.proofs.WordSums.{word_of-add, sum_of_deltas-push}
+
+AreNumbered-push : {K V F : Type 0} (c n : ℕ) (made : List (Record K V F)) (r : Record K V F) → AreNumbered c n made → r.client ≡ c → r.ordinal ≡ n + length made → AreNumbered c n (made ++ r ∷ [])
+AreNumbered-push c n [] r m by at = (by, omega arith, tt)
+AreNumbered-push c n (x ∷ xs) r m by at = (m.0, m.1, AreNumbered-push c (n + 1) xs r m.2 by (omega arith))
+
+other_of : (a b : Bool) → (a && b) ≡ false → a ≡ true → b ≡ false
+other_of true b e t = e
+other_of false b e t = absurd cc
+
+module _ {K V F : Type 0} (code : K → ℕ) (t : TermsView K V) (words : List ℕ) (sized : length words ≡ 8 * t.clients)
+    (c : ℕ) (made : List (Record K V F)) (salt : Salt) (class : ClassView) (pairs : List (K × V)) (kept : List (Record K V F)) (r : Record K V F)
+    (by : r.client ≡ c) (next : r.ordinal ≡ length made) (room : length made < 1000000) (on : is_of code salt class (key_of r.call) ≡ true) where
+  abbrev pub words_after : List ℕ
+  words_after = set words (8 * c) ((slice_index words (8 * c) + word_of (delta r)) % 2 ^ 64)
+
+  abbrev before : List (Book K V F)
+  before = Pass c made ∷ Role salt class pairs kept ∷ []
+
+  pass_sound : IsSound code t words (Pass c made) → IsSound code t words_after (Pass c (made ++ r ∷ []))
+  pass_sound f =
+      let there : 8 * c < length words = (let low = f.0 in omega arith) in
+      let long = length_push made r in (
+        f.0,
+        AreNumbered-push c 0 made r f.1 by (omega arith),
+        omega arith,
+        get_or-set_same words (8 * c) _ 0 there ∙ ap (λ (n : ℕ). (n + word_of (delta r)) % 2 ^ 64) f.3 ∙ sym (word_of-add (sum_of_deltas made) (delta r)) ∙ ap word_of (sym (sum_of_deltas-push made r)),
+      )
+
+  role_sound : c < t.clients → IsSound code t words (Role salt class pairs kept) → IsSound code t words_after (Role salt class pairs (kept ++ r ∷ []))
+  role_sound low f = (f.0, f.1, All-push (λ (x : Record K V F). x.client < t.clients) kept r f.2 (omega arith))
+
+  pub posted_fit : Among (IsSound code t words) (AreTogether code) before → Among (IsSound code t words_after) (AreTogether code) (posted r before)
+  posted_fit a = (
+    pass_sound a.0,
+    (filter_push_kept (λ x. x.client == c) kept r (eq-eqb _ _ by) ∙ ap (λ (l : List (Record K V F)). l ++ r ∷ []) a.1.0 ∙ sym (filter_push_kept (λ x. is_of code salt class (key_of x.call)) made r on), tt),
+    (role_sound a.0.0 a.2.0, tt, tt),
+  )
+
+  -- another book is as sound as before, since no other client's word has changed
+  other_sound : (b : Book K V F) → AreTogether code (Pass c made) b → IsSound code t words b → IsSound code t words_after b
+  other_sound (Pass d m) ne f = (f.0, f.1, f.2, get_or-set_other words (8 * c) (8 * d) _ 0 (λ e. ne (omega arith)) ∙ f.3)
+  other_sound (Role s k o l) a f = f
+
+  -- another role's class does not have the key
+  pass_beside : salt ≡ t.salt → (b : Book K V F) → IsSound code t words b → AreTogether code (Pass c made) b → AreTogether code (Role salt class pairs kept) b → AreTogether code (Pass c (made ++ r ∷ [])) b
+  pass_beside own (Pass d m) f ne a = ne
+  pass_beside own (Role s k o l) f e apart =
+      let not_on : is_of code s k (key_of r.call) ≡ false = rw (f.0 ∙ sym own) (other_of _ _ (apart (hash_of salt (code (key_of r.call)))) on) in
+      e ∙ sym (filter_push_left (λ x. is_of code s k (key_of x.call)) made r not_on)
+
+  role_beside : (b : Book K V F) → AreTogether code (Pass c made) b → AreTogether code (Role salt class pairs kept) b → AreTogether code (Role salt class pairs (kept ++ r ∷ [])) b
+  role_beside (Pass d m) ne e = filter_push_left (λ x. x.client == d) kept r (ne_eqb _ _ (λ q. ne (sym by ∙ q))) ∙ e
+  role_beside (Role s k o l) a apart = apart
+
+  others_fit : salt ≡ t.salt → (u : List (Book K V F)) → Among (IsSound code t words) (AreTogether code) u → Each (AreTogether code (Pass c made)) u → Each (AreTogether code (Role salt class pairs kept)) u → Among (IsSound code t words_after) (AreTogether code) u × Across (AreTogether code) (posted r before) u
+  others_fit own [] a p q = (tt, (tt, (tt, tt)))
+  others_fit own (b ∷ bs) a p q =
+      let rest = others_fit own bs a.2 p.1 q.1 in (
+        (other_sound b p.0 a.0, a.1, rest.0),
+        ((pass_beside own b a.0 p.0 q.0, rest.1.0), ((role_beside b p.0 q.0, rest.1.1.0), tt)),
+      )
+
+  pub posted_others : Among (IsSound code t words) (AreTogether code) before → (u : List (Book K V F)) → Among (IsSound code t words) (AreTogether code) u → Across (AreTogether code) before u → Among (IsSound code t words_after) (AreTogether code) u × Across (AreTogether code) (posted r before) u
+  posted_others f u a x = others_fit f.2.0.0 u a x.0 x.1.0

@@ -1,0 +1,84 @@
+-- What the rule says of all books together.
+use Rattle.std.proofs.Common.{◌≡◌, ◌≢◌, ℕ, ◌+◌, ◌<◌, ◌≤◌, ◌==◌, ◌&&◌, Bool, true, false, cond, List, [], ◌∷◌, ◌++◌, length, map, sum_by, count_by, sym, refl, ap, ◌∙◌, arith, All}
+use Rattle.std.specs.List.{AllByRecursion as Each}
+use Rattle.std.proofs.lemmas.Bool.Decides.{nat_tests}
+use Rattle.std.proofs.lemmas.List.Elements.{All-from_recursion}
+use Rattle.std.proofs.lemmas.List.Sums.{sum_by-cons}
+use Rattle.hashkeys.specs.Classes.{AreApart}
+use Rattle.count_ledger.specs.Terms.{TermsView}
+use Rattle.count_ledger.specs.Views.{LedgerId, PassView, RoleView}
+use Rattle.count_ledger.specs.Books.{BooksAgree, IsPassOf, IsRoleOf, classes_of}
+use Rattle.count_ledger.specs.Rule.{Among, Across, IsSound, AreTogether, ledger_of}
+use Rattle.count_ledger.specs.Settled.{AllAgree}
+use Rattle.count_ledger.specs.Tokens.{pass_book, role_book, AreWide}
+use Rattle.count_ledger.proofs.Together.{Among-left, Among-right, Across-from_among}
+use Rattle.count_ledger.proofs.Tallies.{upto, upto-same, upto-one, hit_once}
+use Rattle.count_ledger.proofs.Covering.{CoverOnce-wide}
+
+module _ {A B : Type 0} (f : A → B) where
+  Each-of_map : (Q : B → Type 0) (xs : List A) → Each Q (map f xs) → Each (λ x. Q (f x)) xs
+  Each-of_map Q [] e = tt
+  Each-of_map Q (x ∷ xs) e = (e.0, Each-of_map Q xs e.1)
+
+  Each-map : (Q : B → Type 0) (xs : List A) → Each (λ x. Q (f x)) xs → Each Q (map f xs)
+  Each-map Q [] e = tt
+  Each-map Q (x ∷ xs) e = (e.0, Each-map Q xs e.1)
+
+  Among-of_map : (P : B → Type 0) (R : B → B → Type 0) (xs : List A) → Among P R (map f xs) → Among (λ x. P (f x)) (λ x y. R (f x) (f y)) xs
+  Among-of_map P R [] a = tt
+  Among-of_map P R (x ∷ xs) a = (a.0, Each-of_map (R (f x)) xs a.1, Among-of_map P R xs a.2)
+
+  Among-map : (P : A → Type 0) (R : B → B → Type 0) (xs : List A) → Among P (λ x y. R (f x) (f y)) xs → Among (λ _. Unit {0}) R (map f xs)
+  Among-map P R [] a = tt
+  Among-map P R (x ∷ xs) a = (tt, Each-map (R (f x)) xs a.1, Among-map P R xs a.2)
+
+module _ {A : Type 0} (P : A → Type 0) (R : A → A → Type 0) where
+  Each-from_among : (Q : A → Type 0) → ((x : A) → P x → Q x) → (xs : List A) → Among P R xs → Each Q xs
+  Each-from_among Q f [] a = tt
+  Each-from_among Q f (x ∷ xs) a = (f x a.0, Each-from_among Q f xs a.2)
+
+  Among-weaker : (S : A → A → Type 0) → ((x y : A) → R x y → S x y) → (xs : List A) → Among P R xs → Among P S xs
+  Among-weaker S f [] a = tt
+  Among-weaker S f (x ∷ xs) a = (a.0, go xs a.1, Among-weaker S f xs a.2) where
+    go : (ys : List A) → Each (R x) ys → Each (S x) ys
+    go [] e = tt
+    go (y ∷ ys) e = (f x y e.0, go ys e.1)
+
+ones : {X : Type 0} (xs : List X) → sum_by (λ _. 1) xs ≡ length xs
+ones {X} [] = refl
+ones {X} (x ∷ xs) = sum_by-cons (λ (_ : X). 1) x xs ∙ (let ih = ones xs in omega arith)
+
+two_clients : (a b k : ℕ) → a ≢ b → ((a == k) && (b == k)) ≡ false
+two_clients a b k ne = grind (arith, nat_tests)
+
+eqb_turn : (a b : ℕ) → (a == b) ≡ (b == a)
+eqb_turn a b = grind (arith, nat_tests)
+
+one_client : (c n : ℕ) → c < n → upto (λ k. cond (c == k) 1 0) n ≡ 1
+one_client c n lt = upto-same (λ k. cond (c == k) 1 0) (λ k. cond (k == c) 1 0) n (λ k l. ap (λ (b : Bool). cond b 1 0) (eqb_turn c k)) ∙ upto-one c n lt
+
+module _ {K V F : Type 0} (code : K → ℕ) (id : LedgerId) (t : TermsView K V) (words : List ℕ) where
+  pub IsPassOf-sound : (p : PassView K V F) → IsSound code t words (pass_book p) → IsPassOf (ledger_of id t) p
+  IsPassOf-sound p s = record { client = s.0; numbered = s.1; at_most = s.2 }
+
+  pub IsRoleOf-sound : (r : RoleView K V F) → IsSound code t words (role_book r) → IsRoleOf code (ledger_of id t) r
+  IsRoleOf-sound r s = record { salt = s.0; opening = s.1; clients = s.2 }
+
+  agree : (rs : List (RoleView K V F)) (ps : List (PassView K V F)) → Across (AreTogether code) (map role_book rs) (map pass_book ps) → Each (λ r. All (λ p. BooksAgree code p r) ps) rs
+  agree [] ps x = tt
+  agree (r ∷ rs) ps x = (All-from_recursion (λ p. BooksAgree code p r) ps (Each-of_map pass_book (AreTogether code (role_book r)) ps x.0), agree rs ps x.1)
+
+  pub AllAgree-settled : (ps : List (PassView K V F)) (rs : List (RoleView K V F)) → t.clients ≤ length ps → AreWide (classes_of rs) → Among (IsSound code t words) (AreTogether code) (map role_book rs ++ map pass_book ps) → AllAgree code (ledger_of id t) ps rs
+  AllAgree-settled ps rs enough wide a =
+      let P = IsSound code t words in
+      let R = AreTogether code in
+      let passes = Among-of_map pass_book P R ps (Among-right P R (map role_book rs) (map pass_book ps) a) in
+      let roles = Among-of_map role_book P R rs (Among-left P R (map role_book rs) (map pass_book ps) a) in
+      let apart = Among-weaker (λ p. P (pass_book p)) (λ p q. R (pass_book p) (pass_book q)) (λ p q. (k : ℕ) → ((p.client == k) && (q.client == k)) ≡ false) (λ p q ne k. two_clients p.client q.client k ne) ps passes in
+      record {
+        each_pass = All-from_recursion (IsPassOf (ledger_of id t)) ps (Each-from_among (λ p. P (pass_book p)) (λ p q. R (pass_book p) (pass_book q)) (IsPassOf (ledger_of id t)) IsPassOf-sound ps passes);
+        each_client = hit_once (λ p k. p.client == k) (λ p. P (pass_book p)) (λ _. 1) t.clients ps apart (All-from_recursion (λ p. upto (λ k. cond (p.client == k) 1 0) t.clients ≡ 1) ps (Each-from_among (λ p. P (pass_book p)) (λ p q. R (pass_book p) (pass_book q)) (λ p. upto (λ k. cond (p.client == k) 1 0) t.clients ≡ 1) (λ p s. one_client p.client t.clients s.0) ps passes)) (let n = ones ps in omega arith);
+        each_role = All-from_recursion (IsRoleOf code (ledger_of id t)) rs (Each-from_among (λ r. P (role_book r)) (λ r s. R (role_book r) (role_book s)) (IsRoleOf code (ledger_of id t)) IsRoleOf-sound rs roles);
+        each_hash = CoverOnce-wide (λ _. Unit {0}) (classes_of rs) wide (Among-map (λ r. r.class) (λ r. P (role_book r)) AreApart rs roles);
+        agree = All-from_recursion (λ r. All (λ p. BooksAgree code p r) ps) rs (agree rs ps (Across-from_among P R (map role_book rs) (map pass_book ps) a));
+      }

@@ -1,0 +1,37 @@
+-- The books of passes and roles, and when they agree.
+use Rattle.std.specs.Prelude.{◌≡◌, ℕ, ◌+◌, ◌<◌, ◌≤◌, Bool, List, [], ◌∷◌, length, map, All}
+use Rattle.hashkeys.specs.Classes.{ClassView, is_of}
+use Rattle.bin_history.specs.Clients.{by_client}
+use Rattle.bin_history.specs.Part.{part_of_entries, part_of_records}
+use Rattle.bin_history.specs.declared.call.Record.{Record}
+use Rattle.count_ledger.specs.Views.{LedgerView, PassView, RoleView}
+
+module _ {K V F : Type 0} where
+  -- calls of one client, whose ordinals count up from `first`
+  abbrev pub AreNumbered : ℕ → ℕ → List (Record K V F) → Type 0
+  AreNumbered client first [] = Unit {0}
+  AreNumbered client first (r ∷ rs) = (r.client ≡ client) × (r.ordinal ≡ first) × AreNumbered client (first + 1) rs
+
+  -- of the records kept, those of the client are, in order, what it made on the keys that pass
+  abbrev pub AgreeOn : (K → Bool) → ℕ → List (Record K V F) → List (Record K V F) → Type 0
+  AgreeOn passes client made kept = by_client client kept ≡ part_of_records passes made
+
+  -- the books of a pass and of a role agree: the role keeps, in order, just those of the client's calls that are on keys of its class
+  abbrev pub BooksAgree : (K → ℕ) → PassView K V F → RoleView K V F → Type 0
+  BooksAgree code p r = AgreeOn (is_of code r.salt r.class) p.client p.made r.kept
+
+  -- what a ledger's rule says of a pass by itself
+  pub record IsPassOf (ledger : LedgerView K V) (p : PassView K V F) : Type 0 where
+    pub client : p.client < ledger.clients
+    pub numbered : AreNumbered p.client 0 p.made
+    pub at_most : length p.made ≤ 1000000
+
+  -- what a ledger's rule says of a role by itself
+  pub record IsRoleOf (code : K → ℕ) (ledger : LedgerView K V) (r : RoleView K V F) : Type 0 where
+    pub salt : r.salt ≡ ledger.salt
+    pub opening : r.opening ≡ part_of_entries (is_of code r.salt r.class) ledger.opening
+    pub clients : All (λ x. x.client < ledger.clients) r.kept
+
+  -- the classes of roles
+  abbrev pub classes_of : List (RoleView K V F) → List ClassView
+  classes_of roles = map (λ r. r.class) roles

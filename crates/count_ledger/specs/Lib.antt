@@ -1,0 +1,11 @@
+pub mod Views
+pub mod Names
+pub mod Terms
+pub mod Words
+pub mod Books
+pub mod Opening
+pub mod Settled
+pub mod Agreement
+pub mod Rule
+pub mod Steps
+pub mod Tokens

@@ -1,0 +1,71 @@
+-- The rule of a ledger's table: the books agree, and each client's word is the sum of its deltas.
+use Rattle.std.specs.Prelude.{◌≡◌, ◌≢◌, ℕ, ◌*◌, ◌<◌, ◌≤◌, List, [], ◌∷◌, ◌++◌, length, map, slice_index, All}
+use Rattle.std.specs.List.{AllByRecursion, range_with_len}
+use mathlib.Core.Option.{some}
+use lib.ListN.{get_elem?}
+use Rattle.atomic_table.specs.Table.{State}
+use Rattle.hashkeys.specs.Classes.{AreApart, is_of}
+use Rattle.bin_history.specs.Deltas.{sum_of_deltas}
+use Rattle.bin_history.specs.Part.{part_of_entries}
+use Rattle.count_ledger.specs.declared.books.Book.{Book}
+use Rattle.count_ledger.specs.declared.books.Book.TheVariants.{Pass, Role}
+use Rattle.count_ledger.specs.Terms.{TermsView, opening_of}
+use Rattle.count_ledger.specs.Views.{LedgerId, LedgerView}
+use Rattle.count_ledger.specs.Words.{word_of}
+use Rattle.count_ledger.specs.Books.{AreNumbered, AgreeOn}
+use Rattle.count_ledger.specs.Opening.{class_at, base_at}
+
+module _ {A : Type 0} (P : A → Type 0) (R : A → A → Type 0) where
+  -- P holds of each, and R of each and those after it
+  abbrev pub Among : List A → Type 0
+  Among [] = Unit {0}
+  Among (x ∷ xs) = P x × AllByRecursion (R x) xs × Among xs
+
+-- R holds of each of the one list and each of the other
+abbrev pub Across : {A : Type 0} → (A → A → Type 0) → List A → List A → Type 0
+Across R xs ys = AllByRecursion (λ x. AllByRecursion (R x) ys) xs
+
+-- the same of the books of all seats: P holds of each book, and R of each two, of one seat or of two
+pub record AmongSeats {A : Type 0} (P : A → Type 0) (R : A → A → Type 0) (seats : List (List A)) : Type 0 where
+  pub within : (i : ℕ) (v : List A) → get_elem? seats i ≡ some v → Among P R v
+  pub across : (i j : ℕ) (v w : List A) → i ≢ j → get_elem? seats i ≡ some v → get_elem? seats j ≡ some w → Across R v w
+
+module _ {K V F : Type 0} where
+  module _ (code : K → ℕ) where
+    -- of one book, where the count words are these
+    abbrev pub IsSound : TermsView K V → List ℕ → Book K V F → Type 0
+    IsSound t words (Pass c made) = (c < t.clients) × AreNumbered c 0 made × (length made ≤ 1000000) × (slice_index words (8 * c) ≡ word_of (sum_of_deltas made))
+    IsSound t words (Role salt class pairs kept) = (salt ≡ t.salt) × (pairs ≡ part_of_entries (is_of code salt class) (opening_of t)) × All (λ r. r.client < t.clients) kept
+
+    -- of two books: two passes have two clients, two roles have no hash in common, and a pass and a role agree
+    abbrev pub AreTogether : Book K V F → Book K V F → Type 0
+    AreTogether (Pass c made) (Pass d _) = c ≢ d
+    AreTogether (Pass c made) (Role salt class pairs kept) = AgreeOn (is_of code salt class) c made kept
+    AreTogether (Role salt class pairs kept) (Pass c made) = AgreeOn (is_of code salt class) c made kept
+    AreTogether (Role _ class _ _) (Role _ other _ _) = AreApart class other
+
+    -- the rule, over the words and what each seat knows
+    pub record Holds (t : TermsView K V) (s : State (Unit {0}) (List (Book K V F))) : Type 0 where
+      pub sized : length s.words ≡ 8 * t.clients
+      pub books : AmongSeats (IsSound t s.words) AreTogether s.views
+
+  -- the books of a new ledger
+  abbrev pub new_pass_book : ℕ → Book K V F
+  new_pass_book client = Pass client []
+
+  abbrev pub new_role_book : TermsView K V → ℕ → Book K V F
+  new_role_book t i = Role t.salt (class_at t.bases i) (base_at t.bases i) []
+
+  abbrev pub first_books : TermsView K V → List (Book K V F)
+  first_books t = map new_pass_book (range_with_len 0 t.clients) ++ map (new_role_book t) (range_with_len 0 (length t.bases))
+
+-- a ledger, by its table's identity and what it was told
+abbrev pub ledger_of : {K V : Type 0} → LedgerId → TermsView K V → LedgerView K V
+ledger_of id t = record { id = id; salt = t.salt; clients = t.clients; opening = opening_of t }
+
+-- what each ledger keeps
+pub record IsLedger {K V : Type 0} (id : LedgerId) (t : TermsView K V) (clients : ℕ) : Type 0 where
+  pub words : id.words ≡ 8 * clients
+  pub clients_are : t.clients ≡ clients
+  pub some : 0 < clients
+  pub at_most : clients ≤ 32

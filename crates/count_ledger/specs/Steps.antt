@@ -1,0 +1,60 @@
+-- How the steps of a ledger change what a seat knows, and what they tell.
+use Rattle.std.specs.Prelude.{◌≡◌, ℕ, Option, Some, None, List, [], ◌∷◌, ◌++◌, map, slice_index, slice_set}
+use mathlib.Core.Option.{some}
+use lib.ListN.{get_elem?}
+use Rattle.atomic_table.specs.Table.{State, Step, Me}
+use Rattle.hashkeys.specs.Classes.{ClassView, low_half, high_half, is_of}
+use Rattle.hashkeys.specs.declared.hashing.Salt.{Salt}
+use Rattle.bin_history.specs.Part.{part_of_entries, part_of_records}
+use Rattle.bin_history.specs.declared.call.Record.{Record}
+use Rattle.count_ledger.specs.declared.books.Book.{Book}
+use Rattle.count_ledger.specs.declared.books.Book.TheVariants.{Pass, Role}
+use Rattle.count_ledger.specs.Terms.{TermsView}
+use Rattle.count_ledger.specs.Rule.{Among, IsSound, AreTogether}
+
+-- the first of a list, alone, and the others
+abbrev pub first_of : {A : Type 0} → List A → List A
+first_of [] = []
+first_of (x ∷ xs) = x ∷ []
+
+abbrev pub rest_of : {A : Type 0} → List A → List A
+rest_of [] = []
+rest_of (x ∷ xs) = xs
+
+-- the one view of a seat that lies by as a badge
+abbrev pub view_of : {A : Type 0} → List (List A) → List A
+view_of [] = []
+view_of (v ∷ vs) = v
+
+module _ {K V F : Type 0} where
+  -- the book with one more record
+  abbrev pub with_record : Record K V F → Book K V F → Book K V F
+  with_record r (Pass c made) = Pass c (made ++ r ∷ [])
+  with_record r (Role salt class pairs kept) = Role salt class pairs (kept ++ r ∷ [])
+
+  abbrev pub posted : Record K V F → List (Book K V F) → List (Book K V F)
+  posted r books = map (with_record r) books
+
+  module _ (code : K → ℕ) where
+    -- the book of a half of a role's class
+    abbrev pub half_book : Salt → ClassView → List (K × V) → List (Record K V F) → Book K V F
+    half_book salt class pairs kept = Role salt class (part_of_entries (is_of code salt class) pairs) (part_of_records (is_of code salt class) kept)
+
+    abbrev pub divided : List (Book K V F) → List (Book K V F)
+    divided [] = []
+    divided (Pass c made ∷ books) = Pass c made ∷ books
+    divided (Role salt class pairs kept ∷ books) = half_book salt (low_half class) pairs kept ∷ half_book salt (high_half class) pairs kept ∷ books
+
+    -- a word was found, among some words with which the books are as the rule says
+    abbrev pub IsFound : Option (TermsView K V) → ℕ → ℕ → List (Book K V F) → Type 0
+    IsFound None word found books = Unit {0}
+    IsFound (Some t) word found books = (words : List ℕ) × (found ≡ slice_index words word) × Among (IsSound code t words) (AreTogether code) books
+
+    -- the seat's books change in this way, and the step tells what the rule said of them before
+    abbrev pub Tells : Option (TermsView K V) → (List (Book K V F) → List (Book K V F)) → Step (Unit {0}) → Me (Unit {0}) (List (Book K V F)) → ℕ → Me (Unit {0}) (List (Book K V F)) → Type 0
+    Tells terms change s m found m' = (m' ≡ (change m.0, m.1)) × IsFound terms s.word found m.0
+
+  -- whatever the table is, the word may become f of what it was while the seat's books become others
+  abbrev pub Keeps : (State (Unit {0}) (List (Book K V F)) → Type 0) → ℕ → List (Book K V F) → ℕ → (ℕ → ℕ) → List (Book K V F) → Type 0
+  Keeps holds id books word f others = (s : State (Unit {0}) (List (Book K V F))) → holds s → get_elem? s.views id ≡ some books
+      → holds record { words = slice_set s.words word (f (slice_index s.words word)); homes = s.homes; views = slice_set s.views id others }

@@ -1,0 +1,51 @@
+-- What passes and roles keep in their seats.
+use Rattle.std.specs.Prelude.{◌≡◌, ℕ, ◌*◌, ◌/◌, ◌<◌, ◌≤◌, List, [], ◌∷◌, length, sum_by, All}
+use Rattle.atomic_table.specs.Table.{Me}
+use Rattle.hashkeys.specs.Classes.{ClassView, IsClass}
+use Rattle.hashkeys.specs.declared.hashing.Salt.{Salt}
+use Rattle.bin_history.specs.declared.call.Record.{Record}
+use Rattle.count_ledger.specs.Views.{PassView, RoleView}
+use Rattle.count_ledger.specs.declared.books.Book.{Book}
+use Rattle.count_ledger.specs.declared.books.Book.TheVariants.{Pass, Role}
+
+module _ {K V F : Type 0} where
+  -- what the first book says was made
+  abbrev pub made_in : List (Book K V F) → List (Record K V F)
+  made_in (Pass c made ∷ _) = made
+  made_in _ = []
+
+  -- what the one book of a role says
+  abbrev pub salt_in : List (List (Book K V F)) → Salt
+  salt_in ((Role salt class opening kept ∷ _) ∷ _) = salt
+  salt_in _ = record { 0 = 0 }
+
+  abbrev pub opening_in : List (List (Book K V F)) → List (K × V)
+  opening_in ((Role salt class opening kept ∷ _) ∷ _) = opening
+  opening_in _ = []
+
+  abbrev pub kept_in : List (List (Book K V F)) → List (Record K V F)
+  kept_in ((Role salt class opening kept ∷ _) ∷ _) = kept
+  kept_in _ = []
+
+  -- a seat with the book of a client, who has a word and made so many calls
+  pub record IsPass (words client calls : ℕ) (me : Me (Unit {0}) (List (Book K V F))) : Type 0 where
+    pub word : 8 * client < words
+    pub book : me ≡ (Pass client (made_in me.0) ∷ [], [])
+    pub counted : calls ≡ length (made_in me.0)
+    pub at_most : calls ≤ 1000000
+
+  -- a badge with the book of a role of this class
+  abbrev pub IsRole : ClassView → List (List (Book K V F)) → Type 0
+  IsRole class views = views ≡ (Role (salt_in views) class (opening_in views) (kept_in views) ∷ []) ∷ []
+
+  -- the book of a pass, and that of a role
+  abbrev pub pass_book : PassView K V F → Book K V F
+  pass_book p = Pass p.client p.made
+
+  abbrev pub role_book : RoleView K V F → Book K V F
+  role_book r = Role r.salt r.class r.opening r.kept
+
+-- of 65,536 hashes side by side the classes have as many, each by itself
+pub record AreWide (classes : List ClassView) : Type 0 where
+  pub lawful : All IsClass classes
+  pub wide : 65536 ≤ sum_by (λ c. 65536 / c.n) classes

@@ -1,0 +1,28 @@
+-- A ledger, its passes and its roles, as contracts see them.
+use Rattle.std.specs.Prelude.{ℕ, List}
+use Rattle.hashkeys.specs.Classes.{ClassView}
+use Rattle.hashkeys.specs.declared.hashing.Salt.{Salt}
+use Rattle.bin_history.specs.declared.call.Record.{Record}
+-- which ledger it is: no two have one identity
+pub use Rattle.atomic_table.specs.Seated.{TableId as LedgerId}
+
+-- a ledger: the salt of its hashes, how many clients it has, and the pairs that its bins opened with
+pub record LedgerView (K V : Type 0) : Type 0 where
+  pub id : LedgerId
+  pub salt : Salt
+  pub clients : ℕ
+  pub opening : List (K × V)
+
+-- a pass: its client, and the calls that the client made
+pub record PassView (K V F : Type 0) : Type 0 where
+  pub ledger : LedgerId
+  pub client : ℕ
+  pub made : List (Record K V F)
+
+-- a role: its class, the opening pairs of that class, and the records of calls on its keys that were kept since
+pub record RoleView (K V F : Type 0) : Type 0 where
+  pub ledger : LedgerId
+  pub salt : Salt
+  pub class : ClassView
+  pub opening : List (K × V)
+  pub kept : List (Record K V F)

@@ -1,0 +1,56 @@
+//! What the seats of a ledger's table know, and the rule over all of it.
+use atomic_table::{Shared, TableRule};
+use bin_history::Record;
+use hashkeys::{Class, HashKey, Salt};
+use std::alloc::Allocator;
+use std::collections::LinkedList;
+use std::marker::Model;
+use std::snapshot::Snapshot;
+
+/// What one token knows. No value of it is made.
+pub(crate) enum Book<K, V, F> {
+    Pass {
+        client: u32,
+        made: LinkedList<Record<K, V, F>>,
+    },
+    Role {
+        salt: Salt,
+        class: Class,
+        opening: LinkedList<(K, V)>,
+        kept: LinkedList<Record<K, V, F>>,
+    },
+}
+
+/// What a seat knows: one book, or those that were joined.
+pub(crate) type View<K, V, F> = LinkedList<Book<K, V, F>>;
+
+/// What a ledger is told once, when it is made. Contracts see it as a `TermsView`.
+#[derive(Drop)]
+pub(crate) struct Terms<K, V, A: Allocator> {
+    pub(crate) salt: Salt,
+    pub(crate) clients: u32,
+    pub(crate) bases: Snapshot<Vec<Vec<(K, V), A>, A>>,
+}
+
+impl<K, V, A: Allocator> Model for Terms<K, V, A> {
+    ghost use Rattle.count_ledger.specs.Opening.{lists_of};
+    ghost use Rattle.count_ledger.specs.Terms.{TermsView};
+
+    ghost Value = { TermsView K V };
+
+    ghost view = { λ t. record { salt = t.salt; clients = t.clients; bases = lists_of t.bases.value } };
+}
+
+/// The books agree, and each client's word is the sum of its deltas.
+pub(crate) struct LedgerRule;
+
+impl<K: HashKey, V, F, A: Allocator> TableRule<(), View<K, V, F>, Terms<K, V, A>> for LedgerRule {
+    ghost use Rattle.count_ledger.specs.Rule.{Holds, first_books};
+
+    ghost holds = { Holds K.code };
+
+    ghost first = { first_books };
+}
+
+/// The table, as its users share it: eight words a client, of which client c uses word 8c.
+pub(crate) type Books<K, V, F, A> = Shared<(), View<K, V, F>, Terms<K, V, A>, LedgerRule>;

@@ -1,0 +1,75 @@
+//! Laws of agreement and of sums, as contracts. The functions do nothing when they run.
+ghost use Rattle.std.specs.Prelude.{◌≡◌, ℕ, ◌+◌, ◌%◌, ◌^◌, ◌<◌, ◌≤◌, ℤ, pos, ◌+ℤ◌, ◌≤ℤ◌, neg_ℤ, FitsSigned, List, [], ◌∷◌, ◌++◌, length, All};
+ghost use Rattle.std.specs.Int.{w64, cast_signed};
+ghost use Rattle.hashkeys.specs.Classes.{ClassView};
+ghost use Rattle.bin_history.specs.BinPart.{IsPartOf};
+ghost use Rattle.bin_history.specs.Calls.{after};
+ghost use Rattle.bin_history.specs.Deltas.{sum_of_deltas};
+ghost use Rattle.bin_history.specs.Entries.{lookup, HasDistinctKeys, replay};
+ghost use Rattle.bin_history.specs.Lawful.{BinView, IsLawful};
+ghost use Rattle.bin_history.specs.Plain.{IsLegal};
+ghost use Rattle.bin_history.specs.Readiness.{KeepsOrFolds};
+ghost use Rattle.bin_history.specs.declared.call.Record.{Record};
+ghost use Rattle.count_ledger.specs.Agreement.{Agree, part_of_role};
+ghost use Rattle.count_ledger.specs.Books.{IsPassOf};
+ghost use Rattle.count_ledger.specs.Settled.{AllAgree};
+ghost use Rattle.count_ledger.specs.Views.{LedgerView, PassView, RoleView};
+ghost use Rattle.count_ledger.specs.Words.{word_of, total_of, total_made, total_kept};
+
+use bin_history::Remap;
+use hashkeys::HashKey;
+
+/// A bin and its role agree when both are new, and go on agreeing when both get a record, when the bin's
+/// records are folded, and when bin and role divide. What the role kept is then legal on its opening pairs, the
+/// bin's entries are their replay, and there are as many as opening pairs and deltas say.
+pub fn agreement_laws<K: HashKey, V: Eq, F: Remap<K, V>>()
+    ensures new { (b : BinView K V F) (r : RoleView K V F)
+        → b.class ≡ r.class → b.salt ≡ r.salt → HasDistinctKeys K.eq b.base → b.base ≡ r.opening → b.records ≡ [] → r.kept ≡ []
+        → Agree K.eq (after V.eq F.remapped F.merged) b r }
+    ensures posted { (b c : BinView K V F) (r s : RoleView K V F) (x : Record K V F)
+        → Agree K.eq (after V.eq F.remapped F.merged) b r
+        → c.class ≡ b.class → c.salt ≡ b.salt → c.base ≡ b.base → c.records ≡ b.records ++ x ∷ []
+        → s ≡ record r { kept = r.kept ++ x ∷ [] }
+        → Agree K.eq (after V.eq F.remapped F.merged) c s }
+    ensures prepared { (b c : BinView K V F) (r : RoleView K V F)
+        → Agree K.eq (after V.eq F.remapped F.merged) b r
+        → IsLawful K.eq K.code (after V.eq F.remapped F.merged) b
+        → c.class ≡ b.class → c.salt ≡ b.salt → KeepsOrFolds K.eq b c
+        → Agree K.eq (after V.eq F.remapped F.merged) c r }
+    ensures divided { (b c : BinView K V F) (r s : RoleView K V F) (half : ClassView → ClassView)
+        → Agree K.eq (after V.eq F.remapped F.merged) b r
+        → c.class ≡ half b.class → IsPartOf K.code b c → s ≡ part_of_role K.code (half r.class) r
+        → Agree K.eq (after V.eq F.remapped F.merged) c s }
+    ensures replay { (b : BinView K V F) (r : RoleView K V F)
+        → Agree K.eq (after V.eq F.remapped F.merged) b r
+        → IsLawful K.eq K.code (after V.eq F.remapped F.merged) b
+        → b.entries ≡ replay K.eq b.base b.records
+        → IsLegal K.eq (after V.eq F.remapped F.merged) (lookup K.eq r.opening) r.kept × (b.entries ≡ replay K.eq r.opening r.kept) }
+    ensures count { (b : BinView K V F) (r : RoleView K V F)
+        → Agree K.eq (after V.eq F.remapped F.merged) b r
+        → IsLawful K.eq K.code (after V.eq F.remapped F.merged) b
+        → b.entries ≡ replay K.eq b.base b.records
+        → pos (length b.entries) ≡ pos (length r.opening) +ℤ sum_of_deltas r.kept }
+{}
+
+/// Once all books are back, what all clients made and what all roles keep have one sum of deltas; and the
+/// opening pairs of the ledger are those of its roles.
+pub fn totals_of_all<K: HashKey, V, F>()
+    ensures deltas { (ledger : LedgerView K V) (passes : List (PassView K V F)) (roles : List (RoleView K V F))
+        → AllAgree K.code ledger passes roles
+        → total_made passes ≡ total_kept roles }
+    ensures count { (ledger : LedgerView K V) (passes : List (PassView K V F)) (roles : List (RoleView K V F))
+        → AllAgree K.code ledger passes roles
+        → pos (length ledger.opening) +ℤ total_made passes ≡ total_of (λ r. pos (length r.opening) +ℤ sum_of_deltas r.kept) roles }
+{}
+
+/// Words of sums add modulo 2^64, and a signed number of 64 bits can be read back from its word. What at
+/// most 32 clients made changes the number of keys by at most 32,000,000.
+pub fn words_of_sums<K: HashKey, V, F>()
+    ensures add { (a b : ℤ) → word_of (a +ℤ b) ≡ (word_of a + word_of b) % 2 ^ 64 }
+    ensures natural { (n : ℕ) → n < 2 ^ 64 → word_of (pos n) ≡ n }
+    ensures signed { (z : ℤ) → FitsSigned w64 z → cast_signed w64 (word_of z) ≡ z }
+    ensures bounds { (ledger : LedgerView K V) (passes : List (PassView K V F))
+        → All (IsPassOf ledger) passes → length passes ≤ 32
+        → (neg_ℤ (pos 32000000) ≤ℤ total_made passes) × (total_made passes ≤ℤ pos 32000000) }
+{}

@@ -1,0 +1,22 @@
+//! The books of a map: what each client made, what the role of each class of keys keeps, and a count
+//! word for each client. A rule ties them together, and holds between any two atomic steps.
+#![tactic(auto)]
+
+mod books;
+mod dealing;
+mod laws;
+mod ledger;
+mod name;
+mod seats;
+mod settling;
+mod steps;
+mod sums;
+#[cfg(test)]
+mod tests;
+mod tokens;
+
+pub use laws::{agreement_laws, totals_of_all, words_of_sums};
+pub use ledger::{Ledger, MOST_CALLS, MOST_CLIENTS};
+pub use name::LedgerName;
+pub use settling::Unsettled;
+pub use tokens::{BinRole, Pass};

@@ -1,0 +1,84 @@
+//! The steps of a ledger, on its seats.
+ghost use Rattle.std.specs.Prelude.{◌≡◌, ℕ, ◌+◌, ◌%◌, ◌^◌, ◌<◌, Some, List, [], ◌∷◌, ◌++◌, slice_index};
+ghost use Rattle.count_ledger.specs.Rule.{Holds, Among, IsSound, AreTogether};
+ghost use Rattle.count_ledger.specs.Steps.{Keeps, posted, first_of, rest_of, view_of};
+ghost use Rattle.count_ledger.specs.Words.{word_of};
+ghost use Rattle.bin_history.specs.Deltas.{delta};
+
+use crate::books::{Books, View};
+use crate::steps::{KeepFirst, Tells, Together, Told};
+use atomic_table::{Badge, Seat};
+use bin_history::Record;
+use hashkeys::HashKey;
+use std::alloc::Allocator;
+use std::mem;
+
+/// Reads a word, and tells what the rule says of the seat's books. They may change with it.
+pub(crate) fn look<K: HashKey, V, F, A: Allocator, T: Told<K, V, F>>(
+    shared: &Books<K, V, F, A>,
+    seat: &mut Seat<(), View<K, V, F>>,
+    word: usize,
+) -> u64
+    requires terms { T.terms ≡ Some shared.now.key }
+    requires seat { seat.old.table_id ≡ shared.now.table_id }
+    requires word { word < shared.now.table_id.words }
+    requires rule { Keeps (Holds K.code shared.now.key) seat.old.id seat.old.me.0 word (λ n. n) (T.change seat.old.me.0) }
+    ensures seat { seat.new.table_id ≡ seat.old.table_id }
+    ensures books { seat.new.me ≡ (T.change seat.old.me.0, seat.old.me.1) }
+    ensures told { (words : List ℕ) × (result ≡ slice_index words word) × Among (IsSound K.code shared.now.key words) (AreTogether K.code) seat.old.me.0 }
+{
+    shared.load::<Tells<T>>(seat, word)
+}
+
+/// Adds the delta of a call to a word while the seat's books get its record, and tells what the rule said of
+/// them before.
+pub(crate) fn add_delta<K: HashKey, V, F, A: Allocator, T: Told<K, V, F>>(
+    shared: &Books<K, V, F, A>,
+    seat: &mut Seat<(), View<K, V, F>>,
+    word: usize,
+    entry: &Record<K, V, F>,
+)
+    requires terms { T.terms ≡ Some shared.now.key }
+    requires change { T.change ≡ posted entry.now }
+    requires seat { seat.old.table_id ≡ shared.now.table_id }
+    requires word { word < shared.now.table_id.words }
+    requires rule { Keeps (Holds K.code shared.now.key) seat.old.id seat.old.me.0 word (λ n. (n + word_of (delta entry.now)) % 2 ^ 64) (posted entry.now seat.old.me.0) }
+    ensures seat { seat.new.table_id ≡ seat.old.table_id }
+    ensures books { seat.new.me ≡ (posted entry.now seat.old.me.0, seat.old.me.1) }
+    ensures told { (words : List ℕ) × Among (IsSound K.code shared.now.key words) (AreTogether K.code) seat.old.me.0 }
+{
+    shared.fetch_add::<Tells<T>>(seat, word, entry.delta().cast_unsigned());
+}
+
+/// Puts the badge's books behind the seat's, and leaves the badge blank.
+pub(crate) fn join<K: HashKey, V, F, A: Allocator>(
+    shared: &Books<K, V, F, A>,
+    seat: &mut Seat<(), View<K, V, F>>,
+    badge: &mut Badge<View<K, V, F>>,
+)
+    requires seat { seat.old.table_id ≡ shared.now.table_id }
+    requires badge { badge.old.table_id ≡ shared.now.table_id }
+    requires words { 0 < shared.now.table_id.words }
+    requires view { badge.old.views ≡ view_of badge.old.views ∷ [] }
+    ensures seat { seat.new.table_id ≡ seat.old.table_id }
+    ensures books { seat.new.me ≡ (seat.old.me.0 ++ view_of badge.old.views, seat.old.me.1) }
+{
+    let other = mem::replace(badge, Badge::blank());
+    shared.join_seat::<Together>(seat, other.into_seat());
+}
+
+/// Leaves the seat its first book, and gives the others to the badge.
+pub(crate) fn part<K: HashKey, V, F, A: Allocator>(
+    shared: &Books<K, V, F, A>,
+    seat: &mut Seat<(), View<K, V, F>>,
+    badge: &mut Badge<View<K, V, F>>,
+)
+    requires seat { seat.old.table_id ≡ shared.now.table_id }
+    requires words { 0 < shared.now.table_id.words }
+    ensures seat { seat.new.table_id ≡ seat.old.table_id }
+    ensures books { seat.new.me ≡ (first_of seat.old.me.0, seat.old.me.1) }
+    ensures badge { badge.new.table_id ≡ seat.old.table_id }
+    ensures others { badge.new.views ≡ rest_of seat.old.me.0 ∷ [] }
+{
+    *badge = shared.split_seat::<KeepFirst>(seat).into_badge();
+}

@@ -1,0 +1,165 @@
+//! The end of a ledger: all its books come together.
+ghost use Rattle.std.specs.Prelude.{◌≡◌, ◌*◌, ◌++◌, ◌∷◌, ◌<◌, ◌≤◌, ◌⊎◌, [], length, map, All, IfOk, IfErr, MatchBool};
+ghost use Rattle.hashkeys.specs.Classes.{CoverAll};
+ghost use Rattle.count_ledger.specs.Books.{classes_of};
+ghost use Rattle.count_ledger.specs.Rule.{ledger_of};
+ghost use Rattle.count_ledger.specs.Settled.{AllAgree};
+ghost use Rattle.count_ledger.specs.Steps.{view_of};
+ghost use Rattle.count_ledger.specs.Tokens.{pass_book, role_book, AreWide};
+ghost use Rattle.count_ledger.specs.Words.{word_of, total_made};
+
+use crate::books::{Books, View};
+use crate::ledger::Ledger;
+use crate::seats::{join, look};
+use crate::tokens::{BinRole, Pass};
+use atomic_table::{Badge, Seat};
+use hashkeys::HashKey;
+use std::alloc::Allocator;
+use std::marker::Brand;
+
+/// How many hashes stand side by side before each class meets its first one again.
+const ROUND: u32 = 65536;
+
+/// Whether the classes are so wide that, having no hash in common, they leave none out.
+fn are_wide<K, V, F>(roles: &[BinRole<K, V, F>]) -> bool
+    ensures { MatchBool result (AreWide (classes_of roles.now)) (CoverAll (classes_of roles.now) → ⊥) }
+{
+    let mut left = ROUND;
+    for role in roles {
+        left = left.saturating_sub(ROUND / role.class().n());
+    }
+    left == 0
+}
+
+/// Puts the seat's books before the others.
+fn gather<K: HashKey, V, F, A: Allocator>(
+    shared: &Books<K, V, F, A>,
+    all: &mut Badge<View<K, V, F>>,
+    mut seat: Seat<(), View<K, V, F>>,
+)
+    requires table { all.old.table_id ≡ shared.now.table_id }
+    requires seat { seat.table_id ≡ shared.now.table_id }
+    requires words { 0 < shared.now.table_id.words }
+    requires view { all.old.views ≡ view_of all.old.views ∷ [] }
+    requires slots { seat.me.1 ≡ [] }
+    ensures table { all.new.table_id ≡ shared.now.table_id }
+    ensures view { all.new.views ≡ (seat.me.0 ++ view_of all.old.views) ∷ [] }
+{
+    join(shared, &mut seat, all);
+    *all = seat.into_badge();
+}
+
+fn gather_passes<K: HashKey, V, F, A: Allocator>(
+    shared: &Books<K, V, F, A>,
+    all: &mut Badge<View<K, V, F>>,
+    mut passes: Vec<Pass<K, V, F>, A>,
+)
+    requires table { all.old.table_id ≡ shared.now.table_id }
+    requires own { All (λ p. p.ledger ≡ shared.now.table_id) passes.items }
+    requires words { 0 < shared.now.table_id.words }
+    requires view { all.old.views ≡ view_of all.old.views ∷ [] }
+    ensures table { all.new.table_id ≡ shared.now.table_id }
+    ensures view { all.new.views ≡ (map pass_book passes.items ++ view_of all.old.views) ∷ [] }
+{
+    while let Some(pass) = passes.pop() {
+        gather(shared, all, pass.into_seat());
+    }
+    passes.destroy_empty();
+}
+
+fn gather_roles<K: HashKey, V, F, A: Allocator>(
+    shared: &Books<K, V, F, A>,
+    all: &mut Badge<View<K, V, F>>,
+    mut roles: Vec<BinRole<K, V, F>, A>,
+)
+    requires table { all.old.table_id ≡ shared.now.table_id }
+    requires own { All (λ r. r.ledger ≡ shared.now.table_id) roles.items }
+    requires words { 0 < shared.now.table_id.words }
+    requires view { all.old.views ≡ view_of all.old.views ∷ [] }
+    ensures table { all.new.table_id ≡ shared.now.table_id }
+    ensures view { all.new.views ≡ (map role_book roles.items ++ view_of all.old.views) ∷ [] }
+{
+    while let Some(role) = roles.pop() {
+        gather(shared, all, role.into_seat());
+    }
+    roles.destroy_empty();
+}
+
+/// Puts all books into one seat, and learns there that they agree.
+fn gather_all<K: HashKey, V, F, A: Allocator>(
+    shared: &Books<K, V, F, A>,
+    mut passes: Vec<Pass<K, V, F>, A>,
+    roles: Vec<BinRole<K, V, F>, A>,
+)
+    requires words { 0 < shared.now.table_id.words }
+    requires some { 0 < length passes.items }
+    requires enough { shared.now.key.clients ≤ length passes.items }
+    requires passes { All (λ p. p.ledger ≡ shared.now.table_id) passes.items }
+    requires roles { All (λ r. r.ledger ≡ shared.now.table_id) roles.items }
+    requires wide { AreWide (classes_of roles.items) }
+    ensures { AllAgree K.code (ledger_of shared.now.table_id shared.now.key) passes.items roles.items }
+{
+    let Some(last) = passes.pop() else {
+        unreachable!()
+    };
+    let mut all = last.into_seat().into_badge();
+    gather_passes(shared, &mut all, passes);
+    gather_roles(shared, &mut all, roles);
+    let mut seat = all.into_seat();
+    look::<K, V, F, A, Brand>(shared, &mut seat, 0);
+    drop(seat);
+}
+
+/// The ledger with the passes and roles that it could not be settled with, as they were handed in.
+pub struct Unsettled<K: HashKey, V, F, A: Allocator> {
+    pub ledger: Ledger<K, V, F, A>,
+    pub passes: Vec<Pass<K, V, F>, A>,
+    pub roles: Vec<BinRole<K, V, F>, A>,
+}
+
+impl<K: HashKey, V, F, A: Allocator> Ledger<K, V, F, A> {
+    /// Ends the ledger, and gives the sum of all deltas as a 64-bit two's complement number. Where there are
+    /// fewer passes than clients, or the classes of the roles leave a hash out, it hands everything back.
+    pub fn settle(
+        self,
+        mut passes: Vec<Pass<K, V, F>, A>,
+        roles: Vec<BinRole<K, V, F>, A>,
+    ) -> Result<u64, Unsettled<K, V, F, A>>
+        requires passes { All (λ p. p.ledger ≡ self.id) passes.items }
+        requires roles { All (λ r. r.ledger ≡ self.id) roles.items }
+        ensures sum { IfOk result (λ n. n ≡ word_of (total_made passes.items)) }
+        ensures agree { IfOk result (λ _. AllAgree K.code self passes.items roles.items) }
+        ensures enough { IfOk result (λ _. self.clients ≤ length passes.items) }
+        ensures cover { IfOk result (λ _. CoverAll (classes_of roles.items)) }
+        ensures refused { IfErr result (λ _. (length passes.items < self.clients) ⊎ (CoverAll (classes_of roles.items) → ⊥)) }
+        ensures ledger { IfErr result (λ u. u.ledger ≡ self) }
+        ensures passes { IfErr result (λ u. u.passes ≡ passes) }
+        ensures roles { IfErr result (λ u. u.roles ≡ roles) }
+    {
+        if !self.has_all(passes.as_slice(), roles.as_slice()) {
+            return Err(Unsettled {
+                ledger: self,
+                passes,
+                roles,
+            });
+        }
+        let total = self.add_shares(passes.as_mut_slice());
+        let Ledger { table, clients: _ } = self;
+        gather_all(&table.shared, passes, roles);
+        drop(table);
+        Ok(total)
+    }
+
+    /// Whether there are as many passes as clients, and roles for all hashes.
+    fn has_all(&self, passes: &[Pass<K, V, F>], roles: &[BinRole<K, V, F>]) -> bool
+        ensures { MatchBool result
+            ((self.now.clients ≤ length passes.now) × AreWide (classes_of roles.now))
+            ((length passes.now < self.now.clients) ⊎ (CoverAll (classes_of roles.now) → ⊥)) }
+    {
+        if passes.len() < self.clients as usize {
+            false
+        } else {
+            are_wide(roles)
+        }
+    }
+}

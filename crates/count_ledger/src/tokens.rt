@@ -1,0 +1,100 @@
+//! Passes and roles.
+ghost use Rattle.std.specs.Prelude.{◌≡◌, ◌≤◌, [], ◌∷◌, length};
+
+use crate::books::View;
+use atomic_table::{Badge, Seat};
+use hashkeys::Class;
+use std::marker::Model;
+
+/// The right of one client to make calls, and what it made. It cannot be dropped: it ends by
+/// `Ledger::settle` or by `retire`.
+pub struct Pass<K, V, F> {
+    pub(crate) client: u32,
+    pub(crate) made: u64,
+    pub(crate) seat: Seat<(), View<K, V, F>>,
+}
+
+impl<K, V, F> Model for Pass<K, V, F> {
+    ghost use Rattle.count_ledger.specs.Views.{PassView};
+    ghost use Rattle.count_ledger.specs.Tokens.{IsPass, made_in};
+
+    ghost Value = { PassView K V F };
+
+    ghost view = { λ p. record { ledger = p.seat.table_id; client = p.client; made = made_in p.seat.me.0 } };
+
+    ghost invariant = { λ p. IsPass p.seat.table_id.words p.client p.made p.seat.me };
+}
+
+/// The right to keep the records of one class of keys, and what was kept. It cannot be copied, and a
+/// ledger without one of its roles is never settled.
+#[derive(Drop)]
+pub struct BinRole<K, V, F> {
+    pub(crate) class: Class,
+    pub(crate) badge: Badge<View<K, V, F>>,
+}
+
+impl<K, V, F> Model for BinRole<K, V, F> {
+    ghost use Rattle.count_ledger.specs.Views.{RoleView};
+    ghost use Rattle.count_ledger.specs.Tokens.{IsRole, salt_in, opening_in, kept_in};
+
+    ghost Value = { RoleView K V F };
+
+    ghost view = { λ r. record { ledger = r.badge.table_id; salt = salt_in r.badge.views; class = r.class; opening = opening_in r.badge.views; kept = kept_in r.badge.views } };
+
+    ghost invariant = { λ r. IsRole r.class r.badge.views };
+}
+
+impl<K, V, F> Pass<K, V, F> {
+    ghost use Rattle.count_ledger.specs.Tokens.{pass_book};
+
+    /// The client's number.
+    pub fn client(&self) -> u32
+        ensures { result ≡ self.now.client }
+    {
+        self.client
+    }
+
+    /// How many calls the client made: at most 1,000,000.
+    pub fn made(&self) -> u64
+        ensures value { result ≡ length self.now.made }
+        ensures at_most { result ≤ 1000000 }
+    {
+        self.made
+    }
+
+    /// Ends the pass. The ledger can then never be settled.
+    pub fn retire(self) {
+        drop(self.into_seat());
+    }
+
+    pub(crate) fn into_seat(self) -> Seat<(), View<K, V, F>>
+        ensures table { result.table_id ≡ self.ledger }
+        ensures book { result.me ≡ (pass_book self ∷ [], []) }
+    {
+        let Pass {
+            client: _,
+            made: _,
+            seat,
+        } = self;
+        seat
+    }
+}
+
+impl<K, V, F> BinRole<K, V, F> {
+    ghost use Rattle.count_ledger.specs.Tokens.{role_book};
+
+    /// The class of the keys.
+    pub fn class(&self) -> Class
+        ensures { result ≡ self.now.class }
+    {
+        self.class
+    }
+
+    pub(crate) fn into_seat(self) -> Seat<(), View<K, V, F>>
+        ensures table { result.table_id ≡ self.ledger }
+        ensures book { result.me ≡ (role_book self ∷ [], []) }
+    {
+        let BinRole { class: _, badge } = self;
+        badge.into_seat()
+    }
+}
