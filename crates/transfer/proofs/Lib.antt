@@ -1,0 +1,5 @@
+pub mod Weights
+pub mod Tiles
+pub mod Known
+pub mod Moves
+pub mod Shared

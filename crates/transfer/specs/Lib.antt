@@ -1,0 +1,4 @@
+pub mod Ranges
+pub mod Books
+pub mod Steps
+pub mod Views
