@@ -2,6 +2,7 @@
 ghost use Rattle.std.specs.Prelude.{◌≡◌};
 
 use crate::call::{Call, Record, Remap, Reply};
+use crate::change::find;
 use crate::copies::copy_of_entries;
 use crate::fold::{FOLDED, fold_front};
 use crate::ready::{Ready, work_out};
@@ -46,11 +47,11 @@ impl<K: HashKey, V: Clone + Eq, F: Remap<K, V> + Clone, A: Allocator> Model for 
 }
 
 impl<K: HashKey, V: Clone + Eq, F: Remap<K, V> + Clone, A: Allocator + Clone> Bin<K, V, F, A> {
-    ghost use Rattle.std.specs.Prelude.{[], true, All, IfOk};
+    ghost use Rattle.std.specs.Prelude.{[], true, Some, None, All, IfOk, MatchOption};
     ghost use Rattle.hashkeys.specs.Classes.{is_of};
     ghost use Rattle.bin_history.specs.Calls.{after};
     ghost use Rattle.bin_history.specs.Copies.{IsExact};
-    ghost use Rattle.bin_history.specs.Entries.{HasDistinctKeys, replay};
+    ghost use Rattle.bin_history.specs.Entries.{lookup, HasDistinctKeys, replay};
     ghost use Rattle.bin_history.specs.Lawful.{IsLawful};
 
     /// A bin with these pairs, in their order, and no records. The pairs' keys are distinct and of the class.
@@ -114,6 +115,25 @@ impl<K: HashKey, V: Clone + Eq, F: Remap<K, V> + Clone, A: Allocator + Clone> Bi
         ensures { result.now ≡ self.now.entries }
     {
         self.entries.as_slice()
+    }
+
+    /// The value at a key.
+    pub fn get(&self, key: &K) -> Option<&V>
+        ensures { MatchOption result (lookup K.eq self.now.entries key.now ≡ None) (λ value. lookup K.eq self.now.entries key.now ≡ Some value.now) }
+    {
+        match find(&self.entries, key) {
+            Some(i) => Some(&self.entries[i].1),
+            None => None,
+        }
+    }
+
+    /// A copy of the entries, in order.
+    pub fn copy_entries(&self) -> Result<Vec<(K, V), A>, AllocError>
+        requires keys { IsExact K.is_clone }
+        requires values { IsExact V.is_clone }
+        ensures { IfOk result (λ copy. copy.items ≡ self.now.entries) }
+    {
+        copy_of_entries(self.entries.allocator().clone()?, &self.entries)
     }
 
     /// What holds of each bin. It does nothing when it runs.
