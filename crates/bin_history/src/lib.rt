@@ -8,6 +8,8 @@ mod copies;
 mod effect;
 mod fold;
 mod laws;
+#[cfg(test)]
+mod plain;
 mod ready;
 mod split;
 #[cfg(test)]

@@ -7,7 +7,7 @@ use std::test::Fail;
 
 /// Adds a number to the value, or takes the value away.
 #[derive(Drop)]
-struct Plus(Option<u64>);
+pub(crate) struct Plus(pub(crate) Option<u64>);
 
 impl Clone for Plus {
     ghost use Rattle.std.specs.Prelude.{◌≡◌};
@@ -72,6 +72,7 @@ fn assert_entries(rt: &impl Abort, entries: &[(Key, u64)], wanted: &[(&[u8], u64
 fn each_call_replies_and_leaves_what_its_row_says(rt: HostRuntime) -> Result<(), Fail> {
     let a = || key(&rt, b"a");
     let b = || key(&rt, b"b");
+    let c = || key(&rt, b"c");
     let none = || Reply::Value(None);
     let some = |n| Reply::Value(Some(n));
     let rows = [
@@ -105,6 +106,12 @@ fn each_call_replies_and_leaves_what_its_row_says(rt: HostRuntime) -> Result<(),
         (Call::Remove(b()), some(5), -1),
         (Call::Remove(b()), none(), 0),
         (Call::Put(b(), 7), none(), 1),
+        (Call::ComputeIfPresent(c(), Plus(None)), none(), 0),
+        (Call::Put(c(), 1), none(), 1),
+        (Call::RemoveIf(c(), 2), Reply::Truth(false), 0),
+        (Call::ReplaceIf(c(), 1, 1), Reply::Truth(true), 0),
+        (Call::Put(c(), u64::MAX), some(1), 0),
+        (Call::Merge(c(), 1, Plus(Some(0))), some(u64::MAX), 0),
     ];
     let mut bin = empty(rt.alloc(), Class::new(1, 0))?;
     let mut line = 0u64;
@@ -115,7 +122,11 @@ fn each_call_replies_and_leaves_what_its_row_says(rt: HostRuntime) -> Result<(),
         assert_eq!(rt; (last.client, last.ordinal, last.delta()), (7, line, delta));
         line = line.wrapping_add(1);
     }
-    assert_entries(&rt, bin.entries(), &[(b"a", 6), (b"b", 7)]);
+    assert_entries(
+        &rt,
+        bin.entries(),
+        &[(b"a", 6), (b"b", 7), (b"c", u64::MAX)],
+    );
     assert_eq!(rt; bin.base().len(), 0);
     Ok(())
 }
@@ -132,7 +143,9 @@ fn the_oldest_records_are_folded(rt: HostRuntime) -> Result<(), Fail> {
     let _ = make(&rt, &mut bin, Call::Put(key(&rt, b"q"), 3))?;
     assert_eq!(rt; bin.records().len(), 513);
     assert_entries(&rt, bin.base(), &[(b"q", 1), (b"a", 2)]);
-    assert_entries(&rt, bin.entries(), &[(b"a", 2), (b"q", 3)]);
+    assert_entries(&rt, &bin.copy_entries()?, &[(b"a", 2), (b"q", 3)]);
+    assert!(rt; bin.get(&key(&rt, b"q")) == Some(&3));
+    assert!(rt; bin.get(&key(&rt, b"A")).is_none());
     let (low, high) = {
         assert!(rt; bin.class().n() < 65536);
         bin.split()?
@@ -150,20 +163,22 @@ fn the_oldest_records_are_folded(rt: HostRuntime) -> Result<(), Fail> {
 fn a_bin_stores_few_records(rt: HostRuntime) -> Result<(), Fail> {
     let mut bin = empty(rt.alloc(), Class::new(1, 0))?;
     let mut calls = 0;
-    for (wanted, stored) in [
-        (512, 512),
-        (1024, 1024),
-        (1025, 513),
-        (1536, 1024),
-        (1537, 513),
-        (2000, 976),
-        (1_000_000, 576),
+    for (wanted, stored, base) in [
+        (512, 512, None),
+        (1024, 1024, None),
+        (1025, 513, Some(512)),
+        (1536, 1024, Some(512)),
+        (1537, 513, Some(1024)),
+        (2000, 976, Some(1024)),
+        (1_000_000, 576, Some(999_424)),
     ] {
         for _ in calls..wanted {
             let _ = make(&rt, &mut bin, Call::Merge(key(&rt, b"a"), 1, Plus(Some(0))))?;
         }
         calls = wanted;
         assert_eq!(rt; bin.records().len(), stored);
+        let folded = bin.base().first().map(|pair| pair.1);
+        assert_eq!(rt; (folded, bin.base().len() <= 1), (base, true));
         assert_entries(&rt, bin.entries(), &[(b"a", wanted)]);
     }
     Ok(())

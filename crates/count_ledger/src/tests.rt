@@ -1,5 +1,5 @@
 //! Ledgers at the program's keys.
-ghost use Rattle.std.specs.Prelude.{◌≡◌, ◌<◌, ◌≤◌, IfOk, IfErr, vec_len, vec_capacity, All};
+ghost use Rattle.std.specs.Prelude.{◌≡◌, ◌<◌, ◌≤◌, [], length, IfOk, IfErr, vec_len, vec_capacity, All};
 ghost use Rattle.hashkeys.specs.Classes.{IsTableSize};
 ghost use Rattle.count_ledger.specs.Opening.{new_passes, new_roles, lists_of};
 
@@ -358,5 +358,35 @@ fn a_name_has_no_bytes(rt: HostRuntime) -> Result<(), Fail> {
     drop(name);
     assert_eq!(rt; size_of::<LedgerName>(), 0);
     assert_eq!(rt; settled(&rt, ledger.settle(passes, roles)), 0);
+    Ok(())
+}
+
+/// As many bins without pairs.
+fn empty_bases(alloc: Global, n: usize) -> Result<Vec<Vec<(Key, u64)>>, AllocError>
+    ensures len { IfOk result (λ bases. length bases.items ≡ n) }
+    ensures empty { IfOk result (λ bases. All (λ base. base.items ≡ []) bases.items) }
+{
+    let mut bases = Vec::new(alloc);
+    for _number in 0..n {
+        bases.push(Vec::new(alloc))?;
+    }
+    Ok(bases)
+}
+
+/// A ledger of 32 clients over an empty map, with the roles of 65,536 classes.
+fn open_largest(alloc: Global) -> Result<(KeyLedger, Vec<KeyPass>, Vec<KeyRole>), AllocError>
+    ensures passes { IfOk result (λ r. All (λ p. p.ledger ≡ r.0.id) r.1.items) }
+    ensures roles { IfOk result (λ r. All (λ x. x.ledger ≡ r.0.id) r.2.items) }
+{
+    let bases = empty_bases(alloc, 65536)?;
+    Ledger::new(alloc, Salt(0), 32, &bases)
+}
+
+#[test]
+fn the_largest_ledger_settles(rt: HostRuntime) -> Result<(), Fail> {
+    let (ledger, passes, roles) = open_largest(rt.alloc())?;
+    let sizes = (passes.len(), roles.len());
+    let total = settled(&rt, ledger.settle(passes, roles));
+    assert_eq!(rt; (sizes, total), ((32, 65536), 0));
     Ok(())
 }

@@ -129,3 +129,20 @@ fn other_bytes_are_no_key(rt: HostRuntime) -> Result<(), Fail> {
     }
     Ok(())
 }
+
+#[test]
+fn keys_stand_in_byte_order(rt: HostRuntime) -> Result<(), Fail> {
+    // Digits, capitals, `_`, small letters; and a key before those that it begins.
+    let texts: [&[u8]; 9] = [
+        b"0", b"9", b"A", b"AA", b"B", b"_", b"a", b"zzzzzz", b"zzzzzzz",
+    ];
+    for (i, text) in texts.iter().enumerate() {
+        let key = Key::read(text).ok_or("no key")?;
+        for (j, other) in texts.iter().enumerate() {
+            let other_key = Key::read(other).ok_or("no key")?;
+            assert!(rt; key.cmp(&other_key) == i.cmp(&j), "{text:?} and {other:?}");
+            assert!(rt; (key < other_key) == (i < j), "{text:?} and {other:?}");
+        }
+    }
+    Ok(())
+}
