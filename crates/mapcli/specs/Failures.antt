@@ -1,5 +1,7 @@
 -- How a result and the count of a device's failures go together.
 use Rattle.std.specs.Prelude.{ℕ, Result, Ok, Err}
+use Rattle.script.specs.declared.fault.ParseError.{ParseError}
+use Rattle.script.specs.declared.fault.ParseError.TheVariants as errors
 use Rattle.mapcli.specs.Devices.{one_more}
 use Rattle.mapcli.specs.declared.fault.Fault.{Fault}
 use Rattle.mapcli.specs.declared.fault.Fault.TheVariants.{NoMemory, BadCapacity, BadWorkers, ScriptFault, Device, BinMissing, Usage, Help}
@@ -18,3 +20,8 @@ count_after_fault (Help text) n = n
 abbrev pub count_after : {T : Type 0} → Result T Fault → ℕ → ℕ
 count_after (Ok x) n = n
 count_after (Err fault) n = count_after_fault fault n
+
+-- a refused text as a fault of the program
+abbrev pub fault_of : ParseError → Fault
+fault_of errors.NoMemory = NoMemory
+fault_of (errors.Fault f) = ScriptFault f.line f.kind

@@ -7,3 +7,4 @@ pub mod Texts
 pub mod Greater
 pub mod Determined
 pub mod Statuses
+pub mod Runs

@@ -1,4 +1,4 @@
--- The status that the program exits with.
+-- How the program tells of the end of a run, and how a command line may end it.
 use Rattle.std.specs.Prelude.{ℕ}
 use Rattle.mapcli.specs.declared.fault.Fault.{Fault}
 use Rattle.mapcli.specs.declared.fault.Fault.TheVariants.{NoMemory, BadCapacity, BadWorkers, ScriptFault, Device, BinMissing, Usage, Help}
@@ -13,3 +13,14 @@ status_of BadWorkers = 2
 status_of NoMemory = 3
 status_of Device = 3
 status_of BinMissing = 3
+
+-- a command line ends a run by its own text, or where memory runs out
+abbrev pub EndsWords : Fault → Type 0
+EndsWords (Usage text) = Unit {0}
+EndsWords (Help text) = Unit {0}
+EndsWords NoMemory = Unit {0}
+EndsWords (ScriptFault line kind) = ⊥
+EndsWords BadCapacity = ⊥
+EndsWords BadWorkers = ⊥
+EndsWords Device = ⊥
+EndsWords BinMissing = ⊥

@@ -44,8 +44,10 @@ pub trait Output {
 /// An input from any reader. A read that a signal interrupts is made again.
 #[derive(Drop)]
 pub struct Reader<R> {
-    inner: R,
-    failures: u64,
+    /// What is read.
+    pub inner: R,
+    /// How many reads failed, modulo 2^64.
+    pub failures: u64,
 }
 
 impl<R> Reader<R> {
@@ -79,8 +81,10 @@ impl<R: Read> Input for Reader<R> {
 /// An output to any writer. A write that a signal interrupts is made again.
 #[derive(Drop)]
 pub struct Writer<W> {
-    inner: W,
-    failures: u64,
+    /// What is written to.
+    pub inner: W,
+    /// How many writes failed, modulo 2^64.
+    pub failures: u64,
 }
 
 impl<W> Writer<W> {

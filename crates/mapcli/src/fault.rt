@@ -3,7 +3,7 @@ ghost use Rattle.std.specs.Prelude.{◌≡◌};
 ghost use Rattle.mapcli.specs.declared.fault.Fault.TheVariants.{NoMemory, Device};
 
 use crate::device::DeviceError;
-use script::Kind;
+use script::{Kind, ParseError};
 use std::alloc::{AllocError, AllocFailed};
 use thiserror::Error;
 
@@ -49,6 +49,19 @@ impl<T: Drop> From<AllocFailed<T>> for Fault {
 
     fn from(_error: AllocFailed<T>) -> Fault {
         Fault::NoMemory
+    }
+}
+
+impl From<ParseError> for Fault {
+    ghost use Rattle.mapcli.specs.Failures.{fault_of};
+
+    ghost from_gives = { λ error fault. fault ≡ fault_of error };
+
+    fn from(error: ParseError) -> Fault {
+        match error {
+            ParseError::NoMemory => Fault::NoMemory,
+            ParseError::Fault(script::Fault { line, kind }) => Fault::ScriptFault { line, kind },
+        }
     }
 }
 

@@ -4,22 +4,70 @@
 
 mod answers;
 mod device;
+#[cfg(test)]
+mod device_tests;
 mod fault;
 mod gate;
+mod laws;
+#[cfg(test)]
+mod limit_tests;
 mod options;
 mod play;
+mod run;
+#[cfg(test)]
+mod tests;
 mod text;
 mod whole;
 mod words;
+#[cfg(test)]
+mod words_tests;
 
 pub use device::{DeviceError, Input, Output, Reader, Writer};
 pub use fault::Fault;
 pub use gate::{ClientGate, Gate, OpenGate};
+pub use laws::one_output;
 pub use options::Options;
-use std::alloc::Global;
+pub use run::{parse, run};
 use std::fs::File;
+use std::io::Write;
 use std::process::ExitCode;
 use std::{env, io};
 pub use words::{line, status, words};
 
-fn main() {}
+/// Reads the words of the command line, and then runs the script in FILE, from it to standard output.
+fn run_file(rt: &HostRuntime) -> Result<(), Fault> {
+    let after_name: Vec<String> = env::args(rt).map_err(refused)?.skip(1).collect(rt.alloc())?;
+    let (options, path) = words(rt.alloc(), &after_name)?;
+    let mut script = Reader::new(File::open(rt, &path).map_err(refused)?);
+    let mut printed = Writer::new(rt.stdout());
+    run(rt.alloc(), &mut script, &mut printed, &options, &OpenGate)
+}
+
+/// What the system did not give: memory, or else a device.
+fn refused(error: io::Error) -> Fault {
+    match error.kind() {
+        io::ErrorKind::OutOfMemory => Fault::NoMemory,
+        _ => Fault::Device,
+    }
+}
+
+/// Tells how the run ended: help on standard output, any other end on standard error. Where that can't be told,
+/// the status still tells it.
+fn tell(rt: &HostRuntime, fault: &Fault) {
+    if let Ok(text) = line(rt.alloc(), fault) {
+        let _told = match fault {
+            Fault::Help(_) => rt.stdout().write_all(text.as_bytes()),
+            _ => rt.stderr().write_all(text.as_bytes()),
+        };
+    }
+}
+
+fn main(rt: HostRuntime) -> ExitCode {
+    match run_file(&rt) {
+        Ok(()) => ExitCode::SUCCESS,
+        Err(fault) => {
+            tell(&rt, &fault);
+            ExitCode::from(status(&fault))
+        }
+    }
+}

@@ -1,6 +1,6 @@
 //! The words of the command line, and how a run's end is told.
-ghost use Rattle.std.specs.Prelude.{◌≡◌};
-ghost use Rattle.mapcli.specs.Statuses.{status_of};
+ghost use Rattle.std.specs.Prelude.{◌≡◌, IfErr};
+ghost use Rattle.mapcli.specs.Statuses.{status_of, EndsWords};
 
 use crate::fault::Fault;
 use crate::options::Options;
@@ -9,8 +9,11 @@ use clap::{Arg, ArgAction, Command};
 use hashkeys::Salt;
 use std::alloc::{AllocError, Global};
 
-/// The options and FILE that the words after the program's name give.
-pub fn words(alloc: Global, words: &[String]) -> Result<(Options, String), Fault> {
+/// The options and FILE that the words after the program's name give. Wrong words, and words that ask for help, end
+/// with the text that tells so.
+pub fn words(alloc: Global, words: &[String]) -> Result<(Options, String), Fault>
+    ensures { IfErr result EndsWords }
+{
     let mut line: Vec<&str> = Vec::with_capacity(alloc, words.len().saturating_add(1))?;
     line.push("mapcli")?;
     for word in words {
@@ -19,26 +22,38 @@ pub fn words(alloc: Global, words: &[String]) -> Result<(Options, String), Fault
     read_words(alloc, &line)
 }
 
-fn read_words<'a>(alloc: Global, line: &'a [&'a str]) -> Result<(Options, String), Fault> {
+fn read_words<'a>(alloc: Global, line: &'a [&'a str]) -> Result<(Options, String), Fault>
+    ensures { IfErr result EndsWords }
+{
     match command(alloc)?.try_get_matches_from(line) {
         Ok(matches) => {
             let workers = matches.get_one::<u16>("workers").unwrap_or(4);
             let capacity = matches.get_one::<u16>("capacity").unwrap_or(16);
             let salt = matches.get_one::<u32>("salt").unwrap_or(0);
-            let options = Options::with_salt(
-                usize::from(workers),
-                usize::from(capacity),
-                Salt(salt),
-            )?;
             let file = matches.get_str("FILE").unwrap_or("");
-            Ok((options, String::from_str(alloc, file)?))
+            match Options::with_salt(usize::from(workers), usize::from(capacity), Salt(salt)) {
+                Ok(options) => Ok((options, String::from_str(alloc, file)?)),
+                Err(fault) => Err(wrong_options(alloc, &fault)),
+            }
         }
         Err(error) => Err(refusal(alloc, &error)),
     }
 }
 
+/// The fault that options out of their ranges are, which the ranges of the command rule out before.
+fn wrong_options(alloc: Global, fault: &Fault) -> Fault
+    ensures { EndsWords result }
+{
+    match line(alloc, fault) {
+        Ok(text) => Fault::Usage(text),
+        Err(_) => Fault::NoMemory,
+    }
+}
+
 /// The fault that a refused command line is.
-fn refusal(alloc: Global, error: &clap::Error) -> Fault {
+fn refusal(alloc: Global, error: &clap::Error) -> Fault
+    ensures { EndsWords result }
+{
     let kind = error.kind();
     match error.to_string(alloc) {
         Ok(text) if kind == ErrorKind::DisplayHelp => Fault::Help(text),
@@ -46,6 +61,25 @@ fn refusal(alloc: Global, error: &clap::Error) -> Fault {
         _ => Fault::NoMemory,
     }
 }
+
+/// What `--help` tells of scripts.
+const ABOUT_SCRIPTS: &str =
+    "A script has a block for each client: the line `client`, and then a line for each of its calls. After the
+blocks come the line `query` and a line for each query:
+
+  client
+  put a 1
+  merge a 2 sum
+  query
+  count
+  list 1
+
+Calls:    get K, contains K, put K V, put_if_absent K V, remove K, remove_if K V, replace K V,
+          replace_if K V V, compute_if_absent K F, compute_if_present K F, compute K F, merge K V M
+Queries:  count, reduce sum T, reduce max T, search above V T, list T
+
+K is a key, of 1 to 32 letters, digits or _. V is a signed number of 64 bits. F is sum V, max V, set V
+or drop, and M is sum, max, set or drop. T is from how many keys on the work may be divided.";
 
 /// The command line that the program takes.
 fn command<'a>(alloc: Global) -> Result<Command<'a>, AllocError> {
@@ -76,6 +110,7 @@ fn command<'a>(alloc: Global) -> Result<Command<'a>, AllocError> {
         .action(ArgAction::Set);
     Command::new(alloc, "mapcli")
         .about("Runs a script of client blocks over a concurrent hash map, and answers its queries")
+        .after_help(ABOUT_SCRIPTS)
         .arg(workers)?
         .arg(capacity)?
         .arg(salt)?

@@ -1,4 +1,8 @@
 pub mod Functions
+pub mod Kinds
 pub mod Lines
-pub mod Forms
 pub mod Grammar
+pub mod Faults
+pub mod Reading
+pub mod Verdicts
+pub mod Drafts

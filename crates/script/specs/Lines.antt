@@ -1,15 +1,16 @@
 -- The lines of a script, and their words.
-use Rattle.std.specs.Prelude.{◌≡◌, ◌≢◌, ℕ, ℤ, ◌<◌, ◌^◌, Bool, true, false, ◌&&◌, ◌==◌, nat_le, FitsSigned, List, [], ◌∷◌, ◌++◌, All, decimal}
+use Rattle.std.specs.Prelude.{◌≡◌, ◌≢◌, ℕ, ℤ, ◌<◌, ◌^◌, Bool, true, ◌&&◌, ◌==◌, nat_le, FitsSigned, List, [], ◌∷◌, ◌++◌, All, decimal}
 use Rattle.std.specs.Int.{w64}
 use Rattle.std.specs.Fmt.{signed_decimal}
-use Rattle.std.specs.List.{slice_split, join_with_byte}
+use Rattle.std.specs.List.{slice_split}
 
 abbrev pub Word : Type 0
 Word = List ℕ
 
--- a line of these words: single spaces between them, and a line feed at the end
-abbrev pub line : List Word → List ℕ
-line ws = join_with_byte 32 ws ++ 10 ∷ []
+-- the text begins with the line, which a line feed ends, and goes on with more
+pub record BeginsWith (text l more : List ℕ) : Type 0 where
+  pub parts : text ≡ l ++ 10 ∷ more
+  pub no_line_feed : All (λ b. b ≢ 10) l
 
 -- the parts of a line between its spaces
 abbrev pub words : List ℕ → List Word
@@ -19,9 +20,12 @@ words l = slice_split (λ b. b == 32) l
 abbrev pub is_printable : ℕ → Bool
 is_printable b = nat_le 32 b && nat_le b 126
 
--- the first line of a text, which is ended by a line feed
-abbrev pub IsFirstLine : List ℕ → List ℕ → Type 0
-IsFirstLine l text = (more : List ℕ) × (text ≡ l ++ 10 ∷ more) × All (λ b. b ≢ 10) l
+abbrev pub IsPrintable : List ℕ → Type 0
+IsPrintable l = All (λ b. is_printable b ≡ true) l
+
+-- single spaces stand between words alone: the line is not empty, none is at an end, and no two side by side
+abbrev pub IsSpaced : List ℕ → Type 0
+IsSpaced l = All (λ w. w ≢ []) (words l)
 
 -- a number has one spelling: `0`, or digits of which the first is not 0, after a `-` where it is negative
 abbrev pub IsNumber : Word → ℤ → Type 0

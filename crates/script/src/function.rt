@@ -42,7 +42,7 @@ impl Function {
     }
 
     /// The function with another number.
-    fn with_number(&self, number: i64) -> Function
+    pub(crate) fn with_number(&self, number: i64) -> Function
         ensures { result ≡ with_number self.now number }
     {
         match self {

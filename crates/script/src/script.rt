@@ -24,40 +24,10 @@ pub enum Query {
     List(u64),
 }
 
-/// A script that was read: the calls of each client, in their order, and the queries.
+/// A script that was read: the calls of each client, in their order, and the queries. There are 1 to 32 blocks,
+/// of at most 1,000,000 calls each.
 #[derive(Drop)]
 pub struct Script<A: Allocator> {
     pub blocks: Vec<Vec<ScriptCall, A>, A>,
     pub queries: Vec<Query, A>,
-}
-
-/// What is wrong with a line.
-#[derive(Clone, Copy, Debug, PartialEq, Eq)]
-pub enum Kind {
-    /// It is not ended by a line feed.
-    Cut,
-    /// It holds a byte outside 0x20 to 0x7E.
-    Bytes,
-    /// It is empty, begins or ends with a space, or has two spaces side by side.
-    Spaces,
-    /// Its first word is not allowed at its place.
-    Word,
-    /// A word is missing, or there is one too many.
-    Count,
-    /// A word that should be a key is none.
-    Key,
-    /// A word that should be a number is none.
-    Number,
-    /// A word that should name a function is none.
-    Function,
-    /// It is the 33rd client line, or the 1,000,001st call of its block.
-    Limit,
-    /// There is no line, though the script is not whole.
-    Missing,
-}
-
-impl std::fmt::Display for Kind {
-    fn fmt<W: std::fmt::Write>(&self, f: &mut std::fmt::Formatter<W>) -> std::fmt::Result {
-        f.write_str("kind")
-    }
 }

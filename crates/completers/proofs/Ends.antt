@@ -1,0 +1,80 @@
+-- What an arrival tells, put together.
+use Rattle.std.proofs.Common.{◌≡◌, ℕ, zero, suc, ◌+◌, ◌-◌, ◌*◌, ◌/◌, ◌%◌, ◌<◌, ◌≤◌, ◌≢◌, Bool, true, false, cond, List, [], ◌∷◌, map, length, set, sym, ap, ◌∙◌, subst, ⊎_elim, arith}
+use mathlib.Core.Option.{some, some-injective, some-ne-none}
+use lib.ListN.{get_elem?}
+use Rattle.std.specs.Prelude.{Option, Some, None}
+use Rattle.completers.specs.Game.{arrive, waiting, Position, number, Allowed, after}
+use Rattle.atomic_table.specs.Table.{Me}
+use Rattle.completers.specs.Rights.{code, IsAbove, node_in, forks_in}
+use Rattle.completers.specs.Parts.{AreParts, IsPart, present, stack, pile, ends, places_of}
+use Rattle.completers.specs.declared.relation.Partial.{Partial}
+use Rattle.completers.specs.declared.parts.Places.{Places}
+use Rattle.completers.specs.declared.rule.Right.{Right}
+use Rattle.completers.specs.declared.rule.Right.TheVariants.{Waits}
+
+one_less : (bs : List Bool) (t : ℕ) → get_elem? bs t ≡ some false → waiting (set bs t true) + 1 ≡ waiting bs
+one_less [] t e = absurd (some-ne-none false (sym e))
+one_less (b ∷ bs) zero e = let w : ℕ = waiting bs in subst (λ (x : Bool). 0 + w + 1 ≡ cond x 0 1 + w) (sym (some-injective b false e)) (let q : 0 + w + 1 ≡ 1 + w = omega arith in q)
+one_less (b ∷ bs) (suc t) e = let r = one_less bs t e in let w : ℕ = waiting bs in let w' : ℕ = waiting (set bs t true) in let k : ℕ = cond b 0 1 in let r' : w' + 1 ≡ w = r in let q : k + w' + 1 ≡ k + w = omega arith in q
+
+-- an arrival takes one ticket from the number
+left : (p : Position) (t x : ℕ) → Allowed p (arrive t) → number p ≡ x → number (after p (arrive t)) + 1 ≡ x
+left p t x a e = one_less p.arrived t a.0 ∙ e
+
+pub not_last : (p : Position) (t x : ℕ) → Allowed p (arrive t) → number p ≡ x → x ≢ 1 → number (after p (arrive t)) ≢ 0
+not_last p t x a e more z = let l : number (after p (arrive t)) + 1 ≡ x = left p t x a e in let n : ℕ = number (after p (arrive t)) in let l' : n + 1 ≡ x = l in let z' : n ≡ 0 = z in more (omega arith)
+
+pub last : (p : Position) (t x : ℕ) → Allowed p (arrive t) → number p ≡ x → x ≡ 1 → number (after p (arrive t)) ≡ 0
+last p t x a e one = let l : number (after p (arrive t)) + 1 ≡ x = left p t x a e in let n : ℕ = number (after p (arrive t)) in let l' : n + 1 ≡ x = l in let q : n ≡ 0 = omega arith in q
+
+-- a ticket that is alone at its node is the last
+pub alone : (bs : List Bool) → length bs ≡ 1 → get_elem? bs 0 ≡ some false → waiting bs ≡ 1
+alone [] one e = absurd (omega arith)
+alone (b ∷ []) one e = ap (λ (x : Bool). cond x 0 1 + 0) (some-injective b false e)
+alone (b ∷ c ∷ bs) one e = let l : ℕ = length bs in let o : suc (suc l) ≡ 1 = one in absurd (omega arith)
+
+module _ {P : Type 0} where
+  pub full : (n : ℕ) (y : ℕ → Option (Partial P)) (l : List (ℕ × Option (Partial P))) (ps : Places P) → l ≡ (8 * n, y 0) ∷ pile n y 7 [] → places_of ps ≡ map (λ (p : ℕ × Option (Partial P)). p.1) l → places_of ps ≡ y 0 ∷ stack y 7
+  full n y l ps e f = f ∙ ap (map (λ (p : ℕ × Option (Partial P)). p.1)) e
+
+  abbrev first_of_all : List (Option (Partial P)) → Option (Partial P)
+  first_of_all [] = None
+  first_of_all (o ∷ os) = o
+
+  pub own_is : (y : ℕ → Option (Partial P)) (ps : Places P) → places_of ps ≡ y 0 ∷ stack y 7 → ps.own ≡ y 0
+  own_is y ps e = ap first_of_all e
+
+module _ {P : Type 0} (fits : ℕ → ℕ → P → Type 0) where
+  grows : (lo hi : ℕ) (xs : List (Partial P)) → AreParts fits lo hi xs → lo ≤ hi
+  grows lo hi [] e = let q : lo ≡ hi = e in let r : lo ≤ hi = omega arith in r
+  grows lo hi (x ∷ xs) e = let r : x.hi ≤ hi = grows x.hi hi xs e.3 in let q : lo < x.hi = e.1 in let s : ℕ = x.hi in let r' : s ≤ hi = r in let q' : lo < s = q in let z : lo ≤ hi = omega arith in z
+
+  -- the range of parts that are there isn't empty
+  pub not_empty : (lo hi : ℕ) (x : Partial P) (os : List (Option (Partial P))) (o : Option (Partial P)) → o ≡ Some x → AreParts fits lo hi (present (o ∷ os)) → lo < hi
+  not_empty lo hi x os o is parts = let e : AreParts fits lo hi (x ∷ present os) = subst (λ (u : Option (Partial P)). AreParts fits lo hi (present (u ∷ os))) is parts in
+      let r : x.hi ≤ hi = grows x.hi hi (present os) e.3 in let q : lo < x.hi = e.1 in let s : ℕ = x.hi in let r' : s ≤ hi = r in let q' : lo < s = q in let z : lo < hi = omega arith in z
+
+  pub ends_at : (lo hi : ℕ) (os : List (Option (Partial P))) → AreParts fits lo hi (present os) → ends lo os ≡ hi
+  ends_at lo hi [] e = e
+  ends_at lo hi (None ∷ os) e = ends_at lo hi os e
+  ends_at lo hi (Some x ∷ os) e = ends_at x.hi hi os e.3
+
+  pub is_part : (lo hi : ℕ) (x : Partial P) → x.lo ≡ lo → x.hi ≡ hi → fits x.lo x.hi x.part → IsPart fits lo hi x
+  is_part lo hi x a b c = (a, b, subst (λ (z : ℕ × ℕ). fits z.0 z.1 x.part) (λ k. (a k, b k)) c)
+
+-- the ticket above, found again by its code
+pub again : (lo hi bins c slots : ℕ) (rights : List Right) → IsAbove bins lo hi rights → code rights ≡ c → c ≢ 0 → (rights ≢ [] → 8 * node_in rights + 8 ≤ slots)
+    → (f : ℕ) × (rights ≡ Waits ((c - 1) / 8) ((c - 1) % 8) lo hi f ∷ []) × (8 * ((c - 1) / 8) + 8 ≤ slots)
+again lo hi bins c slots rights is e nz room = ⊎_elim
+    (λ none_is. absurd (nz (sym e ∙ ap code none_is.0)))
+    (λ one. let m : ℕ = one.0 in let i : ℕ = one.1 in let small : i < 8 = one.3 in let f : 8 * m + i + 1 ≡ c = ap code (sym one.4) ∙ e in let a : m ≡ (c - 1) / 8 = omega arith in let b : i ≡ (c - 1) % 8 = omega arith in
+    let there : rights ≢ [] = λ z. nz (sym e ∙ ap code z) in let low : 8 * m + 8 ≤ slots = subst (λ (rs : List Right). 8 * node_in rs + 8 ≤ slots) one.4 (room there) in
+    (one.2, one.4 ∙ (λ k. Waits (a k) (b k) lo hi one.2 ∷ []), subst (λ (z : ℕ). 8 * z + 8 ≤ slots) a low)) is
+
+pub none_above : (lo hi bins c : ℕ) (rights : List Right) → IsAbove bins lo hi rights → code rights ≡ c → c ≡ 0 → (lo ≡ 0) × (hi ≡ bins)
+none_above lo hi bins c rights is e z = ⊎_elim (λ none_is. (none_is.1, none_is.2))
+    (λ one. let f : 8 * one.0 + one.1 + 1 ≡ c = ap code (sym one.4) ∙ e in let m : ℕ = one.0 in let i : ℕ = one.1 in let f' : 8 * m + i + 1 ≡ c = f in absurd (omega arith)) is
+
+-- a seat with the right of a ticket
+pub is_ticket : {S : Type 0} (me : Me S (List Right)) (n i lo hi f : ℕ) → me ≡ (Waits n i lo hi f ∷ [], []) → me ≡ (Waits n i lo hi (forks_in me.0) ∷ [], [])
+is_ticket me n i lo hi f e = e ∙ (λ t. (Waits n i lo hi (forks_in (sym e t).0) ∷ [], []))

@@ -1,0 +1,10 @@
+pub mod Games
+pub mod Weights
+pub mod Cells
+pub mod Moves
+pub mod Parting
+pub mod Arrivals
+pub mod Forks
+pub mod Seats
+pub mod Ends
+pub mod Sizes

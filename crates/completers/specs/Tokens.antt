@@ -1,0 +1,32 @@
+-- What the seats of the tokens know.
+use Rattle.std.specs.Prelude.{◌≡◌, ℕ, ◌+◌, ◌-◌, ◌*◌, ◌^◌, ◌<◌, ◌≤◌, List, [], ◌∷◌}
+use Rattle.atomic_table.specs.Table.{Me}
+use Rattle.atomic_table.specs.Seated.{TableId}
+use Rattle.completers.specs.declared.rule.Right.{Right}
+use Rattle.completers.specs.declared.rule.Right.TheVariants.{Opened, Waits}
+use Rattle.completers.specs.Rights.{nodes, forks_in}
+
+-- a table of two words and eight places a node
+pub record IsTree (table : TableId) (nodes slots : ℕ) : Type 0 where
+  pub words : table.words ≡ 2 * nodes
+  pub places : table.slots ≡ 8 * nodes
+  pub few_nodes : nodes ≤ 128
+  pub few_slots : slots ≤ 8
+
+module _ {S : Type 0} where
+  pub record IsSupply (table : TableId) (me : Me S (List Right)) (first level : ℕ) : Type 0 where
+    pub rights : me ≡ (nodes first (2 ^ level), [])
+    pub inside : 8 * (first + 2 ^ level) ≤ table.slots
+    pub few : level ≤ 7
+
+  pub record IsNode (table : TableId) (me : Me S (List Right)) (node lo hi forks level : ℕ) : Type 0 where
+    pub rights : me ≡ (Opened node lo hi (forks + 1) ∷ nodes (node + 1) (2 ^ level - 1), [])
+    pub inside : 8 * (node + 2 ^ level) ≤ table.slots
+    pub few : level ≤ 7
+    pub range : lo < hi
+
+  pub record IsTicket (table : TableId) (me : Me S (List Right)) (node number lo hi : ℕ) : Type 0 where
+    pub rights : me ≡ (Waits node number lo hi (forks_in me.0) ∷ [], [])
+    pub place : number < 8
+    pub inside : 8 * node + 8 ≤ table.slots
+    pub range : lo < hi

@@ -1,0 +1,134 @@
+//! Arrivals.
+ghost use Rattle.std.specs.Prelude.{◌≡◌, ◌≢◌, ℕ, ◌+◌, ◌*◌, ◌<◌, ◌≤◌, List, [], ◌∷◌, map, length, Contains, MatchOption, None, Some};
+ghost use Rattle.atomic_table.specs.Table.{rest, turned};
+ghost use Rattle.completers.specs.Game.{Plays, arrive, number, after};
+ghost use Rattle.completers.specs.Parts.{AreParts, pile, places_of, present};
+ghost use Rattle.completers.specs.Rights.{IsAbove, code as code_of, node_in};
+ghost use Rattle.completers.specs.declared.rule.Right.TheVariants.{Places as Placing};
+
+use crate::parts::{Parts, Places};
+use crate::relation::{Partial, Relation};
+use crate::rule::Place;
+use crate::steps::{First, TakeStep};
+use crate::tokens::Ticket;
+use crate::tree::Tree;
+use crate::words::count_down;
+use std::alloc::Allocator;
+use std::marker::Brand;
+
+/// What an arrival is told.
+#[derive(Drop)]
+pub enum Arrival<P: Drop> {
+    /// Some ticket of the node has not arrived yet.
+    Early,
+    /// All have arrived: the parts of the whole node, and the ticket above it. The root has none.
+    Last(Parts<P>, Option<Ticket<P>>),
+}
+
+impl<B: Relation, A: Allocator> Tree<B, A> {
+    ghost use Rattle.completers.specs.Arrived.{MatchArrival, IsLast, IsWholeNode};
+
+    // What is in the place that the seat took last, which goes behind the others.
+    fn empty(&self, seat: &mut Place<B::Part>, slot: usize) -> Option<Partial<B::Part>>
+        requires table { seat.old.table_id ≡ self.now.identity }
+        requires place { (old : _) × (seat.old.me.1 ≡ (slot, old) ∷ rest seat.old.me.1) }
+        ensures table { seat.new.table_id ≡ seat.old.table_id }
+        ensures found { seat.old.me.1 ≡ (slot, result) ∷ rest seat.old.me.1 }
+        ensures rights { seat.new.me.0 ≡ seat.old.me.0 }
+        ensures places { seat.new.me.1 ≡ turned ((slot, None) ∷ rest seat.old.me.1) }
+    {
+        let found = self.board.shared.exchange(seat, slot, None);
+        seat.turn();
+        found
+    }
+
+    // What is in all places of the node.
+    fn empty_all(&self, seat: &mut Place<B::Part>, node: usize) -> Places<B::Part>
+        requires table { seat.old.table_id ≡ self.now.identity }
+        requires inside { (8 * node + 8 ≤ seat.old.table_id.slots) × (seat.old.table_id.slots ≤ 1024) }
+        requires places { (y : _) × (seat.old.me.1 ≡ (8 * node, y 0) ∷ pile node y 7 []) }
+        ensures table { seat.new.table_id ≡ seat.old.table_id }
+        ensures rights { seat.new.me.0 ≡ seat.old.me.0 }
+        ensures found { places_of result ≡ map (λ p. p.1) seat.old.me.1 }
+    {
+        Places {
+            own: self.empty(seat, 8 * node),
+            fork7: self.empty(seat, 8 * node + 7),
+            fork6: self.empty(seat, 8 * node + 6),
+            fork5: self.empty(seat, 8 * node + 5),
+            fork4: self.empty(seat, 8 * node + 4),
+            fork3: self.empty(seat, 8 * node + 3),
+            fork2: self.empty(seat, 8 * node + 2),
+            fork1: self.empty(seat, 8 * node + 1),
+        }
+    }
+
+    // The ticket with this code, for the range of the parts.
+    fn above(
+        &self,
+        mut seat: Place<B::Part>,
+        code: u64,
+        places: &Places<B::Part>,
+    ) -> Option<Ticket<B::Part>>
+        requires table { seat.table_id ≡ self.now.identity }
+        requires above { (lo : ℕ) × (hi : ℕ) × AreParts (B.relates self.now.relation) lo hi (present (places_of places.now)) × IsAbove self.now.bins lo hi seat.me.0 × (code_of seat.me.0 ≡ code) × (seat.me.0 ≢ [] → 8 * node_in seat.me.0 + 8 ≤ seat.table_id.slots) × ((x : _) × (places.now.own ≡ Some x) × (x.lo ≡ lo)) }
+        ensures { IsWholeNode self.now (B.relates self.now.relation) (present (places_of places.now)) result }
+    {
+        if code == 0 {
+            return None;
+        }
+        let above = self.board.shared.split_seat::<First>(&mut seat);
+        let code = code as usize - 1;
+        Some(Ticket {
+            seat: above,
+            node: code / 8,
+            number: code % 8,
+            lo: places.lo(),
+            hi: places.hi(),
+        })
+    }
+
+    // Writes the part into the ticket's place, and reads the code of the ticket above.
+    fn place(&self, ticket: Ticket<B::Part>, partial: Partial<B::Part>) -> (Place<B::Part>, u64)
+        requires tree { ticket.tree ≡ self.now.identity }
+        ensures table { result.0.table_id ≡ self.now.identity }
+        ensures inside { (8 * ticket.node + 8 ≤ result.0.table_id.slots) × (result.0.table_id.slots ≤ 1024) × (ticket.number < 8) }
+        ensures place { result.0.me ≡ (Placing ticket.node ticket.number ticket.lo ticket.hi ticket.forks result.1 ∷ [], (8 * ticket.node + ticket.number, Some partial) ∷ []) }
+    {
+        let Ticket {
+            mut seat,
+            node,
+            number,
+            lo: _,
+            hi: _,
+        } = ticket;
+        let words = &self.board.shared;
+        let code = words.load::<TakeStep>(&mut seat, 2 * node + 1);
+        let None = words.exchange(&mut seat, 8 * node + number, Some(partial)) else {
+            unreachable!()
+        };
+        (seat, code)
+    }
+
+    /// Leaves a part at the ticket's node. Whoever comes last has the parts of all its tickets, side by side over the node's whole range, and the ticket above, for that range.
+    /// It takes no memory and waits for nobody.
+    pub fn arrive(&self, ticket: Ticket<B::Part>, partial: Partial<B::Part>) -> Arrival<B::Part>
+        requires tree { ticket.tree ≡ self.now.identity }
+        requires range { (partial.lo ≡ ticket.lo) × (partial.hi ≡ ticket.hi) }
+        requires part { B.relates self.now.relation partial.lo partial.hi partial.part }
+        ensures event { Plays (arrive ticket.number) (λ p. (ticket.number ≡ 0 → length p.arrived ≡ ticket.forks + 1)
+            × MatchArrival result (number (after p (arrive ticket.number)) ≢ 0) (λ _ _. number (after p (arrive ticket.number)) ≡ 0)) }
+        ensures last { MatchArrival result (Unit {0}) (λ parts above. Contains parts partial × IsWholeNode self.now (B.relates self.now.relation) parts above) }
+        // The own ticket of a node that forked nothing.
+        ensures alone { ticket.number ≡ 0 → ticket.forks ≡ 0 → IsLast result }
+    {
+        let node = ticket.node;
+        let (mut seat, code) = self.place(ticket, partial);
+        if count_down::<B, Brand>(&self.board.shared, &mut seat, node) != 1 {
+            return Arrival::Early;
+        }
+        let places = self.empty_all(&mut seat, node);
+        let above = self.above(seat, code, &places);
+        Arrival::Last(Parts::of(places), above)
+    }
+}

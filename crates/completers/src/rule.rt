@@ -1,0 +1,60 @@
+//! What tokens may do, and the rule over the words and places of a tree.
+use crate::relation::{Partial, Relation};
+use atomic_table::{Seat, Shared, Table, TableRule};
+use std::collections::LinkedList;
+use std::marker::PhantomData;
+use std::snapshot::Snapshot;
+
+/// One thing that a token may do. No value of it is made.
+pub enum Right {
+    /// Open a node.
+    Unopened(u64),
+    /// Fork at a node, or give out its own ticket: the node, its range, and how many tickets it has.
+    Opened(u64, u64, u64, u64),
+    /// Arrive: the node, the ticket's number and range, and how many forks the node has, where the ticket is its own (else 0).
+    Waits(u64, u64, u64, u64, u64),
+    /// The same while the ticket's place is with the token, which has read the code of the ticket above.
+    Places(u64, u64, u64, u64, u64, u64),
+}
+
+/// What a token may do, in all. No value of it is made.
+pub type Rights = LinkedList<Right>;
+
+/// What a tree is made for.
+#[derive(Drop)]
+pub struct Purpose<B> {
+    pub relation: Snapshot<B>,
+    pub nodes: usize,
+    pub bins: usize,
+}
+
+/// Each ticket arrives once, and a node's number is how many of its tickets have not arrived.
+pub struct Completion<B> {
+    relation: PhantomData<B>,
+}
+
+impl<B: Relation> TableRule<Option<Partial<B::Part>>, Rights, Purpose<B>> for Completion<B> {
+    ghost use Rattle.completers.specs.Rights.{nodes};
+    ghost use Rattle.completers.specs.Rule.{Holds};
+
+    ghost holds = { λ key. Holds (B.relates key.relation.value) key.bins };
+
+    ghost first = { λ key. nodes 0 key.nodes };
+}
+
+pub(crate) type Place<P> = Seat<Option<Partial<P>>, Rights>;
+
+pub(crate) type Words<B> = Shared<
+    Option<Partial<<B as Relation>::Part>>,
+    Rights,
+    Purpose<B>,
+    Completion<B>,
+>;
+
+pub(crate) type Board<B, A> = Table<
+    Option<Partial<<B as Relation>::Part>>,
+    Rights,
+    Purpose<B>,
+    Completion<B>,
+    A,
+>;

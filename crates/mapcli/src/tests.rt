@@ -1,0 +1,302 @@
+//! Runs of scripts, from the bytes of a script to the bytes that it prints.
+use crate::{ClientGate, Gate, OpenGate, Options, Reader, Writer, line, run, status};
+use hashkeys::Salt;
+use std::alloc::{AllocError, Global};
+use std::process::Abort;
+use std::sync::atomic::AtomicU64;
+use std::sync::atomic::Ordering::SeqCst;
+use std::test::Fail;
+
+/// The status that a run of the script ends with, and all that it tells: the output text, or the line of the fault.
+pub(crate) fn told(
+    rt: &impl Abort,
+    alloc: Global,
+    script: &[u8],
+    options: &Options,
+) -> Result<(u8, Vec<u8>), AllocError> {
+    let mut input = Reader::new(script);
+    let mut output = Writer::new(Vec::new(alloc));
+    match run(alloc, &mut input, &mut output, options, &OpenGate) {
+        Ok(()) => Ok((0, output.inner)),
+        Err(fault) => {
+            assert!(rt; output.inner.is_empty());
+            Ok((status(&fault), line(alloc, &fault)?.into_bytes()))
+        }
+    }
+}
+
+pub(crate) fn check(
+    rt: &impl Abort,
+    alloc: Global,
+    script: &[u8],
+    wanted_status: u8,
+    wanted: &str,
+) -> Result<(), Fail> {
+    check_with(
+        rt,
+        alloc,
+        &Options::new(4, 16)?,
+        script,
+        wanted_status,
+        wanted,
+    )
+}
+
+fn check_with(
+    rt: &impl Abort,
+    alloc: Global,
+    options: &Options,
+    script: &[u8],
+    wanted_status: u8,
+    wanted: &str,
+) -> Result<(), Fail> {
+    let (status, text) = told(rt, alloc, script, options)?;
+    assert_eq!(rt; text.as_slice(), wanted.as_bytes());
+    assert_eq!(rt; status, wanted_status);
+    Ok(())
+}
+
+/// A script of one client.
+pub(crate) const PUT_AND_GET: &[u8] = b"client\nput a 1\nget a\nquery\ncount\n";
+
+#[test]
+fn scripts_print_their_rows(rt: HostRuntime) -> Result<(), Fail> {
+    let rows: [(&str, &str); 12] = [
+        (
+            "client\nput a 1\nget a\nquery\ncount\n",
+            "client 0\nnone\nsome 1\n1\n",
+        ),
+        (
+            "client\nput a 1\nget a\nclient\nput b 2\nremove b\nquery\ncount\n",
+            "client 0\nnone\nsome 1\nclient 1\nnone\nsome 2\n1\n",
+        ),
+        (
+            "client\nput a 1\nclient\nput a 2\nquery\ncount\n",
+            "client 0\nnone\nclient 1\nsome 1\n1\n",
+        ),
+        (
+            "client\nquery\ncount\nreduce sum 1\nreduce max 1\nlist 1\n",
+            "client 0\n0\n0\nnone\n",
+        ),
+        (
+            "client\nput a 1\nreplace a 5\nreplace b 9\nput_if_absent b 3\nremove_if b 3\ncompute a sum -7\nmerge a 4 max\ncontains b\nquery\ncount\n",
+            "client 0\nnone\nsome 1\nnone\nnone\ntrue\nsome -2\nsome 4\nfalse\n1\n",
+        ),
+        (
+            "client\ncompute_if_present a drop\nput a 5\ncompute_if_present a drop\nquery\ncount\n",
+            "client 0\nnone\nnone\nnone\n0\n",
+        ),
+        (
+            "client\nput a 9223372036854775807\nmerge a 1 sum\nquery\n",
+            "client 0\nnone\nsome 9223372036854775807\n",
+        ),
+        (
+            "client\nput a 1\nremove_if a 2\nreplace_if a 1 1\nquery\ncount\n",
+            "client 0\nnone\nfalse\ntrue\n1\n",
+        ),
+        (
+            "client\nput a 9223372036854775807\nput b 9223372036854775807\nquery\nreduce sum 1\nreduce max 0\n",
+            "client 0\nnone\nnone\n18446744073709551614\nsome 9223372036854775807\n",
+        ),
+        (
+            "client\nput b 3\nput a -1\nput aa 2\nput A 7\nput _ 5\nput 0 4\nquery\nlist 18446744073709551615\n",
+            "client 0\nnone\nnone\nnone\nnone\nnone\nnone\n0 4\nA 7\n_ 5\na -1\naa 2\nb 3\n",
+        ),
+        ("client\nquery\n", "client 0\n"),
+        (
+            "client\nclient\nquery\nsearch above 0 0\n",
+            "client 0\nclient 1\nnone\n",
+        ),
+    ];
+    for (script, wanted) in rows {
+        check(&rt, rt.alloc(), script.as_bytes(), 0, wanted)?;
+    }
+    Ok(())
+}
+
+#[test]
+fn functions_make_what_their_vectors_say(rt: HostRuntime) -> Result<(), Fail> {
+    let rows: [(&str, &str); 5] = [
+        (
+            "client\ncompute a sum 3\nquery\ncount\n",
+            "client 0\nsome 3\n1\n",
+        ),
+        (
+            "client\ncompute_if_absent a drop\nquery\ncount\n",
+            "client 0\nnone\n0\n",
+        ),
+        (
+            "client\nput a 9\nmerge a 2 drop\nquery\ncount\n",
+            "client 0\nnone\nnone\n0\n",
+        ),
+        (
+            "client\nput a 9\nmerge a 2 max\nquery\ncount\n",
+            "client 0\nnone\nsome 9\n1\n",
+        ),
+        (
+            "client\nput a -9223372036854775808\ncompute a sum -1\nquery\ncount\n",
+            "client 0\nnone\nsome -9223372036854775808\n1\n",
+        ),
+    ];
+    for (script, wanted) in rows {
+        check(&rt, rt.alloc(), script.as_bytes(), 0, wanted)?;
+    }
+    Ok(())
+}
+
+#[test]
+fn a_search_finds_a_value_above_its_bound_alone(rt: HostRuntime) -> Result<(), Fail> {
+    let ten =
+        "client\nput k1 1\nput k2 2\nput k3 3\nput k4 4\nput k5 5\nput k6 6\nput k7 7\nput k8 8\nput k9 9\nput k10 10\n";
+    let mut script = String::from_str(rt.alloc(), ten)?;
+    script.push_str("query\nsearch above 10 1\n")?;
+    check(
+        &rt,
+        rt.alloc(),
+        script.as_bytes(),
+        0,
+        "client 0\nnone\nnone\nnone\nnone\nnone\nnone\nnone\nnone\nnone\nnone\nnone\n",
+    )?;
+    let mut script = String::from_str(rt.alloc(), ten)?;
+    script.push_str("put k11 11\nquery\nsearch above 10 1\n")?;
+    check(
+        &rt,
+        rt.alloc(),
+        script.as_bytes(),
+        0,
+        "client 0\nnone\nnone\nnone\nnone\nnone\nnone\nnone\nnone\nnone\nnone\nnone\nsome 11\n",
+    )
+}
+
+/// Two keys of one hash, in a table of any size and under any salt.
+#[test]
+fn keys_of_one_code_are_two_keys(rt: HostRuntime) -> Result<(), Fail> {
+    let script = b"client\nput Aa 1\nput BB 2\nquery\ncount\nlist 1\n";
+    let wanted = "client 0\nnone\nnone\n2\nAa 1\nBB 2\n";
+    check_with(&rt, rt.alloc(), &Options::new(4, 4096)?, script, 0, wanted)?;
+    check_with(
+        &rt,
+        rt.alloc(),
+        &Options::with_salt(1, 1, Salt(4294967295))?,
+        script,
+        0,
+        wanted,
+    )
+}
+
+/// The first bad line of each script, and what is wrong with it.
+#[test]
+fn bad_scripts_print_nothing_and_name_their_first_bad_line(rt: HostRuntime) -> Result<(), Fail> {
+    let rows: [(&str, &str); 20] = [
+        ("", "mapcli: line 1: missing\n"),
+        ("query\n", "mapcli: line 1: word\n"),
+        ("client\n\n", "mapcli: line 2: spaces\n"),
+        ("client\nput a\n", "mapcli: line 2: count\n"),
+        ("client\nput a 1 2\n", "mapcli: line 2: count\n"),
+        ("client\nput a-b 1\n", "mapcli: line 2: key\n"),
+        ("client\nput a -0\n", "mapcli: line 2: number\n"),
+        (
+            "client\nput a 9223372036854775808\n",
+            "mapcli: line 2: number\n",
+        ),
+        ("client\ncompute a sum\n", "mapcli: line 2: count\n"),
+        ("client\ncompute a drop 1\n", "mapcli: line 2: count\n"),
+        ("client\ncompute a min 1\n", "mapcli: line 2: function\n"),
+        (
+            "client\nquery\nsearch below 1 1\n",
+            "mapcli: line 3: function\n",
+        ),
+        ("client\nquery\nget a\n", "mapcli: line 3: word\n"),
+        ("client\nquery\nlist -1\n", "mapcli: line 3: number\n"),
+        ("client\nput a 01\nquery\n", "mapcli: line 2: number\n"),
+        ("client\nquery", "mapcli: line 2: cut\n"),
+        ("client\n", "mapcli: line 2: missing\n"),
+        ("client\r\nquery\r\n", "mapcli: line 1: bytes\n"),
+        (
+            "client\nput a 1\nput b\nput c 01\n",
+            "mapcli: line 3: count\n",
+        ),
+        (
+            "client\nquery\nlist 18446744073709551616\n",
+            "mapcli: line 3: number\n",
+        ),
+    ];
+    for (script, wanted) in rows {
+        check(&rt, rt.alloc(), script.as_bytes(), 1, wanted)?;
+    }
+    Ok(())
+}
+
+/// What each beginning of a script tells, by its length in bytes.
+#[test]
+fn beginnings_of_a_script(rt: HostRuntime) -> Result<(), Fail> {
+    let rows: [(usize, usize, u8, &str); 10] = [
+        (0, 0, 1, "mapcli: line 1: missing\n"),
+        (1, 6, 1, "mapcli: line 1: cut\n"),
+        (7, 7, 1, "mapcli: line 2: missing\n"),
+        (8, 14, 1, "mapcli: line 2: cut\n"),
+        (15, 15, 1, "mapcli: line 3: missing\n"),
+        (16, 20, 1, "mapcli: line 3: cut\n"),
+        (21, 21, 1, "mapcli: line 4: missing\n"),
+        (22, 26, 1, "mapcli: line 4: cut\n"),
+        (27, 27, 0, "client 0\nnone\nsome 1\n"),
+        (28, 32, 1, "mapcli: line 5: cut\n"),
+    ];
+    assert_eq!(rt; PUT_AND_GET.len(), 33);
+    for (first, last, wanted_status, wanted) in rows {
+        for length in first..=last {
+            let Some(beginning) = PUT_AND_GET.get(..length) else {
+                panic!(rt; "no beginning of {length} bytes");
+            };
+            check(&rt, rt.alloc(), beginning, wanted_status, wanted)?;
+        }
+    }
+    check(
+        &rt,
+        rt.alloc(),
+        PUT_AND_GET,
+        0,
+        "client 0\nnone\nsome 1\n1\n",
+    )
+}
+
+/// Counts calls, and those that came in another place than their client and number say.
+#[derive(Drop)]
+struct Counting {
+    calls: AtomicU64,
+    misplaced: AtomicU64,
+}
+
+impl Gate for Counting {
+    fn leaf(&self, _worker: usize, _lo: usize, _hi: usize) {}
+}
+
+impl ClientGate for Counting {
+    fn call(&self, client: usize, ordinal: u64) {
+        let place = self.calls.fetch_add(1, SeqCst);
+        if (client, ordinal) != (usize::from(place >= 2), place % 2) {
+            self.misplaced.fetch_add(1, SeqCst);
+        }
+    }
+}
+
+/// Two clients of two calls each.
+#[test]
+fn the_gate_sees_each_call_in_its_place(rt: HostRuntime) -> Result<(), Fail> {
+    let script = b"client\nput a 1\nget a\nclient\nget b\nremove a\nquery\n";
+    let gate = Counting {
+        calls: AtomicU64::new(0),
+        misplaced: AtomicU64::new(0),
+    };
+    let mut output = Writer::new(Vec::new(rt.alloc()));
+    run(
+        rt.alloc(),
+        &mut Reader::new(script.as_slice()),
+        &mut output,
+        &Options::new(4, 16)?,
+        &gate,
+    )?;
+    assert_eq!(rt; gate.calls.load(SeqCst), 4);
+    assert_eq!(rt; gate.misplaced.load(SeqCst), 0);
+    Ok(())
+}

@@ -1,0 +1,176 @@
+//! Command lines, and how the ends of runs are told.
+use crate::{Fault, line, status, words};
+use hashkeys::Salt;
+use script::Kind;
+use std::alloc::{AllocError, Global};
+use std::process::Abort;
+use std::test::Fail;
+
+fn strings(alloc: Global, given: &[&str]) -> Result<Vec<String>, AllocError> {
+    let mut strings = Vec::new(alloc);
+    for word in given {
+        strings.push(String::from_str(alloc, word)?)?;
+    }
+    Ok(strings)
+}
+
+/// The status that these words end with, and the text that is told.
+fn refusal(rt: &impl Abort, alloc: Global, given: &[&str]) -> Result<(u8, String), AllocError> {
+    match words(alloc, &strings(alloc, given)?) {
+        Ok(_) => panic!(rt; "{given:?} were taken"),
+        Err(fault) => Ok((status(&fault), line(alloc, &fault)?)),
+    }
+}
+
+#[test]
+fn words_are_taken(rt: HostRuntime) -> Result<(), Fail> {
+    let rows: [(&[&str], usize, usize, u32, &str); 3] = [
+        (&["f"], 4, 16, 0, "f"),
+        (
+            &[
+                "--workers",
+                "16",
+                "--capacity",
+                "4096",
+                "--salt",
+                "4294967295",
+                "a b",
+            ],
+            16,
+            4096,
+            4294967295,
+            "a b",
+        ),
+        (
+            &["f", "--workers=1", "--capacity=1", "--salt=7"],
+            1,
+            1,
+            7,
+            "f",
+        ),
+    ];
+    for (given, workers, capacity, salt, wanted) in rows {
+        let (options, file) = words(rt.alloc(), &strings(rt.alloc(), given)?)?;
+        assert_eq!(rt; options.workers(), workers);
+        assert_eq!(rt; options.capacity(), capacity);
+        assert_eq!(rt; options.salt(), Salt(salt));
+        assert_eq!(rt; file.as_str(), wanted);
+    }
+    Ok(())
+}
+
+#[test]
+fn wrong_words_are_told_with_their_usage(rt: HostRuntime) -> Result<(), Fail> {
+    let rows: [(&[&str], &str); 6] = [
+        (
+            &["--workers", "17", "f"],
+            "error: invalid value '17' for '--workers <N>': 17 is not in 1..=16\n\nFor more information, try '--help'.\n",
+        ),
+        (
+            &["--workers", "0", "f"],
+            "error: invalid value '0' for '--workers <N>': 0 is not in 1..=16\n\nFor more information, try '--help'.\n",
+        ),
+        (
+            &["--capacity", "4097", "f"],
+            "error: invalid value '4097' for '--capacity <N>': 4097 is not in 1..=4096\n\nFor more information, try '--help'.\n",
+        ),
+        (
+            &["--salt", "4294967296", "f"],
+            "error: invalid value '4294967296' for '--salt <N>': 4294967296 is not in 0..=4294967295\n\nFor more information, try '--help'.\n",
+        ),
+        (
+            &[],
+            "error: the following required arguments were not provided:\n  <FILE>\n\nUsage: mapcli <FILE>\n\nFor more information, try '--help'.\n",
+        ),
+        (
+            &["f", "g"],
+            "error: unexpected argument 'g' found\n\nUsage: mapcli [OPTIONS] <FILE>\n\nFor more information, try '--help'.\n",
+        ),
+    ];
+    for (given, wanted) in rows {
+        let (status, text) = refusal(&rt, rt.alloc(), given)?;
+        assert_eq!(rt; text.as_str(), wanted);
+        assert_eq!(rt; status, 2);
+    }
+    Ok(())
+}
+
+const HELP: &str =
+    "Runs a script of client blocks over a concurrent hash map, and answers its queries
+
+Usage: mapcli [OPTIONS] <FILE>
+
+Arguments:
+  <FILE>  The script
+
+Options:
+      --workers <N>   How many workers answer the queries, 1 to 16 [default: 4]
+      --capacity <N>  How many bins the map opens with at least, 1 to 4096 [default: 16]
+      --salt <N>      What the hashes of keys are mixed with, 0 to 4294967295 [default: 0]
+  -h, --help          Print help
+
+A script has a block for each client: the line `client`, and then a line for each of its calls. After the
+blocks come the line `query` and a line for each query:
+
+  client
+  put a 1
+  merge a 2 sum
+  query
+  count
+  list 1
+
+Calls:    get K, contains K, put K V, put_if_absent K V, remove K, remove_if K V, replace K V,
+          replace_if K V V, compute_if_absent K F, compute_if_present K F, compute K F, merge K V M
+Queries:  count, reduce sum T, reduce max T, search above V T, list T
+
+K is a key, of 1 to 32 letters, digits or _. V is a signed number of 64 bits. F is sum V, max V, set V
+or drop, and M is sum, max, set or drop. T is from how many keys on the work may be divided.
+";
+
+#[test]
+fn help_is_no_fault(rt: HostRuntime) -> Result<(), Fail> {
+    let (status, text) = refusal(&rt, rt.alloc(), &["--help"])?;
+    assert_eq!(rt; status, 0);
+    assert_eq!(rt; text.as_str(), HELP);
+    Ok(())
+}
+
+#[test]
+fn each_fault_has_its_status_and_its_line(rt: HostRuntime) -> Result<(), Fail> {
+    let rows = [
+        (Fault::NoMemory, 3, "mapcli: no memory\n"),
+        (Fault::Device, 3, "mapcli: device\n"),
+        (Fault::BinMissing, 3, "mapcli: bins missing\n"),
+        (
+            Fault::ScriptFault {
+                line: 1,
+                kind: Kind::Missing,
+            },
+            1,
+            "mapcli: line 1: missing\n",
+        ),
+        (
+            Fault::ScriptFault {
+                line: 1000002,
+                kind: Kind::Limit,
+            },
+            1,
+            "mapcli: line 1000002: limit\n",
+        ),
+        (
+            Fault::BadCapacity,
+            2,
+            "mapcli: the capacity is not 1 to 4096\n",
+        ),
+        (
+            Fault::BadWorkers,
+            2,
+            "mapcli: the workers are not 1 to 16\n",
+        ),
+    ];
+    for (fault, wanted_status, wanted) in rows {
+        assert_eq!(rt; line(rt.alloc(), &fault)?.as_str(), wanted);
+        assert_eq!(rt; status(&fault), wanted_status);
+    }
+    Ok(())
+}

@@ -1,0 +1,103 @@
+//! A ledger and a move, each request of their making refused in turn.
+ghost use Rattle.std.specs.Prelude.{◌≡◌, All, IfOk};
+
+use crate::values::Alloc;
+use count_ledger::{BinRole, Ledger, Pass, Unsettled};
+use hashkeys::{Key, Salt};
+use refusing_alloc::Refusing;
+use std::alloc::{AllocError, Global};
+use std::process::Abort;
+use std::test::Fail;
+use transfer::{Finish, Range, Strides};
+
+/// More than any call's requests.
+const MANY: u64 = 1000;
+
+type KeyPass = Pass<Key, u64, ()>;
+
+type Made<'a> = (
+    Ledger<Key, u64, (), Alloc<'a>>,
+    Vec<KeyPass, Alloc<'a>>,
+    Vec<BinRole<Key, u64, ()>, Alloc<'a>>,
+);
+
+fn retire_all(mut passes: Vec<KeyPass, Alloc<'_>>) {
+    while let Some(pass) = passes.pop() {
+        pass.retire();
+    }
+    passes.destroy_empty();
+}
+
+/// Settles a ledger of two clients over two bins that nobody called.
+fn assert_settles(rt: &impl Abort, made: Made<'_>)
+    requires passes { All (λ p. p.ledger ≡ made.0.id) made.1.items }
+    requires roles { All (λ r. r.ledger ≡ made.0.id) made.2.items }
+{
+    let (ledger, passes, roles) = made;
+    let sizes = (passes.len(), roles.len());
+    match ledger.settle(passes, roles) {
+        Ok(total) => assert_eq!(rt; (sizes, total), ((2, 2), 0)),
+        Err(
+            Unsettled {
+                ledger,
+                passes,
+                roles,
+            },
+        ) => {
+            retire_all(passes);
+            drop(roles);
+            drop(ledger);
+            assert!(rt; false, "the ledger settles");
+        }
+    }
+}
+
+/// A ledger of two clients over two empty bins.
+fn make(alloc: Alloc<'_>) -> Result<Made<'_>, AllocError>
+    ensures passes { IfOk result (λ made. All (λ p. p.ledger ≡ made.0.id) made.1.items) }
+    ensures roles { IfOk result (λ made. All (λ r. r.ledger ≡ made.0.id) made.2.items) }
+{
+    let bases = Vec::from_array(alloc, [Vec::new(alloc), Vec::new(alloc)])?;
+    Ledger::new(alloc, Salt(0), 2, &bases)
+}
+
+#[test]
+fn a_refused_ledger_is_made_again(rt: HostRuntime) -> Result<(), Fail> {
+    let alloc = Refusing::new(rt.alloc());
+    let mut refusals = 0u64;
+    for granted in 0..MANY {
+        alloc.refuse_after(granted);
+        if let Ok(made) = make(&alloc) {
+            assert_settles(&rt, made);
+            assert!(rt; !alloc.has_refused());
+            break;
+        }
+        assert!(rt; alloc.has_refused());
+        assert_settles(&rt, make(&alloc)?);
+        refusals = refusals.wrapping_add(1);
+    }
+    // The lists of bases, passes and roles, and the table's two blocks.
+    assert_eq!(rt; refusals, 5);
+    Ok(())
+}
+
+#[test]
+fn a_refused_move_is_made_again(rt: HostRuntime) -> Result<(), Fail> {
+    let alloc = Refusing::new(rt.alloc());
+    let mut refusals = 0u64;
+    for granted in 0..MANY {
+        alloc.refuse_after(granted);
+        let made = Strides::new(&alloc, 1).or_else(|_| Strides::new(&alloc, 1));
+        let (strides, mut opener) = made?;
+        let range = strides.claim(&mut opener).expect(&rt, "a range");
+        assert!(rt; range == Range { lo: 0, hi: 1 });
+        assert!(rt; strides.finish(&mut opener, range) == Finish::Last);
+        if !alloc.has_refused() {
+            break;
+        }
+        refusals = refusals.wrapping_add(1);
+    }
+    // The list of spare movers, and the table's two blocks.
+    assert_eq!(rt; refusals, 3);
+    Ok(())
+}

@@ -1,0 +1,9 @@
+//! Tests of what stands where memory is refused: for each call, each of its requests in turn.
+#![tactic(auto)]
+
+#[cfg(test)]
+mod bins;
+#[cfg(test)]
+mod books;
+#[cfg(test)]
+mod values;

@@ -1,0 +1,6 @@
+mod Numbers
+mod Saying
+mod Readings
+mod Parts
+mod Functions
+mod Steps

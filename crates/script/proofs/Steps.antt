@@ -1,0 +1,106 @@
+-- What one more line comes to.
+use Rattle.std.proofs.Common.{◌≡◌, ◌≢◌, ℕ, ◌+◌, ◌≤◌, ◌==◌, true, false, ◌⊎◌, inl, inr, Option, Some, None, MatchOption, Bor, List, [], ◌∷◌, ◌++◌, length, Vec, map, All, refl, sym, ap, ◌∙◌, subst, arith, length-append}
+use Rattle.std.proofs.lemmas.Bool.Decides.{nat_tests}
+use Rattle.std.proofs.lemmas.List.{map-append}
+use Rattle.script.specs.Lines.{Word, BeginsWith, words, IsPrintable, IsSpaced}
+use Rattle.script.specs.Grammar.{ScriptCall, Line, Reads}
+use Rattle.script.specs.Faults.{AreWrong}
+use Rattle.script.specs.Reading.{Place, start, calls, queries, forms_at, IsTooMany, Leads, IsLine, IsBad, Verdict, whole, faulty, IsRead, good, bad, cut, ended, missing}
+use Rattle.script.specs.Verdicts.{HasVerdict, IsJust, IsWithinLimits, IsTold}
+use Rattle.script.specs.Drafts.{place_of, HasBadBytes, IsRefused, IsRefusedAtLimit, error_at}
+use Rattle.script.specs.declared.draft.Draft.{Draft}
+use Rattle.script.specs.declared.draft.Draft.TheVariants as drafts
+use Rattle.script.specs.declared.script.Query.{Query}
+use Rattle.script.specs.declared.fault.Kind.{Kind}
+use Rattle.script.specs.declared.fault.Kind.TheVariants as kinds
+use Rattle.script.specs.declared.fault.LineError.{LineError}
+use Rattle.script.specs.declared.fault.LineError.TheVariants.{NoMemory, Bad}
+use Rattle.script.proofs.Readings.{IsRead-same}
+
+pub IsBad-from_bytes : (p : Place) (l : List ℕ) (kind : Kind) → HasBadBytes l kind → IsBad p l kind
+IsBad-from_bytes p l kind (inl h) = inl h
+IsBad-from_bytes p l kind (inr h) = inr (h.0, inl h.1)
+
+module _ (p : Place) (l : List ℕ) (ws : List Word) (printable : IsPrintable l) (spaced : IsSpaced l) (words_are : words l ≡ ws) where
+  pub IsBad-from_words : (kind : Kind) → AreWrong (forms_at p) ws kind → IsBad p l kind
+  IsBad-from_words kind wrong =
+      let here = subst (λ (vs : List Word). AreWrong (forms_at p) vs kind) (sym words_are) wrong in
+      inr (printable, inr (spaced, inl here))
+
+  pub IsLine-from_words : (line : Line) → Reads (forms_at p) ws line → IsLine p l line
+  IsLine-from_words line reads =
+      record { printable = printable; spaced = spaced; reads = subst (λ (vs : List Word). Reads (forms_at p) vs line) (sym words_are) reads }
+
+  pub IsRefused-at_limit : (line : Line) (e : LineError) → Reads (forms_at p) ws line → IsRefusedAtLimit p line e → IsRefused p l e
+  IsRefused-at_limit line NoMemory reads h = tt
+  IsRefused-at_limit line (Bad kind) reads h =
+      let here = subst (λ (vs : List Word). Reads (forms_at p) vs line) (sym words_are) reads in
+      inr (printable, inr (spaced, inr (line, here, h.0, h.1)))
+
+-- one more block
+pub blocks_pushed : {X A : Type 0} (old new : List (Vec X A)) (b : Vec X A) → new ≡ old ++ b ∷ [] → map (λ v. v.items) new ≡ map (λ v. v.items) old ++ b.items ∷ []
+blocks_pushed {X} {A} old new b e = ap (map (λ (v : Vec X A). v.items)) e ∙ map-append (λ (v : Vec X A). v.items) old (b ∷ [])
+
+-- a place that is spelled otherwise
+pub Leads-to_calls : (p : Place) (line : Line) (bs cs : List (List ScriptCall)) (b c : List ScriptCall) → cs ≡ bs → c ≡ b → Leads p line (calls bs b) → Leads p line (calls cs c)
+Leads-to_calls p line bs cs b c e d h = subst (λ (q : Place). Leads p line q) (λ i. calls (sym e i) (sym d i)) h
+
+pub Leads-to_queries : (p : Place) (line : Line) (bs cs : List (List ScriptCall)) (qs rs : List Query) → cs ≡ bs → rs ≡ qs → Leads p line (queries bs qs) → Leads p line (queries cs rs)
+Leads-to_queries p line bs cs qs rs e d h = subst (λ (q : Place). Leads p line q) (λ i. queries (sym e i) (sym d i)) h
+
+-- a text that is cut at its first line feed
+pub BeginsWith-split : (text l : List ℕ) (after : Option (Bor (List ℕ))) (more : Bor (List ℕ)) → All (λ b. b ≢ 10) l → MatchOption after (l ≡ text) (λ m. text ≡ l ++ 10 ∷ m.now) → after ≡ Some more → BeginsWith text l more.now
+BeginsWith-split text l after more none parts e =
+    record { parts = subst (λ (o : Option (Bor (List ℕ))). MatchOption o (l ≡ text) (λ m. text ≡ l ++ 10 ∷ m.now)) e parts; no_line_feed = none }
+
+pub no_line_feed-split : (text l : List ℕ) (after : Option (Bor (List ℕ))) → All (λ b. b ≢ 10) l → MatchOption after (l ≡ text) (λ m. text ≡ l ++ 10 ∷ m.now) → after ≡ None → All (λ b. b ≢ 10) text
+no_line_feed-split text l after none parts e =
+    let whole_text : l ≡ text = subst (λ (o : Option (Bor (List ℕ))). MatchOption o (l ≡ text) (λ m. text ≡ l ++ 10 ∷ m.now)) e parts in
+    subst (All (λ b. b ≢ 10)) whole_text none
+
+pub BeginsWith-shorter : (text l more : List ℕ) → BeginsWith text l more → length more + 1 ≤ length text
+BeginsWith-shorter text l more h = omega (arith, simp length-append at (ap length h.parts))
+
+pub some_left : (xs : List ℕ) → (length xs == 0) ≡ false → xs ≢ []
+some_left [] h e = cc
+some_left (x ∷ xs) h e = cc
+
+pub none_left : (xs : List ℕ) → (length xs == 0) ≡ true → xs ≡ []
+none_left [] h = refl
+none_left (x ∷ xs) h = absurd (grind (arith, nat_tests))
+
+-- what holds of a text holds of it alone
+pub IsJust-from : (text : List ℕ) (v : Verdict) → HasVerdict text v → IsJust text v
+IsJust-from text v h = record { holds = h; only = λ u g. IsRead-same start 1 text u v g h }
+
+module _ {A : Type 0} (text : List ℕ) (d : Draft A) (n : ℕ) (rest : List ℕ) (so_far : (v : Verdict) → IsRead (place_of d) n rest v → HasVerdict text v) where
+  -- after a good line
+  pub so_far-more : (next : Draft A) (l more : List ℕ) (line : Line) → BeginsWith rest l more → IsLine (place_of d) l line → Leads (place_of d) line (place_of next) → (v : Verdict) → IsRead (place_of next) (n + 1) more v → HasVerdict text v
+  so_far-more next l more line begins is leads v h = so_far v (good (place_of d) (place_of next) n rest l more line v begins is leads h)
+
+  -- at a bad line
+  pub told-bad : (l more : List ℕ) (e : LineError) → BeginsWith rest l more → IsRefused (place_of d) l e → IsTold text (error_at n e)
+  told-bad l more NoMemory begins h = tt
+  told-bad l more (Bad kind) begins h = IsJust-from text (faulty n kind) (so_far (faulty n kind) (bad (place_of d) n rest l more kind begins h))
+
+  -- at a line that is not ended
+  pub told-cut : rest ≢ [] → All (λ b. b ≢ 10) rest → IsJust text (faulty n kinds.Cut)
+  told-cut some none = IsJust-from text (faulty n kinds.Cut) (so_far (faulty n kinds.Cut) (cut (place_of d) n rest some none))
+
+  -- at the end of a text that is no script
+  pub told-missing : rest ≡ [] → ((blocks : List (List ScriptCall)) (asked : List Query) → place_of d ≢ queries blocks asked) → IsJust text (faulty n kinds.Missing)
+  told-missing e none =
+      let here = subst (λ (r : List ℕ). IsRead (place_of d) n r (faulty n kinds.Missing)) (sym e) (missing (place_of d) n none) in
+      IsJust-from text (faulty n kinds.Missing) (so_far (faulty n kinds.Missing) here)
+
+  -- at the end of a script
+  pub told-whole : (blocks : List (List ScriptCall)) (asked : List Query) → rest ≡ [] → place_of d ≡ queries blocks asked → IsJust text (whole blocks asked)
+  told-whole blocks asked e at =
+      let here = subst (λ (r : List ℕ). IsRead (queries blocks asked) n r (whole blocks asked)) (sym e) (ended blocks asked n) in
+      let there = subst (λ (p : Place). IsRead p n rest (whole blocks asked)) (sym at) here in
+      IsJust-from text (whole blocks asked) (so_far (whole blocks asked) there)
+
+pub not_queries : {A : Type 0} (d : Draft A) → ((blocks : _) (asked : _) → d ≢ drafts.Queries blocks asked) → (blocks : List (List ScriptCall)) (asked : List Query) → place_of d ≢ queries blocks asked
+not_queries drafts.Start none blocks asked e = cc
+not_queries (drafts.Calls bs b) none blocks asked e = cc
+not_queries (drafts.Queries bs qs) none blocks asked e = none bs qs refl

@@ -1,0 +1,15 @@
+use Rattle.std.proofs.Common.{[], ◌∷◌}
+use Rattle.std.proofs.lemmas.Result.{err_from_is_err_and}
+use Rattle.script.specs.Faults.{a_key, a_function}
+use Rattle.script.proofs.Parts.{IsWrong-later}
+use Rattle.script.proofs.Functions.{IsFunction-later}
+use Rattle.script.proofs.forms.key_and_function.Goals as goal
+
+pub returns-in_err-end-clause-err : goal.returns-in_err-end-clause-err
+returns-in_err-end-clause-err c =
+    let p = err_from_is_err_and c.from_residual-in_err-end.result c.from_residual-in_err-end.ensures.1 in
+    let (fs, function, e) = c.in_ok-function.ensures.ok in
+    let key = c.in_ok-key.ensures.ok in
+    rw (p.1, p.2)
+    (IsWrong-later a_key (a_function ∷ []) _ c.in_ok-key.key _ _ key.1 key.0
+    (IsFunction-later c.in_ok-function.function fs _ _ _ e function c.in_err-end.ensures.err))

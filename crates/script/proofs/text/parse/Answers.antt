@@ -1,0 +1,43 @@
+use Rattle.std.proofs.Common.{◌≡◌, refl, sym, ap, ◌∙◌, arith, rules}
+use Rattle.script.specs.Reading.{start, whole}
+use Rattle.script.specs.Drafts.{place_of}
+use Rattle.script.proofs.Readings.{IsRead-within}
+use Rattle.script.proofs.Steps.{BeginsWith-split, BeginsWith-shorter, no_line_feed-split, some_left, none_left, so_far-more, told-bad, told-cut, told-missing, told-whole, not_queries}
+use Rattle.script.proofs.text.parse.Goals as goal
+
+pub returns-in_default-clause-fault : goal.returns-in_default-clause-fault
+returns-in_default-clause-fault g c =
+    let some = some_left c.lines.rest.now (sym c.is_empty.ensures ∙ c.lines-test.true) in
+    let none = no_line_feed-split _ _ _ c.split_at_byte.ensures.before c.split_at_byte.ensures.parts c.in_default.is in
+    told-cut c.args.text.now c.lines.draft c.lines.number _ c.lines.invariant.so_far some none
+
+pub returns-in-Err-clause-fault : goal.returns-in-Err-clause-fault
+returns-in-Err-clause-fault g c =
+    let begins = BeginsWith-split _ _ _ c.in-Some.more c.split_at_byte.ensures.before c.split_at_byte.ensures.parts c.in-Some.is in
+    rw c.at.ensures (told-bad c.args.text.now c.lines.draft c.lines.number _ c.lines.invariant.so_far _ _ c.in-Err.error begins c.in-Err.ensures.err)
+
+pub lines-preserved : goal.lines-preserved
+lines-preserved g c =
+    let begins = BeginsWith-split _ _ _ c.in-Some.more c.split_at_byte.ensures.before c.split_at_byte.ensures.parts c.in-Some.is in
+    let (said, is, leads) = c.in-Ok.ensures.ok in
+    let shorter = BeginsWith-shorter _ _ _ begins in
+    record {
+      so_far = so_far-more c.args.text.now c.lines.draft c.lines.number _ c.lines.invariant.so_far c.in-Ok.next _ _ said begins is leads;
+      counted = omega (arith, shorter, c.lines.invariant.counted);
+    }
+
+pub returns-in-Queries-clause-script : goal.returns-in-Queries-clause-script
+returns-in-Queries-clause-script g c =
+    let ended = none_left c.lines.rest.now (sym c.is_empty.ensures ∙ c.lines-test.false) in
+    told-whole c.args.text.now c.lines.draft c.lines.number _ c.lines.invariant.so_far _ _ ended (ap place_of c.in-Queries.is)
+
+pub returns-in-Queries-clause-limits : goal.returns-in-Queries-clause-limits
+returns-in-Queries-clause-limits g c =
+    let ended = none_left c.lines.rest.now (sym c.is_empty.ensures ∙ c.lines-test.false) in
+    let just = told-whole c.args.text.now c.lines.draft c.lines.number _ c.lines.invariant.so_far _ _ ended (ap place_of c.in-Queries.is) in
+    IsRead-within start 1 c.args.text.now _ just.holds tt
+
+pub returns : goal.returns
+returns g c =
+    let ended = none_left c.lines.rest.now (sym c.is_empty.ensures ∙ c.lines-test.false) in
+    record { script = tt; fault = told-missing c.args.text.now c.lines.draft c.lines.number _ c.lines.invariant.so_far ended (not_queries c.lines.draft c.in_default-draft.not-Queries); limits = tt }

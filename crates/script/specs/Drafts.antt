@@ -1,0 +1,44 @@
+-- Where a draft of a script is, and what an attempt at its next line comes to.
+use Rattle.std.specs.Prelude.{◌≡◌, ℕ, List, map}
+use Rattle.script.specs.Lines.{IsPrintable, IsSpaced}
+use Rattle.script.specs.Grammar.{Line, client, query, call}
+use Rattle.script.specs.Reading.{Place, start, calls, queries, IsTooMany, FirstFails, IsBad}
+use Rattle.script.specs.declared.draft.Draft.{Draft}
+use Rattle.script.specs.declared.draft.Draft.TheVariants as drafts
+use Rattle.script.specs.declared.fault.LineError.{LineError}
+use Rattle.script.specs.declared.fault.LineError.TheVariants.{NoMemory, Bad}
+use Rattle.script.specs.declared.fault.ParseError.{ParseError}
+use Rattle.script.specs.declared.fault.ParseError.TheVariants as errors
+use Rattle.script.specs.declared.fault.Kind.{Kind}
+use Rattle.script.specs.declared.fault.Kind.TheVariants as kinds
+use Rattle.script.specs.declared.forms.BlockLine.{BlockLine}
+use Rattle.script.specs.declared.forms.BlockLine.TheVariants as blocks
+
+abbrev pub place_of : {A : Type 0} → Draft A → Place
+place_of drafts.Start = start
+place_of (drafts.Calls blocks block) = calls (map (λ b. b.items) blocks.items) block.items
+place_of (drafts.Queries blocks asked) = queries (map (λ b. b.items) blocks.items) asked.items
+
+abbrev pub line_of : BlockLine → Line
+line_of blocks.Client = client
+line_of blocks.Query = query
+line_of (blocks.Call c) = call c
+
+-- the line has a byte that is not printable, or spaces in other places than between words
+abbrev pub HasBadBytes : List ℕ → Kind → Type 0
+HasBadBytes l kind = FirstFails (IsPrintable l) kinds.Bytes (λ k. (¬ IsSpaced l) × (k ≡ kinds.Spaces)) kind
+
+-- a refusal that is not for want of memory says that the line is bad
+abbrev pub IsRefused : Place → List ℕ → LineError → Type 0
+IsRefused p l NoMemory = Unit {0}
+IsRefused p l (Bad kind) = IsBad p l kind
+
+-- or that it is one too many
+abbrev pub IsRefusedAtLimit : Place → Line → LineError → Type 0
+IsRefusedAtLimit p line NoMemory = Unit {0}
+IsRefusedAtLimit p line (Bad kind) = IsTooMany p line × (kind ≡ kinds.Limit)
+
+-- the error of a text whose line of this number is refused
+abbrev pub error_at : ℕ → LineError → ParseError
+error_at n NoMemory = errors.NoMemory
+error_at n (Bad kind) = errors.Fault (record { line = n; kind = kind })
