@@ -52,8 +52,7 @@ module _ {K V F : Type 0} (same : K → K → Bool) (tells : (x y : K) → Decid
       let whole : old ++ drop 512 b.records ≡ b.records = take-append-drop 512 b.records in
       let base : lookup same b.base ≡ run same (lookup same opening) front = ap (lookup same) h.base_is ∙ lookup-replay same tells opening front h.distinct in
       let L : (K → Option V) → Type 0 = λ m. IsLegal same after m old in
-      let first : IsLegal same after (lookup same b.base) old = IsLegal-front same tells after (lookup same b.base) old (drop 512 b.records) (rw whole legal) in
-      (
+      let first : IsLegal same after (lookup same b.base) old = IsLegal-front same tells after (lookup same b.base) old (drop 512 b.records) (rw whole legal) in (
         front ++ old,
         record {
           distinct = h.distinct;
@@ -70,8 +69,7 @@ module _ {K V F : Type 0} (same : K → K → Bool) (tells : (x y : K) → Decid
   HasHistory-part opening kept b c (front, h) p =
       let passes : K → Bool = is_of code b.salt c.class in
       let part : lookup same (part_of_entries passes opening) ≡ part_of_map passes (lookup same opening) = λ i q. lookup-part same tells passes opening q i in
-      let L : (K → Option V) → Type 0 = λ m. IsLegal same after m (part_of_records passes front) in
-      (
+      let L : (K → Option V) → Type 0 = λ m. IsLegal same after m (part_of_records passes front) in (
         part_of_records passes front,
         record {
           distinct = HasDistinctKeys-part same tells passes opening h.distinct;
@@ -87,8 +85,7 @@ module _ {K V F : Type 0} (same : K → K → Bool) (tells : (x y : K) → Decid
       → IsLegal same after (lookup same opening) kept × (b.entries ≡ replay same opening kept)
   HasHistory-replay opening kept b (front, h) legal replayed =
       let base : lookup same b.base ≡ run same (lookup same opening) front = ap (lookup same) h.base_is ∙ lookup-replay same tells opening front h.distinct in
-      let L : (K → Option V) → Type 0 = λ m. IsLegal same after m b.records in
-      (
+      let L : (K → Option V) → Type 0 = λ m. IsLegal same after m b.records in (
         rw h.kept_is (IsLegal-append same tells after (lookup same opening) front b.records h.legal (subst L base legal)),
         replayed ∙ ap (λ (es : List (K × V)). replay same es b.records) h.base_is ∙ sym (replay-append same tells opening front b.records) ∙ ap (replay same opening) (sym h.kept_is),
       )

@@ -62,7 +62,10 @@ impl Plain {
 
     /// Makes the call on the pairs.
     fn make(&self, pairs: &mut Pairs) -> Result<Reply<u64>, AllocError> {
-        let before = pairs.iter().find(|pair| pair.0 == self.key).map(|pair| pair.1);
+        let before = pairs
+            .iter()
+            .find(|pair| pair.0 == self.key)
+            .map(|pair| pair.1);
         let (after, reply) = self.effect(before);
         match (before, after) {
             (Some(_), Some(value)) => {
@@ -150,7 +153,10 @@ fn a_bin_answers_as_a_plain_map(rt: HostRuntime) -> Result<(), Fail> {
         assert!(rt; reply == plain.make(&mut pairs)?, "call {line}");
         assert_eq!(rt; bin.entries().len(), pairs.len(), "after call {line}");
         for (entry, pair) in bin.entries().iter().zip(pairs.iter()) {
-            assert!(rt; entry.0 == text(&rt, pair.0) && entry.1 == pair.1, "after call {line}");
+            assert!(rt;
+                entry.0 == text(&rt, pair.0) && entry.1 == pair.1,
+                "after call {line}"
+            );
         }
     }
     Ok(())
