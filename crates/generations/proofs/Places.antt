@@ -1,0 +1,42 @@
+-- Bins and their roles at places.
+use Rattle.std.proofs.Common.{◌≡◌, ℕ, Bool, Option, Decides, subst, sym, ap, ◌∙◌}
+use Rattle.hashkeys.specs.Classes.{ClassView}
+use Rattle.bin_history.specs.BinPart.{IsPartOf}
+use Rattle.bin_history.specs.Lawful.{BinView, IsLawful}
+use Rattle.bin_history.specs.declared.call.Call.{Call}
+use Rattle.count_ledger.specs.Agreement.{part_of_role}
+use Rattle.count_ledger.specs.Views.{RoleView}
+use Rattle.count_ledger.proofs.Agreements.{Agree-divided}
+use Rattle.generations.specs.Leaves.{IsLeaf}
+use Rattle.generations.specs.Places.{AreAt}
+use Rattle.generations.specs.States.{FitsPlace}
+use Rattle.generations.specs.Views.{GenerationsView, IsOfMap, place_of}
+use Rattle.generations.specs.declared.state.PlaceTag.{PlaceTag}
+use Rattle.generations.specs.declared.state.State.{State}
+use Rattle.generations.specs.declared.state.State.TheVariants.{Live}
+
+module _ {K V F : Type 0} (same : K → K → Bool) (after : Call K V F → Option V → Option V) where
+  -- what lies live under a place's lock is at the place
+  pub AreAt-live : {A : Type 0} (p : PlaceTag) (s : State K V F A) (b : BinView K V F) (r : RoleView K V F) → FitsPlace same after p s → s ≡ Live b r → AreAt same after p b r
+  AreAt-live p s b r fits is = subst (FitsPlace same after p) is fits
+
+  pub IsLeaf-at : (code : K → ℕ) (map : GenerationsView) (p : PlaceTag) (b : BinView K V F) (r : RoleView K V F) → AreAt same after p b r → IsOfMap map p → IsLawful same code after b → IsLeaf same code after map b r
+  IsLeaf-at code map p b r at of_map lawful = record {
+    salt = at.salt ∙ of_map.salt;
+    ledger = at.ledger ∙ of_map.ledger;
+    agree = at.agree;
+    lawful = lawful;
+  }
+
+  -- a half of a bin and the half of its role are at the map's place for the half
+  pub AreAt-half : (tells : (x y : K) → Decides (same x y) (x ≡ y)) (code : K → ℕ) (map : GenerationsView) (p q : PlaceTag) (b c : BinView K V F) (r s : RoleView K V F) (half : ClassView → ClassView)
+      → AreAt same after p b r → IsOfMap map p → c.class ≡ half b.class → IsPartOf code b c → s ≡ part_of_role code (half r.class) r → q ≡ place_of map (half b.class) → AreAt same after q c s
+  AreAt-half tells code map p q b c r s half at of_map class part is place = record {
+    class = class ∙ sym (ap (λ (x : PlaceTag). x.class) place);
+    salt = part.salt ∙ at.salt ∙ of_map.salt ∙ sym (ap (λ (x : PlaceTag). x.salt) place);
+    ledger = ap (λ (x : RoleView K V F). x.ledger) is ∙ at.ledger ∙ of_map.ledger ∙ sym (ap (λ (x : PlaceTag). x.ledger) place);
+    agree = Agree-divided same tells code after b c r s half at.agree class part is;
+  }
+
+  pub AreAt-same : (p p' : PlaceTag) (b b' : BinView K V F) (r r' : RoleView K V F) → AreAt same after p b r → p' ≡ p → b' ≡ b → r' ≡ r → AreAt same after p' b' r'
+  AreAt-same p p' b b' r r' at place bin role = subst (λ (x : PlaceTag). AreAt same after x b' r') (sym place) (subst (λ (x : BinView K V F). AreAt same after p x r') (sym bin) (subst (λ (x : RoleView K V F). AreAt same after p b x) (sym role) at))

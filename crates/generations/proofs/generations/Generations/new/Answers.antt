@@ -1,0 +1,34 @@
+use Rattle.std.proofs.Common.{◌≡◌, ◌<◌, ℕ, length, ap, sym, ◌∙◌, arith}
+use Rattle.std.proofs.lemmas.Nat.{pow_pos}
+use Rattle.count_ledger.specs.Views.{LedgerId}
+use Rattle.generations.specs.Views.{GenerationsView, place_of}
+use Rattle.generations.proofs.Openings.{length-new_roles, first_ledger, if_ok_then}
+use Rattle.generations.proofs.generations.Generations.new.Goals as goal
+
+pub index-requires : goal.index-requires
+index-requires g c =
+    let (e, le, is) = c.requires.size in
+    let (id, made) = c.requires.roles in
+    omega (arith, c.args.roles.ok.0, length-new_roles id c.args.salt c.args.bases c.args.roles.items made, c.requires.count, is, pow_pos e)
+
+pub around-requires-clause-places : goal.around-requires-clause-places
+around-requires-clause-places g c = λ i d lt.
+    let (e, le, is) = c.requires.size in
+    let (id, made) = c.requires.roles in
+    let some : 0 < length c.args.bases.items = omega (arith, c.requires.count, is, pow_pos e) in
+    let name : c.of-ledger.result ≡ id = c.of-ledger.ensures ∙ first_ledger id c.args.salt c.args.bases c.args.roles.items c.index.result.now made some c.index.ensures in
+    c.in_ok-places.ensures.places id made i d lt ∙ ap (λ (x : LedgerId). place_of (record { ledger = x; salt = c.args.salt; n = c.args.n }) (record { n = length c.in_ok-places.places.items; index = i })) (sym name)
+
+pub returns-clause-n : goal.returns-clause-n
+returns-clause-n g c = if_ok_then c.around.result (λ (m : GenerationsView) made. ap (λ (x : GenerationsView). x.n) made ∙ c.in_ok-places.ensures.count) c.around.ensures
+
+pub returns-clause-salt : goal.returns-clause-salt
+returns-clause-salt g c = if_ok_then c.around.result (λ (m : GenerationsView) made. ap (λ (x : GenerationsView). x.salt) made) c.around.ensures
+
+pub returns-clause-ledger : goal.returns-clause-ledger
+returns-clause-ledger g c = if_ok_then c.around.result
+    (λ (m : GenerationsView) made ledger roles.
+    let (e, le, is) = c.requires.size in
+    let some : 0 < length c.args.bases.items = omega (arith, c.requires.count, is, pow_pos e) in
+    ap (λ (x : GenerationsView). x.ledger) made ∙ c.of-ledger.ensures ∙ first_ledger ledger c.args.salt c.args.bases c.args.roles.items c.index.result.now roles some c.index.ensures)
+    c.around.ensures

@@ -1,0 +1,68 @@
+//! Moves of single bins into their halves.
+ghost use Rattle.std.specs.Prelude.{◌≡◌, ◌<◌, ◌≤◌};
+ghost use Rattle.bin_history.specs.Copies.{IsExact};
+
+use crate::generations::Generations;
+use bin_history::Remap;
+use count_ledger::Ledger;
+use crossbeam_utils::Backoff;
+use hashkeys::{Class, HashKey};
+use std::alloc::{AllocError, Allocator};
+use std::sync::Wait;
+
+/// What a call of `forward` found.
+#[derive(Clone, Copy, PartialEq, Eq, Debug)]
+pub enum Moved {
+    /// It replaced the bin of the class by its halves.
+    Yes,
+    /// The bin of the class was forwarded before.
+    Already,
+    /// A bin of a wider class stands there, and nothing was changed.
+    Wider,
+}
+
+impl<
+    K: HashKey + Drop,
+    V: Clone + Eq + Drop,
+    F: Remap<K, V> + Clone + Drop,
+    A: Allocator + Clone,
+> Generations<K, V, F, A> {
+    /// Replaces the bin of the class by its halves, once nobody holds or reads it. For want of memory the bin stays.
+    pub fn forward<R: Wait>(
+        &self,
+        rt: &R,
+        ledger: &Ledger<K, V, F, A>,
+        class: Class,
+    ) -> Result<Moved, AllocError>
+        requires keys { IsExact K.is_clone }
+        requires values { IsExact V.is_clone }
+        requires functions { IsExact F.is_clone }
+        requires ledger { ledger.now.id ≡ self.now.ledger }
+        requires least { self.now.n ≤ class.n }
+        requires size { class.n < 65536 }
+    {
+        let backoff = Backoff::new();
+        for _ in rt.forever() {
+            if let Some(place) = self.find(class.index()) {
+                let size = place.class().n();
+                if class.n() < size {
+                    return Ok(Moved::Already);
+                }
+                if size < class.n() {
+                    return Ok(Moved::Wider);
+                }
+                if let Some(held) = self.try_hold(rt, place) {
+                    return match held.halve(rt, ledger) {
+                        Ok(()) => Ok(Moved::Yes),
+                        Err((held, error)) => {
+                            held.release();
+                            Err(error)
+                        }
+                    };
+                }
+            }
+            backoff.snooze();
+        }
+        unreachable!()
+    }
+}

@@ -1,0 +1,195 @@
+//! Bins that are held, to call on them or to halve them.
+ghost use Rattle.std.specs.Prelude.{◌≡◌, ◌<◌, true, nat_lt, IfSome, IfOk, IfErr};
+ghost use Rattle.hashkeys.specs.Classes.{covers};
+ghost use Rattle.bin_history.specs.Calls.{after};
+ghost use Rattle.bin_history.specs.Copies.{IsExact};
+ghost use Rattle.bin_history.specs.Lawful.{IsLawful};
+ghost use Rattle.boxcar.specs.Table.{Shows};
+ghost use Rattle.generations.specs.Inside.{map_named};
+ghost use Rattle.generations.specs.Places.{AreAt};
+ghost use Rattle.generations.specs.Views.{IsOfMap};
+
+use crate::generations::{Generations, OfMap};
+use crate::place::{AWAY, Halves, Out, Place};
+use crate::state::{PlaceTag, State};
+use bin_history::{Bin, Remap};
+use boxcar::Pushed;
+use count_ledger::{BinRole, Ledger, LedgerName};
+use counted_slot::{Claim, PRESENT};
+use crossbeam_utils::Backoff;
+use hashkeys::{Class, HashKey, Salt};
+use std::alloc::{AllocError, Allocator};
+use std::sync::Wait;
+
+/// A bin that is held, with its role. Nobody else has either until it is released or halved, which must happen.
+pub struct Held<'a, K: HashKey, V: Clone + Eq, F: Remap<K, V> + Clone, A: Allocator> {
+    pub bin: Bin<K, V, F, A>,
+    pub role: BinRole<K, V, F>,
+    /// Where the bin was, and goes back to.
+    pub place: &'a Place<K, V, F, A>,
+    /// The map that it is of.
+    pub home: &'a Generations<K, V, F, A>,
+    claim: Claim<'a, State<K, V, F, A>>,
+    ghost writes: { claim.right ≡ 2 },
+    ghost here: { claim.tag ≡ place.now },
+    ghost at_home: { IsOfMap home.now place.now },
+}
+
+impl<
+    K: HashKey + Drop,
+    V: Clone + Eq + Drop,
+    F: Remap<K, V> + Clone + Drop,
+    A: Allocator + Clone,
+> Generations<K, V, F, A> {
+    /// Waits for the bin of the hash, and holds it.
+    pub fn hold<R: Wait>(&self, rt: &R, hash: u32) -> Held<'_, K, V, F, A>
+        ensures at { AreAt K.eq (after V.eq F.remapped F.merged) result.place.now result.bin result.role }
+        ensures covers { covers result.bin.class hash ≡ true }
+        ensures lawful { IsLawful K.eq K.code (after V.eq F.remapped F.merged) result.bin }
+        ensures of_map { IsOfMap self.now result.place.now }
+        ensures home { result.home.now ≡ self.now }
+    {
+        let backoff = Backoff::new();
+        for _ in rt.forever() {
+            if let Some(place) = self.find(hash) {
+                if let Some(held) = self.try_hold(rt, place) {
+                    return held;
+                }
+            }
+            backoff.snooze();
+        }
+        unreachable!()
+    }
+
+    /// One try for the bin of a place.
+    pub(crate) fn try_hold<'a, R: Wait>(
+        &'a self,
+        rt: &R,
+        place: &'a Place<K, V, F, A>,
+    ) -> Option<Held<'a, K, V, F, A>>
+        requires { IsOfMap self.now place.now }
+        ensures at { IfSome result (λ h. AreAt K.eq (after V.eq F.remapped F.merged) place.now h.bin h.role) }
+        ensures lawful { IfSome result (λ h. IsLawful K.eq K.code (after V.eq F.remapped F.merged) h.bin) }
+        ensures place { IfSome result (λ h. h.place.now ≡ place.now) }
+        ensures home { IfSome result (λ h. h.home.now ≡ self.now) }
+    {
+        let Out { state, claim } = place.try_take(rt)?;
+        match state.into_pair() {
+            Ok((bin, role)) => {
+                bin.lawful();
+                Some(Held {
+                    bin,
+                    role,
+                    place,
+                    home: self,
+                    claim,
+                })
+            }
+            Err(state) => {
+                drop(claim.put(state, AWAY));
+                None
+            }
+        }
+    }
+}
+
+impl<
+    'a,
+    K: HashKey + Drop,
+    V: Clone + Eq + Drop,
+    F: Remap<K, V> + Clone + Drop,
+    A: Allocator + Clone,
+> Held<'a, K, V, F, A> {
+    /// Whether the way to the bin went past a forwarded place: the bin is not an opening bin.
+    pub fn passed_forwarded(&self) -> bool
+        ensures { result ≡ nat_lt self.now.home.now.n self.now.place.now.class.n }
+    {
+        self.home.n() < self.place.class().n()
+    }
+
+    /// Gives the bin and its role back. They agree, and are of the class and the ledger that were held. It waits for nobody.
+    pub fn release(self)
+        requires { AreAt K.eq (after V.eq F.remapped F.merged) self.place.now self.bin self.role }
+    {
+        let Held {
+            bin,
+            role,
+            place: _,
+            home: _,
+            claim,
+        } = self;
+        drop(claim.put(State::Live(bin, role), PRESENT));
+    }
+
+    /// Puts the two halves of the bin, each with its part of the role, in its place. For want of memory it hands everything back as it was.
+    pub fn halve<R: Wait>(
+        self,
+        rt: &R,
+        ledger: &Ledger<K, V, F, A>,
+    ) -> Result<(), (Held<'a, K, V, F, A>, AllocError)>
+        requires keys { IsExact K.is_clone }
+        requires values { IsExact V.is_clone }
+        requires functions { IsExact F.is_clone }
+        requires at { AreAt K.eq (after V.eq F.remapped F.merged) self.place.now self.bin self.role }
+        requires ledger { self.role.ledger ≡ ledger.now.id }
+        requires size { self.bin.class.n < 65536 }
+        ensures bin { IfErr result (λ e. e.0.bin ≡ self.entry.bin) }
+        ensures role { IfErr result (λ e. e.0.role ≡ self.entry.role) }
+        ensures place { IfErr result (λ e. e.0.place.now ≡ self.entry.place.now) }
+        ensures home { IfErr result (λ e. e.0.home.now ≡ self.entry.home.now) }
+    {
+        let home: &'a Generations<K, V, F, A> = self.home;
+        let (low_class, high_class) = self.bin.class().halves();
+        let Ok((low, high)) = self.bin.split() else {
+            return Err((self, AllocError));
+        };
+        let Ok(low_at) = add_place(rt, &home.arena, &home.tag_for(low_class)) else {
+            return Err((self, AllocError));
+        };
+        let Ok(high_at) = add_place(rt, &home.arena, &home.tag_for(high_class)) else {
+            return Err((self, AllocError));
+        };
+        let Held {
+            bin,
+            role,
+            place,
+            home: _,
+            claim,
+        } = self;
+        drop(bin);
+        let (low_role, high_role) = ledger.divide(role);
+        home.arena.value(&low_at).fill(rt, low, low_role);
+        home.arena.value(&high_at).fill(rt, high, high_role);
+        place.forward_to(Halves {
+            low: low_at.index(),
+            high: high_at.index(),
+        });
+        drop(claim.put(State::Forwarded, AWAY));
+        Ok(())
+    }
+}
+
+/// A place in the arena, with nothing in it yet.
+fn add_place<
+    K: HashKey + Drop,
+    V: Clone + Eq + Drop,
+    F: Remap<K, V> + Clone + Drop,
+    A: Allocator + Clone,
+    R: Wait,
+>(
+    rt: &R,
+    arena: &boxcar::Vec<Place<K, V, F, A>, A, OfMap>,
+    tag: &PlaceTag,
+) -> Result<Pushed<Place<K, V, F, A>, A, OfMap>, AllocError>
+    requires { IsOfMap (map_named arena.now.tag) tag.now }
+    ensures shows { IfOk result (λ p. Shows arena.now p) }
+    ensures value { IfOk result (λ p. p.value ≡ tag.now) }
+{
+    match arena.push_shown(rt, Place::new(tag, State::Taken)) {
+        Ok(pushed) => Ok(pushed),
+        Err(place) => {
+            drop(place);
+            Err(AllocError)
+        }
+    }
+}

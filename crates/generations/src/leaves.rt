@@ -1,0 +1,146 @@
+//! The bins of a map that nobody else has, taken out in walk order.
+ghost use Rattle.std.specs.Prelude.{◌≡◌, true, IsTrue, IfSome, IfOk, IfErr, [], ◌∷◌, ◌++◌};
+ghost use Rattle.bin_history.specs.Calls.{after};
+ghost use Rattle.count_ledger.specs.Books.{classes_of};
+ghost use Rattle.generations.specs.Leaves.{IsLeaf, AreLeaves, classes_of_bins};
+ghost use Rattle.generations.specs.Left.{IfKept};
+ghost use Rattle.generations.specs.Views.{IsOfMap};
+ghost use Rattle.generations.specs.Walks.{IsWalk};
+
+use crate::generations::Generations;
+use crate::place::{AWAY, Out, Place};
+use crate::state::State;
+use crate::walk::next_in_walk;
+use bin_history::{Bin, Remap};
+use count_ledger::BinRole;
+use hashkeys::{Class, HashKey};
+use std::alloc::{AllocError, Allocator};
+use std::sync::Wait;
+
+/// A map has no more bins than this.
+const MOST_BINS: u32 = 65_536;
+
+/// Why the bins of a map could not be taken out.
+#[derive(Drop)]
+pub enum NotLeft<K: HashKey, V: Clone + Eq, F: Remap<K, V> + Clone, A: Allocator> {
+    /// For want of memory. Here is the map as it was.
+    NoMemory(Generations<K, V, F, A>),
+    /// A bin was missing, or there were more than were counted.
+    BinMissing,
+}
+
+impl<
+    K: HashKey + Drop,
+    V: Clone + Eq + Drop,
+    F: Remap<K, V> + Clone + Drop,
+    A: Allocator + Clone,
+> Generations<K, V, F, A> {
+    /// How many bins there are.
+    fn count_bins(&self) -> u32 {
+        let n = self.n();
+        let mut next = Class::new(n, 0);
+        for before in 0..MOST_BINS {
+            let Some(place) = self.find(next.index()) else {
+                return before;
+            };
+            match next_in_walk(n, place.class()) {
+                Some(class) => next = class,
+                None => return before + 1,
+            }
+        }
+        MOST_BINS
+    }
+
+    /// The bin of a place, with its role. Nothing stays there.
+    fn take_leaf<R: Wait>(
+        &self,
+        rt: &R,
+        place: &Place<K, V, F, A>,
+    ) -> Option<(Bin<K, V, F, A>, BinRole<K, V, F>)>
+        requires { IsOfMap self.now place.now }
+        ensures class { IfSome result (λ p. p.0.class ≡ place.now.class) }
+        ensures leaf { IfSome result (λ p. IsLeaf K.eq K.code (after V.eq F.remapped F.merged) self.now p.0 p.1) }
+    {
+        let Out { state, claim } = place.try_take(rt)?;
+        match state.into_pair() {
+            Ok((bin, role)) => {
+                bin.lawful();
+                drop(claim.put(State::Taken, AWAY));
+                Some((bin, role))
+            }
+            Err(state) => {
+                drop(claim.put(state, AWAY));
+                None
+            }
+        }
+    }
+
+    /// Takes all bins. False where one is missing, or there are more than there is room for.
+    fn take_all<R: Wait>(
+        &self,
+        rt: &R,
+        bins: &mut Vec<Bin<K, V, F, A>, A>,
+        roles: &mut Vec<BinRole<K, V, F>, A>,
+    ) -> bool
+        requires bins { bins.old.items ≡ [] }
+        requires roles { roles.old.items ≡ [] }
+        ensures walk { IsTrue result → IsWalk self.now.n (classes_of_bins bins.new.items) }
+        ensures leaves { IsTrue result → AreLeaves K.eq K.code (after V.eq F.remapped F.merged) self.now bins.new.items roles.new.items }
+    {
+        let n = self.n();
+        let mut next = Class::new(n, 0);
+        while bins.len() < bins.capacity() && roles.len() < roles.capacity() {
+            let Some(place) = self.find(next.index()) else {
+                return false;
+            };
+            let class = place.class();
+            if class.n() < next.n() {
+                return false;
+            }
+            let Some((bin, role)) = self.take_leaf(rt, place) else {
+                return false;
+            };
+            bins.push_reserved(bin);
+            roles.push_reserved(role);
+            match next_in_walk(n, class) {
+                Some(class) => next = class,
+                None => return true,
+            }
+        }
+        false
+    }
+
+    /// Takes out the bins in walk order and, place by place, their roles. For want of memory the map comes back as it was.
+    pub fn into_leaves<R: Wait>(
+        self,
+        rt: &R,
+    ) -> Result<(Vec<Bin<K, V, F, A>, A>, Vec<BinRole<K, V, F>, A>), NotLeft<K, V, F, A>>
+        ensures walk { IfOk result (λ p. IsWalk self.n (classes_of_bins p.0.items)) }
+        ensures leaves { IfOk result (λ p. AreLeaves K.eq K.code (after V.eq F.remapped F.merged) self p.0.items p.1.items) }
+        ensures classes { IfOk result (λ p. classes_of p.1.items ≡ classes_of_bins p.0.items) }
+        ensures refused { IfErr result (λ e. IfKept e (λ g. g ≡ self)) }
+    {
+        let count = self.count_bins() as usize;
+        let Ok((mut bins, mut roles)) = self.room_for(count) else {
+            return Err(NotLeft::NoMemory(self));
+        };
+        if self.take_all(rt, &mut bins, &mut roles) {
+            Ok((bins, roles))
+        } else {
+            Err(NotLeft::BinMissing)
+        }
+    }
+
+    /// Lists with room for so many bins and their roles.
+    fn room_for(
+        &self,
+        count: usize,
+    ) -> Result<(Vec<Bin<K, V, F, A>, A>, Vec<BinRole<K, V, F>, A>), AllocError>
+        ensures bins { IfOk result (λ p. p.0.items ≡ []) }
+        ensures roles { IfOk result (λ p. p.1.items ≡ []) }
+    {
+        let bins = Vec::with_capacity(self.allocator().clone()?, count)?;
+        let roles = Vec::with_capacity(self.allocator().clone()?, count)?;
+        Ok((bins, roles))
+    }
+}

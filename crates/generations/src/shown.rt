@@ -1,0 +1,116 @@
+//! A bin that is read, beside others that read it.
+ghost use Rattle.std.specs.Prelude.{◌≡◌, true, IfSome, IsSomeAnd};
+ghost use Rattle.hashkeys.specs.Classes.{covers};
+ghost use Rattle.bin_history.specs.Calls.{after};
+ghost use Rattle.bin_history.specs.Lawful.{IsLawful};
+ghost use Rattle.generations.specs.Leaves.{IsLeaf};
+ghost use Rattle.generations.specs.Places.{AreAt};
+
+use crate::generations::Generations;
+use crate::place::Place;
+use crate::state::State;
+use bin_history::{Bin, Remap};
+use counted_slot::Claim;
+use crossbeam_utils::Backoff;
+use hashkeys::HashKey;
+use std::alloc::Allocator;
+use std::marker::Model;
+use std::sync::Wait;
+
+/// A bin that may be read. Several may be shown one bin at once, and nobody holds it meanwhile. It has to be released. Contracts see the bin and its role.
+pub struct Shown<'a, K: HashKey, V: Clone + Eq, F: Remap<K, V> + Clone, A: Allocator> {
+    claim: Claim<'a, State<K, V, F, A>>,
+}
+
+impl<'a, K: HashKey, V: Clone + Eq, F: Remap<K, V> + Clone, A: Allocator> Model
+    for Shown<'a, K, V, F, A> {
+    ghost use Rattle.std.specs.Prelude.{◌≡◌, Option, IsSome};
+    ghost use Rattle.bin_history.specs.Lawful.{BinView};
+    ghost use Rattle.count_ledger.specs.Views.{RoleView};
+
+    ghost Value = { Option (BinView K V F × RoleView K V F) };
+
+    ghost use Rattle.generations.specs.Seen.{seen};
+
+    ghost view = { λ s. seen s.claim.value };
+
+    ghost invariant = { λ s. (s.claim.right ≡ 1) × IsSome (seen s.claim.value) };
+}
+
+impl<'a, K: HashKey, V: Clone + Eq, F: Remap<K, V> + Clone, A: Allocator + Clone> Shown<
+    'a,
+    K,
+    V,
+    F,
+    A,
+> {
+    /// The claim to read as a bin that is shown, or the claim's end where there is no bin.
+    fn of(
+        place: &'a Place<K, V, F, A>,
+        claim: Claim<'a, State<K, V, F, A>>,
+    ) -> Option<Shown<'a, K, V, F, A>>
+        requires { (claim.right ≡ 1) × (claim.tag ≡ place.now) }
+        ensures at { IfSome result (λ s. IsSomeAnd s (λ p. AreAt K.eq (after V.eq F.remapped F.merged) place.now p.0 p.1)) }
+        ensures lawful { IfSome result (λ s. IsSomeAnd s (λ p. IsLawful K.eq K.code (after V.eq F.remapped F.merged) p.0)) }
+    {
+        let _ = place;
+        let live = match claim.get() {
+            State::Live(bin, _) => {
+                bin.lawful();
+                true
+            }
+            State::Forwarded => false,
+            State::Taken => false,
+        };
+        if live {
+            Some(Shown { claim })
+        } else {
+            claim.leave();
+            None
+        }
+    }
+
+    /// The bin.
+    pub fn bin(&self) -> &Bin<K, V, F, A>
+        ensures { IsSomeAnd self.now (λ p. result.now ≡ p.0) }
+    {
+        match self.claim.get() {
+            State::Live(bin, _) => bin,
+            State::Forwarded => unreachable!(),
+            State::Taken => unreachable!(),
+        }
+    }
+
+    /// Gives the bin back.
+    pub fn release(self) {
+        let Shown { claim } = self;
+        claim.leave();
+    }
+}
+
+impl<
+    K: HashKey + Drop,
+    V: Clone + Eq + Drop,
+    F: Remap<K, V> + Clone + Drop,
+    A: Allocator + Clone,
+> Generations<K, V, F, A> {
+    /// Waits for the bin of the hash, to read it beside others.
+    pub fn read<R: Wait>(&self, rt: &R, hash: u32) -> Shown<'_, K, V, F, A>
+        ensures covers { IsSomeAnd result (λ p. covers p.0.class hash ≡ true) }
+        ensures leaf { IsSomeAnd result (λ p. IsLeaf K.eq K.code (after V.eq F.remapped F.merged) self.now p.0 p.1) }
+    {
+        let backoff = Backoff::new();
+        for _ in rt.forever() {
+            if let Some(place) = self.find(hash) {
+                place.open_up(rt);
+                if let Some(claim) = place.try_share() {
+                    if let Some(shown) = Shown::of(place, claim) {
+                        return shown;
+                    }
+                }
+            }
+            backoff.snooze();
+        }
+        unreachable!()
+    }
+}
