@@ -1,0 +1,91 @@
+-- What the books of a pass and of the role of a bin tell of the bin.
+use Rattle.std.proofs.Common.{◌≡◌, ℕ, Bool, true, Option, Decides, List, [], ◌∷◌, ◌++◌, length, ◌-◌, slice_index_or, sym, ap, subst, ◌∙◌, arith}
+use Rattle.std.proofs.Math.Seq.{get_or-append_seam}
+use Rattle.std.proofs.lemmas.List.{length-append}
+use Rattle.hashkeys.specs.Classes.{IsClass, is_of}
+use Rattle.bin_history.specs.Calls.{key_of, after, reply}
+use Rattle.bin_history.specs.Entries.{lookup, HasDistinctKeys, replay, store}
+use Rattle.bin_history.specs.Lawful.{BinView, IsLawful}
+use Rattle.bin_history.specs.Part.{part_of_entries, part_of_records}
+use Rattle.bin_history.specs.Plain.{IsLegal}
+use Rattle.bin_history.specs.declared.call.Call.{Call}
+use Rattle.bin_history.specs.Readiness.{ReadyView, IsWorkedOut, recorded}
+use Rattle.bin_history.specs.declared.call.Record.{Record}
+use Rattle.bin_history.specs.declared.call.Reply.{Reply}
+use Rattle.bin_history.proofs.Runs.{lookup-replay}
+use Rattle.count_ledger.specs.Agreement.{Agree}
+use Rattle.count_ledger.specs.Books.{BooksAgree, IsPassOf, IsRoleOf}
+use Rattle.count_ledger.specs.Views.{LedgerView, PassView, RoleView}
+use Rattle.count_ledger.proofs.Agreements.{Agree-replay}
+use Rattle.chm.specs.Called.{IsCalled, IsCalledOn}
+use Rattle.chm.specs.Views.{opening_in}
+use Rattle.chm.specs.Met.{IsMet}
+
+pub last-snoc : {A : Type 0} (xs : List A) (x d : A) → slice_index_or (xs ++ x ∷ []) (length (xs ++ x ∷ []) - 1) d ≡ x
+last-snoc xs x d =
+    let at : length (xs ++ x ∷ []) - 1 ≡ length xs = (let e = length-append xs (x ∷ []) in omega arith) in
+    ap (λ i. slice_index_or (xs ++ x ∷ []) i d) at ∙ get_or-append_seam xs x [] d
+
+module _ {K V F : Type 0} (same : K → K → Bool) (tells : (x y : K) → Decides (same x y) (x ≡ y)) (code : K → ℕ) (after : Call K V F → Option V → Option V) where
+  module _ (ledger : LedgerView K V) (pass : PassView K V F) (b : BinView K V F) (r : RoleView K V F) (agree : Agree same after b r) (role : IsRoleOf code ledger r) where
+    -- the role's opening pairs are those of the bin's class
+    opening-met : r.opening ≡ opening_in code ledger b.class
+    opening-met =
+        role.opening
+        ∙ (λ i. part_of_entries (is_of code (role.salt i) r.class) ledger.opening)
+        ∙ (λ i. part_of_entries (is_of code ledger.salt (sym agree.class i)) ledger.opening)
+
+    pub IsMet-agree : IsPassOf ledger pass → IsLawful same code after b → b.entries ≡ replay same b.base b.records → BooksAgree code pass r → IsMet same code after ledger pass b r
+    IsMet-agree of lawful replayed books =
+        let (legal, entries) = Agree-replay same tells code after b r agree lawful replayed in
+        let L : List (K × V) → Type 0 = λ es. IsLegal same after (lookup same es) r.kept in
+        let is : b.entries ≡ replay same (opening_in code ledger b.class) r.kept = entries ∙ ap (λ (es : List (K × V)). replay same es r.kept) opening-met in
+        let distinct = subst (HasDistinctKeys same) opening-met agree.history.1.distinct in
+        let run_is = ap (lookup same) is ∙ lookup-replay same tells (opening_in code ledger b.class) r.kept distinct in
+        record {
+          history = record {
+            client = of.client;
+            legal = subst L opening-met legal;
+            clients = role.clients;
+            own = books
+                ∙ (λ i. part_of_records (is_of code (role.salt i) r.class) pass.made)
+                ∙ (λ i. part_of_records (is_of code ledger.salt (sym agree.class i)) pass.made);
+          };
+          entries = is;
+          same_map = λ k. ap (λ (m : K → Option V). m k) run_is;
+        }
+
+-- the last of a list
+pub last-of : {A : Type 0} (xs l : List A) (x d : A) → l ≡ xs ++ x ∷ [] → slice_index_or l (length l - 1) d ≡ x
+last-of xs l x d is = ap (λ (m : List _). slice_index_or m (length m - 1) d) is ∙ last-snoc xs x d
+
+module _ {K V F : Type 0} (same : K → K → Bool) (code : K → ℕ) (same_value : V → V → Bool) (remapped : F → K → Option V → Option V) (merged : F → V → V → Option V) where
+  -- a call that was worked out on a bin's entries and applied was made on them
+  pub IsCalledOn-applied : (ready : ReadyView K V F) (call : Call K V F) (old new : PassView K V F) (answer : Reply V) (es worked others : List (K × V)) (r : Record K V F) (client ordinal : ℕ)
+      → IsWorkedOut same same_value remapped merged ready worked → worked ≡ es → ready.call ≡ call → r ≡ recorded client ordinal ready → client ≡ old.client → ordinal ≡ length old.made
+      → others ≡ store same worked (key_of ready.call) ready.after → new ≡ record old { made = old.made ++ r ∷ [] } → answer ≡ reply same_value ready.call ready.before ready.after
+      → IsCalledOn same code same_value remapped merged es others call old new answer
+  IsCalledOn-applied ready call old new answer es worked others r client ordinal w kept is_call is by next stored pass replied =
+      let r_call : r.call ≡ call = ap (λ (x : Record K V F). x.call) is ∙ is_call in
+      let r_before : r.before ≡ ready.before = ap (λ (x : Record K V F). x.before) is in
+      let r_after : r.after ≡ ready.after = ap (λ (x : Record K V F). x.after) is in (
+        r,
+        record {
+          pass = pass;
+          call_is = r_call;
+          client = ap (λ (x : Record K V F). x.client) is ∙ by;
+          ordinal = ap (λ (x : Record K V F). x.ordinal) is ∙ next;
+          left = r_after ∙ w.after_is ∙ (λ i. after same_value remapped merged (is_call i) (sym r_before i));
+          reply_is = replied ∙ (λ i. reply same_value (is_call i) (sym r_before i) (sym r_after i));
+        },
+        r_before ∙ w.before_is ∙ (λ i. lookup same (kept i) (key_of (is_call i))),
+        stored ∙ (λ i. store same (kept i) (key_of (is_call i)) (sym r_after i)),
+      )
+
+  -- such a call, on a bin of the key's hash that the pass met, found the value that the key had in the map
+  pub IsCalled-met : (ledger : LedgerView K V) (call : Call K V F) (old new : PassView K V F) (answer : Reply V) (b : BinView K V F) (role : RoleView K V F) (others : List (K × V))
+      → IsCalledOn same code same_value remapped merged b.entries others call old new answer → IsMet same code (after same_value remapped merged) ledger old b role
+      → IsClass b.class → is_of code ledger.salt b.class (key_of call) ≡ true
+      → IsCalled same code same_value remapped merged ledger call old new answer
+  IsCalled-met ledger call old new answer b role others (r, made, before, stored) met class on =
+      (r, made, (b.class, role.kept, class, on, met.history, before ∙ met.same_map (key_of call)))

@@ -1,0 +1,20 @@
+use Rattle.std.proofs.Common.{List, length, flat_map, ap, sym, subst, ◌∙◌}
+use Rattle.hashkeys.specs.Classes.{IsTableSize}
+use Rattle.chm.specs.Sizes.{IsSizeFor}
+use Rattle.chm.proofs.Empty.{flat_map-empty, length-empty, distinct-empty}
+use Rattle.chm.proofs.map.Map.with_salt.Goals as goal
+
+pub open-requires-clause-size : goal.open-requires-clause-size
+open-requires-clause-size g c = subst IsTableSize (sym (length-empty c.in_ok-bases.bases.items c.size_for.result c.in_ok-bases.ensures)) c.size_for.ensures.size
+
+pub open-requires-clause-distinct : goal.open-requires-clause-distinct
+open-requires-clause-distinct g c = distinct-empty g.K.PartialEq.eq c.in_ok-bases.bases.items c.size_for.result c.in_ok-bases.ensures
+
+pub open-requires-clause-opened : goal.open-requires-clause-opened
+open-requires-clause-opened g c = sym (ap (λ (l : List (List _)). length (flat_map (λ b. b) l)) c.in_ok-bases.ensures ∙ ap (λ (l : List _). length l) (flat_map-empty c.size_for.result))
+
+pub returns-clause-opening : goal.returns-clause-opening
+returns-clause-opening g c = c.in_ok-open.ensures.opening ∙ ap (λ (l : List (List _)). flat_map (λ b. b) l) c.in_ok-bases.ensures ∙ flat_map-empty c.size_for.result
+
+pub returns-clause-size : goal.returns-clause-size
+returns-clause-size g c = subst (IsSizeFor c.args.capacity) (sym (c.in_ok-open.ensures.n ∙ length-empty c.in_ok-bases.bases.items c.size_for.result c.in_ok-bases.ensures)) c.size_for.ensures

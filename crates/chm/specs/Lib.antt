@@ -1,0 +1,5 @@
+pub mod Views
+pub mod Met
+pub mod Called
+pub mod Sizes
+pub mod Refusals

@@ -1,0 +1,27 @@
+-- A map, as contracts see it.
+use Rattle.std.specs.Prelude.{◌≡◌, ℕ, ◌≤◌, List, length}
+use Rattle.hashkeys.specs.Classes.{ClassView, is_of}
+use Rattle.bin_history.specs.Part.{part_of_entries}
+use Rattle.count_ledger.specs.Views.{LedgerView}
+use Rattle.generations.specs.Views.{GenerationsView}
+
+-- its books, and the number of bins that it opened with
+pub record MapView (K V : Type 0) : Type 0 where
+  pub ledger : LedgerView K V
+  pub n : ℕ
+
+-- the part of the opening map in a class
+abbrev pub opening_in : {K V : Type 0} → (K → ℕ) → LedgerView K V → ClassView → List (K × V)
+opening_in code ledger class = part_of_entries (is_of code ledger.salt class) ledger.opening
+
+-- what a map keeps: its bins are under its books, and it counted its opening pairs
+pub record IsMap {K V : Type 0} (ledger : LedgerView K V) (bins : GenerationsView) (opened : ℕ) : Type 0 where
+  pub id : bins.ledger ≡ ledger.id
+  pub salt : bins.salt ≡ ledger.salt
+  pub opened_is : opened ≡ length ledger.opening
+  pub few : opened ≤ 4294967295
+  pub clients : ledger.clients ≤ 32
+
+-- the map's bins, as its layer of bins names them
+abbrev pub bins_of : {K V : Type 0} → MapView K V → GenerationsView
+bins_of m = record { ledger = m.ledger.id; salt = m.ledger.salt; n = m.n }

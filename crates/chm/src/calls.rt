@@ -1,0 +1,314 @@
+//! The twelve calls.
+ghost use Rattle.std.specs.Prelude.{◌≡◌, ◌<◌, ◌↔◌, ◌++◌, ◌∷◌, [], true, length, IfOk, IfErr, IsErrOf, OnErr};
+ghost use Rattle.hashkeys.specs.Classes.{is_of};
+ghost use Rattle.bin_history.specs.Calls.{key_of};
+ghost use Rattle.bin_history.specs.Copies.{IsExact};
+ghost use Rattle.bin_history.specs.declared.call.Call.TheVariants.{Get, Contains, Put, PutIfAbsent, Remove, RemoveIf, Replace, ReplaceIf, ComputeIfAbsent, ComputeIfPresent, Compute, Merge};
+ghost use Rattle.chm.specs.Called.{IsCalled};
+ghost use Rattle.chm.specs.Refusals.{IsOfCall};
+
+use crate::fault::Fault;
+use crate::map::Map;
+use crate::moving::Landed;
+use bin_history::{Call, Remap, Reply};
+use count_ledger::{MOST_CALLS, Pass};
+use hashkeys::HashKey;
+use std::alloc::{AllocError, Allocator};
+use std::sync::Wait;
+
+impl<
+    K: HashKey + Drop,
+    V: Clone + Eq + Drop,
+    F: Remap<K, V> + Clone + Drop,
+    A: Allocator + Clone,
+> Map<K, V, F, A> {
+    /// Makes a call on the bin of its key, which it holds meanwhile, and posts it. For want of memory nothing is changed or posted.
+    fn make<R: Wait>(
+        &self,
+        rt: &R,
+        pass: &mut Pass<K, V, F>,
+        call: Call<K, V, F>,
+    ) -> Result<(Reply<V>, Landed), AllocError>
+        requires keys { IsExact K.is_clone }
+        requires values { IsExact V.is_clone }
+        requires pass { pass.old.ledger ≡ self.now.ledger.id }
+        requires room { length pass.old.made < 1000000 }
+        ensures called { IfOk result (λ r. IsCalled K.eq K.code V.eq F.remapped F.merged self.now.ledger call pass.old pass.new r.0) }
+        ensures refused { OnErr result (pass.new ≡ pass.old) }
+    {
+        let mut held = self.bins.hold(rt, self.salt().hash_of(call.key()));
+        let class = held.bin.class();
+        let passed_forwarded = self.bins.n() < class.n();
+        let mut bin = held.bin;
+        let mut role = held.role;
+        let made = self.call_under(pass, &mut bin, &mut role, call);
+        held.bin = bin;
+        held.role = role;
+        held.release();
+        let (reply, grew) = made?;
+        let landed = Landed {
+            class,
+            passed_forwarded,
+            grew,
+        };
+        Ok((reply, landed))
+    }
+
+    /// Makes a call, posts it, and then does the call's part for the table.
+    fn call<R: Wait>(
+        &self,
+        rt: &R,
+        pass: &mut Pass<K, V, F>,
+        call: Call<K, V, F>,
+    ) -> Result<Reply<V>, Fault>
+        requires keys { IsExact K.is_clone }
+        requires values { IsExact V.is_clone }
+        requires functions { IsExact F.is_clone }
+        requires pass { pass.old.ledger ≡ self.now.ledger.id }
+        ensures called { IfOk result (λ reply. IsCalled K.eq K.code V.eq F.remapped F.merged self.now.ledger call pass.old pass.new reply) }
+        ensures refused { OnErr result (pass.new ≡ pass.old) }
+        ensures full { IsErrOf result Fault.PassFull ↔ (length pass.old.made ≡ 1000000) }
+        ensures faults { IfErr result IsOfCall }
+    {
+        if pass.made() == MOST_CALLS {
+            return Err(Fault::PassFull);
+        }
+        let (reply, landed) = self.make(rt, pass, call)?;
+        self.after_call(rt, &landed);
+        Ok(reply)
+    }
+
+    /// The value at the key.
+    pub fn get<R: Wait>(&self, rt: &R, pass: &mut Pass<K, V, F>, key: K) -> Result<Reply<V>, Fault>
+        requires keys { IsExact K.is_clone }
+        requires values { IsExact V.is_clone }
+        requires functions { IsExact F.is_clone }
+        requires pass { pass.old.ledger ≡ self.now.ledger.id }
+        ensures called { IfOk result (λ reply. IsCalled K.eq K.code V.eq F.remapped F.merged self.now.ledger (Get key) pass.old pass.new reply) }
+        ensures refused { OnErr result (pass.new ≡ pass.old) }
+        ensures full { IsErrOf result Fault.PassFull ↔ (length pass.old.made ≡ 1000000) }
+        ensures faults { IfErr result IsOfCall }
+    {
+        self.call(rt, pass, Call::Get(key))
+    }
+
+    /// Whether the key has a value.
+    pub fn contains_key<R: Wait>(
+        &self,
+        rt: &R,
+        pass: &mut Pass<K, V, F>,
+        key: K,
+    ) -> Result<Reply<V>, Fault>
+        requires keys { IsExact K.is_clone }
+        requires values { IsExact V.is_clone }
+        requires functions { IsExact F.is_clone }
+        requires pass { pass.old.ledger ≡ self.now.ledger.id }
+        ensures called { IfOk result (λ reply. IsCalled K.eq K.code V.eq F.remapped F.merged self.now.ledger (Contains key) pass.old pass.new reply) }
+        ensures refused { OnErr result (pass.new ≡ pass.old) }
+        ensures full { IsErrOf result Fault.PassFull ↔ (length pass.old.made ≡ 1000000) }
+        ensures faults { IfErr result IsOfCall }
+    {
+        self.call(rt, pass, Call::Contains(key))
+    }
+
+    /// Gives the key this value. It replies the value before.
+    pub fn put<R: Wait>(
+        &self,
+        rt: &R,
+        pass: &mut Pass<K, V, F>,
+        key: K,
+        value: V,
+    ) -> Result<Reply<V>, Fault>
+        requires keys { IsExact K.is_clone }
+        requires values { IsExact V.is_clone }
+        requires functions { IsExact F.is_clone }
+        requires pass { pass.old.ledger ≡ self.now.ledger.id }
+        ensures called { IfOk result (λ reply. IsCalled K.eq K.code V.eq F.remapped F.merged self.now.ledger (Put key value) pass.old pass.new reply) }
+        ensures refused { OnErr result (pass.new ≡ pass.old) }
+        ensures full { IsErrOf result Fault.PassFull ↔ (length pass.old.made ≡ 1000000) }
+        ensures faults { IfErr result IsOfCall }
+    {
+        self.call(rt, pass, Call::Put(key, value))
+    }
+
+    /// Gives the key this value where it has none. It replies the value before.
+    pub fn put_if_absent<R: Wait>(
+        &self,
+        rt: &R,
+        pass: &mut Pass<K, V, F>,
+        key: K,
+        value: V,
+    ) -> Result<Reply<V>, Fault>
+        requires keys { IsExact K.is_clone }
+        requires values { IsExact V.is_clone }
+        requires functions { IsExact F.is_clone }
+        requires pass { pass.old.ledger ≡ self.now.ledger.id }
+        ensures called { IfOk result (λ reply. IsCalled K.eq K.code V.eq F.remapped F.merged self.now.ledger (PutIfAbsent key value) pass.old pass.new reply) }
+        ensures refused { OnErr result (pass.new ≡ pass.old) }
+        ensures full { IsErrOf result Fault.PassFull ↔ (length pass.old.made ≡ 1000000) }
+        ensures faults { IfErr result IsOfCall }
+    {
+        self.call(rt, pass, Call::PutIfAbsent(key, value))
+    }
+
+    /// Takes the key away. It replies the value before.
+    pub fn remove<R: Wait>(
+        &self,
+        rt: &R,
+        pass: &mut Pass<K, V, F>,
+        key: K,
+    ) -> Result<Reply<V>, Fault>
+        requires keys { IsExact K.is_clone }
+        requires values { IsExact V.is_clone }
+        requires functions { IsExact F.is_clone }
+        requires pass { pass.old.ledger ≡ self.now.ledger.id }
+        ensures called { IfOk result (λ reply. IsCalled K.eq K.code V.eq F.remapped F.merged self.now.ledger (Remove key) pass.old pass.new reply) }
+        ensures refused { OnErr result (pass.new ≡ pass.old) }
+        ensures full { IsErrOf result Fault.PassFull ↔ (length pass.old.made ≡ 1000000) }
+        ensures faults { IfErr result IsOfCall }
+    {
+        self.call(rt, pass, Call::Remove(key))
+    }
+
+    /// Takes the key away where it has this value. It replies whether it had.
+    pub fn remove_if<R: Wait>(
+        &self,
+        rt: &R,
+        pass: &mut Pass<K, V, F>,
+        key: K,
+        value: V,
+    ) -> Result<Reply<V>, Fault>
+        requires keys { IsExact K.is_clone }
+        requires values { IsExact V.is_clone }
+        requires functions { IsExact F.is_clone }
+        requires pass { pass.old.ledger ≡ self.now.ledger.id }
+        ensures called { IfOk result (λ reply. IsCalled K.eq K.code V.eq F.remapped F.merged self.now.ledger (RemoveIf key value) pass.old pass.new reply) }
+        ensures refused { OnErr result (pass.new ≡ pass.old) }
+        ensures full { IsErrOf result Fault.PassFull ↔ (length pass.old.made ≡ 1000000) }
+        ensures faults { IfErr result IsOfCall }
+    {
+        self.call(rt, pass, Call::RemoveIf(key, value))
+    }
+
+    /// Gives the key this value where it has one. It replies the value before.
+    pub fn replace<R: Wait>(
+        &self,
+        rt: &R,
+        pass: &mut Pass<K, V, F>,
+        key: K,
+        value: V,
+    ) -> Result<Reply<V>, Fault>
+        requires keys { IsExact K.is_clone }
+        requires values { IsExact V.is_clone }
+        requires functions { IsExact F.is_clone }
+        requires pass { pass.old.ledger ≡ self.now.ledger.id }
+        ensures called { IfOk result (λ reply. IsCalled K.eq K.code V.eq F.remapped F.merged self.now.ledger (Replace key value) pass.old pass.new reply) }
+        ensures refused { OnErr result (pass.new ≡ pass.old) }
+        ensures full { IsErrOf result Fault.PassFull ↔ (length pass.old.made ≡ 1000000) }
+        ensures faults { IfErr result IsOfCall }
+    {
+        self.call(rt, pass, Call::Replace(key, value))
+    }
+
+    /// Gives the key the new value where it has the old one. It replies whether it had.
+    pub fn replace_if<R: Wait>(
+        &self,
+        rt: &R,
+        pass: &mut Pass<K, V, F>,
+        key: K,
+        old: V,
+        new: V,
+    ) -> Result<Reply<V>, Fault>
+        requires keys { IsExact K.is_clone }
+        requires values { IsExact V.is_clone }
+        requires functions { IsExact F.is_clone }
+        requires pass { pass.old.ledger ≡ self.now.ledger.id }
+        ensures called { IfOk result (λ reply. IsCalled K.eq K.code V.eq F.remapped F.merged self.now.ledger (ReplaceIf key old new) pass.old pass.new reply) }
+        ensures refused { OnErr result (pass.new ≡ pass.old) }
+        ensures full { IsErrOf result Fault.PassFull ↔ (length pass.old.made ≡ 1000000) }
+        ensures faults { IfErr result IsOfCall }
+    {
+        self.call(rt, pass, Call::ReplaceIf(key, old, new))
+    }
+
+    /// Gives a key without a value what the function makes of none. It replies the value after. Nothing but the key's bin is held while the function runs.
+    pub fn compute_if_absent<R: Wait>(
+        &self,
+        rt: &R,
+        pass: &mut Pass<K, V, F>,
+        key: K,
+        function: F,
+    ) -> Result<Reply<V>, Fault>
+        requires keys { IsExact K.is_clone }
+        requires values { IsExact V.is_clone }
+        requires functions { IsExact F.is_clone }
+        requires pass { pass.old.ledger ≡ self.now.ledger.id }
+        ensures called { IfOk result (λ reply. IsCalled K.eq K.code V.eq F.remapped F.merged self.now.ledger (ComputeIfAbsent key function) pass.old pass.new reply) }
+        ensures refused { OnErr result (pass.new ≡ pass.old) }
+        ensures full { IsErrOf result Fault.PassFull ↔ (length pass.old.made ≡ 1000000) }
+        ensures faults { IfErr result IsOfCall }
+    {
+        self.call(rt, pass, Call::ComputeIfAbsent(key, function))
+    }
+
+    /// Gives a key with a value what the function makes of it. It replies the value after. Nothing but the key's bin is held while the function runs.
+    pub fn compute_if_present<R: Wait>(
+        &self,
+        rt: &R,
+        pass: &mut Pass<K, V, F>,
+        key: K,
+        function: F,
+    ) -> Result<Reply<V>, Fault>
+        requires keys { IsExact K.is_clone }
+        requires values { IsExact V.is_clone }
+        requires functions { IsExact F.is_clone }
+        requires pass { pass.old.ledger ≡ self.now.ledger.id }
+        ensures called { IfOk result (λ reply. IsCalled K.eq K.code V.eq F.remapped F.merged self.now.ledger (ComputeIfPresent key function) pass.old pass.new reply) }
+        ensures refused { OnErr result (pass.new ≡ pass.old) }
+        ensures full { IsErrOf result Fault.PassFull ↔ (length pass.old.made ≡ 1000000) }
+        ensures faults { IfErr result IsOfCall }
+    {
+        self.call(rt, pass, Call::ComputeIfPresent(key, function))
+    }
+
+    /// Gives the key what the function makes of its value, or of none. It replies the value after. Nothing but the key's bin is held while the function runs.
+    pub fn compute<R: Wait>(
+        &self,
+        rt: &R,
+        pass: &mut Pass<K, V, F>,
+        key: K,
+        function: F,
+    ) -> Result<Reply<V>, Fault>
+        requires keys { IsExact K.is_clone }
+        requires values { IsExact V.is_clone }
+        requires functions { IsExact F.is_clone }
+        requires pass { pass.old.ledger ≡ self.now.ledger.id }
+        ensures called { IfOk result (λ reply. IsCalled K.eq K.code V.eq F.remapped F.merged self.now.ledger (Compute key function) pass.old pass.new reply) }
+        ensures refused { OnErr result (pass.new ≡ pass.old) }
+        ensures full { IsErrOf result Fault.PassFull ↔ (length pass.old.made ≡ 1000000) }
+        ensures faults { IfErr result IsOfCall }
+    {
+        self.call(rt, pass, Call::Compute(key, function))
+    }
+
+    /// Gives a key without a value this one, and a key with a value what the function makes of both. It replies the value after. Nothing but the key's bin is held while the function runs.
+    pub fn merge<R: Wait>(
+        &self,
+        rt: &R,
+        pass: &mut Pass<K, V, F>,
+        key: K,
+        value: V,
+        function: F,
+    ) -> Result<Reply<V>, Fault>
+        requires keys { IsExact K.is_clone }
+        requires values { IsExact V.is_clone }
+        requires functions { IsExact F.is_clone }
+        requires pass { pass.old.ledger ≡ self.now.ledger.id }
+        ensures called { IfOk result (λ reply. IsCalled K.eq K.code V.eq F.remapped F.merged self.now.ledger (Merge key value function) pass.old pass.new reply) }
+        ensures refused { OnErr result (pass.new ≡ pass.old) }
+        ensures full { IsErrOf result Fault.PassFull ↔ (length pass.old.made ≡ 1000000) }
+        ensures faults { IfErr result IsOfCall }
+    {
+        self.call(rt, pass, Call::Merge(key, value, function))
+    }
+}

@@ -1,0 +1,157 @@
+//! How a map's table grows: one move at a time, from a table of n bins to one of 2n.
+ghost use Rattle.std.specs.Prelude.{◌≡◌, ◌^◌, ◌≤◌, ◌/◌, IfOk};
+ghost use Rattle.hashkeys.specs.Classes.{IsTableSize};
+
+use std::alloc::{AllocError, Allocator};
+use std::sync::OnceLock;
+use std::sync::atomic::Ordering::SeqCst;
+use std::sync::atomic::{AtomicIn, Rule};
+use transfer::{Mover, Strides};
+
+/// The widest table has 2 to this many bins, and there is a move from each narrower one.
+const MOST_EXPONENT: u32 = 16;
+
+/// The rule of the resize word, which is four times the exponent of the table's size, and the phase.
+pub(crate) struct ResizeWord;
+
+impl Rule for ResizeWord {
+    ghost use Rattle.std.specs.Prelude.{◌/◌, ◌≤◌};
+
+    ghost invariant = { λ word. word / 4 ≤ 16 };
+}
+
+/// Whether a move is open.
+#[derive(Clone, Copy, PartialEq, Eq, Debug)]
+pub(crate) enum Phase {
+    /// No move is open.
+    Still,
+    /// A move is open, and its strides are being made.
+    Opening,
+    /// A move is open, and its strides are ready.
+    Moving,
+}
+
+/// What the resize word said when it was looked at: the table that calls go by has 2 to the exponent bins, and a move
+/// from it is open or not.
+#[derive(Clone, Copy, PartialEq, Eq, Debug)]
+pub(crate) struct Table {
+    pub(crate) exponent: u32,
+    pub(crate) phase: Phase,
+}
+
+impl Table {
+    /// The number of bins.
+    pub(crate) fn n(&self) -> u32
+        requires { self.now.exponent ≤ 16 }
+        ensures { result ≡ 2 ^ self.now.exponent }
+    {
+        1 << self.exponent
+    }
+}
+
+fn word_of(exponent: u32, phase: Phase) -> u64
+    requires { exponent ≤ 16 }
+    ensures { result / 4 ≡ exponent }
+{
+    let number = match phase {
+        Phase::Still => 0,
+        Phase::Opening => 1,
+        Phase::Moving => 2,
+    };
+    4 * u64::from(exponent) + number
+}
+
+/// The resize word, and for each size of a table the strides of the move from it.
+#[derive(Drop)]
+pub(crate) struct Growth<A: Allocator> {
+    word: AtomicIn<ResizeWord>,
+    moves: Vec<OnceLock<Strides<A>>, A>,
+}
+
+impl<A: Allocator + Clone> Growth<A> {
+    /// A table of `n` bins, and no move.
+    pub(crate) fn new(alloc: A, n: u32) -> Result<Growth<A>, AllocError> {
+        let mut moves = Vec::with_capacity(alloc, MOST_EXPONENT as usize)?;
+        for _exponent in 0..MOST_EXPONENT {
+            moves.push_reserved(OnceLock::new());
+        }
+        let exponent = n.trailing_zeros().min(MOST_EXPONENT);
+        let word = AtomicIn::new(word_of(exponent, Phase::Still));
+        Ok(Growth { word, moves })
+    }
+
+    /// The strides of a move from this table, and its opener's mover.
+    pub(crate) fn make_strides(&self, n: u32) -> Result<(Strides<A>, Mover), AllocError>
+        requires { IsTableSize n }
+        ensures { IfOk result (λ r. r.1.strides ≡ r.0) }
+    {
+        Strides::new(self.moves.allocator().clone()?, n as usize)
+    }
+}
+
+impl<A: Allocator> Growth<A> {
+    /// What the resize word says now.
+    pub(crate) fn table(&self) -> Table
+        ensures { result.exponent ≤ 16 }
+    {
+        let word = self.word.load(SeqCst);
+        let phase = match word % 4 {
+            0 => Phase::Still,
+            1 => Phase::Opening,
+            _ => Phase::Moving,
+        };
+        Table {
+            exponent: (word / 4) as u32,
+            phase,
+        }
+    }
+
+    /// Tries once to open a move from this table.
+    pub(crate) fn open(&self, table: Table) -> bool
+        requires { table.exponent ≤ 16 }
+    {
+        let still = word_of(table.exponent, Phase::Still);
+        let opening = word_of(table.exponent, Phase::Opening);
+        self.word
+            .compare_exchange(still, opening, SeqCst, SeqCst)
+            .is_ok()
+    }
+
+    /// Says that the strides of the move are ready.
+    pub(crate) fn ready(&self, table: Table)
+        requires { table.exponent ≤ 16 }
+    {
+        self.word
+            .store(word_of(table.exponent, Phase::Moving), SeqCst);
+    }
+
+    /// Shuts a move whose strides could not be made.
+    pub(crate) fn shut(&self, table: Table)
+        requires { table.exponent ≤ 16 }
+    {
+        self.word
+            .store(word_of(table.exponent, Phase::Still), SeqCst);
+    }
+
+    /// Makes the table of twice the size the one that calls go by.
+    pub(crate) fn publish(&self, table: Table)
+        requires { table.exponent ≤ 16 }
+    {
+        let exponent = (table.exponent + 1).min(MOST_EXPONENT);
+        self.word.store(word_of(exponent, Phase::Still), SeqCst);
+    }
+
+    /// Where the strides of a move from this table are kept.
+    pub(crate) fn cell(&self, table: Table) -> Option<&OnceLock<Strides<A>>> {
+        self.moves.get(table.exponent as usize)
+    }
+
+    /// The strides of the move that is open, once they are ready.
+    pub(crate) fn strides(&self, table: Table) -> Option<&Strides<A>> {
+        if table.phase == Phase::Moving {
+            self.cell(table)?.get()
+        } else {
+            None
+        }
+    }
+}

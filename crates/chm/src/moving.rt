@@ -1,0 +1,133 @@
+//! What calls do for the table once their own work is done. No refusal here is an error of the call.
+ghost use Rattle.std.specs.Prelude.{◌≡◌, ◌≤◌};
+ghost use Rattle.bin_history.specs.Copies.{IsExact};
+ghost use Rattle.transfer.specs.Views.{IsUnfinished};
+
+use crate::growth::Table;
+use crate::map::Map;
+use crate::size::{MOST_BINS, threshold};
+use bin_history::Remap;
+use hashkeys::{Class, HashKey};
+use std::alloc::Allocator;
+use std::sync::Wait;
+use transfer::{Finish, Mover, Range, Strides};
+
+/// What a call met, and whether it made its key present.
+#[derive(Drop)]
+pub(crate) struct Landed {
+    pub(crate) class: Class,
+    pub(crate) passed_forwarded: bool,
+    pub(crate) grew: bool,
+}
+
+impl<
+    K: HashKey + Drop,
+    V: Clone + Eq + Drop,
+    F: Remap<K, V> + Clone + Drop,
+    A: Allocator + Clone,
+> Map<K, V, F, A> {
+    /// Forwards a bin that the table has outgrown, helps an open move with one stride, and opens a move where there are too many keys.
+    pub(crate) fn after_call<R: Wait>(&self, rt: &R, landed: &Landed)
+        requires keys { IsExact K.is_clone }
+        requires values { IsExact V.is_clone }
+        requires functions { IsExact F.is_clone }
+    {
+        let table = self.growth.table();
+        if landed.class.n() < table.n() {
+            self.move_bin(rt, landed.class);
+        }
+        if landed.passed_forwarded {
+            self.help(rt, table);
+        }
+        let n = table.n();
+        if landed.grew && n < MOST_BINS && self.mapping_count() >= u64::from(threshold(n)) {
+            self.grow(rt, table);
+        }
+    }
+
+    /// Forwards one bin. For want of memory, or under a wider bin, it stays.
+    fn move_bin<R: Wait>(&self, rt: &R, class: Class)
+        requires keys { IsExact K.is_clone }
+        requires values { IsExact V.is_clone }
+        requires functions { IsExact F.is_clone }
+    {
+        if self.bins.n() <= class.n() && class.n() < MOST_BINS {
+            let _ = self.bins.forward(rt, &self.ledger, class);
+        }
+    }
+
+    /// Moves the bins of a range that the mover claimed, and publishes the wider table where it was the last.
+    fn move_range<R: Wait>(
+        &self,
+        rt: &R,
+        table: Table,
+        strides: &Strides<A>,
+        mover: &mut Mover,
+        range: Range,
+    )
+        requires keys { IsExact K.is_clone }
+        requires values { IsExact V.is_clone }
+        requires functions { IsExact F.is_clone }
+        requires table { table.exponent ≤ 16 }
+        requires mover { mover.old.strides ≡ strides.now }
+        requires range { IsUnfinished mover.old range }
+        ensures mover { mover.new.strides ≡ mover.old.strides }
+        ensures claimed { mover.new.claimed ≡ mover.old.claimed }
+    {
+        let n = table.n();
+        for index in range.lo..range.hi.min(n as usize) {
+            self.move_bin(rt, Class::new(n, index as u32));
+        }
+        if strides.finish(mover, range) == Finish::Last {
+            self.growth.publish(table);
+        }
+    }
+
+    /// Takes part in the open move with one stride, if there is a mover left.
+    fn help<R: Wait>(&self, rt: &R, table: Table)
+        requires keys { IsExact K.is_clone }
+        requires values { IsExact V.is_clone }
+        requires functions { IsExact F.is_clone }
+        requires table { table.exponent ≤ 16 }
+    {
+        let Some(strides) = self.growth.strides(table) else {
+            return;
+        };
+        let Some(mut mover) = strides.enter() else {
+            return;
+        };
+        if let Some(range) = strides.claim(&mut mover) {
+            self.move_range(rt, table, strides, &mut mover, range);
+        }
+        strides.leave(mover);
+    }
+
+    /// Tries to open a move, and then moves strides until none is left.
+    fn grow<R: Wait>(&self, rt: &R, table: Table)
+        requires keys { IsExact K.is_clone }
+        requires values { IsExact V.is_clone }
+        requires functions { IsExact F.is_clone }
+        requires table { table.exponent ≤ 16 }
+    {
+        let Some(cell) = self.growth.cell(table) else {
+            return;
+        };
+        if !self.growth.open(table) {
+            return;
+        }
+        let Ok((strides, mut mover)) = self.growth.make_strides(table.n()) else {
+            self.growth.shut(table);
+            return;
+        };
+        let Ok(token) = cell.try_set(strides) else {
+            self.growth.shut(table);
+            return;
+        };
+        self.growth.ready(table);
+        let strides = cell.value(&token);
+        while let Some(range) = strides.claim(&mut mover) {
+            self.move_range(rt, table, strides, &mut mover, range);
+        }
+        strides.leave(mover);
+    }
+}

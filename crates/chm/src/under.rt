@@ -1,0 +1,55 @@
+//! What is done with a bin while it is held.
+ghost use Rattle.std.specs.Prelude.{◌≡◌, ◌<◌, true, length, IfOk, OnOk, OnErr};
+ghost use Rattle.hashkeys.specs.Classes.{is_of};
+ghost use Rattle.bin_history.specs.Calls.{after, key_of};
+ghost use Rattle.bin_history.specs.Copies.{IsExact};
+ghost use Rattle.count_ledger.specs.Agreement.{Agree};
+ghost use Rattle.chm.specs.Called.{IsCalledOn};
+ghost use Rattle.chm.specs.Met.{IsMet};
+
+use crate::map::Map;
+use bin_history::{Bin, Call, Remap, Reply};
+use count_ledger::{BinRole, Pass};
+use hashkeys::HashKey;
+use std::alloc::{AllocError, Allocator};
+
+impl<
+    K: HashKey + Drop,
+    V: Clone + Eq + Drop,
+    F: Remap<K, V> + Clone + Drop,
+    A: Allocator + Clone,
+> Map<K, V, F, A> {
+    /// Makes a call on a bin that is held, and posts it. It replies, and says whether the call made its key present. For
+    /// want of memory nothing is posted, and the entries stay.
+    pub(crate) fn call_under(
+        &self,
+        pass: &mut Pass<K, V, F>,
+        bin: &mut Bin<K, V, F, A>,
+        role: &mut BinRole<K, V, F>,
+        call: Call<K, V, F>,
+    ) -> Result<(Reply<V>, bool), AllocError>
+        requires keys { IsExact K.is_clone }
+        requires values { IsExact V.is_clone }
+        requires pass { pass.old.ledger ≡ self.now.ledger.id }
+        requires role { role.old.ledger ≡ self.now.ledger.id }
+        requires room { length pass.old.made < 1000000 }
+        requires agree { Agree K.eq (after V.eq F.remapped F.merged) bin.old role.old }
+        requires of_class { is_of K.code bin.old.salt bin.old.class (key_of call) ≡ true }
+        ensures called { IfOk result (λ r. IsCalledOn K.eq K.code V.eq F.remapped F.merged bin.old.entries bin.new.entries call pass.old pass.new r.0) }
+        ensures met { OnOk result (IsMet K.eq K.code (after V.eq F.remapped F.merged) self.now.ledger pass.old bin.old role.old) }
+        ensures refused { OnErr result (pass.new ≡ pass.old) }
+        ensures stayed { OnErr result (bin.new.entries ≡ bin.old.entries) }
+        ensures class { bin.new.class ≡ bin.old.class }
+        ensures salt { bin.new.salt ≡ bin.old.salt }
+        ensures ledger { role.new.ledger ≡ role.old.ledger }
+        ensures agree { Agree K.eq (after V.eq F.remapped F.merged) bin.new role.new }
+    {
+        bin.lawful();
+        let ready = bin.prepare(call)?;
+        let reply = bin.apply(ready, pass.client(), pass.made());
+        let records = bin.records();
+        let entry = &records[records.len() - 1];
+        self.ledger.post(pass, role, entry);
+        Ok((reply, entry.delta() == 1))
+    }
+}
