@@ -1,5 +1,5 @@
 -- The words of functions.
-use Rattle.std.proofs.Common.{◌≡◌, ◌≢◌, ℕ, ℤ, ◌<◌, pos, ◌++◌, ◌⊎◌, inl, inr, List, [], ◌∷◌, Contains, slice_index_or, refl, sym, ap, ◌∙◌, subst, arith}
+use Rattle.std.proofs.Common.{◌≡◌, ◌≢◌, ℕ, ℤ, ◌<◌, ◌++◌, inl, inr, List, [], ◌∷◌, Contains, slice_index_or, refl, sym, ap, ◌∙◌, subst, arith}
 use Rattle.std.specs.Prelude.{codes}
 use Rattle.script.specs.Functions.{with_number}
 use Rattle.script.specs.Lines.{Word, IsNumber}

@@ -1,13 +1,12 @@
 -- A text has one verdict, and a script is within the limits.
-use Rattle.std.proofs.Common.{◌≡◌, ◌≢◌, ℕ, ◌+◌, ◌<◌, ◌≤◌, ◌⊎◌, inl, inr, List, [], ◌∷◌, ◌++◌, length, All, refl, sym, ap, ◌∙◌, subst, arith}
+use Rattle.std.proofs.Common.{◌≡◌, ◌≢◌, ℕ, ◌+◌, ◌≤◌, ◌⊎◌, inl, inr, List, [], ◌∷◌, ◌++◌, length, All, refl, sym, ap, ◌∙◌, subst, arith}
 use Rattle.std.proofs.lemmas.List.Elements.{All-head, All-tail, All-nil, All-push}
 use Rattle.std.proofs.lemmas.List.{length_push}
-use Rattle.script.specs.Lines.{Word, BeginsWith, words, IsPrintable, IsSpaced}
+use Rattle.script.specs.Lines.{BeginsWith, words, IsPrintable, IsSpaced}
 use Rattle.script.specs.Grammar.{ScriptCall, Line, Reads}
 use Rattle.script.specs.Faults.{AreWrong}
 use Rattle.script.specs.Reading.{Place, start, calls, queries, forms_at, IsTooMany, Leads, first_client, next_client, next_call, first_query, next_query, IsLine, FirstFails, IsBeyond, IsBad, Verdict, whole, faulty, IsRead, good, bad, cut, ended, missing}
 use Rattle.script.specs.Verdicts.{IsWithinLimits}
-use Rattle.script.specs.declared.script.Query.{Query}
 use Rattle.script.specs.declared.fault.Kind.{Kind}
 use Rattle.script.specs.declared.fault.Kind.TheVariants as kinds
 use Rattle.script.proofs.Saying.{Reads-same, Reads-fits, AreWrong-same}

@@ -1,12 +1,12 @@
 -- The words of a line make one line at most, and where they make one, none of them is wrong.
-use Rattle.std.proofs.Common.{◌≡◌, ℕ, ℤ, ◌⊎◌, inl, inr, true, ◌<◌, ◌^◌, List, [], ◌∷◌, ◌++◌, Option, Some, None, MatchOption, Contains, FitsSigned, w64, slice_index, slice_index_or, refl, sym, ap, ◌∙◌, subst, arith}
+use Rattle.std.proofs.Common.{◌≡◌, ℕ, ℤ, inl, inr, List, [], ◌∷◌, ◌++◌, Option, Some, None, MatchOption, slice_index, slice_index_or, refl, sym, ap, ◌∙◌, subst, arith}
 use Rattle.std.specs.Prelude.{codes}
 use Rattle.std.proofs.lemmas.Fmt.{signed_decimal_injective, decimal_injective}
 use Rattle.script.proofs.Numbers.{mag_small}
 use Rattle.script.proofs.Functions.{named, IsMerger-fits}
 use Rattle.script.specs.Lines.{Word, IsNumber, IsThreshold}
 use Rattle.script.specs.Grammar.{Line, ask, IsFunction, IsMerger, Form, alone, key, key_number, key_numbers, key_function, key_merger, threshold, sum_or_max, above, form_of, Says, Reads}
-use Rattle.script.specs.Faults.{Slot, a_key, a_number, a_threshold, a_function, a_merger, a_sum_or_max, the_above, slots_of, function_words, Fits, following, IsWrong, AreWrong}
+use Rattle.script.specs.Faults.{Slot, a_key, a_number, a_threshold, a_function, a_merger, a_sum_or_max, the_above, slots_of, Fits, following, IsWrong, AreWrong}
 use Rattle.script.specs.declared.function.Function.{Function}
 use Rattle.script.specs.declared.function.Function.TheVariants.{Sum, Max, Set, Drop}
 use Rattle.script.specs.declared.fault.Kind.{Kind}

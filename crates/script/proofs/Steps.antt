@@ -1,12 +1,12 @@
 -- What one more line comes to.
-use Rattle.std.proofs.Common.{◌≡◌, ◌≢◌, ℕ, ◌+◌, ◌≤◌, ◌==◌, true, false, ◌⊎◌, inl, inr, Option, Some, None, MatchOption, Bor, List, [], ◌∷◌, ◌++◌, length, Vec, map, All, refl, sym, ap, ◌∙◌, subst, arith, length-append}
+use Rattle.std.proofs.Common.{◌≡◌, ◌≢◌, ℕ, ◌+◌, ◌≤◌, ◌==◌, true, false, inl, inr, Option, Some, None, MatchOption, Bor, List, [], ◌∷◌, ◌++◌, length, Vec, map, All, refl, sym, ap, ◌∙◌, subst, arith, length-append}
 use Rattle.std.proofs.lemmas.Bool.Decides.{nat_tests}
 use Rattle.std.proofs.lemmas.List.{map-append}
 use Rattle.script.specs.Lines.{Word, BeginsWith, words, IsPrintable, IsSpaced}
 use Rattle.script.specs.Grammar.{ScriptCall, Line, Reads}
 use Rattle.script.specs.Faults.{AreWrong}
-use Rattle.script.specs.Reading.{Place, start, calls, queries, forms_at, IsTooMany, Leads, IsLine, IsBad, Verdict, whole, faulty, IsRead, good, bad, cut, ended, missing}
-use Rattle.script.specs.Verdicts.{HasVerdict, IsJust, IsWithinLimits, IsTold}
+use Rattle.script.specs.Reading.{Place, start, calls, queries, forms_at, Leads, IsLine, IsBad, Verdict, whole, faulty, IsRead, good, bad, cut, ended, missing}
+use Rattle.script.specs.Verdicts.{HasVerdict, IsJust, IsTold}
 use Rattle.script.specs.Drafts.{place_of, HasBadBytes, IsRefused, IsRefusedAtLimit, error_at}
 use Rattle.script.specs.declared.draft.Draft.{Draft}
 use Rattle.script.specs.declared.draft.Draft.TheVariants as drafts

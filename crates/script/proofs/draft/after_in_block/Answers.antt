@@ -1,4 +1,4 @@
-use Rattle.std.proofs.Common.{◌≡◌, refl, arith, Vec}
+use Rattle.std.proofs.Common.{refl, arith, Vec}
 use Rattle.std.proofs.lemmas.List.{length-map}
 use Rattle.script.specs.Reading.{next_client, next_call, first_query}
 use Rattle.script.proofs.Steps.{blocks_pushed, Leads-to_calls, Leads-to_queries}

@@ -1,4 +1,4 @@
-use Rattle.std.proofs.Common.{◌≡◌, List, [], ◌∷◌, FitsSigned, w64, refl, ap, ◌∙◌}
+use Rattle.std.proofs.Common.{List, ◌∷◌, FitsSigned, w64, refl, ap, ◌∙◌}
 use Rattle.std.specs.Prelude.{codes}
 use Rattle.std.proofs.lemmas.Int.{to_z-of_z}
 use Rattle.script.specs.Lines.{Word}

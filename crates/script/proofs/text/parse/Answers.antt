@@ -1,5 +1,5 @@
-use Rattle.std.proofs.Common.{◌≡◌, refl, sym, ap, ◌∙◌, arith, rules}
-use Rattle.script.specs.Reading.{start, whole}
+use Rattle.std.proofs.Common.{sym, ap, ◌∙◌, arith}
+use Rattle.script.specs.Reading.{start}
 use Rattle.script.specs.Drafts.{place_of}
 use Rattle.script.proofs.Readings.{IsRead-within}
 use Rattle.script.proofs.Steps.{BeginsWith-split, BeginsWith-shorter, no_line_feed-split, some_left, none_left, so_far-more, told-bad, told-cut, told-missing, told-whole, not_queries}

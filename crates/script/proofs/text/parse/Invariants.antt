@@ -1,4 +1,4 @@
-use Rattle.std.proofs.Common.{◌+◌, ◌≤◌, List, length}
+use Rattle.std.proofs.Common.{◌+◌, ◌≤◌, length}
 use Rattle.script.specs.Reading.{start, Verdict, IsRead}
 use Rattle.script.specs.Drafts.{place_of}
 use Rattle.script.proofs.text.parse.Given as goal
