@@ -1,8 +1,7 @@
 -- Records that were kept of all blocks make an allowed outcome.
-use Rattle.std.proofs.Common.{◌≡◌, ℕ, ℤ, Bool, true, false, cond, ◌+◌, ◌<◌, ◌==◌, ◌++◌, Option, None, List, [], ◌∷◌, length, map, filter, All, slice_index_or, get_or, refl, sym, ap, ◌∙◌, subst, arith}
+use Rattle.std.proofs.Common.{◌≡◌, ℕ, ℤ, Bool, ◌<◌, ◌==◌, Option, List, [], ◌∷◌, length, map, filter, refl, sym, ap, ◌∙◌, arith}
 use Rattle.std.proofs.lemmas.Grind.{common_steps}
 use Rattle.std.proofs.lemmas.List.Elements.{All-filter}
-use Rattle.std.specs.List.{zip}
 use Rattle.std.specs.Cmp.Lexicographic.{bytes_decides}
 use Rattle.hashkeys.specs.Text.{code_of}
 use Rattle.bin_history.specs.Calls.{key_of}
@@ -16,7 +15,7 @@ use Rattle.bin_history.specs.declared.call.Reply.{Reply}
 use Rattle.bin_history.proofs.Cells.{run-cell, IsLegal-cell}
 use Rattle.bin_history.proofs.Histories.{HasHistory-replay}
 use Rattle.script.specs.Grammar.{ScriptCall}
-use Rattle.mapcli.specs.Outcomes.{Outcome, same_key, value_after, told, made_on, IsHistoryOf, IsAllowed}
+use Rattle.mapcli.specs.Outcomes.{same_key, value_after, told, IsHistoryOf, IsAllowed}
 use Rattle.mapcli.specs.Played.{ScriptBin, ScriptRecord}
 use Rattle.mapcli.proofs.Kept.{IsKept}
 

@@ -1,5 +1,5 @@
 -- The answers of queries, one query further.
-use Rattle.std.proofs.Common.{◌≡◌, ℕ, ℤ, ◌++◌, List, [], ◌∷◌, refl, sym, ap, ◌∙◌, append_assoc}
+use Rattle.std.proofs.Common.{ℕ, ℤ, ◌++◌, List, [], ◌∷◌, refl, sym, ap, ◌∙◌, append_assoc}
 use Rattle.std.proofs.lemmas.List.{append-nil}
 use Rattle.script.specs.declared.script.Query.{Query}
 use Rattle.mapcli.specs.Texts.{Answers, AnswersAll}

@@ -1,16 +1,14 @@
 -- The history of a bin, one call of a client further.
-use Rattle.std.proofs.Common.{◌≡◌, ℕ, ℤ, true, nat_eq, ◌+◌, ◌++◌, Bool, Option, Decides, List, [], ◌∷◌, length, map, All, refl, sym, ap, ◌∙◌, subst, arith, append_assoc}
+use Rattle.std.proofs.Common.{◌≡◌, ℕ, ℤ, ◌+◌, ◌++◌, List, [], ◌∷◌, length, refl, sym, ap, ◌∙◌, subst, arith, append_assoc}
 use Rattle.std.proofs.lemmas.List.{map-append, length_push, append-nil}
 use Rattle.std.proofs.lemmas.List.Elements.{All-push, All-nil}
 use Rattle.std.specs.List.{zip}
 use Rattle.std.specs.Cmp.Lexicographic.{bytes_decides}
 use Rattle.hashkeys.specs.Text.{code_of}
-use Rattle.bin_history.specs.Calls.{reply}
 use Rattle.bin_history.specs.Histories.{HasHistory}
 use Rattle.bin_history.specs.Entries.{lookup}
 use Rattle.bin_history.specs.Plain.{IsLegal}
 use Rattle.bin_history.specs.Readiness.{KeepsOrFolds}
-use Rattle.bin_history.specs.declared.call.Record.{Record}
 use Rattle.bin_history.specs.declared.call.Reply.{Reply}
 use Rattle.bin_history.proofs.Histories.{HasHistory-applied, HasHistory-prepared}
 use Rattle.script.specs.Grammar.{ScriptCall}

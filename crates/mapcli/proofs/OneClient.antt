@@ -1,19 +1,16 @@
 -- With one client all allowed outcomes have the same replies and the same final map.
-use Rattle.std.proofs.Common.{◌≡◌, ℕ, ℤ, Bool, true, false, cond, ◌+◌, ◌<◌, ◌==◌, ◌++◌, Option, Some, None, Decides, List, [], ◌∷◌, length, map, filter, drop, All, slice_index_or, refl, sym, ap, ◌∙◌, subst, arith}
-use Rattle.std.proofs.lemmas.Grind.{common_steps}
+use Rattle.std.proofs.Common.{◌≡◌, ℕ, ℤ, Bool, true, false, cond, ◌<◌, ◌==◌, Option, None, List, [], ◌∷◌, length, map, filter, drop, All, slice_index_or, refl, sym, ap, ◌∙◌, subst, arith}
 use Rattle.std.proofs.lemmas.Bool.Decides.{nat_tests}
 use Rattle.std.proofs.lemmas.List.Elements.{All-head, All-tail}
-use Rattle.std.specs.List.{zip}
 use Rattle.std.specs.Ordering.{int_eq}
 use Rattle.std.specs.Cmp.Lexicographic.{bytes_decides}
 use Rattle.bin_history.specs.Calls.{key_of, reply}
 use Rattle.bin_history.specs.Cells.{cell_after, IsCellHistory}
 use Rattle.bin_history.specs.Clients.{by_client}
 use Rattle.bin_history.specs.Entries.{lookup}
-use Rattle.bin_history.specs.declared.call.Record.{Record}
 use Rattle.bin_history.specs.declared.call.Reply.{Reply}
 use Rattle.script.specs.Grammar.{ScriptCall}
-use Rattle.mapcli.specs.Outcomes.{Outcome, same_key, value_after, told, made_on, IsHistoryOf, IsAllowed}
+use Rattle.mapcli.specs.Outcomes.{same_key, value_after, told, made_on, IsHistoryOf, IsAllowed}
 use Rattle.mapcli.specs.Played.{ScriptRecord}
 
 -- two histories of a cell with the same calls tell the same

@@ -1,5 +1,5 @@
 -- Lists of pairs with distinct keys and the same value at each key have the same pairs.
-use Rattle.std.proofs.Common.{◌≡◌, ℕ, ℤ, Bool, true, false, cond, ◌+◌, ◌++◌, Option, Some, None, Decides, List, [], ◌∷◌, length, refl, sym, ap, ◌∙◌, subst, arith, IsPermutation}
+use Rattle.std.proofs.Common.{◌≡◌, Bool, true, false, cond, Some, None, Decides, List, [], ◌∷◌, refl, sym, ◌∙◌, subst, arith, IsPermutation}
 use Rattle.std.proofs.lemmas.Grind.{common_steps}
 use Rattle.std.proofs.lemmas.List.Sorted.{IsPermutation-refl, IsPermutation-sym, IsPermutation-cons, IsPermutation-trans, IsPermutation-middle}
 use Rattle.bin_history.specs.Entries.{lookup, HasDistinctKeys, remove}

@@ -1,5 +1,5 @@
 -- Scripts whose output text is determined.
-use Rattle.std.specs.Prelude.{◌≡◌, ℕ, List, [], ◌∷◌, length}
+use Rattle.std.specs.Prelude.{List, [], ◌∷◌}
 use Rattle.script.specs.declared.script.Query.{Query}
 use Rattle.script.specs.declared.script.Query.TheVariants.{Count, ReduceSum, ReduceMax, SearchAbove, List as Listing}
 

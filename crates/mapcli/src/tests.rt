@@ -61,7 +61,11 @@ pub(crate) const PUT_AND_GET: &[u8] = b"client\nput a 1\nget a\nquery\ncount\n";
 
 #[test]
 fn scripts_print_their_rows(rt: HostRuntime) -> Result<(), Fail> {
-    let rows: [(&str, &str); 12] = [
+    let rows: [(&str, &str); 13] = [
+        (
+            "client\nput a 1\nmerge a 2 sum\nquery\ncount\nlist 1\n",
+            "client 0\nnone\nsome 3\n1\na 3\n",
+        ),
         (
             "client\nput a 1\nget a\nquery\ncount\n",
             "client 0\nnone\nsome 1\n1\n",

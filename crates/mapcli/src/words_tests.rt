@@ -109,22 +109,28 @@ Options:
       --salt <N>      What the hashes of keys are mixed with, 0 to 4294967295 [default: 0]
   -h, --help          Print help
 
-A script has a block for each client: the line `client`, and then a line for each of its calls. After the
-blocks come the line `query` and a line for each query:
+A script has a block for each client: the line `client`, then a line for each of
+its calls. After the blocks come the line `query` and a line for each query. An
+example, with what its lines print beside them:
 
-  client
-  put a 1
-  merge a 2 sum
+  client           client 0
+  put a 1          none
+  merge a 2 sum    some 3
   query
-  count
-  list 1
+  count            1
+  list 1           a 3
 
-Calls:    get K, contains K, put K V, put_if_absent K V, remove K, remove_if K V, replace K V,
-          replace_if K V V, compute_if_absent K F, compute_if_present K F, compute K F, merge K V M
+Calls:    get K, contains K, put K V, put_if_absent K V, remove K,
+          remove_if K V, replace K V, replace_if K V V, compute_if_absent K F,
+          compute_if_present K F, compute K F, merge K V M
 Queries:  count, reduce sum T, reduce max T, search above V T, list T
 
-K is a key, of 1 to 32 letters, digits or _. V is a signed number of 64 bits. F is sum V, max V, set V
-or drop, and M is sum, max, set or drop. T is from how many keys on the work may be divided.
+K is a key: 1 to 32 letters, digits or _. V is a signed number of 64 bits. F is
+sum V, max V, set V or drop; M is sum, max, set or drop. T says from how many
+keys on the work may be divided, and changes no answer.
+
+The exit status is 0; or 1 for a bad line of the script, 2 for wrong words, and 3
+where memory ran out or a file could not be opened, read or written.
 ";
 
 #[test]

@@ -1,4 +1,4 @@
-use Rattle.std.proofs.Common.{◌≡◌, ℤ, List, ◌++◌, ◌∷◌, [], map, take, length, ◌≤ℤ◌, All, FitsSigned, arith, rules, subst, sym}
+use Rattle.std.proofs.Common.{ℤ, List, map, ◌≤ℤ◌, All, FitsSigned, arith, rules, subst, sym}
 use Rattle.std.proofs.lemmas.Int.{ints, to_z-of_z}
 use Rattle.std.proofs.lemmas.List.Elements.{All-push}
 use Rattle.std.proofs.lemmas.List.{take_all}

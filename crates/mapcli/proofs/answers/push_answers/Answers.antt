@@ -1,4 +1,4 @@
-use Rattle.std.proofs.Common.{◌≡◌, ℕ, List, ◌++◌, ap, ◌∙◌, sym, arith, append_assoc}
+use Rattle.std.proofs.Common.{ℕ, List, ◌++◌, ap, ◌∙◌, arith, append_assoc}
 use Rattle.std.proofs.lemmas.List.{take_more}
 use Rattle.mapcli.proofs.Answered.{AnswersAll-push}
 use Rattle.mapcli.proofs.answers.push_answers.Goals as goal

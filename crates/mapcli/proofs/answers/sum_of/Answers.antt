@@ -1,4 +1,4 @@
-use Rattle.std.proofs.Common.{◌≡◌, map, take, FitsSigned, arith, rules, ap, ◌∙◌}
+use Rattle.std.proofs.Common.{map, take, FitsSigned, arith, rules, ap, ◌∙◌}
 use Rattle.std.proofs.lemmas.Int.{ints}
 use Rattle.std.specs.Int.{w64}
 use Rattle.mapcli.proofs.Values.{values_more, sum_of-push}

@@ -1,6 +1,5 @@
-use Rattle.std.proofs.Common.{◌≡◌, ℕ, ℤ, List, [], ◌∷◌, ◌++◌, sym, ap, ◌∙◌, subst}
+use Rattle.std.proofs.Common.{◌≡◌, ℕ, List, [], ◌∷◌, ◌++◌, sym, ap, ◌∙◌, subst}
 use Rattle.std.specs.Cmp.Lexicographic.{bytes_decides}
-use Rattle.bin_history.specs.declared.call.Reply.{Reply}
 use Rattle.script.specs.Grammar.{ScriptCall}
 use Rattle.script.specs.Reading.{Verdict, whole, faulty}
 use Rattle.script.specs.declared.script.Query.{Query}

@@ -1,9 +1,7 @@
-use Rattle.std.proofs.Common.{◌≡◌, ℕ, ◌+◌, ◌++◌, List, [], ◌∷◌, Vec, map, length, refl, sym, ap, ◌∙◌, subst, arith, rules, append_assoc}
+use Rattle.std.proofs.Common.{◌≡◌, ◌++◌, [], ◌∷◌, Vec, sym, ap, ◌∙◌, arith, rules, append_assoc}
 use Rattle.std.proofs.lemmas.Grind.{common_steps}
-use Rattle.std.proofs.lemmas.List.{map-append, length-map, length_push, append-nil}
-use Rattle.mapcli.specs.Outcomes.{IsAllowed}
-use Rattle.mapcli.specs.Played.{lists_of, outcome_of}
-use Rattle.mapcli.proofs.Kept.{IsKept, IsKept-more}
+use Rattle.std.proofs.lemmas.List.{map-append, length-map, length_push}
+use Rattle.mapcli.proofs.Kept.{IsKept-more}
 use Rattle.mapcli.proofs.Allowed.{IsAllowed-kept}
 use Rattle.mapcli.proofs.play.play.Goals as goal
 

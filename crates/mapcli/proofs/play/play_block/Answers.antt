@@ -1,7 +1,4 @@
-use Rattle.std.proofs.Common.{◌≡◌, ◌++◌, refl, sym, ap, ◌∙◌, arith, append_assoc}
-use Rattle.std.specs.Ordering.{int_eq}
-use Rattle.bin_history.specs.Calls.{reply}
-use Rattle.script.specs.Grammar.{ScriptCall}
+use Rattle.std.proofs.Common.{◌++◌, refl, sym, ap, ◌∙◌, arith, append_assoc}
 use Rattle.mapcli.proofs.Histories.{Makes-none, Makes-more}
 use Rattle.mapcli.proofs.play.play_block.Goals as goal
 

@@ -1,4 +1,4 @@
-use Rattle.std.proofs.Common.{◌≡◌, ℕ, ◌⊎◌, inl, inr, List, [], Option, None, Some, IfErr, Result, Err, IsErrOf, refl, sym, subst, rules}
+use Rattle.std.proofs.Common.{◌≡◌, ℕ, ◌⊎◌, inl, inr, List, [], Option, None, Some, IfErr, Result, IsErrOf, refl, sym, subst, rules}
 use Rattle.mapcli.specs.Runs.{IsRefusalOf, OfInput}
 use Rattle.mapcli.specs.declared.fault.Fault.{Fault}
 use Rattle.mapcli.specs.declared.fault.Fault.TheVariants.{NoMemory, Device}

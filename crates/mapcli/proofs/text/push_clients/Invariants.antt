@@ -1,4 +1,4 @@
-use Rattle.std.proofs.Common.{◌≡◌, ◌++◌, take, drop, map}
+use Rattle.std.proofs.Common.{◌≡◌, ◌++◌, drop, map}
 use Rattle.mapcli.specs.Texts.{clients_text}
 use Rattle.mapcli.proofs.text.push_clients.Given as goal
 
