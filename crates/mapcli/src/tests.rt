@@ -61,7 +61,11 @@ pub(crate) const PUT_AND_GET: &[u8] = b"client\nput a 1\nget a\nquery\ncount\n";
 
 #[test]
 fn scripts_print_their_rows(rt: HostRuntime) -> Result<(), Fail> {
-    let rows: [(&str, &str); 13] = [
+    let rows: [(&str, &str); 14] = [
+        (
+            "client\nput apples 3\nput pears 5\nmerge apples 4 sum\nclient\nput plums -2\nput_if_absent plums 9\ncontains plums\nquery\ncount\nreduce sum 1\nreduce max 1\nsearch above 6 1\nlist 1\n",
+            "client 0\nnone\nnone\nsome 7\nclient 1\nnone\nsome -2\ntrue\n3\n10\nsome 7\nsome 7\napples 7\npears 5\nplums -2\n",
+        ),
         (
             "client\nput a 1\nmerge a 2 sum\nquery\ncount\nlist 1\n",
             "client 0\nnone\nsome 3\n1\na 3\n",
