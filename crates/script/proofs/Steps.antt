@@ -4,7 +4,6 @@ use Rattle.std.proofs.lemmas.Bool.Decides.{nat_tests}
 use Rattle.std.proofs.lemmas.List.{map-append}
 use Rattle.script.specs.Lines.{Word, BeginsWith, words, IsPrintable, IsSpaced}
 use Rattle.script.specs.Grammar.{ScriptCall, Line, Reads}
-use Rattle.script.specs.Faults.{AreWrong}
 use Rattle.script.specs.Reading.{Place, start, calls, queries, forms_at, Leads, IsLine, IsBad, Verdict, whole, faulty, IsRead, good, bad, cut, ended, missing}
 use Rattle.script.specs.Verdicts.{HasVerdict, IsJust, IsTold}
 use Rattle.script.specs.Drafts.{place_of, HasBadBytes, IsRefused, IsRefusedAtLimit, error_at}
@@ -22,11 +21,6 @@ IsBad-from_bytes p l kind (inl h) = inl h
 IsBad-from_bytes p l kind (inr h) = inr (h.0, inl h.1)
 
 module _ (p : Place) (l : List ℕ) (ws : List Word) (printable : IsPrintable l) (spaced : IsSpaced l) (words_are : words l ≡ ws) where
-  pub IsBad-from_words : (kind : Kind) → AreWrong (forms_at p) ws kind → IsBad p l kind
-  IsBad-from_words kind wrong =
-      let here = subst (λ (vs : List Word). AreWrong (forms_at p) vs kind) (sym words_are) wrong in
-      inr (printable, inr (spaced, inl here))
-
   pub IsLine-from_words : (line : Line) → Reads (forms_at p) ws line → IsLine p l line
   IsLine-from_words line reads =
       record { printable = printable; spaced = spaced; reads = subst (λ (vs : List Word). Reads (forms_at p) vs line) (sym words_are) reads }

@@ -1,7 +1,9 @@
--- The words for what is wrong with a line.
+-- How what is wrong with a text is told.
 use Rattle.std.specs.Prelude.{ℕ, List, ◌++◌, codes, decimal}
 use Rattle.script.specs.declared.fault.Kind.{Kind}
 use Rattle.script.specs.declared.fault.Kind.TheVariants.{Cut, Bytes, Spaces, Word, Count, Key, Number, Function, Limit, Missing}
+use Rattle.script.specs.declared.fault.ParseError.{ParseError}
+use Rattle.script.specs.declared.fault.ParseError.TheVariants.{NoMemory, Fault}
 
 abbrev pub text_of : Kind → List ℕ
 text_of Cut = codes "cut"
@@ -18,3 +20,7 @@ text_of Missing = codes "missing"
 -- how a fault is told
 abbrev pub fault_text : ℕ → Kind → List ℕ
 fault_text line kind = codes "line " ++ decimal line ++ codes ": " ++ text_of kind
+
+abbrev pub error_text : ParseError → List ℕ
+error_text NoMemory = codes "no memory"
+error_text (Fault f) = fault_text f.line f.kind

@@ -83,6 +83,11 @@ pub enum ParseError {
 }
 
 impl fmt::Display for ParseError {
+    ghost use Rattle.std.specs.Prelude.{Some};
+    ghost use Rattle.script.specs.Kinds.{error_text};
+
+    ghost output = { λ error. Some (error_text error) };
+
     fn fmt<W: fmt::Write>(&self, f: &mut fmt::Formatter<W>) -> fmt::Result {
         match self {
             ParseError::NoMemory => f.write_str("no memory"),

@@ -342,5 +342,12 @@ fn faults_are_printed(rt: HostRuntime) -> Result<(), Fail> {
         let printed = format!(in rt.alloc(); "{}", Fault { line: 7, kind })?;
         assert_eq!(rt; printed.as_str(), text);
     }
+    let cut = ParseError::from(Fault {
+        line: 1,
+        kind: Kind::Cut,
+    });
+    assert_eq!(rt; format!(in rt.alloc(); "{cut}")?.as_str(), "line 1: cut");
+    let refused = ParseError::NoMemory;
+    assert_eq!(rt; format!(in rt.alloc(); "{refused}")?.as_str(), "no memory");
     Ok(())
 }
