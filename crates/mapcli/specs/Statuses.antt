@@ -1,5 +1,5 @@
 -- How the program tells of the end of a run, and how a command line may end it.
-use Rattle.std.specs.Prelude.{ℕ}
+use Rattle.std.specs.Prelude.{◌≡◌, ℕ, List, string_bytes}
 use Rattle.mapcli.specs.declared.fault.Fault.{Fault}
 use Rattle.mapcli.specs.declared.fault.Fault.TheVariants.{NoMemory, BadCapacity, BadWorkers, ScriptFault, Device, BinMissing, Usage, Help}
 
@@ -24,3 +24,9 @@ EndsWords BadCapacity = ⊥
 EndsWords BadWorkers = ⊥
 EndsWords Device = ⊥
 EndsWords BinMissing = ⊥
+
+-- a command line's own text is told as it stands
+abbrev pub IsToldWhole : Fault → List ℕ → Type 0
+IsToldWhole (Usage text) told = told ≡ string_bytes text
+IsToldWhole (Help text) told = told ≡ string_bytes text
+IsToldWhole _ told = Unit {0}

@@ -1,6 +1,6 @@
 //! The words of the command line, and how a run's end is told.
-ghost use Rattle.std.specs.Prelude.{◌≡◌, IfErr};
-ghost use Rattle.mapcli.specs.Statuses.{status_of, EndsWords};
+ghost use Rattle.std.specs.Prelude.{◌≡◌, IfOk, IfErr, string_bytes};
+ghost use Rattle.mapcli.specs.Statuses.{status_of, EndsWords, IsToldWhole};
 
 use crate::fault::Fault;
 use crate::options::Options;
@@ -136,7 +136,9 @@ pub fn status(fault: &Fault) -> u8
 }
 
 /// What is told of this end of a run: `clap`'s text, or one line.
-pub fn line(alloc: Global, fault: &Fault) -> Result<String, AllocError> {
+pub fn line(alloc: Global, fault: &Fault) -> Result<String, AllocError>
+    ensures { IfOk result (λ told. IsToldWhole fault.now (string_bytes told)) }
+{
     match fault {
         Fault::Help(text) | Fault::Usage(text) => String::from_str(alloc, text),
         _ => format!(in alloc; "mapcli: {fault}\n"),
