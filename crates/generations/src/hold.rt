@@ -1,5 +1,5 @@
 //! Bins that are held, to call on them or to halve them.
-ghost use Rattle.std.specs.Prelude.{◌≡◌, ◌<◌, true, nat_lt, IfSome, IfOk, IfErr};
+ghost use Rattle.std.specs.Prelude.{◌≡◌, ◌<◌, true, IfSome, IfOk, IfErr};
 ghost use Rattle.hashkeys.specs.Classes.{covers};
 ghost use Rattle.bin_history.specs.Calls.{after};
 ghost use Rattle.bin_history.specs.Copies.{IsExact};
@@ -100,13 +100,6 @@ impl<
     F: Remap<K, V> + Clone + Drop,
     A: Allocator + Clone,
 > Held<'a, K, V, F, A> {
-    /// Whether the way to the bin went past a forwarded place: the bin is not an opening bin.
-    pub fn passed_forwarded(&self) -> bool
-        ensures { result ≡ nat_lt self.now.home.now.n self.now.place.now.class.n }
-    {
-        self.home.n() < self.place.class().n()
-    }
-
     /// Gives the bin and its role back. They agree, and are of the class and the ledger that were held. It waits for nobody.
     pub fn release(self)
         requires { AreAt K.eq (after V.eq F.remapped F.merged) self.place.now self.bin self.role }

@@ -13,6 +13,8 @@ mod opening;
 mod place;
 mod shown;
 mod state;
+#[cfg(test)]
+mod tests;
 mod walk;
 
 pub use forward::Moved;

@@ -6,4 +6,6 @@ mod bins;
 #[cfg(test)]
 mod books;
 #[cfg(test)]
+mod trees;
+#[cfg(test)]
 mod values;

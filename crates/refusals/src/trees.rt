@@ -1,0 +1,74 @@
+//! A tree of completers, each request of its making refused in turn.
+ghost use Rattle.std.specs.Prelude.{◌≡◌, IfOk};
+
+use crate::values::Alloc;
+use completers::{Arrival, Partial, Relation, Supply, Tree};
+use refusing_alloc::Refusing;
+use std::alloc::AllocError;
+use std::process::Abort;
+use std::test::Fail;
+
+/// More than any call's requests.
+const MANY: u64 = 1000;
+
+/// A part is how many bins the range has.
+struct Bins;
+
+impl Relation for Bins {
+    type Part = usize;
+
+    ghost relates = { λ _ _ _ _. Unit {0} };
+}
+
+type Made<'a> = (Tree<Bins, Alloc<'a>>, Supply<usize>);
+
+/// A tree of four nodes over five bins.
+fn make(alloc: Alloc<'_>) -> Result<Made<'_>, AllocError>
+    ensures bins { IfOk result (λ made. made.0.bins ≡ 5) }
+    ensures supply { IfOk result (λ made. made.1.tree ≡ made.0.identity) }
+{
+    Tree::new(alloc, &Bins, 4, 3, 5)
+}
+
+/// The one ticket of a root that does not fork arrives last, with the whole range.
+fn assert_completes(rt: &impl Abort, made: Made<'_>)
+    requires bins { made.0.bins ≡ 5 }
+    requires supply { made.1.tree ≡ made.0.identity }
+{
+    let (tree, supply) = made;
+    assert_eq!(rt; supply.level(), 2);
+    let own = tree.open(supply, None, 0, 5).own(&tree);
+    let whole = Partial {
+        lo: 0,
+        hi: 5,
+        part: 5,
+    };
+    let Arrival::Last(mut parts, above) = tree.arrive(own, whole) else {
+        assert!(rt; false, "the last arrival");
+        unreachable!()
+    };
+    assert!(rt; above.is_none());
+    let part = parts.take().expect(rt, "a part");
+    assert_eq!(rt; (part.lo, part.hi, part.part), (0, 5, 5));
+    assert!(rt; parts.take().is_none());
+}
+
+#[test]
+fn a_refused_tree_is_made_again(rt: HostRuntime) -> Result<(), Fail> {
+    let alloc = Refusing::new(rt.alloc());
+    let mut refusals = 0u64;
+    for granted in 0..MANY {
+        alloc.refuse_after(granted);
+        if let Ok(made) = make(&alloc) {
+            assert_completes(&rt, made);
+            assert!(rt; !alloc.has_refused());
+            break;
+        }
+        assert!(rt; alloc.has_refused());
+        assert_completes(&rt, make(&alloc)?);
+        refusals = refusals.wrapping_add(1);
+    }
+    // The table's list of places, its words and its places.
+    assert_eq!(rt; refusals, 3);
+    Ok(())
+}
