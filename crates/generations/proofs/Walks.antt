@@ -3,7 +3,7 @@ use Rattle.std.proofs.Common.{◌≡◌, ◌≢◌, ℕ, zero, suc, ◌+◌, ◌
 use Rattle.std.specs.Int.{◌∣◌}
 use Rattle.std.proofs.Math.Nat.{mod-mod_of_dvd, mod-lt, mod-le, mod-eq_of_lt, mod-eq-sub-mod, dvd-mul_left, add-mul-mod_self_right, mul_assoc, mul_comm, mul-add}
 use Rattle.std.proofs.lemmas.Bool.{cases_lt, eqb-true, eq-eqb}
-use Rattle.std.proofs.lemmas.Nat.{pow-add, pow_pos, pow_below}
+use Rattle.std.proofs.lemmas.Nat.{pow-add, pow_below}
 use Rattle.hashkeys.proofs.Halves.{covers-halves}
 use Rattle.hashkeys.specs.Classes.{ClassView, IsClass, IsTableSize, covers}
 use Rattle.generations.specs.Walks.{Precedes, HasPassed, IsFirstAfter, IsLast}

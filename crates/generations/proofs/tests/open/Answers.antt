@@ -1,4 +1,4 @@
-use Rattle.std.proofs.Common.{◌≡◌, ◌<◌, [], List, refl, sym, subst, All, arith}
+use Rattle.std.proofs.Common.{◌≡◌, ◌<◌, [], refl, sym, subst, All, arith}
 use Rattle.std.proofs.lemmas.List.Elements.{All-map}
 use Rattle.std.specs.List.{range_with_len}
 use Rattle.count_ledger.specs.Opening.{new_pass}

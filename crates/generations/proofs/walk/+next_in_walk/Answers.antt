@@ -1,7 +1,6 @@
-use Rattle.std.proofs.Common.{◌≡◌, ◌≢◌, ◌+◌, ◌-◌, ◌*◌, ◌/◌, ◌^◌, ◌<◌, ◌≤◌, ◌∙◌, sym, ap, subst, arith, rules, Option, Some, None, IfSome, IfNone}
+use Rattle.std.proofs.Common.{◌+◌, ◌/◌, ◌^◌, ◌≤◌, ◌∙◌, sym, ap, subst, arith}
 use Rattle.std.proofs.lemmas.Nat.{pow_pos}
-use Rattle.hashkeys.specs.Classes.{ClassView, IsTableSize, IsClass}
-use Rattle.generations.specs.Walks.{IsFirstAfter, IsLast, HasPassed}
+use Rattle.hashkeys.specs.Classes.{ClassView, IsTableSize}
 use Rattle.generations.proofs.Walks.{halved, IsFirstAfter-opening, IsLast-opening, after_low, after_high, at_least, IsFirstAfter-high, IsLast-high}
 use Rattle.generations.proofs.walk.+next_in_walk.Goals as goal
 

@@ -1,4 +1,4 @@
-use Rattle.std.proofs.Common.{◌≡◌, ◌≤◌}
+use Rattle.std.proofs.Common.{◌≡◌}
 use Rattle.generations.proofs.generations.Generations.count_bins.Given as goal
 
 abbrev pub invariant-loop-before : goal.invariant-loop-before

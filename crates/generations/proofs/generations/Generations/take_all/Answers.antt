@@ -1,4 +1,4 @@
-use Rattle.std.proofs.Common.{◌≡◌, ◌≤◌, ◌<◌, ap, subst, sym, ◌∙◌, true, arith}
+use Rattle.std.proofs.Common.{◌≡◌, ◌≤◌, ap, subst, sym, ◌∙◌, true, arith}
 use Rattle.hashkeys.specs.Classes.{ClassView, IsTableSize, covers}
 use Rattle.bin_history.specs.Calls.{after}
 use Rattle.generations.specs.Leaves.{classes_of_bins}

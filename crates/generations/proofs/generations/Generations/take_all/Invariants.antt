@@ -1,4 +1,4 @@
-use Rattle.std.proofs.Common.{◌≡◌, ◌-◌, vec_len, vec_capacity}
+use Rattle.std.proofs.Common.{◌-◌, vec_len, vec_capacity}
 use Rattle.bin_history.specs.Calls.{after}
 use Rattle.generations.specs.Leaves.{AreLeaves, classes_of_bins}
 use Rattle.generations.specs.Walks.{IsWalkTo}
