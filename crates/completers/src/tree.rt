@@ -59,7 +59,7 @@ impl<B: Relation, A: Allocator> Tree<B, A> {
         requires nodes { (level : ℕ) × (level ≤ 7) × (nodes ≡ 2 ^ level) }
         requires slots { (0 < slots) × (slots ≤ 8) }
         ensures tree { IfOk result (λ t. (t.0.relation ≡ about.now) × (t.0.bins ≡ bins) × (t.0.slots ≡ slots)) }
-        ensures supply { IfOk result (λ t. (t.1.tree ≡ t.0.identity) × (t.1.first ≡ 0) × (nodes ≡ 2 ^ t.1.level)) }
+        ensures supply { IfOk result (λ t. (t.1.tree ≡ t.0.identity) × (t.1.first ≡ 0) × (nodes ≡ 2 ^ t.1.level) × (t.1.level ≤ 7)) }
         ensures game { OneLast }
     {
         completion_game();
