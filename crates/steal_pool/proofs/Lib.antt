@@ -1,0 +1,4 @@
+pub mod Moves
+pub mod Halves
+pub mod Seating
+pub mod Sums

@@ -1,0 +1,22 @@
+use Rattle.std.proofs.Common.{◌≡◌, ◌+◌, vec_len}
+use Rattle.std.specs.Prelude.{All}
+use Rattle.crossbeam_deque.specs.Handles.{worker_deque}
+use Rattle.steal_pool.specs.Seating.{AreSeated, IsUnshared}
+use Rattle.steal_pool.proofs.crew.members.Given as goal
+
+abbrev pub invariant-loop-own : goal.invariant-loop-own
+invariant-loop-own g l =
+    record {
+      count : vec_len l.all + vec_len l.deques ≡ l.workers;
+      shares : All IsUnshared l.deques.items;
+      seats : AreSeated worker_deque g.S.Seats.deque l.deques.items;
+    }
+
+abbrev pub decreases-loop-own : goal.decreases-loop-own
+decreases-loop-own g l = vec_len l.deques
+
+abbrev pub invariant-loop-place : goal.invariant-loop-place
+invariant-loop-place g l = vec_len l.all ≡ l.workers
+
+abbrev pub invariant-loop-before : goal.invariant-loop-before
+invariant-loop-before g l = vec_len l.all ≡ l.workers

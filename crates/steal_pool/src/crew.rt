@@ -1,0 +1,120 @@
+//! What a worker does with its deque and those of the others.
+ghost use Rattle.std.specs.Prelude.{◌≡◌, ◌+◌, ◌<◌, ◌≤◌, ℕ, IfErr, IfOk, vec_len, All};
+ghost use Rattle.crossbeam_deque.specs.Handles.{view, worker_deque};
+ghost use Rattle.steal_pool.specs.Seating.{AreSeated, IsUnshared};
+ghost use Rattle.steal_pool.specs.Books.{brought, put, stolen, pushed_by, taken_by};
+ghost use Rattle.steal_pool.specs.Logs.{weigh};
+
+use crate::deque::{Own, cut_share, pop, push, steal};
+use crate::member::{Member, Seats, Way};
+use crossbeam_deque::Steal;
+use std::alloc::{AllocError, Global};
+use std::marker::PhantomData;
+
+/// The members of a pool, each with a way into each other's deque. The last is number 0.
+pub(crate) fn members<T: Drop, S: Seats>(
+    alloc: Global,
+    deques: Vec<Own<T>>,
+) -> Result<Vec<Member<T, S>>, AllocError>
+    requires deques { All IsUnshared deques.items }
+    requires seats { AreSeated worker_deque S.deque deques.items }
+    ensures { IfOk result (λ v. vec_len v ≡ vec_len deques) }
+{
+    let mut deques = deques;
+    let workers = deques.len();
+    let mut all = Vec::with_capacity(alloc, workers)?;
+    while let Some(own) = deques.pop() {
+        all.push(Member {
+            number: deques.len(),
+            own,
+            out: 0,
+            ways: Vec::new(alloc),
+        })?;
+    }
+    for place in 0..workers {
+        // The numbers ascend as the places descend.
+        for before in 1..workers {
+            let other = if before <= place {
+                place - before
+            } else {
+                place + (workers - before)
+            };
+            let way = all[other].way()?;
+            all[place].ways.push(way)?;
+        }
+    }
+    Ok(all)
+}
+
+impl<T: Drop, S: Seats> Member<T, S> {
+    /// A way into this member's deque.
+    pub(crate) fn way(&mut self) -> Result<Way<T, S>, AllocError>
+        ensures { self.new.number ≡ self.old.number }
+    {
+        let stealer = self.own.stealer()?;
+        if self.out >= 31 {
+            return Err(AllocError);
+        }
+        self.out += 1;
+        let pass = cut_share(&mut self.own);
+        Ok(Way {
+            to: self.number,
+            stealer,
+            pass,
+            seats: PhantomData,
+        })
+    }
+
+    /// Pushes a task, or hands it back.
+    #[tactic(auto, using(crate::proofs::Moves::weigh_snoc))]
+    pub(crate) fn push(&mut self, task: T) -> Result<(), T>
+        ensures number { self.new.number ≡ self.old.number }
+        ensures back { IfErr result (λ x. x ≡ task) }
+        ensures pushed { (h : T → ℕ) → pushed_by h self.new ≡ pushed_by h self.old + put h task result }
+        ensures taken { (h : T → ℕ) → taken_by h self.new ≡ taken_by h self.old }
+    {
+        match push(&mut self.own, task) {
+            Ok(()) => Ok(()),
+            Err(task) => Err(task),
+        }
+    }
+
+    /// Its own newest task, or else the oldest of another member.
+    #[tactic(auto, using(crate::proofs::Moves::weigh_snoc))]
+    pub(crate) fn take(&mut self) -> Option<T>
+        ensures number { self.new.number ≡ self.old.number }
+        ensures pushed { (h : T → ℕ) → pushed_by h self.new ≡ pushed_by h self.old }
+        ensures taken { (h : T → ℕ) → taken_by h self.new ≡ taken_by h self.old + brought h result }
+    {
+        if let Some(task) = pop(&mut self.own) {
+            return Some(task);
+        }
+        steal_any(self.ways.as_mut_slice())
+    }
+}
+
+// The oldest task of the first deque that has one.
+fn steal_any<T: Drop, S: Seats>(ways: &mut [Way<T, S>]) -> Option<T>
+    ensures { (h : T → ℕ) → stolen h ways.new ≡ stolen h ways.old + brought h result }
+{
+    let Some((first, others)) = ways.split_first_mut() else {
+        return None;
+    };
+    if let Some(task) = first.steal() {
+        return Some(task);
+    }
+    steal_any(others)
+}
+
+impl<T, S: Seats> Way<T, S> {
+    #[tactic(auto, using(crate::proofs::Moves::weigh_snoc))]
+    fn steal(&mut self) -> Option<T>
+        ensures { (h : T → ℕ) → weigh h (view self.new.pass).taken ≡ weigh h (view self.old.pass).taken + brought h result }
+    {
+        match steal(&self.stealer, &mut self.pass) {
+            Steal::Success(task) => Some(task),
+            Steal::Empty => None,
+            Steal::Retry => None,
+        }
+    }
+}

@@ -1,0 +1,158 @@
+//! What a worker of a run does.
+ghost use Rattle.std.specs.Prelude.{◌≡◌, ◌+◌, ◌^◌, ◌<◌, ◌≤◌, ℕ, IfSome};
+
+use crate::body::Body;
+use crate::gate::Gate;
+use crate::member::{Member, Seats};
+use crate::task::{Task, Work};
+use completers::{Arrival, Node, Partial, Supply, Ticket, Tree};
+use crossbeam_utils::Backoff;
+use std::alloc::Global;
+use std::marker::PhantomData;
+use std::sync::Wait;
+use std::sync::atomic::AtomicBool;
+use std::sync::atomic::Ordering::SeqCst;
+
+/// What all workers of a run share. `done` is set once somebody was last at the root.
+#[derive(Drop)]
+pub(crate) struct Job<'a, B: Body, G, W: Work> {
+    pub(crate) tree: &'a Tree<B, Global>,
+    pub(crate) body: &'a B,
+    pub(crate) gate: &'a G,
+    pub(crate) bins: usize,
+    pub(crate) done: &'a AtomicBool,
+    pub(crate) work: PhantomData<W>,
+    ghost tree_is: { (tree.now.identity ≡ W.tree) × (tree.now.bins ≡ W.bins) × (tree.now.slots ≡ 8) },
+    ghost body_is: { tree.now.relation ≡ body.now },
+    ghost range: { (0 < bins) × (bins ≡ W.bins) × (W.bins ≤ B.limit body.now) },
+}
+
+impl<B: Body, G: Gate, W: Work> Job<'_, B, G, W> {
+    // Arrives with the part of the ticket's range, and goes on to the ticket above wherever it is the last. At the root it has the part of the whole range.
+    fn climb<Rt: Wait>(&self, rt: &Rt, ticket: Ticket<B::Part>, part: B::Part) -> Option<B::Part>
+        requires tree { ticket.tree ≡ W.tree }
+        requires part { B.relates self.now.body.now ticket.lo ticket.hi part }
+        ensures { IfSome result (B.relates self.now.body.now 0 W.bins) }
+    {
+        let mut ticket = ticket;
+        let mut part = part;
+        for _ in rt.forever() {
+            let (lo, hi) = (ticket.lo(), ticket.hi());
+            let Arrival::Last(parts, above) = self.tree.arrive(ticket, Partial { lo, hi, part })
+            else {
+                return None;
+            };
+            let Some(next) = above else {
+                self.done.store(true, SeqCst);
+                return Some(self.body.join(0, self.bins, parts));
+            };
+            part = self.body.join(next.lo(), next.hi(), parts);
+            ticket = next;
+        }
+        unreachable!()
+    }
+
+    // Opens the node of a task.
+    fn begin(&self, task: Task<B::Part, W>) -> (Node<B::Part>, usize)
+        ensures node { (result.0.tree ≡ W.tree) × (result.0.lo ≡ task.ticket.lo) × (result.0.hi ≡ task.ticket.hi) }
+        ensures range { result.0.hi ≤ W.bins }
+        ensures room { (result.1 < 2 ^ result.0.level) × (result.0.forks + result.0.level ≤ 7) }
+    {
+        let Task {
+            ticket,
+            supply,
+            batch,
+            work: _,
+        } = task;
+        let (lo, hi) = (ticket.lo(), ticket.hi());
+        (self.tree.open(supply, Some(ticket), lo, hi), batch)
+    }
+
+    #[tactic(auto, using(crate::proofs::Halves::has_room, crate::proofs::Halves::half_room))]
+    // Forks while the batch lasts, and then does the leaf that is left. Where a push is refused it works on the task at once.
+    fn work<S: Seats, Rt: Wait>(
+        &self,
+        rt: &Rt,
+        me: &mut Member<Task<B::Part, W>, S>,
+        node: Node<B::Part>,
+        batch: usize,
+    ) -> Option<B::Part>
+        requires tree { node.tree ≡ W.tree }
+        requires range { node.hi ≤ W.bins }
+        requires room { (batch < 2 ^ node.level) × (node.forks + node.level ≤ 7) }
+        ensures { IfSome result (B.relates self.now.body.now 0 W.bins) }
+    {
+        let mut node = node;
+        let mut batch = batch;
+        while batch > 0 && node.hi() - node.lo() >= 2 {
+            batch /= 2;
+            let mid = node.lo() + (node.hi() - node.lo()) / 2;
+            let (ticket, supply) = node.fork(self.tree, mid);
+            let task = Task {
+                ticket,
+                supply,
+                batch,
+                work: PhantomData,
+            };
+            if let Err(task) = me.push(task) {
+                let (child, batch) = self.begin(task);
+                let found = self.work(rt, me, child, batch);
+                if found.is_some() {
+                    return found;
+                }
+            }
+        }
+        let (lo, hi) = (node.lo(), node.hi());
+        let ticket = node.own(self.tree);
+        self.gate.leaf(me.number, lo, hi);
+        let part = self.body.leaf(lo, hi);
+        self.climb(rt, ticket, part)
+    }
+
+    /// Takes tasks until the run is done.
+    pub(crate) fn serve<S: Seats, Rt: Wait>(
+        &self,
+        rt: &Rt,
+        me: &mut Member<Task<B::Part, W>, S>,
+    ) -> Option<B::Part>
+        ensures { IfSome result (B.relates self.now.body.now 0 W.bins) }
+    {
+        let backoff = Backoff::new();
+        for _ in rt.forever() {
+            if self.done.load(SeqCst) {
+                break;
+            }
+            let Some(task) = me.take() else {
+                backoff.snooze();
+                continue;
+            };
+            backoff.reset();
+            let (node, batch) = self.begin(task);
+            let found = self.work(rt, me, node, batch);
+            if found.is_some() {
+                return found;
+            }
+        }
+        None
+    }
+
+    /// Works on the root, and then takes tasks as the others do.
+    pub(crate) fn lead<S: Seats, Rt: Wait>(
+        &self,
+        rt: &Rt,
+        me: &mut Member<Task<B::Part, W>, S>,
+        root: Supply<B::Part>,
+        batch: usize,
+    ) -> Option<B::Part>
+        requires tree { root.tree ≡ W.tree }
+        requires room { (batch < 2 ^ root.level) × (root.level ≤ 7) }
+        ensures { IfSome result (B.relates self.now.body.now 0 W.bins) }
+    {
+        let node = self.tree.open(root, None, 0, self.bins);
+        let found = self.work(rt, me, node, batch);
+        if found.is_some() {
+            return found;
+        }
+        self.serve(rt, me)
+    }
+}

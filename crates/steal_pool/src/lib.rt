@@ -1,0 +1,22 @@
+//! Workers that share the work on a range of bins. A body says what a leaf, a part of the range, gives, and how parts side by side are joined. `run` halves the range into a tree of
+//! counted completers, and its workers take the leaves: each pushes what it forks to a deque of its own, takes its newest task, or else the oldest of another worker's.
+//! What `run` answers is the part of the whole range, whoever did which leaf.
+#![tactic(auto)]
+
+mod body;
+mod crew;
+mod deque;
+mod gate;
+mod job;
+mod log;
+mod member;
+mod pool;
+mod rule;
+mod settle;
+mod task;
+#[cfg(test)]
+mod tests;
+
+pub use body::Body;
+pub use gate::{Gate, OpenGate};
+pub use pool::run;

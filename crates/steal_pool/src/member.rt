@@ -1,0 +1,44 @@
+//! A member of a pool: a worker's deque, and its ways into those of the others.
+ghost use Rattle.std.specs.Prelude.{◌≡◌, ◌+◌, ◌<◌, []};
+ghost use Rattle.crossbeam_deque.specs.Handles.{view, IsPassOf, stealer_deque, worker_deque, worker_view};
+
+use crate::deque::{Other, Own};
+use crate::log::Log;
+use crossbeam_deque::Pass;
+use std::marker::{Brand, PhantomData};
+
+/// Which deque is whose, by the members' numbers. A call at `Brand` picks it.
+pub trait Seats {
+    ghost use Rattle.std.specs.Prelude.{ℕ};
+    ghost use Rattle.atomic_blocks.specs.Lent.{RowsId};
+    ghost use Rattle.std.proofs.Common.{Global};
+
+    ghost deque: { ℕ → RowsId × Global };
+}
+
+impl Seats for Brand {
+    ghost deque = { λ _. ((0, 0), record { memory = record { seal = tt } }) };
+}
+
+/// A way into the deque of the member `to`.
+#[derive(Drop)]
+pub struct Way<T, S: Seats> {
+    pub(crate) to: usize,
+    pub(crate) stealer: Other<T>,
+    pub(crate) pass: Pass<T, Log<T>>,
+    pub(crate) seats: PhantomData<S>,
+    ghost deque: { (IsPassOf (stealer_deque stealer) pass) × (stealer_deque stealer ≡ S.deque to) },
+    ghost share: { ((view pass).shares ≡ 1) × ((view pass).pushed ≡ []) },
+}
+
+/// One worker: its own deque, how many ways into it are out, and its ways into the others' deques, in the order in which it asks them.
+#[derive(Drop)]
+pub struct Member<T, S: Seats> {
+    pub(crate) number: usize,
+    pub(crate) own: Own<T>,
+    pub(crate) out: u64,
+    pub(crate) ways: Vec<Way<T, S>>,
+    ghost deque: { worker_deque own ≡ S.deque number },
+    ghost shares: { (worker_view own).shares + out ≡ 32 },
+    ghost some: { out < 32 },
+}

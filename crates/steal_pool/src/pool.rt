@@ -1,0 +1,211 @@
+//! A run: the tree, the deques, and the threads.
+ghost use Rattle.std.specs.Prelude.{◌≡◌, ◌+◌, ◌*◌, ◌^◌, ◌<◌, ◌≤◌, ℕ, List, All, IfOk, IfSome, vec_len};
+ghost use Rattle.crossbeam_deque.specs.Handles.{worker_deque};
+ghost use Rattle.steal_pool.specs.Seating.{AreSeated, IsUnshared};
+
+use crate::body::Body;
+use crate::crew::members;
+use crate::deque::{Own, new_deque};
+use crate::gate::Gate;
+use crate::job::Job;
+use crate::member::{Member, Seats};
+use crate::settle::close;
+use crate::task::{Task, Work};
+use completers::{Supply, Tree};
+use std::alloc::{AllocError, Global};
+use std::marker::{Brand, PhantomData};
+use std::sync::Wait;
+use std::sync::atomic::AtomicBool;
+use std::thread::{Threads, join};
+
+/// How many tasks a deque has room for at first.
+const CAPACITY: usize = 64;
+
+// The nodes of a tree for a batch: 2 to the number of its binary digits.
+fn nodes_for(batch: usize) -> usize
+    requires { batch ≤ 64 }
+    ensures { (batch < result) × (level : ℕ) × (level ≤ 7) × (result ≡ 2 ^ level) }
+{
+    match batch {
+        0 => 1,
+        1 => 2,
+        2..=3 => 4,
+        4..=7 => 8,
+        8..=15 => 16,
+        16..=31 => 32,
+        32..=63 => 64,
+        _ => 128,
+    }
+}
+
+// Each other member serves in a thread of its own, and the caller leads. A member whose thread can't be started serves after the others have ended, when nothing is left to do.
+fn crew<
+    B: Body + Sync,
+    G: Gate + Sync,
+    W: Work + Send + Sync,
+    S: Seats + Send,
+    Rt: Threads + Wait + Sync,
+>(
+    rt: &Rt,
+    job: &Job<'_, B, G, W>,
+    others: &mut [Member<Task<B::Part, W>, S>],
+    me: &mut Member<Task<B::Part, W>, S>,
+    root: Supply<B::Part>,
+    batch: usize,
+) -> Option<B::Part>
+where
+    B::Part: Send,
+    requires tree { root.tree ≡ W.tree }
+    requires room { (batch < 2 ^ root.level) × (root.level ≤ 7) }
+    ensures { IfSome result (B.relates job.now.body.now 0 W.bins) }
+{
+    let Some((first, rest)) = others.split_first_mut() else {
+        return job.lead(rt, me, root, batch);
+    };
+    let front = move || -> Option<B::Part>
+        ensures { IfSome result (B.relates job.entry.now.body.now 0 W.bins) }
+    { job.serve(rt, first) };
+    let back = move || -> Option<B::Part>
+        requires { (root.tree ≡ W.tree) × (batch < 2 ^ root.level) × (root.level ≤ 7) }
+        ensures { IfSome result (B.relates job.entry.now.body.now 0 W.bins) }
+    { crew(rt, job, rest, me, root, batch) };
+    let (theirs, ours) = join(rt, front, back);
+    match ours {
+        Some(part) => Some(part),
+        None => theirs,
+    }
+}
+
+// An empty deque for each worker.
+fn new_deques<T: Drop>(alloc: Global, workers: usize) -> Result<Vec<Own<T>>, AllocError>
+    ensures { IfOk result (λ v. (vec_len v ≡ workers) × All IsUnshared v.items) }
+{
+    let mut all = Vec::with_capacity(alloc, workers)?;
+    for _number in 0..workers {
+        all.push(new_deque(alloc, CAPACITY)?)?;
+    }
+    Ok(all)
+}
+
+// What the caller of a run asked for.
+#[derive(Drop)]
+struct Order<'a, B: Body, G> {
+    workers: usize,
+    gate: &'a G,
+    body: &'a B,
+    bins: usize,
+    batch: usize,
+    ghost workers_are: { (0 < workers) × (workers ≤ 16) },
+    ghost bins_are: { (0 < bins) × (bins ≤ B.limit body.now) },
+    ghost batch_is: { batch ≤ 64 },
+}
+
+// A run whose deques have their numbers. It ends with all members back.
+fn run_seated<
+    B: Body + Sync,
+    G: Gate + Sync,
+    W: Work + Send + Sync,
+    S: Seats + Send,
+    Rt: Threads + Wait + Sync,
+>(
+    rt: &Rt,
+    alloc: Global,
+    job: &Job<'_, B, G, W>,
+    deques: Vec<Own<Task<B::Part, W>>>,
+    root: Supply<B::Part>,
+    batch: usize,
+) -> Result<Option<B::Part>, AllocError>
+where
+    B::Part: Send,
+    requires tree { root.tree ≡ W.tree }
+    requires room { (batch < 2 ^ root.level) × (root.level ≤ 7) }
+    requires deques { All IsUnshared deques.items }
+    requires seats { AreSeated worker_deque S.deque deques.items }
+    ensures { IfOk result (λ found. IfSome found (B.relates job.now.body.now 0 W.bins)) }
+{
+    let mut members = members::<Task<B::Part, W>, S>(alloc, deques)?;
+    let Some((me, others)) = members.split_last_mut() else {
+        return Ok(None);
+    };
+    let found = crew(rt, job, others, me, root, batch);
+    let _left = close(alloc, members);
+    Ok(found)
+}
+
+// A run whose tree has a name.
+fn run_tree<B: Body + Sync, G: Gate + Sync, W: Work + Send + Sync, Rt: Threads + Wait + Sync>(
+    rt: &Rt,
+    alloc: Global,
+    order: &Order<'_, B, G>,
+    tree: &Tree<B, Global>,
+    root: Supply<B::Part>,
+) -> Result<Option<B::Part>, AllocError>
+where
+    B::Part: Send,
+    requires tree { (tree.now.identity ≡ W.tree) × (tree.now.bins ≡ W.bins) × (tree.now.slots ≡ 8) × (tree.now.relation ≡ order.now.body.now) }
+    requires bins { W.bins ≡ order.now.bins }
+    requires root { root.tree ≡ W.tree }
+    requires room { (order.now.batch < 2 ^ root.level) × (root.level ≤ 7) }
+    ensures { IfOk result (λ found. IfSome found (B.relates order.now.body.now 0 order.now.bins)) }
+{
+    let done = AtomicBool::new(false);
+    let job = Job::<B, G, W> {
+        tree,
+        body: order.body,
+        gate: order.gate,
+        bins: order.bins,
+        done: &done,
+        work: PhantomData,
+    };
+    let deques = new_deques(alloc, order.workers)?;
+    run_seated::<B, G, W, Brand, Rt>(rt, alloc, &job, deques, root, order.batch)
+}
+
+// A run, unless memory is refused.
+fn try_run<B: Body + Sync, G: Gate + Sync, Rt: Threads + Wait + Sync>(
+    rt: &Rt,
+    alloc: Global,
+    order: &Order<'_, B, G>,
+) -> Result<Option<B::Part>, AllocError>
+where
+    B::Part: Send,
+    ensures { IfOk result (λ found. IfSome found (B.relates order.now.body.now 0 order.now.bins)) }
+{
+    let nodes = nodes_for(order.batch);
+    let (tree, root) = Tree::new(alloc, order.body, nodes, 8, order.bins)?;
+    run_tree::<B, G, Brand, Rt>(rt, alloc, order, &tree, root)
+}
+
+/// The part of the bins from 0 up to `bins`, of which there is at least one. There are 1 to 16 `workers`, of which the caller is number 0; the others have threads of their own, which
+/// end with the call. A range is halved while its batch, at most 64 at the root, is above 0, and each half gets half of the batch, rounded down. The gate is called before each leaf.
+///
+/// It waits for its workers. A worker that can't be started is left out. Where memory for the tree or the deques is refused, the caller does one leaf over everything, without the gate.
+pub fn run<B: Body + Sync, G: Gate + Sync, Rt: Threads + Wait + Sync>(
+    rt: &Rt,
+    alloc: Global,
+    workers: usize,
+    gate: &G,
+    body: &B,
+    bins: usize,
+    batch: usize,
+) -> B::Part
+where
+    B::Part: Send,
+    requires workers { (0 < workers) × (workers ≤ 16) }
+    requires bins { (0 < bins) × (bins ≤ B.limit body.now) }
+    requires batch { batch ≤ 64 }
+    ensures { B.relates body.now 0 bins result }
+{
+    let order = Order {
+        workers,
+        gate,
+        body,
+        bins,
+        batch,
+    };
+    match try_run(rt, alloc, &order) {
+        Ok(Some(part)) => part,
+        Ok(None) => body.leaf(0, bins),
+        Err(_) => body.leaf(0, bins),
+    }
+}
