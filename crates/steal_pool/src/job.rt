@@ -20,6 +20,7 @@ pub(crate) struct Job<'a, B: Body, G, W: Work> {
     pub(crate) body: &'a B,
     pub(crate) gate: &'a G,
     pub(crate) bins: usize,
+    pub(crate) batch: usize,
     pub(crate) done: &'a AtomicBool,
     pub(crate) work: PhantomData<W>,
     ghost tree_is: { (tree.now.identity ≡ W.tree) × (tree.now.bins ≡ W.bins) × (tree.now.slots ≡ 8) },
@@ -142,14 +143,13 @@ impl<B: Body, G: Gate, W: Work> Job<'_, B, G, W> {
         rt: &Rt,
         me: &mut Member<Task<B::Part, W>, S>,
         root: Supply<B::Part>,
-        batch: usize,
     ) -> Option<B::Part>
         requires tree { root.tree ≡ W.tree }
-        requires room { (batch < 2 ^ root.level) × (root.level ≤ 7) }
+        requires room { (self.now.batch < 2 ^ root.level) × (root.level ≤ 7) }
         ensures { IfSome result (B.relates self.now.body.now 0 W.bins) }
     {
         let node = self.tree.open(root, None, 0, self.bins);
-        let found = self.work(rt, me, node, batch);
+        let found = self.work(rt, me, node, self.batch);
         if found.is_some() {
             return found;
         }

@@ -38,7 +38,8 @@ fn nodes_for(batch: usize) -> usize
     }
 }
 
-// Each other member serves in a thread of its own, and the caller leads. A member whose thread can't be started serves after the others have ended, when nothing is left to do.
+// Each other member serves in a thread of its own, up to so many threads, and the caller leads. A member whose thread can't be started serves after the others have ended, when nothing
+// is left to do.
 fn crew<
     B: Body + Sync,
     G: Gate + Sync,
@@ -48,36 +49,39 @@ fn crew<
 >(
     rt: &Rt,
     job: &Job<'_, B, G, W>,
+    threads: usize,
     others: &mut [Member<Task<B::Part, W>, S>],
     me: &mut Member<Task<B::Part, W>, S>,
     root: Supply<B::Part>,
-    batch: usize,
 ) -> Option<B::Part>
 where
     B::Part: Send,
     requires tree { root.tree ≡ W.tree }
-    requires room { (batch < 2 ^ root.level) × (root.level ≤ 7) }
+    requires room { (job.now.batch < 2 ^ root.level) × (root.level ≤ 7) }
     ensures { IfSome result (B.relates job.now.body.now 0 W.bins) }
 {
     let Some((first, rest)) = others.split_first_mut() else {
-        return job.lead(rt, me, root, batch);
+        return job.lead(rt, me, root);
     };
+    if threads == 0 {
+        let ours = crew(rt, job, 0, rest, me, root);
+        let theirs = job.serve(rt, first);
+        return ours.or(theirs);
+    }
+    let threads = threads - 1;
     let front = move || -> Option<B::Part>
         ensures { IfSome result (B.relates job.entry.now.body.now 0 W.bins) }
     { job.serve(rt, first) };
     let back = move || -> Option<B::Part>
-        requires { (root.tree ≡ W.tree) × (batch < 2 ^ root.level) × (root.level ≤ 7) }
+        requires { (root.tree ≡ W.tree) × (job.now.batch < 2 ^ root.level) × (root.level ≤ 7) }
         ensures { IfSome result (B.relates job.entry.now.body.now 0 W.bins) }
-    { crew(rt, job, rest, me, root, batch) };
+    { crew(rt, job, threads, rest, me, root) };
     let (theirs, ours) = join(rt, front, back);
-    match ours {
-        Some(part) => Some(part),
-        None => theirs,
-    }
+    ours.or(theirs)
 }
 
 // An empty deque for each worker.
-fn new_deques<T: Drop>(alloc: Global, workers: usize) -> Result<Vec<Own<T>>, AllocError>
+pub(crate) fn new_deques<T: Drop>(alloc: Global, workers: usize) -> Result<Vec<Own<T>>, AllocError>
     ensures { IfOk result (λ v. (vec_len v ≡ workers) × All IsUnshared v.items) }
 {
     let mut all = Vec::with_capacity(alloc, workers)?;
@@ -89,12 +93,14 @@ fn new_deques<T: Drop>(alloc: Global, workers: usize) -> Result<Vec<Own<T>>, All
 
 // What the caller of a run asked for.
 #[derive(Drop)]
-struct Order<'a, B: Body, G> {
-    workers: usize,
-    gate: &'a G,
-    body: &'a B,
-    bins: usize,
-    batch: usize,
+pub(crate) struct Order<'a, B: Body, G> {
+    pub(crate) workers: usize,
+    // At most so many threads are started.
+    pub(crate) threads: usize,
+    pub(crate) gate: &'a G,
+    pub(crate) body: &'a B,
+    pub(crate) bins: usize,
+    pub(crate) batch: usize,
     ghost workers_are: { (0 < workers) × (workers ≤ 16) },
     ghost bins_are: { (0 < bins) × (bins ≤ B.limit body.now) },
     ghost batch_is: { batch ≤ 64 },
@@ -111,14 +117,14 @@ fn run_seated<
     rt: &Rt,
     alloc: Global,
     job: &Job<'_, B, G, W>,
+    threads: usize,
     deques: Vec<Own<Task<B::Part, W>>>,
     root: Supply<B::Part>,
-    batch: usize,
 ) -> Result<Option<B::Part>, AllocError>
 where
     B::Part: Send,
     requires tree { root.tree ≡ W.tree }
-    requires room { (batch < 2 ^ root.level) × (root.level ≤ 7) }
+    requires room { (job.now.batch < 2 ^ root.level) × (root.level ≤ 7) }
     requires deques { All IsUnshared deques.items }
     requires seats { AreSeated worker_deque S.deque deques.items }
     ensures { IfOk result (λ found. IfSome found (B.relates job.now.body.now 0 W.bins)) }
@@ -127,7 +133,7 @@ where
     let Some((me, others)) = members.split_last_mut() else {
         return Ok(None);
     };
-    let found = crew(rt, job, others, me, root, batch);
+    let found = crew(rt, job, threads, others, me, root);
     let _left = close(alloc, members);
     Ok(found)
 }
@@ -154,11 +160,12 @@ where
         body: order.body,
         gate: order.gate,
         bins: order.bins,
+        batch: order.batch,
         done: &done,
         work: PhantomData,
     };
     let deques = new_deques(alloc, order.workers)?;
-    run_seated::<B, G, W, Brand, Rt>(rt, alloc, &job, deques, root, order.batch)
+    run_seated::<B, G, W, Brand, Rt>(rt, alloc, &job, order.threads, deques, root)
 }
 
 // A run, unless memory is refused.
@@ -174,6 +181,23 @@ where
     let nodes = nodes_for(order.batch);
     let (tree, root) = Tree::new(alloc, order.body, nodes, 8, order.bins)?;
     run_tree::<B, G, Brand, Rt>(rt, alloc, order, &tree, root)
+}
+
+// A run, or one leaf over everything.
+pub(crate) fn run_order<B: Body + Sync, G: Gate + Sync, Rt: Threads + Wait + Sync>(
+    rt: &Rt,
+    alloc: Global,
+    order: &Order<'_, B, G>,
+) -> B::Part
+where
+    B::Part: Send,
+    ensures { B.relates order.now.body.now 0 order.now.bins result }
+{
+    match try_run(rt, alloc, order) {
+        Ok(Some(part)) => part,
+        Ok(None) => order.body.leaf(0, order.bins),
+        Err(_) => order.body.leaf(0, order.bins),
+    }
 }
 
 /// The part of the bins from 0 up to `bins`, of which there is at least one. There are 1 to 16 `workers`, of which the caller is number 0; the others have threads of their own, which
@@ -198,14 +222,11 @@ where
 {
     let order = Order {
         workers,
+        threads: workers - 1,
         gate,
         body,
         bins,
         batch,
     };
-    match try_run(rt, alloc, &order) {
-        Ok(Some(part)) => part,
-        Ok(None) => body.leaf(0, bins),
-        Err(_) => body.leaf(0, bins),
-    }
+    run_order(rt, alloc, &order)
 }

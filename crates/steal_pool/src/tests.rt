@@ -1,28 +1,75 @@
 //! Runs over small ranges, whose gates tell what was done.
-ghost use Rattle.std.specs.Prelude.{◌≡◌, ◌+◌, ◌<◌, ◌≤◌, ℕ};
+ghost use Rattle.std.specs.Prelude.{◌≡◌, ◌+◌, ◌<◌, ◌≤◌, ℕ, All};
 ghost use Rattle.completers.specs.Parts.{AreParts};
+ghost use Rattle.crossbeam_deque.specs.Handles.{worker_deque};
+ghost use Rattle.steal_pool.specs.Seating.{AreSeated, IsUnshared};
 
+use crate::crew::members;
+use crate::deque::Own;
+use crate::member::Seats;
+use crate::pool::{Order, new_deques, run_order};
+use crate::settle::close;
 use crate::{Body, Gate, OpenGate, run};
 use completers::{Parts, Relation};
-use std::alloc::Global;
+use std::alloc::{AllocError, Global};
 use std::hint;
+use std::marker::Brand;
+use std::process::Abort;
 use std::sync::Wait;
 use std::sync::atomic::AtomicU64;
 use std::sync::atomic::Ordering::SeqCst;
 use std::test::Fail;
 use std::thread::Threads;
 
-/// How many bins a range has. Each leaf begins a bit of `leaves`, the bit of its first bin.
+/// Counts calls, and keeps the set of the leaves that it was called for.
+#[derive(Drop)]
+struct Leaves {
+    names: AtomicU64,
+    calls: AtomicU64,
+}
+
+fn no_leaves() -> Leaves {
+    Leaves {
+        names: AtomicU64::new(0),
+        calls: AtomicU64::new(0),
+    }
+}
+
+// The bit of a leaf. Those of a small range have each its own.
+fn bit_of(lo: usize, hi: usize) -> u64 {
+    1u64.wrapping_shl((lo % 8) as u32 * 8 + (hi % 16) as u32)
+}
+
+impl Leaves {
+    fn add(&self, lo: usize, hi: usize) {
+        self.calls.fetch_add(1, SeqCst);
+        self.names.fetch_or(bit_of(lo, hi), SeqCst);
+    }
+
+    // Whether it has seen just these leaves, each once.
+    fn are(&self, leaves: &[(usize, usize)]) -> bool {
+        let names = leaves
+            .iter()
+            .fold(0, |bits, leaf| bits | bit_of(leaf.0, leaf.1));
+        self.names.load(SeqCst) == names && self.calls.load(SeqCst) == leaves.len() as u64
+    }
+}
+
+impl Gate for Leaves {
+    fn leaf(&self, _worker: usize, lo: usize, hi: usize) {
+        self.add(lo, hi);
+    }
+}
+
+/// How many bins a range has.
 #[derive(Drop)]
 struct Count {
-    leaves: AtomicU64,
-    calls: AtomicU64,
+    leaves: Leaves,
 }
 
 fn new_count() -> Count {
     Count {
-        leaves: AtomicU64::new(0),
-        calls: AtomicU64::new(0),
+        leaves: no_leaves(),
     }
 }
 
@@ -38,10 +85,7 @@ impl Body for Count {
     ghost limit = { λ _. 1000000 };
 
     fn leaf(&self, lo: usize, hi: usize) -> usize {
-        self.calls.fetch_add(1, SeqCst);
-        if lo < 64 {
-            self.leaves.fetch_or(1 << lo, SeqCst);
-        }
+        self.leaves.add(lo, hi);
         hi - lo
     }
 
@@ -59,42 +103,49 @@ impl Body for Count {
     }
 }
 
-// The bits of the first bins of some leaves.
-fn begins(leaves: &[u32]) -> u64 {
-    leaves
-        .iter()
-        .fold(0, |bits, lo| bits | 1u64.wrapping_shl(*lo))
-}
+/// The leaves of five bins with batch 2.
+const FOUR_LEAVES: [(usize, usize); 4] = [(0, 1), (1, 2), (2, 3), (3, 5)];
 
-// A run with these workers over these bins does just the leaves that begin there.
-fn assert_leaves<Rt: Threads + Wait + Sync + std::process::Abort>(
+// A run with these workers over these bins calls its gate and its body for just these leaves.
+fn assert_leaves<Rt: Threads + Wait + Sync + Abort>(
     rt: &Rt,
     alloc: Global,
     workers: usize,
     bins: usize,
     batch: usize,
-    leaves: &[u32],
+    leaves: &[(usize, usize)],
 )
     requires { (0 < workers) × (workers ≤ 16) × (0 < bins) × (bins ≤ 64) × (batch ≤ 64) }
 {
+    let gate = no_leaves();
     let body = new_count();
-    assert_eq!(rt;
-        run(rt, alloc, workers, &OpenGate, &body, bins, batch),
-        bins
-    );
-    assert_eq!(rt; body.leaves.load(SeqCst), begins(leaves));
-    assert_eq!(rt; body.calls.load(SeqCst), leaves.len() as u64);
+    assert_eq!(rt; run(rt, alloc, workers, &gate, &body, bins, batch), bins);
+    assert!(rt; gate.are(leaves));
+    assert!(rt; body.leaves.are(leaves));
 }
 
 #[test]
 fn leaves_by_bins_and_batch(rt: HostRuntime) {
-    for workers in [1, 2, 4, 16] {
-        assert!(rt; 0 < workers && workers <= 16);
-        assert_leaves(&rt, rt.alloc(), workers, 5, 2, &[0, 1, 2, 3]);
-        assert_leaves(&rt, rt.alloc(), workers, 7, 3, &[0, 1, 3, 5]);
-        assert_leaves(&rt, rt.alloc(), workers, 3, 4, &[0, 1, 2]);
-        assert_leaves(&rt, rt.alloc(), workers, 1, 16, &[0]);
-        assert_leaves(&rt, rt.alloc(), workers, 9, 0, &[0]);
+    for workers in 1..=16 {
+        assert_leaves(&rt, rt.alloc(), workers, 5, 2, &FOUR_LEAVES);
+        assert_leaves(
+            &rt,
+            rt.alloc(),
+            workers,
+            7,
+            3,
+            &[(0, 1), (1, 3), (3, 5), (5, 7)],
+        );
+        assert_leaves(&rt, rt.alloc(), workers, 3, 4, &[(0, 1), (1, 2), (2, 3)]);
+        assert_leaves(&rt, rt.alloc(), workers, 1, 16, &[(0, 1)]);
+        assert_leaves(&rt, rt.alloc(), workers, 9, 0, &[(0, 9)]);
+    }
+}
+
+#[test]
+fn four_workers_do_each_leaf_once(rt: HostRuntime) {
+    for _ in 0..1000u32 {
+        assert_leaves(&rt, rt.alloc(), 4, 5, 2, &FOUR_LEAVES);
     }
 }
 
@@ -190,14 +241,72 @@ fn two_leaves_at_once(rt: HostRuntime) {
 }
 
 #[test]
-fn a_thousand_runs_over_65536_bins(rt: HostRuntime) -> Result<(), Fail> {
+fn a_thousand_runs_over_65536_bins(rt: HostRuntime) {
     for _ in 0..1000u32 {
         let body = new_count();
         assert_eq!(rt;
             run(&rt, rt.alloc(), 16, &OpenGate, &body, 65536, 64),
             65536
         );
-        assert_eq!(rt; body.calls.load(SeqCst), 128);
+        assert_eq!(rt; body.leaves.calls.load(SeqCst), 128);
     }
+}
+
+// A run with four workers, of whom at most so many have a thread.
+fn assert_with_threads<Rt: Threads + Wait + Sync + Abort>(rt: &Rt, alloc: Global, threads: usize) {
+    let body = new_count();
+    let order = Order {
+        workers: 4,
+        threads,
+        gate: &OpenGate,
+        body: &body,
+        bins: 5,
+        batch: 2,
+    };
+    assert_eq!(rt; run_order(rt, alloc, &order), 5);
+    assert!(rt; body.leaves.are(&FOUR_LEAVES));
+}
+
+#[test]
+fn workers_without_a_thread_are_left_out(rt: HostRuntime) {
+    for threads in 0..4 {
+        assert_with_threads(&rt, rt.alloc(), threads);
+    }
+}
+
+// Member 0 pushes three tasks and takes the newest, and member 2 takes the oldest. How many are left, once the members are back.
+fn seated_take_two<S: Seats>(
+    alloc: Global,
+    deques: Vec<Own<u64>>,
+) -> Result<(Option<u64>, Option<u64>, Option<usize>), AllocError>
+    requires deques { All IsUnshared deques.items }
+    requires seats { AreSeated worker_deque S.deque deques.items }
+{
+    let mut members = members::<u64, S>(alloc, deques)?;
+    let mut newest = None;
+    if let Some(first) = members.last_mut() {
+        for task in [10, 11, 12] {
+            let _refused = first.push(task);
+        }
+        newest = first.take();
+    }
+    let oldest = match members.first_mut() {
+        Some(thief) => thief.take(),
+        None => None,
+    };
+    Ok((newest, oldest, close(alloc, members)))
+}
+
+fn take_two(alloc: Global) -> Result<(Option<u64>, Option<u64>, Option<usize>), AllocError> {
+    let deques = new_deques(alloc, 3)?;
+    seated_take_two::<Brand>(alloc, deques)
+}
+
+#[test]
+fn what_is_left_is_what_nobody_took(rt: HostRuntime) -> Result<(), Fail> {
+    let (newest, oldest, left) = take_two(rt.alloc())?;
+    assert_eq!(rt; newest, Some(12));
+    assert_eq!(rt; oldest, Some(10));
+    assert_eq!(rt; left, Some(1));
     Ok(())
 }
