@@ -1,14 +1,6 @@
--- One way goes from a list to the member that takes it back.
+-- What the members count, when one of them changes.
 use Rattle.std.proofs.Common.{◌≡◌, ℕ, ◌+◌, ◌<◌, List, [], ◌∷◌, ◌++◌, length, get_or, set, sum_by, refl, ap, arith}
 use Rattle.std.proofs.lemmas.List.Sums.{sum_by-set, sum_by_push}
-
-pub moved : {X Y : Type 0} (f : X → ℕ) (k : Y → ℕ) (xs : List X) (ys rest : List Y) (i : ℕ) (x d : X) (y : Y) (n : ℕ) → i < length xs → d ≡ get_or xs i d → ys ≡ rest ++ y ∷ [] → f x ≡ f d + k y → sum_by f xs + sum_by k ys ≡ n → sum_by f (set xs i x) + sum_by k rest ≡ n
-moved f k xs ys rest i x d y n lt at last more all =
-    let s = sum_by-set f xs i x d lt in
-    let a : f d ≡ f (get_or xs i d) = ap f at in
-    let b = sum_by_push k rest y in
-    let e : sum_by k ys ≡ sum_by k (rest ++ y ∷ []) = ap (sum_by k) last in
-    omega arith
 
 pub kept : {X : Type 0} (f : X → ℕ) (xs : List X) (i : ℕ) (x d : X) → i < length xs → d ≡ get_or xs i d → f x ≡ f d → sum_by f (set xs i x) ≡ sum_by f xs
 kept f xs i x d lt at same =
@@ -23,6 +15,13 @@ nothing f (x ∷ xs) none = absurd (omega arith)
 -- one member gives away some of what it counts
 pub lent : {X : Type 0} (f : X → ℕ) (xs : List X) (i : ℕ) (x d : X) (n : ℕ) → i < length xs → d ≡ get_or xs i d → f x + n ≡ f d → sum_by f (set xs i x) + n ≡ sum_by f xs
 lent f xs i x d n lt at less =
+    let s = sum_by-set f xs i x d lt in
+    let a : f d ≡ f (get_or xs i d) = ap f at in
+    omega arith
+
+-- one member counts more
+pub gained : {X : Type 0} (f : X → ℕ) (xs : List X) (i : ℕ) (x d : X) (n : ℕ) → i < length xs → d ≡ get_or xs i d → f x ≡ f d + n → sum_by f (set xs i x) ≡ sum_by f xs + n
+gained f xs i x d n lt at more =
     let s = sum_by-set f xs i x d lt in
     let a : f d ≡ f (get_or xs i d) = ap f at in
     omega arith

@@ -19,7 +19,7 @@ use std::sync::atomic::AtomicBool;
 use std::thread::{Threads, join};
 
 /// How many tasks a deque has room for at first.
-const CAPACITY: usize = 64;
+const CAPACITY: usize = 4;
 
 // The nodes of a tree for a batch: 2 to the number of its binary digits.
 fn nodes_for(batch: usize) -> usize
@@ -134,7 +134,7 @@ where
         return Ok(None);
     };
     let found = crew(rt, job, threads, others, me, root);
-    let _left = close(alloc, members);
+    let _left = close(members);
     Ok(found)
 }
 
@@ -195,8 +195,7 @@ where
 {
     match try_run(rt, alloc, order) {
         Ok(Some(part)) => part,
-        Ok(None) => order.body.leaf(0, order.bins),
-        Err(_) => order.body.leaf(0, order.bins),
+        Ok(None) | Err(_) => order.body.leaf(0, order.bins),
     }
 }
 

@@ -1,20 +1,19 @@
 //! The settlement of a run, with all members back.
-ghost use Rattle.std.specs.Prelude.{◌≡◌, ◌+◌, [], ℕ, List, length, IfSome, MatchResult, sum_by};
+ghost use Rattle.std.specs.Prelude.{◌≡◌, ◌+◌, ◌<◌, ℕ, List, length, IfSome, MatchResult, sum_by, vec_len};
 ghost use Rattle.steal_pool.specs.Books.{brought_by, stolen, pushed_by, taken_by, IsSettled};
 ghost use Rattle.steal_pool.specs.Logs.{weigh};
 
 use crate::deque::{settle, take_share};
 use crate::member::{Member, Seats, Way};
-use std::alloc::Global;
-use std::mem;
 
 impl<T: Drop, S: Seats> Member<T, S> {
-    // All its ways.
-    fn take_ways(&mut self, alloc: Global) -> Vec<Way<T, S>>
+    // One of its ways.
+    fn pop_way(&mut self) -> Option<Way<T, S>>
         ensures pushed { (h : T → ℕ) → pushed_by h self.new ≡ pushed_by h self.old }
-        ensures taken { (h : T → ℕ) → taken_by h self.new + stolen h result.items ≡ taken_by h self.old }
+        ensures taken { IfSome result (λ w. (h : T → ℕ) → taken_by h self.new + brought_by h w ≡ taken_by h self.old) }
     {
-        mem::replace(&mut self.ways, Vec::new(alloc))
+        let way = self.ways.pop()?;
+        Some(way)
     }
 
     // Takes a way into its deque back. One into another deque is handed back.
@@ -48,20 +47,22 @@ impl<T: Drop, S: Seats> Member<T, S> {
     }
 }
 
-// Gives each way back to the member whose deque it leads into. None: there was none.
-fn give_back<T: Drop, S: Seats>(members: &mut Vec<Member<T, S>>, ways: Vec<Way<T, S>>) -> Option<()>
-    ensures { IfSome result (λ _. ((h : T → ℕ) → sum_by (pushed_by h) members.new.items ≡ sum_by (pushed_by h) members.old.items)
-        × ((h : T → ℕ) → sum_by (taken_by h) members.new.items ≡ sum_by (taken_by h) members.old.items + stolen h ways.items)) }
+// Gives each way of the member at a place back to the member whose deque it leads into. None: there was none.
+fn give_back<T: Drop, S: Seats>(members: &mut Vec<Member<T, S>>, place: usize) -> Option<()>
+    requires { place < vec_len members.old }
+    ensures len { IfSome result (λ _. vec_len members.new ≡ vec_len members.old) }
+    ensures pushed { IfSome result (λ _. (h : T → ℕ) → sum_by (pushed_by h) members.new.items ≡ sum_by (pushed_by h) members.old.items) }
+    ensures taken { IfSome result (λ _. (h : T → ℕ) → sum_by (taken_by h) members.new.items ≡ sum_by (taken_by h) members.old.items) }
 {
-    let mut ways = ways;
-    while let Some(way) = ways.pop() {
-        let count = members.len();
+    let count = members.len();
+    for _way in 0..members[place].ways.len() {
+        let way = members[place].pop_way()?;
         if way.to >= count {
             return None;
         }
         // The last member is number 0.
-        let member = &mut members[count - 1 - way.to];
-        let Ok(()) = member.take_back(way) else {
+        let home = count - 1 - way.to;
+        let Ok(()) = members[home].take_back(way) else {
             return None;
         };
     }
@@ -69,19 +70,12 @@ fn give_back<T: Drop, S: Seats>(members: &mut Vec<Member<T, S>>, ways: Vec<Way<T
 }
 
 // Gives all ways of all members back.
-fn give_all_back<T: Drop, S: Seats>(alloc: Global, members: &mut Vec<Member<T, S>>) -> Option<()>
-    ensures { IfSome result (λ _. ((h : T → ℕ) → sum_by (pushed_by h) members.new.items ≡ sum_by (pushed_by h) members.old.items)
-        × ((h : T → ℕ) → sum_by (taken_by h) members.new.items ≡ sum_by (taken_by h) members.old.items)) }
+fn give_all_back<T: Drop, S: Seats>(members: &mut Vec<Member<T, S>>) -> Option<()>
+    ensures pushed { IfSome result (λ _. (h : T → ℕ) → sum_by (pushed_by h) members.new.items ≡ sum_by (pushed_by h) members.old.items) }
+    ensures taken { IfSome result (λ _. (h : T → ℕ) → sum_by (taken_by h) members.new.items ≡ sum_by (taken_by h) members.old.items) }
 {
     for place in 0..members.len() {
-        if place >= members.len() {
-            return None;
-        }
-        let member = &mut members[place];
-        let ways = member.take_ways(alloc);
-        let Some(()) = give_back(members, ways) else {
-            return None;
-        };
+        give_back(members, place)?;
     }
     Some(())
 }
@@ -93,25 +87,18 @@ fn settle_all<T: Drop, S: Seats>(members: Vec<Member<T, S>>) -> Option<usize>
     let mut members = members;
     let mut left = 0usize;
     while let Some(member) = members.pop() {
-        let Some(more) = member.settle() else {
-            return None;
-        };
-        let Some(sum) = left.checked_add(more) else {
-            return None;
-        };
-        left = sum;
+        let more = member.settle()?;
+        left = left.checked_add(more)?;
     }
     Some(left)
 }
 
 /// Ends a pool, whose members are all back: each task that one of them took was pushed by one of them, and each task that was pushed was taken once, or is left. How many are left.
 /// None: a way is missing.
-pub(crate) fn close<T: Drop, S: Seats>(alloc: Global, members: Vec<Member<T, S>>) -> Option<usize>
+pub(crate) fn close<T: Drop, S: Seats>(members: Vec<Member<T, S>>) -> Option<usize>
     ensures { IfSome result (IsSettled members.items) }
 {
     let mut members = members;
-    let Some(()) = give_all_back(alloc, &mut members) else {
-        return None;
-    };
+    give_all_back(&mut members)?;
     settle_all(members)
 }

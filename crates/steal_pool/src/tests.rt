@@ -294,7 +294,7 @@ fn seated_take_two<S: Seats>(
         Some(thief) => thief.take(),
         None => None,
     };
-    Ok((newest, oldest, close(alloc, members)))
+    Ok((newest, oldest, close(members)))
 }
 
 fn take_two(alloc: Global) -> Result<(Option<u64>, Option<u64>, Option<usize>), AllocError> {

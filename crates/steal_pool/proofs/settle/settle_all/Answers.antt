@@ -8,7 +8,7 @@ use Rattle.steal_pool.proofs.settle.settle_all.Goals as goal
 pub loop-member-preserved : goal.loop-member-preserved
 loop-member-preserved g c =
     let i = c.loop-member.invariant in
-    let s = c.in-Some-settle.ensures in (
+    let s = c.in_ok-more.ensures in (
       i.0 ++ s.0,
       search (rules, length-append),
       λ h.
