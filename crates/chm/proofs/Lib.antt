@@ -2,3 +2,4 @@ pub mod Meeting
 pub mod Counting
 pub mod Sizes
 pub mod Empty
+pub mod Visiting

@@ -3,3 +3,4 @@ pub mod Met
 pub mod Called
 pub mod Sizes
 pub mod Refusals
+pub mod Visits

@@ -85,11 +85,16 @@ impl<A: Allocator + Clone> Growth<A> {
         requires { IsTableSize n }
         ensures { IfOk result (λ r. r.1.strides ≡ r.0) }
     {
-        Strides::new(self.moves.allocator().clone()?, n as usize)
+        Strides::new(self.allocator().clone()?, n as usize)
     }
 }
 
 impl<A: Allocator> Growth<A> {
+    /// Where the map's memory comes from.
+    pub(crate) fn allocator(&self) -> &A {
+        self.moves.allocator()
+    }
+
     /// What the resize word says now.
     pub(crate) fn table(&self) -> Table
         ensures { result.exponent ≤ 16 }

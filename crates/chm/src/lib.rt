@@ -12,7 +12,9 @@ mod map;
 mod moving;
 mod size;
 mod under;
+mod visit;
 
 pub use fault::Fault;
 pub use map::{Map, Opened};
 pub use size::MOST_BINS;
+pub use visit::Visit;

@@ -52,4 +52,22 @@ impl<
         self.ledger.post(pass, role, entry);
         Ok((reply, entry.delta() == 1))
     }
+
+    /// Lets the pass and the role of a bin that is held tell what the bin's entries are. It changes nothing.
+    pub(crate) fn meet_under(
+        &self,
+        pass: &mut Pass<K, V, F>,
+        bin: &Bin<K, V, F, A>,
+        role: &mut BinRole<K, V, F>,
+    )
+        requires pass { pass.old.ledger ≡ self.now.ledger.id }
+        requires role { role.old.ledger ≡ self.now.ledger.id }
+        requires agree { Agree K.eq (after V.eq F.remapped F.merged) bin.now role.old }
+        ensures met { IsMet K.eq K.code (after V.eq F.remapped F.merged) self.now.ledger pass.old bin.now role.old }
+        ensures same_pass { pass.new ≡ pass.old }
+        ensures same_role { role.new ≡ role.old }
+    {
+        bin.lawful();
+        self.ledger.meet(pass, role);
+    }
 }

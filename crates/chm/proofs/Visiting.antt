@@ -1,0 +1,56 @@
+-- What the visits of a walk show.
+use Rattle.std.proofs.Common.{◌≡◌, ℕ, ◌<◌, ◌==◌, Bool, true, cond, Option, Some, None, option_copied, Bor, List, [], ◌∷◌, ◌++◌, map, filter, All, refl, sym, ap, subst, ◌∙◌, arith}
+use Rattle.std.specs.Option.{IsSomeAnd, MatchOption}
+use Rattle.std.proofs.lemmas.Bool.Decides.{nat_tests}
+use Rattle.std.proofs.lemmas.List.{map-append}
+use Rattle.std.proofs.lemmas.List.Elements.{All-head, All-tail}
+use Rattle.hashkeys.specs.Classes.{ClassView, covers, is_of}
+use Rattle.hashkeys.specs.Hashing.{hash_of}
+use Rattle.bin_history.specs.Clients.{by_client}
+use Rattle.bin_history.specs.Entries.{lookup, replay}
+use Rattle.bin_history.specs.Lawful.{BinView}
+use Rattle.bin_history.specs.Part.{part_of_records}
+use Rattle.bin_history.specs.declared.call.Call.{Call}
+use Rattle.bin_history.specs.declared.call.Record.{Record}
+use Rattle.count_ledger.specs.Views.{LedgerView, PassView, RoleView}
+use Rattle.generations.specs.Leaves.{IsLeaf}
+use Rattle.generations.specs.Views.{GenerationsView}
+use Rattle.chm.specs.Met.{IsHistory}
+use Rattle.chm.specs.Views.{MapView, bins_of, opening_in}
+use Rattle.chm.specs.Visits.{VisitView, classes_of, IsVisit, IsOwn, IsShown}
+
+-- all records are the only client's
+only_client : {K V F : Type 0} (c : ℕ) (rs : List (Record K V F)) → c < 1 → All (λ r. r.client < 1) rs → by_client c rs ≡ rs
+only_client c [] l h = refl
+only_client {K} {V} {F} c (r ∷ rs) l h =
+    let P : Record K V F → Type 0 = λ x. x.client < 1 in
+    let its : (r.client == c) ≡ true = let first = All-head P r rs h in grind (arith, nat_tests) in
+    rw its (ap (λ (xs : List (Record K V F)). r ∷ xs) (only_client c rs l (All-tail P r rs h)))
+
+module _ {K V F : Type 0} (same : K → K → Bool) (code : K → ℕ) (after : Call K V F → Option V → Option V) (ledger : LedgerView K V) (pass : PassView K V F) where
+  -- with one client a history has the client's own calls and no others
+  own_history : (class : ClassView) (kept : List (Record K V F)) → ledger.clients ≡ 1 → IsHistory same code after ledger pass class kept → kept ≡ part_of_records (is_of code ledger.salt class) pass.made
+  own_history class kept one h =
+      let few : All (λ r. r.client < 1) kept = rw (← one) h.clients in
+      let mine : pass.client < 1 = (let l = h.client in omega arith) in
+      sym (only_client pass.client kept mine few) ∙ h.own
+
+  pub IsOwn-visit : (v : VisitView K V) → ledger.clients ≡ 1 → IsVisit same code after ledger pass v → IsOwn same code ledger pass v
+  IsOwn-visit v one (kept, h, is) = is ∙ ap (λ (rs : List (Record K V F)). replay same (opening_in code ledger v.class) rs) (own_history v.class kept one h)
+
+pub classes-push : {K V : Type 0} (vs : List (VisitView K V)) (v : VisitView K V) → classes_of (vs ++ v ∷ []) ≡ classes_of vs ++ v.class ∷ []
+classes-push vs v = map-append (λ (x : VisitView _ _). x.class) vs (v ∷ [])
+
+-- a reference to a value, if there is one, shows what was looked up
+pub copied-found : {V : Type 0} (o : Option (Bor V)) (found : Option V) → MatchOption o (found ≡ None) (λ value. found ≡ Some value.now) → option_copied o ≡ found
+copied-found None found is = sym is
+copied-found (Some value) found is = sym is
+
+-- what a reader of a bin for the key's hash looks up
+pub IsShown-read : {K V F : Type 0} (same : K → K → Bool) (code : K → ℕ) (after : Call K V F → Option V → Option V) (map : MapView K V) (g : GenerationsView) (key : K) (value : Option V) (b : BinView K V F) (o : Option (BinView K V F × RoleView K V F)) (hash : ℕ)
+    → g ≡ bins_of map → hash ≡ hash_of map.ledger.salt (code key)
+    → IsSomeAnd o (λ p. covers p.0.class hash ≡ true) → IsSomeAnd o (λ p. IsLeaf same code after g p.0 p.1) → IsSomeAnd o (λ p. b ≡ p.0) → value ≡ lookup same b.entries key
+    → IsShown same code after map key value
+IsShown-read same code after map g key value b (Some (c, r)) hash home hashed covered leaf is found =
+    (c, r, subst (λ h. IsLeaf same code after h c r) home leaf, ap (covers c.class) (sym hashed) ∙ covered, found ∙ ap (λ (x : BinView _ _ _). lookup same x.entries key) is)
+IsShown-read same code after map g key value b None hash home hashed covered leaf is found = absurd covered

@@ -1,0 +1,140 @@
+//! Reading a map that others write, and emptying it, bin by bin in walk order.
+ghost use Rattle.std.specs.Prelude.{◌≡◌, All, IfOk, IfErr, option_copied};
+ghost use Rattle.bin_history.specs.Calls.{after};
+ghost use Rattle.bin_history.specs.Copies.{IsExact};
+ghost use Rattle.generations.specs.Places.{AreAt};
+ghost use Rattle.chm.specs.Visits.{AreVisits, IsFirstOf, IsOwn, IsShown, IsVisit};
+
+use crate::fault::Fault;
+use crate::map::Map;
+use bin_history::Remap;
+use count_ledger::Pass;
+use crossbeam_utils::Backoff;
+use generations::{Held, next_in_walk, walk_laws};
+use hashkeys::{Class, HashKey};
+use std::alloc::{AllocError, Allocator};
+use std::marker::Model;
+use std::sync::Wait;
+
+/// What a walk shows of a bin: its class, and copies of its entries in order.
+#[derive(Drop)]
+pub struct Visit<K, V, A: Allocator> {
+    pub class: Class,
+    pub entries: Vec<(K, V), A>,
+}
+
+impl<K, V, A: Allocator> Model for Visit<K, V, A> {
+    ghost use Rattle.chm.specs.Visits.{VisitView};
+
+    ghost Value = { VisitView K V };
+
+    ghost view = { λ v. record { class = v.class; entries = v.entries.items } };
+}
+
+impl<
+    K: HashKey + Drop,
+    V: Clone + Eq + Drop,
+    F: Remap<K, V> + Clone + Drop,
+    A: Allocator + Clone,
+> Map<K, V, F, A>
+{
+    /// Waits for the first of the bins of a class. A bin of a wider class has hashes that were passed before, so it is given back and asked for again.
+    pub(crate) fn hold_first<R: Wait>(&self, rt: &R, class: Class) -> Held<'_, K, V, F, A>
+        ensures at { AreAt K.eq (after V.eq F.remapped F.merged) result.place.now result.bin result.role }
+        ensures first { IsFirstOf class result.bin.class }
+        ensures ledger { result.role.ledger ≡ self.now.ledger.id }
+        ensures salt { result.bin.salt ≡ self.now.ledger.salt }
+    {
+        let backoff = Backoff::new();
+        for _ in rt.forever() {
+            let held = self.bins.hold(rt, class.index());
+            if class.n() <= held.bin.class().n() {
+                return held;
+            }
+            held.release();
+            backoff.snooze();
+        }
+        unreachable!()
+    }
+
+    /// Shows the first of the bins of a class.
+    fn visit<R: Wait>(
+        &self,
+        rt: &R,
+        pass: &mut Pass<K, V, F>,
+        class: Class,
+    ) -> Result<Visit<K, V, A>, AllocError>
+        requires keys { IsExact K.is_clone }
+        requires values { IsExact V.is_clone }
+        requires pass { pass.old.ledger ≡ self.now.ledger.id }
+        ensures visit { IfOk result (IsVisit K.eq K.code (after V.eq F.remapped F.merged) self.now.ledger pass.old) }
+        ensures first { IfOk result (λ v. IsFirstOf class v.class) }
+        ensures same { pass.new ≡ pass.old }
+    {
+        let mut held = self.hold_first(rt, class);
+        let class = held.bin.class();
+        let entries = held.bin.copy_entries();
+        let mut role = held.role;
+        self.meet_under(pass, &held.bin, &mut role);
+        held.role = role;
+        held.release();
+        Ok(Visit {
+            class,
+            entries: entries?,
+        })
+    }
+
+    /// Shows the entries of each bin in walk order, one bin after the other, each as it was while it was held. Calls of others may come
+    /// between two bins; calls of the pass's own client do not, so with one client the walk shows the map. For want of memory nothing is shown.
+    pub fn walk<R: Wait>(
+        &self,
+        rt: &R,
+        pass: &mut Pass<K, V, F>,
+    ) -> Result<Vec<Visit<K, V, A>, A>, Fault>
+        requires keys { IsExact K.is_clone }
+        requires values { IsExact V.is_clone }
+        requires pass { pass.old.ledger ≡ self.now.ledger.id }
+        ensures visits { IfOk result (λ v. AreVisits K.eq K.code (after V.eq F.remapped F.merged) self.now.n self.now.ledger pass.old v.items) }
+        ensures own { self.now.ledger.clients ≡ 1 → IfOk result (λ v. All (IsOwn K.eq K.code self.now.ledger pass.old) v.items) }
+        ensures same { pass.new ≡ pass.old }
+        ensures faults { IfErr result (λ fault. fault ≡ Fault.NoMemory) }
+    {
+        walk_laws();
+        let n = self.bins.n();
+        let mut visits = Vec::new(self.growth.allocator().clone()?);
+        let mut next = Class::new(n, 0);
+        for _ in rt.forever() {
+            let visit = self.visit(rt, pass, next)?;
+            let class = visit.class;
+            visits.push(visit)?;
+            match next_in_walk(n, class) {
+                Some(class) => next = class,
+                None => return Ok(visits),
+            }
+        }
+        unreachable!()
+    }
+
+    /// A copy of the value at a key, read beside others that read the bin. It is no call: nothing is posted.
+    pub fn glance<R: Wait>(&self, rt: &R, key: &K) -> Result<Option<V>, Fault>
+        requires values { IsExact V.is_clone }
+        ensures shown { IfOk result (IsShown K.eq K.code (after V.eq F.remapped F.merged) self.now key.now) }
+        ensures faults { IfErr result (λ fault. fault ≡ Fault.NoMemory) }
+    {
+        let shown = self.bins.read(rt, self.salt().hash_of(key));
+        let value = copied(shown.bin().get(key));
+        shown.release();
+        Ok(value?)
+    }
+}
+
+/// A copy of a value, if there is one.
+fn copied<V: Clone>(value: Option<&V>) -> Result<Option<V>, AllocError>
+    requires { IsExact V.is_clone }
+    ensures { IfOk result (λ copy. copy ≡ option_copied value.entry) }
+{
+    match value {
+        Some(value) => Ok(Some(value.clone()?)),
+        None => Ok(None),
+    }
+}
