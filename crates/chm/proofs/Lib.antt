@@ -3,3 +3,4 @@ pub mod Counting
 pub mod Sizes
 pub mod Empty
 pub mod Visiting
+pub mod Closing

@@ -4,3 +4,5 @@ pub mod Called
 pub mod Sizes
 pub mod Refusals
 pub mod Visits
+pub mod Quiets
+pub mod Closing

@@ -6,15 +6,19 @@
 #![tactic(auto)]
 
 mod calls;
+mod close;
 mod fault;
 mod growth;
 mod map;
 mod moving;
+mod quiet;
 mod size;
 mod under;
 mod visit;
 
+pub use close::NotClosed;
 pub use fault::Fault;
 pub use map::{Map, Opened};
+pub use quiet::{Entries, Quiet};
 pub use size::MOST_BINS;
 pub use visit::Visit;

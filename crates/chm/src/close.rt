@@ -1,0 +1,111 @@
+//! The end of a map: its bins and its books come together.
+ghost use Rattle.std.specs.Prelude.{◌≡◌, All, IfOk, IfErr};
+ghost use Rattle.bin_history.specs.Entries.{replay};
+ghost use Rattle.chm.specs.Closing.{IsNotClosed};
+
+use crate::fault::Fault;
+use crate::map::Map;
+use crate::quiet::Quiet;
+use bin_history::{Bin, Remap};
+use count_ledger::{Pass, Unsettled};
+use generations::NotLeft;
+use hashkeys::HashKey;
+use std::alloc::Allocator;
+use std::marker::Model;
+use std::snapshot::Snapshot;
+use std::sync::Wait;
+
+/// Why a map could not be closed, with the passes as they were handed in. The map comes back too, as it was, but where bins were missing.
+pub struct NotClosed<K: HashKey, V: Clone + Eq, F: Remap<K, V> + Clone, A: Allocator> {
+    pub fault: Fault,
+    pub map: Option<Map<K, V, F, A>>,
+    pub passes: Vec<Pass<K, V, F>, A>,
+}
+
+impl<K: HashKey, V: Clone + Eq, F: Remap<K, V> + Clone, A: Allocator> Model for NotClosed<K, V, F, A> {
+    ghost use Rattle.chm.specs.Closing.{NotClosedView};
+
+    ghost Value = { NotClosedView K V F };
+
+    ghost view = { λ e. record { fault = e.fault; map = e.map; passes = e.passes.items } };
+}
+
+/// The entries of each of these bins are the replay of its records over its base. It does nothing when it runs.
+fn replayed<K: HashKey, V: Clone + Eq, F: Remap<K, V> + Clone, A: Allocator + Clone>(
+    bins: &[Bin<K, V, F, A>],
+)
+    ensures { All (λ b. b.entries ≡ replay K.eq b.base b.records) bins.now }
+{
+    for bin in bins {
+        bin.lawful();
+    }
+}
+
+impl<
+    K: HashKey + Drop,
+    V: Clone + Eq + Drop,
+    F: Remap<K, V> + Clone + Drop,
+    A: Allocator + Clone,
+> Map<K, V, F, A> {
+    /// Closes the map, with the passes of all clients. The closed map knows that the role of each bin kept just the calls that the clients made on
+    /// its keys, each once and in its client's order. Where a pass is missing, or for want of memory, map and passes come back.
+    pub fn close<R: Wait>(
+        self,
+        rt: &R,
+        passes: Vec<Pass<K, V, F>, A>,
+    ) -> Result<Quiet<K, V, F, A>, NotClosed<K, V, F, A>>
+        requires { All (λ p. p.ledger ≡ self.ledger.id) passes.items }
+        ensures ledger { IfOk result (λ q. q.ledger ≡ self.ledger) }
+        ensures n { IfOk result (λ q. q.n ≡ self.n) }
+        ensures passes { IfOk result (λ q. q.passes ≡ passes.items) }
+        ensures refused { IfErr result (IsNotClosed self passes.items) }
+    {
+        if passes.len() < self.clients() as usize {
+            return Err(NotClosed {
+                fault: Fault::PassMissing,
+                map: Some(self),
+                passes,
+            });
+        }
+        let Map {
+            ledger,
+            bins,
+            growth,
+            opened,
+        } = self;
+        let (n, salt) = (bins.n(), bins.salt());
+        match bins.into_leaves(rt) {
+            Ok((bins, roles)) => {
+                replayed(&bins);
+                let books = (Snapshot::of(&ledger), Snapshot::of(&roles), Snapshot::of(&passes));
+                match ledger.settle(passes, roles) {
+                    Ok(total) => Ok(Quiet {
+                        bins,
+                        n,
+                        salt,
+                        count: opened.wrapping_add(total),
+                        ledger: books.0,
+                        roles: books.1,
+                        passes: books.2,
+                    }),
+                    Err(_) => unreachable!(),
+                }
+            }
+            Err(NotLeft::NoMemory(bins)) => Err(NotClosed {
+                fault: Fault::NoMemory,
+                map: Some(Map {
+                    ledger,
+                    bins,
+                    growth,
+                    opened,
+                }),
+                passes,
+            }),
+            Err(NotLeft::BinMissing) => Err(NotClosed {
+                fault: Fault::BinMissing,
+                map: None,
+                passes,
+            }),
+        }
+    }
+}

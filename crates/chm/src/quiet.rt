@@ -1,0 +1,116 @@
+//! A closed map.
+ghost use Rattle.std.specs.Prelude.{◌≡◌, length};
+ghost use Rattle.bin_history.specs.Calls.{after};
+ghost use Rattle.chm.specs.Quiets.{entries_of, IsQuiet};
+
+use bin_history::{Bin, Remap};
+use count_ledger::{BinRole, Ledger, Pass};
+use hashkeys::{HashKey, Salt};
+use std::alloc::Allocator;
+use std::marker::Model;
+use std::snapshot::Snapshot;
+
+/// A map that nobody calls any more: its bins do not change. Contracts see its bins beside the books that it was closed with.
+#[derive(Drop)]
+pub struct Quiet<K: HashKey, V: Clone + Eq, F: Remap<K, V> + Clone, A: Allocator> {
+    pub(crate) bins: Vec<Bin<K, V, F, A>, A>,
+    pub(crate) n: u32,
+    pub(crate) salt: Salt,
+    pub(crate) count: u64,
+    pub(crate) ledger: Snapshot<Ledger<K, V, F, A>>,
+    pub(crate) roles: Snapshot<Vec<BinRole<K, V, F>, A>>,
+    pub(crate) passes: Snapshot<Vec<Pass<K, V, F>, A>>,
+}
+
+impl<K: HashKey, V: Clone + Eq, F: Remap<K, V> + Clone, A: Allocator> Model for Quiet<K, V, F, A> {
+    ghost use Rattle.std.specs.Prelude.{◌≡◌, length};
+    ghost use Rattle.bin_history.specs.Calls.{after};
+    ghost use Rattle.chm.specs.Quiets.{QuietView, entries_of, IsQuiet};
+
+    ghost Value = { QuietView K V F };
+
+    ghost view = { λ q. record { ledger = q.ledger.value; n = q.n; bins = q.bins.items; roles = q.roles.value.items; passes = q.passes.value.items } };
+
+    ghost invariant = { λ q.
+        IsQuiet K.eq K.code (after V.eq F.remapped F.merged) (record { ledger = q.ledger.value; n = q.n; bins = q.bins.items; roles = q.roles.value.items; passes = q.passes.value.items })
+        × (q.salt ≡ q.ledger.value.salt)
+        × (q.count ≡ length (entries_of q.bins.items)) };
+}
+
+impl<K: HashKey, V: Clone + Eq, F: Remap<K, V> + Clone, A: Allocator> Quiet<K, V, F, A> {
+    /// The bins, in walk order.
+    pub fn bins(&self) -> &[Bin<K, V, F, A>]
+        ensures { result.now ≡ self.now.bins }
+    {
+        &self.bins
+    }
+
+    /// The pairs of the bins, bin by bin.
+    pub fn entries(&self) -> Entries<'_, K, V, F, A>
+        ensures { result ≡ entries_of self.now.bins }
+    {
+        Entries {
+            own: &[],
+            bins: &self.bins,
+        }
+    }
+
+    /// The number of keys.
+    pub fn mapping_count(&self) -> u64
+        ensures { result ≡ length (entries_of self.now.bins) }
+    {
+        self.count
+    }
+
+    /// The salt of the hashes of keys.
+    pub fn salt(&self) -> Salt
+        ensures { result ≡ self.now.ledger.salt }
+    {
+        self.salt
+    }
+
+    /// What holds of each closed map. It does nothing when it runs.
+    pub fn lawful(&self)
+        ensures { IsQuiet K.eq K.code (after V.eq F.remapped F.merged) self.now }
+    {
+        let _ = &self.bins;
+    }
+}
+
+/// The pairs of bins, bin by bin. Contracts see the pairs that are left.
+#[derive(Drop)]
+pub struct Entries<'a, K: HashKey, V: Clone + Eq, F: Remap<K, V> + Clone, A: Allocator> {
+    own: &'a [(K, V)],
+    bins: &'a [Bin<K, V, F, A>],
+}
+
+impl<'a, K: HashKey, V: Clone + Eq, F: Remap<K, V> + Clone, A: Allocator> Model for Entries<'a, K, V, F, A> {
+    ghost use Rattle.std.specs.Prelude.{List, ◌++◌};
+    ghost use Rattle.chm.specs.Quiets.{entries_of};
+
+    ghost Value = { List (K × V) };
+
+    ghost view = { λ e. e.own.now ++ entries_of e.bins.now };
+}
+
+impl<'a, K: HashKey, V: Clone + Eq, F: Remap<K, V> + Clone, A: Allocator + Clone> Iterator for Entries<'a, K, V, F, A> {
+    ghost use Rattle.std.specs.Iterator.{YieldsFirstRef, item_count};
+
+    type Item = &'a (K, V);
+
+    ghost next_gives = { YieldsFirstRef (λ e. e) };
+
+    ghost remaining = { item_count (λ e. e) };
+
+    fn next(&mut self) -> Option<&'a (K, V)> {
+        loop {
+            if let Some((first, others)) = self.own.split_first() {
+                self.own = others;
+                return Some(first);
+            }
+            let (bin, bins) = self.bins.split_first()?;
+            self.own = bin.entries();
+            self.bins = bins;
+        }
+    }
+}
