@@ -4,3 +4,4 @@ pub mod Sizes
 pub mod Empty
 pub mod Visiting
 pub mod Closing
+pub mod Clearing

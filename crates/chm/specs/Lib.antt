@@ -6,3 +6,4 @@ pub mod Refusals
 pub mod Visits
 pub mod Quiets
 pub mod Closing
+pub mod Cleared

@@ -54,8 +54,8 @@ impl<
         Ok((reply, landed))
     }
 
-    /// Makes a call, posts it, and then does the call's part for the table.
-    fn call<R: Wait>(
+    /// Makes a call, whichever of the twelve it is. It posts the call, and then does the call's part for the table.
+    pub fn call<R: Wait>(
         &self,
         rt: &R,
         pass: &mut Pass<K, V, F>,

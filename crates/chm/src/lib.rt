@@ -6,6 +6,7 @@
 #![tactic(auto)]
 
 mod calls;
+mod clear;
 mod close;
 mod fault;
 mod growth;

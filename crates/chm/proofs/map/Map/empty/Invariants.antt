@@ -1,0 +1,18 @@
+use Rattle.std.proofs.Common.{◌≡◌, length}
+use Rattle.bin_history.specs.Calls.{after}
+use Rattle.count_ledger.specs.Agreement.{Agree}
+use Rattle.chm.specs.Cleared.{HasRemovedIn}
+use Rattle.chm.proofs.map.Map.empty.Given as goal
+
+abbrev pub invariant-loop-pass : goal.invariant-loop-pass
+invariant-loop-pass g l =
+    record {
+      removed : HasRemovedIn g.K.HashKey.code l.initial.bin.salt l.initial.bin.class l.initial.pass l.pass;
+      class : l.bin.class ≡ l.initial.bin.class;
+      salt : l.bin.salt ≡ l.initial.bin.salt;
+      ledger : l.role.ledger ≡ l.initial.role.ledger;
+      agree : Agree g.K.PartialEq.eq (after g.V.PartialEq.eq g.F.Remap.remapped g.F.Remap.merged) l.bin l.role;
+    }
+
+abbrev pub decreases-loop-pass : goal.decreases-loop-pass
+decreases-loop-pass g l = length l.bin.entries

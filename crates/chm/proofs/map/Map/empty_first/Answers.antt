@@ -1,0 +1,26 @@
+use Rattle.std.proofs.Common.{◌≡◌, sym, subst, ap, ◌∙◌}
+use Rattle.hashkeys.specs.Classes.{ClassView}
+use Rattle.hashkeys.specs.declared.hashing.Salt.{Salt}
+use Rattle.bin_history.specs.Calls.{after}
+use Rattle.count_ledger.specs.Agreement.{Agree}
+use Rattle.count_ledger.specs.Views.{PassView, RoleView}
+use Rattle.chm.specs.Cleared.{HasRemovedIn}
+use Rattle.chm.proofs.map.Map.empty_first.Goals as goal
+
+pub release-requires : goal.release-requires
+release-requires g c =
+    let at = c.hold_first-held.ensures.at in
+    let same = c.meet_under.ensures.same_role in
+    record {
+      class = c.empty-done.ensures.class ∙ at.class;
+      salt = c.empty-done.ensures.salt ∙ at.salt;
+      ledger = ap (λ (r : RoleView _ _ _). r.ledger) same ∙ c.empty-done.ensures.ledger ∙ at.ledger;
+      agree = subst (λ (r : RoleView _ _ _). Agree g.K.PartialEq.eq (after g.V.PartialEq.eq g.F.Remap.remapped g.F.Remap.merged) c.empty-done.new.bin r) (sym same) c.empty-done.ensures.agree;
+    }
+
+pub returns-clause-there : goal.returns-clause-there
+returns-clause-there g c =
+    let held = c.hold_first-held in
+    subst (λ (p : PassView _ _ _). HasRemovedIn g.K.HashKey.code c.args.self.now.ledger.salt c.class-class.result c.args.pass.now p) (sym c.meet_under.ensures.same_pass)
+      (subst (λ (k : ClassView). HasRemovedIn g.K.HashKey.code c.args.self.now.ledger.salt k c.args.pass.now c.empty-done.new.pass) (sym c.class-class.ensures)
+        (subst (λ (s : Salt). HasRemovedIn g.K.HashKey.code s held.result.bin.class c.args.pass.now c.empty-done.new.pass) held.ensures.salt c.empty-done.ensures.removed))

@@ -1,0 +1,30 @@
+-- What a clear did.
+use Rattle.std.specs.Prelude.{◌≡◌, negsuc, ℕ, Bool, true, Option, List, [], ◌++◌, All}
+use Rattle.hashkeys.specs.Classes.{ClassView, is_of}
+use Rattle.hashkeys.specs.declared.hashing.Salt.{Salt}
+use Rattle.bin_history.specs.Calls.{key_of}
+use Rattle.bin_history.specs.Deltas.{delta}
+use Rattle.bin_history.specs.declared.call.Call.{Call}
+use Rattle.bin_history.specs.declared.call.Call.TheVariants.{Remove}
+use Rattle.bin_history.specs.declared.call.Record.{Record}
+use Rattle.count_ledger.specs.Views.{LedgerView, PassView}
+use Rattle.chm.specs.Visits.{VisitView, AreVisits}
+
+-- a call that took a key away
+pub record IsRemoval {K V F : Type 0} (r : Record K V F) : Type 0 where
+  pub call_is : r.call ≡ Remove (key_of r.call)
+  pub took : delta r ≡ negsuc 0
+
+-- the pass made some more calls, each of which took a key away
+abbrev pub HasRemoved : {K V F : Type 0} → PassView K V F → PassView K V F → Type 0
+HasRemoved {K} {V} {F} old new = (removals : List (Record K V F)) × All IsRemoval removals × (new ≡ record old { made = old.made ++ removals })
+
+-- the same of keys of a class
+abbrev pub HasRemovedIn : {K V F : Type 0} → (K → ℕ) → Salt → ClassView → PassView K V F → PassView K V F → Type 0
+HasRemovedIn {K} {V} {F} code salt class old new =
+    (removals : List (Record K V F)) × All IsRemoval removals × All (λ r. is_of code salt class (key_of r.call) ≡ true) removals × (new ≡ record old { made = old.made ++ removals })
+
+module _ {K V F : Type 0} (same_key : K → K → Bool) (code : K → ℕ) (after : Call K V F → Option V → Option V) where
+  -- a walk over the bins as they were left would have shown none with entries
+  abbrev pub IsCleared : ℕ → LedgerView K V → PassView K V F → Type 0
+  IsCleared n ledger pass = (visits : List (VisitView K V)) × AreVisits same_key code after n ledger pass visits × All (λ v. v.entries ≡ []) visits

@@ -1,0 +1,136 @@
+//! Emptying a map, bin by bin in walk order.
+ghost use Rattle.std.specs.Prelude.{◌≡◌, ◌≢◌, ◌<◌, ◌↔◌, [], length, IfOk, IfErr, IsErrOf, OnOk, OnErr};
+ghost use Rattle.bin_history.specs.Calls.{after};
+ghost use Rattle.bin_history.specs.Copies.{IsExact};
+ghost use Rattle.count_ledger.specs.Agreement.{Agree};
+ghost use Rattle.chm.specs.Cleared.{HasRemoved, HasRemovedIn, IsCleared};
+ghost use Rattle.chm.specs.Refusals.{IsOfCall};
+ghost use Rattle.chm.specs.Visits.{IsFirstOf, IsVisit};
+
+use crate::fault::Fault;
+use crate::map::Map;
+use bin_history::{Bin, Call, Remap};
+use count_ledger::{BinRole, MOST_CALLS, Pass};
+use generations::{next_in_walk, walk_laws};
+use hashkeys::{Class, HashKey};
+use std::alloc::Allocator;
+use std::sync::Wait;
+
+impl<
+    K: HashKey + Drop,
+    V: Clone + Eq + Drop,
+    F: Remap<K, V> + Clone + Drop,
+    A: Allocator + Clone,
+> Map<K, V, F, A> {
+    /// Takes the first entry of a bin that is held away, by a call of the pass's client.
+    fn remove_first(
+        &self,
+        pass: &mut Pass<K, V, F>,
+        bin: &mut Bin<K, V, F, A>,
+        role: &mut BinRole<K, V, F>,
+    ) -> Result<(), Fault>
+        requires keys { IsExact K.is_clone }
+        requires values { IsExact V.is_clone }
+        requires pass { pass.old.ledger ≡ self.now.ledger.id }
+        requires role { role.old.ledger ≡ self.now.ledger.id }
+        requires agree { Agree K.eq (after V.eq F.remapped F.merged) bin.old role.old }
+        requires some { bin.old.entries ≢ [] }
+        ensures removed { HasRemovedIn K.code bin.old.salt bin.old.class pass.old pass.new }
+        ensures fewer { OnOk result (length bin.new.entries < length bin.old.entries) }
+        ensures class { bin.new.class ≡ bin.old.class }
+        ensures salt { bin.new.salt ≡ bin.old.salt }
+        ensures ledger { role.new.ledger ≡ role.old.ledger }
+        ensures agree { Agree K.eq (after V.eq F.remapped F.merged) bin.new role.new }
+        ensures full { IsErrOf result Fault.PassFull → length pass.new.made ≡ 1000000 }
+        ensures faults { IfErr result IsOfCall }
+    {
+        if pass.made() == MOST_CALLS {
+            return Err(Fault::PassFull);
+        }
+        bin.lawful();
+        let key = bin.entries()[0].0.clone()?;
+        self.call_under(pass, bin, role, Call::Remove(key))?;
+        Ok(())
+    }
+
+    /// Takes all entries of a bin that is held away, the first one first, until a call is refused.
+    fn empty(
+        &self,
+        pass: &mut Pass<K, V, F>,
+        bin: &mut Bin<K, V, F, A>,
+        role: &mut BinRole<K, V, F>,
+    ) -> Result<(), Fault>
+        requires keys { IsExact K.is_clone }
+        requires values { IsExact V.is_clone }
+        requires pass { pass.old.ledger ≡ self.now.ledger.id }
+        requires role { role.old.ledger ≡ self.now.ledger.id }
+        requires agree { Agree K.eq (after V.eq F.remapped F.merged) bin.old role.old }
+        ensures removed { HasRemovedIn K.code bin.old.salt bin.old.class pass.old pass.new }
+        ensures empty { OnOk result (bin.new.entries ≡ []) }
+        ensures class { bin.new.class ≡ bin.old.class }
+        ensures salt { bin.new.salt ≡ bin.old.salt }
+        ensures ledger { role.new.ledger ≡ role.old.ledger }
+        ensures agree { Agree K.eq (after V.eq F.remapped F.merged) bin.new role.new }
+        ensures full { IsErrOf result Fault.PassFull → length pass.new.made ≡ 1000000 }
+        ensures faults { IfErr result IsOfCall }
+    {
+        while !bin.entries().is_empty() {
+            self.remove_first(pass, bin, role)?;
+        }
+        Ok(())
+    }
+
+    /// Takes away what is in the first of the bins of a class, and gives that bin's class.
+    fn empty_first<R: Wait>(
+        &self,
+        rt: &R,
+        pass: &mut Pass<K, V, F>,
+        class: Class,
+    ) -> Result<Class, Fault>
+        requires keys { IsExact K.is_clone }
+        requires values { IsExact V.is_clone }
+        requires pass { pass.old.ledger ≡ self.now.ledger.id }
+        ensures removed { HasRemoved pass.old pass.new }
+        ensures there { IfOk result (λ its. HasRemovedIn K.code self.now.ledger.salt its pass.old pass.new) }
+        ensures first { IfOk result (λ its. IsFirstOf class its) }
+        ensures visit { IfOk result (λ its. IsVisit K.eq K.code (after V.eq F.remapped F.merged) self.now.ledger pass.new (record { class = its; entries = [] })) }
+        ensures full { IsErrOf result Fault.PassFull → length pass.new.made ≡ 1000000 }
+        ensures faults { IfErr result IsOfCall }
+    {
+        let mut held = self.hold_first(rt, class);
+        let class = held.bin.class();
+        let mut bin = held.bin;
+        let mut role = held.role;
+        let done = self.empty(pass, &mut bin, &mut role);
+        self.meet_under(pass, &bin, &mut role);
+        held.bin = bin;
+        held.role = role;
+        held.release();
+        done?;
+        Ok(class)
+    }
+
+    /// Takes all entries away, bin by bin in walk order, each bin under one hold, by a remove of each entry that it meets. Others may put new ones
+    /// into bins that were left; with one client the map is then empty. Where a remove is refused, those made before it stand.
+    pub fn clear<R: Wait>(&self, rt: &R, pass: &mut Pass<K, V, F>) -> Result<(), Fault>
+        requires keys { IsExact K.is_clone }
+        requires values { IsExact V.is_clone }
+        requires pass { pass.old.ledger ≡ self.now.ledger.id }
+        ensures cleared { OnOk result (IsCleared K.eq K.code (after V.eq F.remapped F.merged) self.now.n self.now.ledger pass.new) }
+        ensures removed { HasRemoved pass.old pass.new }
+        ensures full { IsErrOf result Fault.PassFull → length pass.new.made ≡ 1000000 }
+        ensures faults { IfErr result IsOfCall }
+    {
+        walk_laws();
+        let n = self.bins.n();
+        let mut next = Class::new(n, 0);
+        for _ in rt.forever() {
+            let class = self.empty_first(rt, pass, next)?;
+            match next_in_walk(n, class) {
+                Some(class) => next = class,
+                None => return Ok(()),
+            }
+        }
+        unreachable!()
+    }
+}
