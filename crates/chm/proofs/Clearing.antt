@@ -44,7 +44,7 @@ module _ {K V F : Type 0} (same : K → K → Bool) (tells : (x y : K) → Decid
       let none : r.after ≡ None = made.left in
       let its_key : key_of r.call ≡ key = ap key_of made.call_is in
       let left : others ≡ es = stored ∙ (λ i. store same (e ∷ es) (same_key i) (none i)) ∙ removed_here e es in
-      let removal : IsRemoval r = record { call_is = made.call_is ∙ ap (λ (k : K). Remove k) (sym its_key); took = λ i. change_of_count (found i) (none i); } in
+      let removal : IsRemoval r = record { call_is = made.call_is ∙ ap (λ (k : K). Remove k) (sym its_key); took = λ i. change_of_count (found i) (none i) } in
       let its_class : is_of code salt class (key_of r.call) ≡ true = ap (is_of code salt class) its_key ∙ of in
       let R : Record K V F → Type 0 = IsRemoval in
       let C : Record K V F → Type 0 = λ x. is_of code salt class (key_of x.call) ≡ true in
@@ -96,9 +96,9 @@ module _ {K V F : Type 0} (same : K → K → Bool) (code : K → ℕ) (after : 
       let Out : Record K V F → Type 0 = λ r. is_of code ledger.salt v.class (key_of r.call) ≡ false in
       let none : part_of_records (is_of code ledger.salt v.class) rs ≡ [] = filter-none (λ (r : Record K V F). is_of code ledger.salt v.class (key_of r.call)) rs (All-weaker In Out (λ r i. other (hash_of ledger.salt (code (key_of r.call))) i) rs of) in
       let grown : part_of_records (is_of code ledger.salt v.class) (old.made ++ rs) ≡ part_of_records (is_of code ledger.salt v.class) old.made =
-        filter-append (λ (r : Record K V F). is_of code ledger.salt v.class (key_of r.call)) old.made rs ∙ ap (λ (l : List (Record K V F)). part_of_records (is_of code ledger.salt v.class) old.made ++ l) none ∙ append-nil (part_of_records (is_of code ledger.salt v.class) old.made)
+      filter-append (λ (r : Record K V F). is_of code ledger.salt v.class (key_of r.call)) old.made rs ∙ ap (λ (l : List (Record K V F)). part_of_records (is_of code ledger.salt v.class) old.made ++ l) none ∙ append-nil (part_of_records (is_of code ledger.salt v.class) old.made)
       in
-      let later : IsHistory same code after ledger (record old { made = old.made ++ rs }) v.class kept = record { client = history.client; legal = history.legal; clients = history.clients; own = history.own ∙ sym grown; } in
+      let later : IsHistory same code after ledger (record old { made = old.made ++ rs }) v.class kept = record { client = history.client; legal = history.legal; clients = history.clients; own = history.own ∙ sym grown } in
       (kept, subst (λ (p : PassView K V F). IsHistory same code after ledger p v.class kept) (sym is) later, entries)
 
   -- the same of all visits of a walk that goes on by that class
@@ -118,6 +118,6 @@ module _ {K V F : Type 0} (same : K → K → Bool) (code : K → ℕ) (after : 
       → All (IsVisit same code after ledger old) vs → All (λ v. v.entries ≡ []) vs → IsVisit same code after ledger new (record { class = class; entries = [] })
       → All (IsVisit same code after ledger new) (vs ++ record { class = class; entries = [] } ∷ []) × All (λ v. v.entries ≡ []) (vs ++ record { class = class; entries = [] } ∷ [])
   visits-more old new class vs removed once visits empty last = (
-      All-push (IsVisit same code after ledger new) vs (record { class = class; entries = [] }) (visits-later old new class vs removed once visits) last,
-      All-push (λ (v : VisitView K V). v.entries ≡ []) vs (record { class = class; entries = [] }) empty refl,
-    )
+    All-push (IsVisit same code after ledger new) vs (record { class = class; entries = [] }) (visits-later old new class vs removed once visits) last,
+    All-push (λ (v : VisitView K V). v.entries ≡ []) vs (record { class = class; entries = [] }) empty refl,
+  )

@@ -56,8 +56,8 @@ module _ {K V F : Type 0} (same : K → K → Bool) (tells : (x y : K) → Decid
   IsQuiet-closed n l ledger bins rs roles ps passes is_l is_rs is_ps is_n home size walk leaves books =
       let Whole : QuietView K V F → Type 0 = IsQuiet same code after in
       let called : ◌≡◌ {A = QuietView K V F} (record { ledger = ledger; n = g.n; bins = bins; roles = roles; passes = passes }) (record { ledger = l; n = n; bins = bins; roles = rs; passes = ps }) =
-        λ i. record { ledger = sym is_l i; n = sym is_n i; bins = bins; roles = sym is_rs i; passes = sym is_ps i } in
-      subst Whole called (record { size = size; walk = walk; leaves = subst (λ h. AreLeaves same code after h bins roles) home leaves; books = books; })
+      λ i. record { ledger = sym is_l i; n = sym is_n i; bins = bins; roles = sym is_rs i; passes = sym is_ps i } in
+      subst Whole called (record { size = size; walk = walk; leaves = subst (λ h. AreLeaves same code after h bins roles) home leaves; books = books })
 
 turn : (a b : ℕ) → (a == b) ≡ (b == a)
 turn a b = grind (arith, nat_tests)
@@ -99,15 +99,15 @@ module _ {K V F : Type 0} (code : K → ℕ) (ledger : LedgerView K V) (passes :
 module _ {K V F : Type 0} (map : MapView K V) (passes : List (PassView K V F)) where
   pub NotClosed-missing : length passes < map.ledger.clients → IsNotClosed map passes (record { fault = PassMissing; map = Some map; passes = passes })
   NotClosed-missing few =
-      record { passes_are = refl; missing = ((λ _. few), (λ _. refl)); kept = inr ((λ e. absurd cc), refl); faults = inr (inl refl); }
+      record { passes_are = refl; missing = ((λ _. few), (λ _. refl)); kept = inr ((λ e. absurd cc), refl); faults = inr (inl refl) }
 
   pub NotClosed-memory : map.ledger.clients ≤ length passes → (same : MapView K V) → same ≡ map → IsNotClosed map passes (record { fault = NoMemory; map = Some same; passes = passes })
   NotClosed-memory all same is =
-      record { passes_are = refl; missing = ((λ e. absurd cc), (λ few. absurd (omega arith))); kept = inr ((λ e. absurd cc), ap (λ (m : MapView K V). Some m) is); faults = inl refl; }
+      record { passes_are = refl; missing = ((λ e. absurd cc), (λ few. absurd (omega arith))); kept = inr ((λ e. absurd cc), ap (λ (m : MapView K V). Some m) is); faults = inl refl }
 
   pub NotClosed-bins : map.ledger.clients ≤ length passes → IsNotClosed map passes (record { fault = BinMissing; map = None; passes = passes })
   NotClosed-bins all =
-      record { passes_are = refl; missing = ((λ e. absurd cc), (λ few. absurd (omega arith))); kept = inl (refl, refl); faults = inr (inr refl); }
+      record { passes_are = refl; missing = ((λ e. absurd cc), (λ few. absurd (omega arith))); kept = inl (refl, refl); faults = inr (inr refl) }
 
 -- classes that have every hash once have every hash
 pub covered : (classes : List ClassView) → CoverOnce classes → CoverAll classes

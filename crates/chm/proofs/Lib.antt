@@ -5,3 +5,5 @@ pub mod Empty
 pub mod Visiting
 pub mod Closing
 pub mod Clearing
+pub mod Dealing
+pub mod Reopening

@@ -7,3 +7,4 @@ pub mod Visits
 pub mod Quiets
 pub mod Closing
 pub mod Cleared
+pub mod Reopened

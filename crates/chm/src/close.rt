@@ -22,7 +22,8 @@ pub struct NotClosed<K: HashKey, V: Clone + Eq, F: Remap<K, V> + Clone, A: Alloc
     pub passes: Vec<Pass<K, V, F>, A>,
 }
 
-impl<K: HashKey, V: Clone + Eq, F: Remap<K, V> + Clone, A: Allocator> Model for NotClosed<K, V, F, A> {
+impl<K: HashKey, V: Clone + Eq, F: Remap<K, V> + Clone, A: Allocator> Model
+    for NotClosed<K, V, F, A> {
     ghost use Rattle.chm.specs.Closing.{NotClosedView};
 
     ghost Value = { NotClosedView K V F };
@@ -77,7 +78,11 @@ impl<
         match bins.into_leaves(rt) {
             Ok((bins, roles)) => {
                 replayed(&bins);
-                let books = (Snapshot::of(&ledger), Snapshot::of(&roles), Snapshot::of(&passes));
+                let books = (
+                    Snapshot::of(&ledger),
+                    Snapshot::of(&roles),
+                    Snapshot::of(&passes),
+                );
                 match ledger.settle(passes, roles) {
                     Ok(total) => Ok(Quiet {
                         bins,

@@ -13,6 +13,7 @@ mod growth;
 mod map;
 mod moving;
 mod quiet;
+mod reopen;
 mod size;
 mod under;
 mod visit;

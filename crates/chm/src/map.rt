@@ -43,7 +43,7 @@ impl<K: HashKey, V: Clone + Eq, F: Remap<K, V> + Clone, A: Allocator> Model for 
 pub type Opened<K, V, F, A> = (Map<K, V, F, A>, Vec<Pass<K, V, F>, A>);
 
 /// No pairs for each of so many bins.
-fn no_bases<K: Drop, V: Drop, A: Allocator + Clone>(
+pub(crate) fn no_bases<K: Drop, V: Drop, A: Allocator + Clone>(
     alloc: A,
     n: u32,
 ) -> Result<Vec<Vec<(K, V), A>, A>, AllocError>

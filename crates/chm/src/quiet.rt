@@ -84,7 +84,8 @@ pub struct Entries<'a, K: HashKey, V: Clone + Eq, F: Remap<K, V> + Clone, A: All
     bins: &'a [Bin<K, V, F, A>],
 }
 
-impl<'a, K: HashKey, V: Clone + Eq, F: Remap<K, V> + Clone, A: Allocator> Model for Entries<'a, K, V, F, A> {
+impl<'a, K: HashKey, V: Clone + Eq, F: Remap<K, V> + Clone, A: Allocator> Model
+    for Entries<'a, K, V, F, A> {
     ghost use Rattle.std.specs.Prelude.{List, ◌++◌};
     ghost use Rattle.chm.specs.Quiets.{entries_of};
 
@@ -93,7 +94,8 @@ impl<'a, K: HashKey, V: Clone + Eq, F: Remap<K, V> + Clone, A: Allocator> Model 
     ghost view = { λ e. e.own.now ++ entries_of e.bins.now };
 }
 
-impl<'a, K: HashKey, V: Clone + Eq, F: Remap<K, V> + Clone, A: Allocator + Clone> Iterator for Entries<'a, K, V, F, A> {
+impl<'a, K: HashKey, V: Clone + Eq, F: Remap<K, V> + Clone, A: Allocator + Clone> Iterator
+    for Entries<'a, K, V, F, A> {
     ghost use Rattle.std.specs.Iterator.{YieldsFirstRef, item_count};
 
     type Item = &'a (K, V);

@@ -36,8 +36,7 @@ impl<
     V: Clone + Eq + Drop,
     F: Remap<K, V> + Clone + Drop,
     A: Allocator + Clone,
-> Map<K, V, F, A>
-{
+> Map<K, V, F, A> {
     /// Waits for the first of the bins of a class. A bin of a wider class has hashes that were passed before, so it is given back and asked for again.
     pub(crate) fn hold_first<R: Wait>(&self, rt: &R, class: Class) -> Held<'_, K, V, F, A>
         ensures at { AreAt K.eq (after V.eq F.remapped F.merged) result.place.now result.bin result.role }

@@ -42,7 +42,7 @@ loop-preserved g c =
     let walk = c.walk_laws.ensures.next n (classes_of old) c.loop.next class then size first.next_is first.class_is (omega arith) walked first.covers narrow after_it in
     let once : (hash : ℕ) → covering (classes_of old ++ class ∷ []) hash ≤ 1 = λ hash. ⊎_elim (λ p. (let e = p.1 in omega arith)) (λ p. (let e = p.1 in omega arith)) (walk.each_hash hash) in
     let (visits, all_empty) = visits-more g.K.PartialEq.eq g.K.HashKey.code (after g.V.PartialEq.eq g.F.Remap.remapped g.F.Remap.merged) c.args.self.now.ledger c.loop.pass c.empty_first.new.pass class old
-      c.in_ok-class.ensures.there once each empty c.in_ok-class.ensures.visit in
+    c.in_ok-class.ensures.there once each empty c.in_ok-class.ensures.visit in
     record {
       visits = (old ++ record { class = class; entries = [] } ∷ [], subst (λ (cs : List ClassView). IsWalkTo n cs then) (sym (classes-push old (record { class = class; entries = [] }))) walk, visits, all_empty);
       least = (let l = c.in-Some-next_in_walk.ensures.least in omega arith);
@@ -63,8 +63,8 @@ returns-in-None-next_in_walk-clause-cleared g c =
     let walk = c.walk_laws.ensures.last n (classes_of old) c.loop.next class size first.next_is first.class_is (omega arith) walked first.covers narrow last in
     let once : (hash : ℕ) → covering (classes_of old ++ class ∷ []) hash ≤ 1 = λ hash. (let e = walk.each_hash hash in omega arith) in
     let (visits, all_empty) = visits-more g.K.PartialEq.eq g.K.HashKey.code (after g.V.PartialEq.eq g.F.Remap.remapped g.F.Remap.merged) c.args.self.now.ledger c.loop.pass c.empty_first.new.pass class old
-      c.in_ok-class.ensures.there once each empty c.in_ok-class.ensures.visit in
-    (old ++ record { class = class; entries = [] } ∷ [], record { each = visits; walk = subst (IsWalk n) (sym (classes-push old (record { class = class; entries = [] }))) walk; }, all_empty)
+    c.in_ok-class.ensures.there once each empty c.in_ok-class.ensures.visit in
+    (old ++ record { class = class; entries = [] } ∷ [], record { each = visits; walk = subst (IsWalk n) (sym (classes-push old (record { class = class; entries = [] }))) walk }, all_empty)
 
 pub returns-in-None-next_in_walk-clause-removed : goal.returns-in-None-next_in_walk-clause-removed
 returns-in-None-next_in_walk-clause-removed g c = removed-more c.args.pass.now c.loop.pass c.empty_first.new.pass c.loop.invariant.removed c.empty_first.ensures.removed

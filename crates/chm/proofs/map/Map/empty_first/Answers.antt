@@ -22,5 +22,5 @@ pub returns-clause-there : goal.returns-clause-there
 returns-clause-there g c =
     let held = c.hold_first-held in
     subst (λ (p : PassView _ _ _). HasRemovedIn g.K.HashKey.code c.args.self.now.ledger.salt c.class-class.result c.args.pass.now p) (sym c.meet_under.ensures.same_pass)
-      (subst (λ (k : ClassView). HasRemovedIn g.K.HashKey.code c.args.self.now.ledger.salt k c.args.pass.now c.empty-done.new.pass) (sym c.class-class.ensures)
-        (subst (λ (s : Salt). HasRemovedIn g.K.HashKey.code s held.result.bin.class c.args.pass.now c.empty-done.new.pass) held.ensures.salt c.empty-done.ensures.removed))
+    (subst (λ (k : ClassView). HasRemovedIn g.K.HashKey.code c.args.self.now.ledger.salt k c.args.pass.now c.empty-done.new.pass) (sym c.class-class.ensures)
+    (subst (λ (s : Salt). HasRemovedIn g.K.HashKey.code s held.result.bin.class c.args.pass.now c.empty-done.new.pass) held.ensures.salt c.empty-done.ensures.removed))

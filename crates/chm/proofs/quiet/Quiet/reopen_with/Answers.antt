@@ -1,0 +1,49 @@
+use Rattle.std.proofs.Common.{◌≡◌, ℕ, ◌≤◌, ◌<◌, true, List, [], length, map, flat_map, get_or, All, Decides, refl, sym, ap, subst, ◌∙◌, arith}
+use Rattle.std.proofs.lemmas.List.{get_or-map, length-map}
+use Rattle.std.proofs.lemmas.List.Elements.{All-filter}
+use Rattle.std.specs.declared.vec.Vec.{Vec}
+use Rattle.hashkeys.specs.Classes.{ClassView, is_of, IsTableSize}
+use Rattle.bin_history.proofs.Keys.{key_tells}
+use Rattle.bin_history.proofs.Parts.{HasDistinctKeys-part}
+use Rattle.bin_history.specs.Calls.{after}
+use Rattle.bin_history.specs.Entries.{HasDistinctKeys}
+use Rattle.count_ledger.specs.Opening.{lists_of, base_at}
+use Rattle.chm.specs.Quiets.{QuietView, entries_of}
+use Rattle.chm.specs.Reopened.{dealt, in_classes}
+use Rattle.chm.specs.Sizes.{IsSizeFrom}
+use Rattle.chm.proofs.Dealing.{length-dealt, distinct-dealt, of_class-dealt}
+use Rattle.chm.proofs.Reopening.{distinct_of_leaves}
+use Rattle.chm.proofs.quiet.Quiet.reopen_with.Goals as goal
+
+pub open-requires-clause-size : goal.open-requires-clause-size
+open-requires-clause-size g c =
+    let len : length c.in_ok-bases.bases.items ≡ c.size_from-n.result =
+    sym (length-map c.in_ok-bases.bases.items (λ b. b.items)) ∙ ap (λ (l : List (List _)). length l) c.in_ok-bases.ensures.dealt ∙ length-dealt g.K.HashKey.code c.args.salt c.size_from-n.result c.entries.result in
+    subst IsTableSize (sym len) c.size_from-n.ensures.size
+
+pub open-requires-clause-distinct : goal.open-requires-clause-distinct
+open-requires-clause-distinct g c =
+    let tells = key_tells g.met.K.Eq.laws g.met.K.HashKey.equal_is_same in
+    let leaves = c.lawful.ensures.leaves in
+    let walk = c.lawful.ensures.walk in
+    let pairs : HasDistinctKeys g.K.PartialEq.eq (entries_of c.args.self.now.bins) =
+    distinct_of_leaves g.K.PartialEq.eq tells g.K.HashKey.code (after g.V.PartialEq.eq g.F.Remap.remapped g.F.Remap.merged) _ c.args.self.now.bins c.args.self.now.roles leaves (λ hash. (let one = walk.each_hash hash in omega arith)) in
+    distinct-dealt g.K.PartialEq.eq tells g.K.HashKey.code c.args.salt c.size_from-n.result c.entries.result c.in_ok-bases.bases (subst (HasDistinctKeys g.K.PartialEq.eq) (sym c.entries.ensures) pairs) c.in_ok-bases.ensures.dealt
+
+pub open-requires-clause-of_class : goal.open-requires-clause-of_class
+open-requires-clause-of_class g c = of_class-dealt g.K.HashKey.code c.args.salt c.size_from-n.result c.entries.result (lists_of c.in_ok-bases.bases) c.in_ok-bases.ensures.dealt
+
+pub returns-clause-opening : goal.returns-clause-opening
+returns-clause-opening g c =
+    let len : length c.in_ok-bases.bases.items ≡ c.size_from-n.result =
+    sym (length-map c.in_ok-bases.bases.items (λ b. b.items)) ∙ ap (λ (l : List (List _)). length l) c.in_ok-bases.ensures.dealt ∙ length-dealt g.K.HashKey.code c.args.salt c.size_from-n.result c.entries.result in
+    c.in_ok-open.ensures.opening ∙ ap (λ (ls : List (List _)). flat_map (λ l. l) ls) c.in_ok-bases.ensures.dealt
+    ∙ (λ i. in_classes g.K.HashKey.code c.args.salt (sym (c.in_ok-open.ensures.n ∙ len) i) (c.entries.ensures i))
+
+pub returns-clause-size : goal.returns-clause-size
+returns-clause-size g c =
+    let len : length c.in_ok-bases.bases.items ≡ c.size_from-n.result =
+    sym (length-map c.in_ok-bases.bases.items (λ b. b.items)) ∙ ap (λ (l : List (List _)). length l) c.in_ok-bases.ensures.dealt ∙ length-dealt g.K.HashKey.code c.args.salt c.size_from-n.result c.entries.result in
+    let own : c.self.inside.n ≡ c.args.self.now.n = ap (λ (q : QuietView _ _ _). q.n) c.self.view_is in
+    subst (IsSizeFrom c.args.self.now.n (length (entries_of c.args.self.now.bins))) (sym (c.in_ok-open.ensures.n ∙ len))
+    (subst (λ (k : ℕ). IsSizeFrom c.args.self.now.n k c.size_from-n.result) c.mapping_count-count.ensures (subst (λ (m : ℕ). IsSizeFrom m c.mapping_count-count.result c.size_from-n.result) own c.size_from-n.ensures))

@@ -1,0 +1,95 @@
+//! Opening a map again with the pairs of a closed one.
+ghost use Rattle.std.specs.Prelude.{◌≡◌, ◌≤◌, ◌<◌, ◌^◌, ◌↔◌, length, flat_map, IfOk, IsOk, IsErrOf, IfErr};
+ghost use Rattle.hashkeys.specs.Classes.{IsTableSize};
+ghost use Rattle.bin_history.specs.Copies.{IsExact};
+ghost use Rattle.count_ledger.specs.Opening.{lists_of, new_passes};
+ghost use Rattle.chm.specs.Quiets.{entries_of};
+ghost use Rattle.chm.specs.Refusals.{AreClients, IsMaking};
+ghost use Rattle.chm.specs.Reopened.{dealt, in_classes};
+ghost use Rattle.chm.specs.Sizes.{IsSizeFrom};
+
+use crate::fault::Fault;
+use crate::map::{Map, Opened, no_bases};
+use crate::quiet::{Entries, Quiet};
+use crate::size::size_from;
+use bin_history::Remap;
+use hashkeys::{HashKey, Salt};
+use std::alloc::{AllocError, Allocator};
+
+/// A map that is opened again begins with at most so many pairs.
+const MOST_PAIRS: u64 = 4_294_967_295;
+
+/// Copies of pairs, each in the list of its class, of as many classes as there are lists.
+fn deal<K: HashKey + Drop, V: Clone + Eq + Drop, F: Remap<K, V> + Clone, A: Allocator + Clone>(
+    alloc: A,
+    salt: Salt,
+    n: u32,
+    pairs: Entries<'_, K, V, F, A>,
+) -> Result<Vec<Vec<(K, V), A>, A>, AllocError>
+    requires keys { IsExact K.is_clone }
+    requires values { IsExact V.is_clone }
+    requires size { IsTableSize n }
+    ensures dealt { IfOk result (λ bases. lists_of bases ≡ dealt K.code salt n pairs.entry) }
+    ensures total { IfOk result (λ bases. length (flat_map (λ base. base) (lists_of bases)) ≡ length pairs.entry) }
+{
+    let mut bases = no_bases(alloc, n)?;
+    for (key, value) in pairs {
+        let index = (salt.hash_of(key) % n) as usize;
+        let pair = (key.clone()?, value.clone()?);
+        bases[index].push(pair)?;
+    }
+    Ok(bases)
+}
+
+impl<
+    K: HashKey + Drop,
+    V: Clone + Eq + Drop,
+    F: Remap<K, V> + Clone + Drop,
+    A: Allocator + Clone,
+> Quiet<K, V, F, A> {
+    /// Opens a map with copies of the pairs, which go into their bins in walk order, and with passes that made nothing for 1 to 32 clients. Its table
+    /// is the least from this map's opening one on that has room for them. The closed map stays as it is.
+    pub fn reopen(&self, clients: u32) -> Result<Opened<K, V, F, A>, Fault>
+        requires keys { IsExact K.is_clone }
+        requires values { IsExact V.is_clone }
+        ensures ok { IsOk result → (length (entries_of self.now.bins) ≤ 4294967295) × AreClients clients }
+        ensures salt { IfOk result (λ r. r.0.ledger.salt ≡ self.now.ledger.salt) }
+        ensures clients { IfOk result (λ r. r.0.ledger.clients ≡ clients) }
+        ensures opening { IfOk result (λ r. r.0.ledger.opening ≡ in_classes K.code self.now.ledger.salt r.0.n (entries_of self.now.bins)) }
+        ensures size { IfOk result (λ r. IsSizeFrom self.now.n (length (entries_of self.now.bins)) r.0.n) }
+        ensures passes { IfOk result (λ r. r.1.items ≡ new_passes r.0.ledger.id clients) }
+        ensures capacity { IsErrOf result Fault.BadCapacity ↔ (4294967295 < length (entries_of self.now.bins)) }
+        ensures some { IsErrOf result Fault.BadClients ↔ ((length (entries_of self.now.bins) ≤ 4294967295) × (¬ AreClients clients)) }
+        ensures faults { IfErr result IsMaking }
+    {
+        self.reopen_with(clients, self.salt)
+    }
+
+    /// The same with another salt.
+    pub fn reopen_with(&self, clients: u32, salt: Salt) -> Result<Opened<K, V, F, A>, Fault>
+        requires keys { IsExact K.is_clone }
+        requires values { IsExact V.is_clone }
+        ensures ok { IsOk result → (length (entries_of self.now.bins) ≤ 4294967295) × AreClients clients }
+        ensures salt { IfOk result (λ r. r.0.ledger.salt ≡ salt) }
+        ensures clients { IfOk result (λ r. r.0.ledger.clients ≡ clients) }
+        ensures opening { IfOk result (λ r. r.0.ledger.opening ≡ in_classes K.code salt r.0.n (entries_of self.now.bins)) }
+        ensures size { IfOk result (λ r. IsSizeFrom self.now.n (length (entries_of self.now.bins)) r.0.n) }
+        ensures passes { IfOk result (λ r. r.1.items ≡ new_passes r.0.ledger.id clients) }
+        ensures capacity { IsErrOf result Fault.BadCapacity ↔ (4294967295 < length (entries_of self.now.bins)) }
+        ensures some { IsErrOf result Fault.BadClients ↔ ((length (entries_of self.now.bins) ≤ 4294967295) × (¬ AreClients clients)) }
+        ensures faults { IfErr result IsMaking }
+    {
+        let count = self.mapping_count();
+        if count > MOST_PAIRS {
+            return Err(Fault::BadCapacity);
+        }
+        if clients < 1 || clients > 32 {
+            return Err(Fault::BadClients);
+        }
+        self.lawful();
+        let alloc = self.bins.allocator();
+        let n = size_from(self.n, count);
+        let bases = deal(alloc.clone()?, salt, n, self.entries())?;
+        Ok(Map::open(alloc.clone()?, salt, clients, bases, count)?)
+    }
+}
