@@ -9,7 +9,7 @@ use Rattle.hashkeys.specs.declared.hashing.Salt.{Salt}
 use Rattle.bin_history.specs.Calls.{key_of, after}
 use Rattle.bin_history.specs.Clients.{by_client}
 use Rattle.bin_history.specs.Deltas.{change_of_count}
-use Rattle.bin_history.specs.Entries.{lookup, remove, store}
+use Rattle.bin_history.specs.Entries.{lookup, remove, replay, store}
 use Rattle.bin_history.specs.Part.{part_of_records}
 use Rattle.bin_history.specs.declared.call.Call.{Call}
 use Rattle.bin_history.specs.declared.call.Call.TheVariants.{Remove}
@@ -19,7 +19,9 @@ use Rattle.count_ledger.specs.Views.{LedgerView, PassView}
 use Rattle.chm.specs.Called.{IsCalledOn}
 use Rattle.chm.specs.Cleared.{IsRemoval, HasRemoved, HasRemovedIn}
 use Rattle.chm.specs.Met.{IsHistory}
+use Rattle.chm.specs.Views.{opening_in}
 use Rattle.chm.specs.Visits.{VisitView, classes_of, IsVisit}
+use Rattle.chm.proofs.Visiting.{IsOwn-visit}
 
 module _ {K V F : Type 0} (same : K → K → Bool) (tells : (x y : K) → Decides (same x y) (x ≡ y)) (code : K → ℕ) (same_value : V → V → Bool) (remapped : F → K → Option V → Option V) (merged : F → V → V → Option V) where
   removed_here : (e : K × V) (es : List (K × V)) → remove same (e ∷ es) e.0 ≡ es
@@ -121,3 +123,14 @@ module _ {K V F : Type 0} (same : K → K → Bool) (code : K → ℕ) (after : 
     All-push (IsVisit same code after ledger new) vs (record { class = class; entries = [] }) (visits-later old new class vs removed once visits) last,
     All-push (λ (v : VisitView K V). v.entries ≡ []) vs (record { class = class; entries = [] }) empty refl,
   )
+
+  -- with one client, classes of visits without entries have no pair by its own calls
+  pub emptied : (pass : PassView K V F) (vs : List (VisitView K V)) → ledger.clients ≡ 1 → All (IsVisit same code after ledger pass) vs → All (λ v. v.entries ≡ []) vs
+      → All (λ c. replay same (opening_in code ledger c) (part_of_records (is_of code ledger.salt c) pass.made) ≡ []) (classes_of vs)
+  emptied pass [] one visits empty = All-nil (λ c. replay same (opening_in code ledger c) (part_of_records (is_of code ledger.salt c) pass.made) ≡ [])
+  emptied pass (v ∷ vs) one visits empty =
+      let P = IsVisit same code after ledger pass in
+      let E : VisitView K V → Type 0 = λ v. v.entries ≡ [] in
+      All-cons (λ c. replay same (opening_in code ledger c) (part_of_records (is_of code ledger.salt c) pass.made) ≡ []) v.class (classes_of vs)
+      (sym (IsOwn-visit same code after ledger pass v one (All-head P v vs visits)) ∙ All-head E v vs empty)
+      (emptied pass vs one (All-tail P v vs visits) (All-tail E v vs empty))

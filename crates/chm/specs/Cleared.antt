@@ -4,10 +4,14 @@ use Rattle.hashkeys.specs.Classes.{ClassView, is_of}
 use Rattle.hashkeys.specs.declared.hashing.Salt.{Salt}
 use Rattle.bin_history.specs.Calls.{key_of}
 use Rattle.bin_history.specs.Deltas.{delta}
+use Rattle.bin_history.specs.Entries.{replay}
+use Rattle.bin_history.specs.Part.{part_of_records}
 use Rattle.bin_history.specs.declared.call.Call.{Call}
 use Rattle.bin_history.specs.declared.call.Call.TheVariants.{Remove}
 use Rattle.bin_history.specs.declared.call.Record.{Record}
 use Rattle.count_ledger.specs.Views.{LedgerView, PassView}
+use Rattle.generations.specs.Walks.{IsWalk}
+use Rattle.chm.specs.Views.{opening_in}
 use Rattle.chm.specs.Visits.{VisitView, AreVisits}
 
 -- a call that took a key away
@@ -28,3 +32,8 @@ module _ {K V F : Type 0} (same_key : K → K → Bool) (code : K → ℕ) (afte
   -- a walk over the bins as they were left would have shown none with entries
   abbrev pub IsCleared : ℕ → LedgerView K V → PassView K V F → Type 0
   IsCleared n ledger pass = (visits : List (VisitView K V)) × AreVisits same_key code after n ledger pass visits × All (λ v. v.entries ≡ []) visits
+
+-- nothing is left: by the client's own calls, no class of a walk has a pair
+abbrev pub IsEmptied : {K V F : Type 0} → (K → K → Bool) → (K → ℕ) → ℕ → LedgerView K V → PassView K V F → Type 0
+IsEmptied same_key code n ledger pass =
+    (classes : List ClassView) × IsWalk n classes × All (λ c. replay same_key (opening_in code ledger c) (part_of_records (is_of code ledger.salt c) pass.made) ≡ []) classes

@@ -3,7 +3,7 @@ ghost use Rattle.std.specs.Prelude.{◌≡◌, ◌≢◌, ◌<◌, ◌↔◌, []
 ghost use Rattle.bin_history.specs.Calls.{after};
 ghost use Rattle.bin_history.specs.Copies.{IsExact};
 ghost use Rattle.count_ledger.specs.Agreement.{Agree};
-ghost use Rattle.chm.specs.Cleared.{HasRemoved, HasRemovedIn, IsCleared};
+ghost use Rattle.chm.specs.Cleared.{HasRemoved, HasRemovedIn, IsCleared, IsEmptied};
 ghost use Rattle.chm.specs.Refusals.{IsOfCall};
 ghost use Rattle.chm.specs.Visits.{IsFirstOf, IsVisit};
 
@@ -117,6 +117,7 @@ impl<
         requires values { IsExact V.is_clone }
         requires pass { pass.old.ledger ≡ self.now.ledger.id }
         ensures cleared { OnOk result (IsCleared K.eq K.code (after V.eq F.remapped F.merged) self.now.n self.now.ledger pass.new) }
+        ensures emptied { self.now.ledger.clients ≡ 1 → OnOk result (IsEmptied K.eq K.code self.now.n self.now.ledger pass.new) }
         ensures removed { HasRemoved pass.old pass.new }
         ensures full { IsErrOf result Fault.PassFull → length pass.new.made ≡ 1000000 }
         ensures faults { IfErr result IsOfCall }

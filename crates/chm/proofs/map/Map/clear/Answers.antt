@@ -5,7 +5,7 @@ use Rattle.bin_history.specs.Calls.{after}
 use Rattle.generations.specs.Walks.{IsWalk, IsWalkTo, IsFirstAfter, IsLast}
 use Rattle.chm.specs.Views.{MapView}
 use Rattle.chm.specs.Visits.{VisitView, classes_of, IsVisit}
-use Rattle.chm.proofs.Clearing.{unchanged, removed-more, visits-more}
+use Rattle.chm.proofs.Clearing.{emptied, unchanged, removed-more, visits-more}
 use Rattle.chm.proofs.Visiting.{classes-push}
 use Rattle.chm.proofs.map.Map.clear.Goals as goal
 
@@ -68,3 +68,8 @@ returns-in-None-next_in_walk-clause-cleared g c =
 
 pub returns-in-None-next_in_walk-clause-removed : goal.returns-in-None-next_in_walk-clause-removed
 returns-in-None-next_in_walk-clause-removed g c = removed-more c.args.pass.now c.loop.pass c.empty_first.new.pass c.loop.invariant.removed c.empty_first.ensures.removed
+
+pub returns-in-None-next_in_walk-clause-emptied : goal.returns-in-None-next_in_walk-clause-emptied
+returns-in-None-next_in_walk-clause-emptied g c one =
+    let (visits, are, empty) = returns-in-None-next_in_walk-clause-cleared g c in
+    (classes_of visits, are.walk, emptied g.K.PartialEq.eq g.K.HashKey.code (after g.V.PartialEq.eq g.F.Remap.remapped g.F.Remap.merged) c.args.self.now.ledger c.empty_first.new.pass visits one are.each empty)
