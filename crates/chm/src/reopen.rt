@@ -2,6 +2,7 @@
 ghost use Rattle.std.specs.Prelude.{◌≡◌, ◌≤◌, ◌<◌, ◌^◌, ◌↔◌, length, flat_map, IfOk, IsOk, IsErrOf, IfErr};
 ghost use Rattle.hashkeys.specs.Classes.{IsTableSize};
 ghost use Rattle.bin_history.specs.Copies.{IsExact};
+ghost use Rattle.bin_history.specs.Entries.{lookup};
 ghost use Rattle.count_ledger.specs.Opening.{lists_of, new_passes};
 ghost use Rattle.chm.specs.Quiets.{entries_of};
 ghost use Rattle.chm.specs.Refusals.{AreClients, IsMaking};
@@ -56,6 +57,7 @@ impl<
         ensures salt { IfOk result (λ r. r.0.ledger.salt ≡ self.now.ledger.salt) }
         ensures clients { IfOk result (λ r. r.0.ledger.clients ≡ clients) }
         ensures opening { IfOk result (λ r. r.0.ledger.opening ≡ in_classes K.code self.now.ledger.salt r.0.n (entries_of self.now.bins)) }
+        ensures same_map { IfOk result (λ r. (k : K) → lookup K.eq r.0.ledger.opening k ≡ lookup K.eq (entries_of self.now.bins) k) }
         ensures size { IfOk result (λ r. IsSizeFrom self.now.n (length (entries_of self.now.bins)) r.0.n) }
         ensures passes { IfOk result (λ r. r.1.items ≡ new_passes r.0.ledger.id clients) }
         ensures capacity { IsErrOf result Fault.BadCapacity ↔ (4294967295 < length (entries_of self.now.bins)) }
@@ -73,6 +75,7 @@ impl<
         ensures salt { IfOk result (λ r. r.0.ledger.salt ≡ salt) }
         ensures clients { IfOk result (λ r. r.0.ledger.clients ≡ clients) }
         ensures opening { IfOk result (λ r. r.0.ledger.opening ≡ in_classes K.code salt r.0.n (entries_of self.now.bins)) }
+        ensures same_map { IfOk result (λ r. (k : K) → lookup K.eq r.0.ledger.opening k ≡ lookup K.eq (entries_of self.now.bins) k) }
         ensures size { IfOk result (λ r. IsSizeFrom self.now.n (length (entries_of self.now.bins)) r.0.n) }
         ensures passes { IfOk result (λ r. r.1.items ≡ new_passes r.0.ledger.id clients) }
         ensures capacity { IsErrOf result Fault.BadCapacity ↔ (4294967295 < length (entries_of self.now.bins)) }

@@ -6,13 +6,13 @@ use Rattle.hashkeys.specs.Classes.{ClassView, is_of, IsTableSize}
 use Rattle.bin_history.proofs.Keys.{key_tells}
 use Rattle.bin_history.proofs.Parts.{HasDistinctKeys-part}
 use Rattle.bin_history.specs.Calls.{after}
-use Rattle.bin_history.specs.Entries.{HasDistinctKeys}
+use Rattle.bin_history.specs.Entries.{HasDistinctKeys, lookup}
 use Rattle.count_ledger.specs.Opening.{lists_of, base_at}
 use Rattle.chm.specs.Quiets.{QuietView, entries_of}
 use Rattle.chm.specs.Reopened.{dealt, in_classes}
 use Rattle.chm.specs.Sizes.{IsSizeFrom}
-use Rattle.chm.proofs.Dealing.{length-dealt, distinct-dealt, of_class-dealt}
-use Rattle.chm.proofs.Reopening.{distinct_of_leaves}
+use Rattle.chm.proofs.Dealing.{positive, length-dealt, distinct-dealt, of_class-dealt}
+use Rattle.chm.proofs.Reopening.{distinct_of_leaves, lookup-in_classes}
 use Rattle.chm.proofs.quiet.Quiet.reopen_with.Goals as goal
 
 pub open-requires-clause-size : goal.open-requires-clause-size
@@ -47,3 +47,11 @@ returns-clause-size g c =
     let own : c.self.inside.n ≡ c.args.self.now.n = ap (λ (q : QuietView _ _ _). q.n) c.self.view_is in
     subst (IsSizeFrom c.args.self.now.n (length (entries_of c.args.self.now.bins))) (sym (c.in_ok-open.ensures.n ∙ len))
     (subst (λ (k : ℕ). IsSizeFrom c.args.self.now.n k c.size_from-n.result) c.mapping_count-count.ensures (subst (λ (m : ℕ). IsSizeFrom m c.mapping_count-count.result c.size_from-n.result) own c.size_from-n.ensures))
+
+pub returns-clause-same_map : goal.returns-clause-same_map
+returns-clause-same_map g c k =
+    let pairs = entries_of c.args.self.now.bins in
+    let n = c.in_ok-open.field-0.0.n in
+    let size = (returns-clause-size g c).size in
+    ap (λ (es : List (_ × _)). lookup g.K.PartialEq.eq es k) (returns-clause-opening g c)
+    ∙ lookup-in_classes g.K.PartialEq.eq (key_tells g.met.K.Eq.laws g.met.K.HashKey.equal_is_same) g.K.HashKey.code c.args.salt n pairs k (positive n size)
