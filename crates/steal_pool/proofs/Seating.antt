@@ -1,5 +1,6 @@
 -- Members get the numbers of their places.
 use Rattle.std.proofs.Common.{◌≡◌, ℕ, zero, suc, List, [], ◌∷◌, ◌++◌, length, Global, ap, sym, refl}
+use Rattle.std.specs.Prelude.{Option, Some}
 use Rattle.atomic_blocks.specs.Lent.{RowsId}
 use mathlib.Core.Option.{some, some-injective, some-ne-none}
 use lib.ListN.{get_elem?}
@@ -8,7 +9,7 @@ use Rattle.steal_pool.specs.Seating.{deque_at, AreSeated}
 module _ {X : Type 0} (of : X → RowsId × Global) where
   pub seated : (ws : List X) → AreSeated of (deque_at of ws) ws
   seated [] i w e = absurd (some-ne-none w (sym e))
-  seated (x ∷ ws) zero w e = ap of (sym (some-injective x w e))
+  seated (x ∷ ws) zero w e = ap (λ y. Some (of y)) (some-injective x w e)
   seated (x ∷ ws) (suc i) w e = seated ws i w e
 
   last_at : (ws : List X) (w : X) → get_elem? (ws ++ w ∷ []) (length ws) ≡ some w
@@ -20,9 +21,9 @@ module _ {X : Type 0} (of : X → RowsId × Global) where
   still_at (x ∷ ws) u zero w e = e
   still_at (x ∷ ws) u (suc i) w e = still_at ws u i w e
 
-  module _ (deque : ℕ → RowsId × Global) (ws : List X) (w : X) (all : AreSeated of deque (ws ++ w ∷ [])) where
+  module _ (deque : ℕ → Option (RowsId × Global)) (ws : List X) (w : X) (all : AreSeated of deque (ws ++ w ∷ [])) where
     -- the last one's number is the length of the others
-    pub last_seat : of w ≡ deque (length ws)
+    pub last_seat : deque (length ws) ≡ Some (of w)
     last_seat = all (length ws) w (last_at ws w)
 
     pub other_seats : AreSeated of deque ws

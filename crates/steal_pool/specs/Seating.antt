@@ -1,5 +1,5 @@
 -- Which deque is whose.
-use Rattle.std.specs.Prelude.{◌≡◌, ℕ, zero, suc, List, [], ◌∷◌}
+use Rattle.std.specs.Prelude.{◌≡◌, ℕ, zero, suc, List, [], ◌∷◌, Option, Some, None}
 use Rattle.std.proofs.Common.{Global}
 use Rattle.atomic_blocks.specs.Lent.{RowsId}
 use mathlib.Core.Option.{some}
@@ -8,15 +8,15 @@ use Rattle.crossbeam_deque.specs.Handles.{worker_view}
 use Rattle.crossbeam_deque.specs.declared.handles.Worker.{Worker}
 use Rattle.steal_pool.specs.declared.log.Log.{Log}
 
--- the deque at a place of a list, or one that nobody has
-abbrev pub deque_at : {X : Type 0} → (X → RowsId × Global) → List X → ℕ → RowsId × Global
-deque_at of [] i = ((0, 0), record { memory = record { seal = tt } })
-deque_at of (w ∷ ws) zero = of w
+-- the deque at a place of a list
+abbrev pub deque_at : {X : Type 0} → (X → RowsId × Global) → List X → ℕ → Option (RowsId × Global)
+deque_at of [] i = None
+deque_at of (w ∷ ws) zero = Some (of w)
 deque_at of (w ∷ ws) (suc i) = deque_at of ws i
 
 -- each has the deque of its number, its place in the list
-abbrev pub AreSeated : {X : Type 0} → (X → RowsId × Global) → (ℕ → RowsId × Global) → List X → Type 0
-AreSeated {X} of deque ws = (i : ℕ) (w : X) → get_elem? ws i ≡ some w → of w ≡ deque i
+abbrev pub AreSeated : {X : Type 0} → (X → RowsId × Global) → (ℕ → Option (RowsId × Global)) → List X → Type 0
+AreSeated {X} of deque ws = (i : ℕ) (w : X) → get_elem? ws i ≡ some w → deque i ≡ Some (of w)
 
 -- its owner has all shares
 abbrev pub IsUnshared : {T A P : Type 0} → Worker T A (Log T) P → Type 0

@@ -1,5 +1,5 @@
 //! A member of a pool: a worker's deque, and its ways into those of the others.
-ghost use Rattle.std.specs.Prelude.{◌≡◌, ◌+◌, ◌<◌, []};
+ghost use Rattle.std.specs.Prelude.{◌≡◌, ◌+◌, ◌<◌, [], Some};
 ghost use Rattle.crossbeam_deque.specs.Handles.{view, IsPassOf, stealer_deque, worker_deque, worker_view};
 
 use crate::deque::{Other, Own};
@@ -9,15 +9,17 @@ use std::marker::{Brand, PhantomData};
 
 /// Which deque is whose, by the members' numbers. A call at `Brand` picks it.
 pub trait Seats {
-    ghost use Rattle.std.specs.Prelude.{ℕ};
+    ghost use Rattle.std.specs.Prelude.{ℕ, Option};
     ghost use Rattle.atomic_blocks.specs.Lent.{RowsId};
     ghost use Rattle.std.proofs.Common.{Global};
 
-    ghost deque: { ℕ → RowsId × Global };
+    ghost deque: { ℕ → Option (RowsId × Global) };
 }
 
 impl Seats for Brand {
-    ghost deque = { λ _. ((0, 0), record { memory = record { seal = tt } }) };
+    ghost use Rattle.std.specs.Prelude.{None};
+
+    ghost deque = { λ _. None };
 }
 
 /// A way into the deque of the member `to`.
@@ -27,7 +29,7 @@ pub struct Way<T, S: Seats> {
     pub(crate) stealer: Other<T>,
     pub(crate) pass: Pass<T, Log<T>>,
     pub(crate) seats: PhantomData<S>,
-    ghost deque: { (IsPassOf (stealer_deque stealer) pass) × (stealer_deque stealer ≡ S.deque to) },
+    ghost deque: { (IsPassOf (stealer_deque stealer) pass) × (S.deque to ≡ Some (stealer_deque stealer)) },
     ghost share: { ((view pass).shares ≡ 1) × ((view pass).pushed ≡ []) },
 }
 
@@ -38,7 +40,7 @@ pub struct Member<T, S: Seats> {
     pub(crate) own: Own<T>,
     pub(crate) out: u64,
     pub(crate) ways: Vec<Way<T, S>>,
-    ghost deque: { worker_deque own ≡ S.deque number },
+    ghost deque: { S.deque number ≡ Some (worker_deque own) },
     ghost shares: { (worker_view own).shares + out ≡ 32 },
     ghost some: { out < 32 },
 }

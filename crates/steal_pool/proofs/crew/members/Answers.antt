@@ -1,4 +1,4 @@
-use Rattle.std.proofs.Common.{rules, arith, ◌≡◌, length, ap, ◌∙◌, subst}
+use Rattle.std.proofs.Common.{rules, arith, ◌≡◌, length, ap, sym, ◌∙◌, subst}
 use Rattle.std.specs.Prelude.{Some}
 use Rattle.std.proofs.lemmas.List.Elements.{All-pop}
 use Rattle.crossbeam_deque.specs.Handles.{worker_deque}
@@ -12,7 +12,7 @@ invariant_of-push g c =
     let whole : IsUnshared c.in-Some.own = (All-pop IsUnshared c.loop-own.deques.items c.pop.new.self.items (Some c.in-Some.own) c.in-Some.ensures.items c.loop-own.invariant.shares).1 in
     let count : length c.pop.new.self.items ≡ c.len.result = search rules in
     record {
-      deque = last_seat worker_deque g.S.Seats.deque c.pop.new.self.items c.in-Some.own all ∙ ap g.S.Seats.deque count;
+      deque = ap g.S.Seats.deque (sym count) ∙ last_seat worker_deque g.S.Seats.deque c.pop.new.self.items c.in-Some.own all;
       shares = omega arith;
       some = omega arith;
     }
