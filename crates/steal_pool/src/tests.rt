@@ -310,3 +310,38 @@ fn what_is_left_is_what_nobody_took(rt: HostRuntime) -> Result<(), Fail> {
     assert_eq!(rt; left, Some(1));
     Ok(())
 }
+
+// Members 0, 2 and 3 of four have a task each, their number. What member 1 takes.
+fn seated_rounds<S: Seats>(
+    alloc: Global,
+    deques: Vec<Own<u64>>,
+) -> Result<[Option<u64>; 3], AllocError>
+    requires deques { All IsUnshared deques.items }
+    requires seats { AreSeated worker_deque S.deque deques.items }
+{
+    let mut members = members::<u64, S>(alloc, deques)?;
+    for member in members.iter_mut() {
+        let number = member.number as u64;
+        if number != 1 {
+            let _refused = member.push(number);
+        }
+    }
+    let mut taken = [None; 3];
+    for member in members.iter_mut() {
+        if member.number == 1 {
+            taken = [member.take(), member.take(), member.take()];
+        }
+    }
+    Ok(taken)
+}
+
+fn take_rounds(alloc: Global) -> Result<[Option<u64>; 3], AllocError> {
+    let deques = new_deques(alloc, 4)?;
+    seated_rounds::<Brand>(alloc, deques)
+}
+
+#[test]
+fn a_thief_asks_the_next_number_first(rt: HostRuntime) -> Result<(), Fail> {
+    assert_eq!(rt; take_rounds(rt.alloc())?, [Some(2), Some(3), Some(0)]);
+    Ok(())
+}
