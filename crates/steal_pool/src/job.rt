@@ -69,8 +69,8 @@ impl<B: Body, G: Gate, W: Work> Job<'_, B, G, W> {
         (self.tree.open(supply, Some(ticket), lo, hi), batch)
     }
 
-    #[tactic(auto, using(crate::proofs::Halves::has_room, crate::proofs::Halves::half_room))]
     // Forks while the batch lasts, and then does the leaf that is left. Where a push is refused it works on the task at once.
+    #[tactic(auto, using(crate::proofs::Halves::has_room, crate::proofs::Halves::half_room))]
     fn work<S: Seats, Rt: Wait>(
         &self,
         rt: &Rt,
