@@ -1,13 +1,12 @@
 -- What a clear takes away, and what its visits show at the end.
-use Rattle.std.proofs.Common.{◌≡◌, ◌≢◌, ℕ, suc, ◌+◌, ◌<◌, ◌≤◌, Bool, true, false, Decides, cond, Option, Some, None, negsuc, List, [], ◌∷◌, ◌++◌, length, filter, All, slice_index_or, inl, inr, ⊎_elim, refl, sym, ap, subst, ◌∙◌, arith, count_by}
+use Rattle.std.proofs.Common.{◌≡◌, ◌≢◌, ℕ, ◌<◌, ◌≤◌, Bool, true, false, Decides, cond, Option, Some, None, List, [], ◌∷◌, ◌++◌, length, filter, All, slice_index_or, refl, sym, ap, subst, ◌∙◌, arith}
 use Rattle.std.proofs.lemmas.List.{append_assoc, append-nil}
 use Rattle.std.proofs.lemmas.List.Elements.{All-nil, All-cons, All-head, All-tail, All-append, All-push, All-weaker, filter-append}
 use Rattle.std.proofs.lemmas.List.Sums.{sum_by-cons}
 use Rattle.hashkeys.specs.Classes.{ClassView, covers, covering, is_of}
 use Rattle.hashkeys.specs.Hashing.{hash_of}
 use Rattle.hashkeys.specs.declared.hashing.Salt.{Salt}
-use Rattle.bin_history.specs.Calls.{key_of, after}
-use Rattle.bin_history.specs.Clients.{by_client}
+use Rattle.bin_history.specs.Calls.{key_of}
 use Rattle.bin_history.specs.Deltas.{change_of_count}
 use Rattle.bin_history.specs.Entries.{lookup, remove, replay, store}
 use Rattle.bin_history.specs.Part.{part_of_records}

@@ -1,5 +1,5 @@
 -- Pairs dealt to the classes of a table.
-use Rattle.std.proofs.Common.{◌≡◌, ◌≢◌, ℕ, zero, suc, ◌+◌, ◌%◌, ◌^◌, ◌==◌, ◌<◌, ◌≤◌, Bool, true, false, cond, List, [], ◌∷◌, ◌++◌, length, map, replicate, flat_map, filter, get_or, sum_by, Decides, subst, inl, inr, ⊎_elim, ◌⊎◌, refl, sym, ap, ◌∙◌, arith, All}
+use Rattle.std.proofs.Common.{◌≡◌, ◌≢◌, ℕ, zero, suc, ◌+◌, ◌%◌, ◌^◌, ◌<◌, Bool, true, false, cond, List, [], ◌∷◌, ◌++◌, length, replicate, flat_map, filter, get_or, Decides, subst, inl, inr, ⊎_elim, ◌⊎◌, refl, sym, ap, ◌∙◌, arith, All}
 use Rattle.std.proofs.lemmas.Bool.{cases_lt, ne_eqb, eq-eqb}
 use Rattle.std.proofs.lemmas.List.{ext_get_or, get_or-map, length-map, get_or-replicate, get_or-set_same, get_or-set_other, length-append, length-replicate, length-set}
 use Rattle.std.proofs.lemmas.List.Concat.{length-flat_map}
@@ -7,7 +7,6 @@ use Rattle.std.proofs.lemmas.List.Elements.{All-nil, All-cons}
 use Rattle.std.proofs.lemmas.List.FromFn.{get_or-map-range_with_len, length-map-range_with_len}
 use Rattle.std.proofs.lemmas.List.Sums.{sum_by-set}
 use Rattle.std.specs.Prelude.{set}
-use Rattle.std.specs.List.{range_with_len}
 use Rattle.hashkeys.specs.Classes.{IsTableSize, is_of}
 use Rattle.hashkeys.specs.Hashing.{hash_of}
 use Rattle.hashkeys.specs.declared.hashing.Salt.{Salt}

@@ -1,9 +1,9 @@
 -- The pairs of a closed map have distinct keys, and so have those dealt to the classes of a table.
-use Rattle.std.proofs.Common.{◌≡◌, ◌≢◌, ℕ, zero, suc, ◌+◌, ◌%◌, ◌<◌, ◌≤◌, Bool, true, false, cond, Decides, Option, Some, None, List, [], ◌∷◌, ◌++◌, length, map, flat_map, filter, get_or, ⊎_elim, All, refl, sym, ap, subst, ◌∙◌, arith}
+use Rattle.std.proofs.Common.{◌≡◌, ◌≢◌, ℕ, zero, suc, ◌+◌, ◌%◌, ◌<◌, ◌≤◌, Bool, true, false, cond, Decides, Option, Some, None, List, [], ◌∷◌, ◌++◌, map, flat_map, get_or, ⊎_elim, All, refl, sym, ap, ◌∙◌, arith}
 use Rattle.std.specs.List.{range_with_len}
 use Rattle.std.proofs.Math.Nat.{mod-lt}
 use Rattle.std.proofs.lemmas.Bool.{cases_lt, ne_eqb, eq-eqb}
-use Rattle.std.proofs.lemmas.List.Elements.{All-nil, All-cons, All-head, All-tail, All-append}
+use Rattle.std.proofs.lemmas.List.Elements.{All-head, All-tail}
 use Rattle.std.proofs.lemmas.List.Sums.{sum_by-cons}
 use Rattle.hashkeys.specs.Classes.{ClassView, covers, covering, is_of}
 use Rattle.hashkeys.specs.Hashing.{hash_of}

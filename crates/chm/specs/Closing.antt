@@ -1,6 +1,6 @@
 -- Maps that could not be closed.
-use Rattle.std.specs.Prelude.{◌≡◌, ◌≢◌, ℕ, ◌<◌, ◌≤◌, ◌↔◌, ◌⊎◌, Option, Some, None, List, length}
-use Rattle.count_ledger.specs.Views.{LedgerView, PassView}
+use Rattle.std.specs.Prelude.{◌≡◌, ◌≢◌, ◌<◌, ◌↔◌, ◌⊎◌, Option, Some, None, List, length}
+use Rattle.count_ledger.specs.Views.{PassView}
 use Rattle.chm.specs.Views.{MapView}
 use Rattle.chm.specs.declared.fault.Fault.{Fault}
 use Rattle.chm.specs.declared.fault.Fault.TheVariants.{NoMemory, PassMissing, BinMissing}

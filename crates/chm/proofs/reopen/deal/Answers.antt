@@ -1,11 +1,10 @@
-use Rattle.std.proofs.Common.{◌≡◌, ℕ, ◌%◌, ◌<◌, ◌++◌, ◌∷◌, [], List, length, map, flat_map, refl, sym, ap, subst, ◌∙◌, arith, get_or, set, ◌+◌}
+use Rattle.std.proofs.Common.{◌≡◌, ℕ, ◌%◌, ◌<◌, ◌++◌, ◌∷◌, [], List, length, flat_map, sym, ap, ◌∙◌, arith, get_or, set, ◌+◌}
 use Rattle.std.proofs.Math.Nat.{mod-lt}
 use Rattle.std.specs.Vec.{with_item}
 use Rattle.std.specs.declared.vec.Vec.{Vec}
 use Rattle.hashkeys.specs.Hashing.{hash_of}
 use Rattle.std.proofs.lemmas.List.{append_assoc, get_or-map, length-append, length-map, map-set}
 use Rattle.count_ledger.specs.Opening.{lists_of}
-use Rattle.chm.specs.Reopened.{dealt}
 use Rattle.chm.proofs.Dealing.{dealt-none, dealt-push, length-dealt, length-set_push, positive}
 use Rattle.chm.proofs.Empty.{flat_map-empty}
 use Rattle.chm.proofs.reopen.deal.Goals as goal

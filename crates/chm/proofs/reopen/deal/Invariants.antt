@@ -1,4 +1,4 @@
-use Rattle.std.proofs.Common.{◌≡◌, ◌<◌, ◌++◌, List, length, flat_map}
+use Rattle.std.proofs.Common.{◌≡◌, ◌++◌, List, length, flat_map}
 use Rattle.count_ledger.specs.Opening.{lists_of}
 use Rattle.chm.specs.Reopened.{dealt}
 use Rattle.chm.proofs.reopen.deal.Given as goal

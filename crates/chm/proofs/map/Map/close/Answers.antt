@@ -1,16 +1,15 @@
-use Rattle.std.proofs.Common.{◌≡◌, ◌≢◌, ℕ, ◌<◌, ◌≤◌, ⊎_elim, List, length, All, refl, sym, ap, subst, ◌∙◌, arith}
-use Rattle.hashkeys.specs.Classes.{IsTableSize, ClassView, CoverAll}
+use Rattle.std.proofs.Common.{◌≡◌, ⊎_elim, List, length, All, sym, ap, subst, ◌∙◌, arith}
+use Rattle.hashkeys.specs.Classes.{CoverAll}
 use Rattle.bin_history.proofs.Keys.{key_tells}
 use Rattle.bin_history.specs.Calls.{after}
-use Rattle.count_ledger.specs.Views.{LedgerView, LedgerId, PassView, RoleView}
+use Rattle.count_ledger.specs.Views.{LedgerView, LedgerId, RoleView}
 use Rattle.generations.specs.Views.{GenerationsView}
-use Rattle.generations.specs.Leaves.{AreLeaves, classes_of_bins}
+use Rattle.generations.specs.Leaves.{classes_of_bins}
 use Rattle.generations.specs.Left.{IfKept}
 use Rattle.std.specs.declared.vec.Vec.{Vec}
 use Rattle.count_ledger.specs.Books.{classes_of}
 use Rattle.bin_history.specs.Entries.{replay}
 use Rattle.bin_history.specs.Lawful.{BinView}
-use Rattle.generations.specs.Walks.{IsWalk}
 use Rattle.chm.specs.Quiets.{entries_of}
 use Rattle.chm.specs.Views.{MapView, bins_of}
 use Rattle.chm.proofs.Closing.{roles_of_leaves, count_of_leaves, word_of_count, IsQuiet-closed, NotClosed-missing, NotClosed-memory, NotClosed-bins, covered}

@@ -1,7 +1,6 @@
-use Rattle.std.proofs.Common.{◌≡◌, refl, subst, ◌∙◌}
+use Rattle.std.proofs.Common.{refl, subst, ◌∙◌}
 use Rattle.hashkeys.specs.Classes.{ClassView}
 use Rattle.hashkeys.specs.declared.hashing.Salt.{Salt}
-use Rattle.bin_history.specs.Lawful.{BinView}
 use Rattle.chm.specs.Cleared.{HasRemovedIn}
 use Rattle.chm.proofs.Clearing.{unchanged_in, removed_in-more}
 use Rattle.chm.proofs.map.Map.empty.Goals as goal

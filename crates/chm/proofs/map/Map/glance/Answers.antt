@@ -1,7 +1,6 @@
-use Rattle.std.proofs.Common.{◌≡◌, sym, ap, ◌∙◌}
+use Rattle.std.proofs.Common.{◌≡◌, ap, ◌∙◌}
 use Rattle.bin_history.specs.Calls.{after}
 use Rattle.bin_history.specs.Entries.{lookup}
-use Rattle.generations.specs.Views.{GenerationsView}
 use Rattle.hashkeys.specs.Hashing.{hash_of}
 use Rattle.chm.specs.Views.{MapView, bins_of}
 use Rattle.chm.proofs.Visiting.{copied-found, IsShown-read}

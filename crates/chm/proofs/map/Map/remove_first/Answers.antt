@@ -1,4 +1,4 @@
-use Rattle.std.proofs.Common.{◌≡◌, ℕ, true, refl, sym, subst, ap, ◌∙◌, ◌<◌, slice_index_or, List, length}
+use Rattle.std.proofs.Common.{◌≡◌, true, refl, ap, ◌∙◌, ◌<◌, slice_index_or, List, length}
 use Rattle.hashkeys.specs.Classes.{is_of}
 use Rattle.bin_history.proofs.Keys.{key_tells}
 use Rattle.chm.proofs.Clearing.{first_of, removed-first, unchanged_in}

@@ -1,15 +1,12 @@
-use Rattle.std.proofs.Common.{◌≡◌, ℕ, ◌≤◌, ◌<◌, true, List, [], length, map, flat_map, get_or, All, Decides, refl, sym, ap, subst, ◌∙◌, arith}
-use Rattle.std.proofs.lemmas.List.{get_or-map, length-map}
-use Rattle.std.proofs.lemmas.List.Elements.{All-filter}
-use Rattle.std.specs.declared.vec.Vec.{Vec}
-use Rattle.hashkeys.specs.Classes.{ClassView, is_of, IsTableSize}
+use Rattle.std.proofs.Common.{◌≡◌, ℕ, List, length, flat_map, sym, ap, subst, ◌∙◌, arith}
+use Rattle.std.proofs.lemmas.List.{length-map}
+use Rattle.hashkeys.specs.Classes.{IsTableSize}
 use Rattle.bin_history.proofs.Keys.{key_tells}
-use Rattle.bin_history.proofs.Parts.{HasDistinctKeys-part}
 use Rattle.bin_history.specs.Calls.{after}
 use Rattle.bin_history.specs.Entries.{HasDistinctKeys, lookup}
-use Rattle.count_ledger.specs.Opening.{lists_of, base_at}
+use Rattle.count_ledger.specs.Opening.{lists_of}
 use Rattle.chm.specs.Quiets.{QuietView, entries_of}
-use Rattle.chm.specs.Reopened.{dealt, in_classes}
+use Rattle.chm.specs.Reopened.{in_classes}
 use Rattle.chm.specs.Sizes.{IsSizeFrom}
 use Rattle.chm.proofs.Dealing.{positive, length-dealt, distinct-dealt, of_class-dealt}
 use Rattle.chm.proofs.Reopening.{distinct_of_leaves, lookup-in_classes}
