@@ -7,3 +7,4 @@ pub mod Closing
 pub mod Clearing
 pub mod Dealing
 pub mod Reopening
+pub mod Shared

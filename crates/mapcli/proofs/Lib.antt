@@ -1,6 +1,9 @@
 pub mod Values
-pub mod Kept
-pub mod Histories
+pub mod Reduced
+pub mod Closed
+pub mod Shared
+pub mod Made
+pub mod Seats
 pub mod Allowed
 pub mod Answered
 pub mod OneClient

@@ -1,5 +1,7 @@
 -- How a result and the count of a device's failures go together.
-use Rattle.std.specs.Prelude.{ℕ, Result, Ok, Err}
+use Rattle.std.specs.Prelude.{◌≡◌, ℕ, ◌⊎◌, Result, Ok, Err}
+use Rattle.chm.specs.declared.fault.Fault as map
+use Rattle.chm.specs.declared.fault.Fault.TheVariants as of_map
 use Rattle.script.specs.declared.fault.ParseError.{ParseError}
 use Rattle.script.specs.declared.fault.ParseError.TheVariants as errors
 use Rattle.mapcli.specs.Devices.{one_more}
@@ -25,3 +27,11 @@ count_after (Err fault) n = count_after_fault fault n
 abbrev pub fault_of : ParseError → Fault
 fault_of errors.NoMemory = NoMemory
 fault_of (errors.Fault f) = ScriptFault f.line f.kind
+
+-- the refusals of the map that a script can meet
+abbrev pub IsOfMap : map.Fault → Type 0
+IsOfMap fault = (fault ≡ of_map.NoMemory) ⊎ (fault ≡ of_map.BinMissing)
+
+-- playing a script's blocks ends early where memory runs out, or bins of the map were missing when it was closed
+abbrev pub IsOfPlay : Fault → Type 0
+IsOfPlay fault = (fault ≡ NoMemory) ⊎ (fault ≡ BinMissing)

@@ -5,6 +5,7 @@ pub mod Outcomes
 pub mod Played
 pub mod Texts
 pub mod Greater
+pub mod Above
 pub mod Determined
 pub mod Statuses
 pub mod Runs

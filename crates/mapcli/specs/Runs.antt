@@ -19,14 +19,14 @@ IsScript text blocks queries = IsJust text (whole blocks queries)
 abbrev pub IsOutputOf : List ℕ → List ℕ → Type 0
 IsOutputOf text bytes = (blocks : List (List ScriptCall)) × (queries : List Query) × (o : Outcome) × IsScript text blocks queries × IsAllowed blocks o × IsOutput queries o bytes
 
--- why a text gave no output: memory ran out, or its first bad line
+-- why a text gave no output: memory ran out, bins of the map were missing, or its first bad line
 abbrev pub IsRefusalOf : List ℕ → Fault → Type 0
 IsRefusalOf text NoMemory = Unit {0}
 IsRefusalOf text (ScriptFault line kind) = IsFaulty text line kind
 IsRefusalOf text BadCapacity = ⊥
 IsRefusalOf text BadWorkers = ⊥
 IsRefusalOf text Device = ⊥
-IsRefusalOf text BinMissing = ⊥
+IsRefusalOf text BinMissing = Unit {0}
 IsRefusalOf text (Usage words) = ⊥
 IsRefusalOf text (Help words) = ⊥
 

@@ -1,110 +1,154 @@
-//! What queries answer, by plain loops over the pairs of the map.
-ghost use Rattle.std.specs.Prelude.{◌≡◌, ℤ, ◌≤ℤ◌, ◌<ℤ◌, List, ◌++◌, MatchOption, IfOk, OnOk, All, Contains, IsPermutation, IsSortedByKey, map};
+//! What queries answer, by bulk operations on the closed map.
+ghost use Rattle.std.specs.Prelude.{◌≡◌, ℤ, List, ◌++◌, IfOk, OnOk, IsPermutation, IsSortedByKey, map};
 ghost use Rattle.std.specs.Ordering.{nat_cmp};
 ghost use Rattle.std.specs.Cmp.Lexicographic.{slice_cmp};
+ghost use Rattle.chm.specs.Quiets.{entries_of};
+ghost use Rattle.bulk_tasks.specs.Plans.{AreWorkers};
 ghost use Rattle.mapcli.specs.Texts.{sum_of, IsGreatest, IsAbove, Answers, AnswersAll};
-ghost use Rattle.mapcli.specs.Greater.{greater_of};
 
-use crate::text::{push, push_number, push_option, push_pairs};
+use crate::client::ScriptQuiet;
+use crate::gate::ClientGate;
+use crate::tasks::{Above, ExactSum, Pairs};
+use crate::text::{push_number_line, push_option, push_pairs};
+use bulk_tasks::{Greatest, Plan, for_each, reduce, reduce_based, search};
 use hashkeys::Key;
 use script::Query;
-use std::alloc::{AllocError, Allocator};
+use std::alloc::{AllocError, Allocator, Global};
+use std::sync::Wait;
+use std::thread::Threads;
 
-/// The sum of the values, which never wraps: a slice has fewer than 2^64 pairs.
-fn sum_of(pairs: &[(Key, i64)]) -> i128
-    ensures { result ≡ sum_of (map (λ e. e.1) pairs.now) }
-{
-    let mut sum = 0i128;
-    for (_, value) in pairs {
-        sum += i128::from(*value);
-    }
-    sum
+/// Who answers: so many workers, 1 to 16, under a gate.
+#[derive(Drop)]
+pub(crate) struct Crew<'a, G> {
+    pub(crate) workers: usize,
+    pub(crate) gate: &'a G,
 }
 
-/// The greater of a value, if there is one, and another.
-fn greater(best: Option<i64>, value: i64) -> Option<i64>
-    ensures { result ≡ greater_of best value }
+impl<G> Crew<'_, G> {
+    /// The plan of a bulk operation with this threshold.
+    fn plan(&self, threshold: u64) -> Plan<'_, G>
+        ensures { result.workers ≡ self.now.workers }
+    {
+        Plan {
+            threshold,
+            workers: self.workers,
+            gate: self.gate,
+        }
+    }
+}
+
+/// The exact sum of the values.
+fn sum_of<R: Threads + Wait + Sync, G: ClientGate + Sync, A: Allocator + Clone + Send + Sync>(
+    rt: &R,
+    alloc: Global,
+    quiet: &ScriptQuiet<A>,
+    plan: &Plan<'_, G>,
+) -> Result<i128, AllocError>
+    ensures { IfOk result (λ sum. sum ≡ sum_of (map (λ e. e.1) (entries_of quiet.now.bins))) }
 {
-    match best {
-        None => Some(value),
-        Some(other) => Some(other.max(value)),
+    match reduce_based(rt, alloc, quiet, plan, &ExactSum) {
+        Ok(sum) => Ok(sum),
+        Err(_) => Err(AllocError),
     }
 }
 
 /// The greatest value, if there is one.
-fn greatest(pairs: &[(Key, i64)]) -> Option<i64>
-    ensures { IsGreatest (map (λ e. e.1) pairs.now) result }
+fn greatest<R: Threads + Wait + Sync, G: ClientGate + Sync, A: Allocator + Clone + Send + Sync>(
+    rt: &R,
+    alloc: Global,
+    quiet: &ScriptQuiet<A>,
+    plan: &Plan<'_, G>,
+) -> Result<Option<i64>, AllocError>
+    ensures { IfOk result (IsGreatest (map (λ e. e.1) (entries_of quiet.now.bins))) }
 {
-    let mut best = None;
-    for (_, value) in pairs {
-        best = greater(best, *value);
+    match reduce(rt, alloc, quiet, plan, &Greatest) {
+        Ok(greatest) => Ok(greatest),
+        Err(_) => Err(AllocError),
     }
-    best
 }
 
-/// The first value above the bound, if there is one.
-fn above(pairs: &[(Key, i64)], bound: i64) -> Option<i64>
-    ensures { IsAbove bound (map (λ e. e.1) pairs.now) result }
+/// A value above the bound, if there is one.
+fn above<R: Threads + Wait + Sync, G: ClientGate + Sync, A: Allocator + Clone + Send + Sync>(
+    rt: &R,
+    alloc: Global,
+    quiet: &ScriptQuiet<A>,
+    plan: &Plan<'_, G>,
+    bound: i64,
+) -> Result<Option<i64>, AllocError>
+    ensures { IfOk result (IsAbove bound (map (λ e. e.1) (entries_of quiet.now.bins))) }
 {
-    for (_, value) in pairs {
-        if *value > bound {
-            return Some(*value);
-        }
+    match search(rt, alloc, quiet, plan, &Above(bound)) {
+        Ok(found) => Ok(found),
+        Err(_) => Err(AllocError),
     }
-    None
 }
 
 /// The pairs in byte order of their keys.
-fn sorted<A: Allocator>(alloc: A, pairs: &[(Key, i64)]) -> Result<Vec<(Key, i64), A>, AllocError>
-    ensures permutation { IfOk result (λ v. IsPermutation pairs.now v.items) }
+fn sorted<R: Threads + Wait + Sync, G: ClientGate + Sync, A: Allocator + Clone + Send + Sync>(
+    rt: &R,
+    alloc: Global,
+    quiet: &ScriptQuiet<A>,
+    plan: &Plan<'_, G>,
+) -> Result<Vec<(Key, i64)>, AllocError>
+    ensures permutation { IfOk result (λ v. IsPermutation (entries_of quiet.now.bins) v.items) }
     ensures sorted { IfOk result (λ v. IsSortedByKey (λ e. e.0) (slice_cmp nat_cmp) v.items) }
 {
-    let mut copies = Vec::with_capacity(alloc, pairs.len())?;
-    for (key, value) in pairs {
-        copies.push((key.clone()?, *value))?;
-    }
-    copies.sort_unstable();
-    Ok(copies)
+    let Ok(mut pairs) = for_each(rt, alloc, quiet, plan, &Pairs) else {
+        return Err(AllocError);
+    };
+    pairs.sort_unstable();
+    Ok(pairs)
 }
 
 /// Appends the lines that answer a query.
-fn push_answer<A: Allocator + Clone>(
-    alloc: A,
+fn push_answer<R: Threads + Wait + Sync, G: ClientGate + Sync, A: Allocator + Clone + Send + Sync>(
+    rt: &R,
+    alloc: Global,
     text: &mut Vec<u8, A>,
-    pairs: &[(Key, i64)],
+    quiet: &ScriptQuiet<A>,
+    crew: &Crew<'_, G>,
     query: &Query,
 ) -> Result<(), AllocError>
-    ensures { OnOk result ((answer : List _) × Answers pairs.now query.now answer × (text.new.items ≡ text.old.items ++ answer)) }
+    ensures { OnOk result ((answer : List _) × Answers (entries_of quiet.now.bins) query.now answer × (text.new.items ≡ text.old.items ++ answer)) }
 {
     match query {
-        Query::Count => {
-            push_number(text, pairs.len())?;
-            push(text, b"\n")
+        Query::Count => push_number_line(text, quiet.mapping_count()),
+        Query::ReduceSum(threshold) => {
+            push_number_line(text, sum_of(rt, alloc, quiet, &crew.plan(*threshold))?)
         }
-        Query::ReduceSum(_) => {
-            push_number(text, sum_of(pairs))?;
-            push(text, b"\n")
+        Query::ReduceMax(threshold) => {
+            push_option(text, greatest(rt, alloc, quiet, &crew.plan(*threshold))?)
         }
-        Query::ReduceMax(_) => push_option(text, greatest(pairs)),
-        Query::SearchAbove(bound, _) => push_option(text, above(pairs, *bound)),
-        Query::List(_) => {
-            let sorted = sorted(alloc, pairs)?;
+        Query::SearchAbove(bound, threshold) => {
+            push_option(
+                text,
+                above(rt, alloc, quiet, &crew.plan(*threshold), *bound)?,
+            )
+        }
+        Query::List(threshold) => {
+            let sorted = sorted(rt, alloc, quiet, &crew.plan(*threshold))?;
             push_pairs(text, &sorted)
         }
     }
 }
 
 /// Appends the lines that answer the queries, in their order.
-pub(crate) fn push_answers<A: Allocator + Clone>(
-    alloc: A,
+pub(crate) fn push_answers<
+    R: Threads + Wait + Sync,
+    G: ClientGate + Sync,
+    A: Allocator + Clone + Send + Sync,
+>(
+    rt: &R,
+    alloc: Global,
     text: &mut Vec<u8, A>,
-    pairs: &[(Key, i64)],
+    quiet: &ScriptQuiet<A>,
+    crew: &Crew<'_, G>,
     queries: &[Query],
 ) -> Result<(), AllocError>
-    ensures { OnOk result ((answers : List _) × AnswersAll pairs.now queries.now answers × (text.new.items ≡ text.old.items ++ answers)) }
+    ensures { OnOk result ((answers : List _) × AnswersAll (entries_of quiet.now.bins) queries.now answers × (text.new.items ≡ text.old.items ++ answers)) }
 {
     for query in queries {
-        push_answer(alloc.clone()?, text, pairs, query)?;
+        push_answer(rt, alloc, text, quiet, crew, query)?;
     }
     Ok(())
 }

@@ -92,14 +92,28 @@ fn a_failed_read_is_never_the_end_of_the_input(rt: HostRuntime) -> Result<(), Fa
     for failing in 0..6 {
         let mut input = Reader::new(in_pieces(failing));
         let mut output = Writer::new(byte_by_byte(rt.alloc(), 0, Failure::Refuse));
-        let ended = run(rt.alloc(), &mut input, &mut output, &options, &OpenGate);
+        let ended = run(
+            &rt,
+            rt.alloc(),
+            &mut input,
+            &mut output,
+            &options,
+            &OpenGate,
+        );
         assert!(rt; matches!(ended, Err(Fault::Device)), "at {failing}");
         assert_eq!(rt; output.inner.writes, 0);
         assert_eq!(rt; (input.failures, output.failures), (1, 0));
     }
     let mut input = Reader::new(in_pieces(6));
     let mut output = Writer::new(byte_by_byte(rt.alloc(), 0, Failure::Refuse));
-    run(rt.alloc(), &mut input, &mut output, &options, &OpenGate)?;
+    run(
+        &rt,
+        rt.alloc(),
+        &mut input,
+        &mut output,
+        &options,
+        &OpenGate,
+    )?;
     assert_eq!(rt; output.inner.taken.as_slice(), OUTPUT);
     assert_eq!(rt; (input.inner.reads, input.failures), (6, 0));
     Ok(())
@@ -113,7 +127,14 @@ fn a_failed_write_leaves_a_beginning(rt: HostRuntime) -> Result<(), Fail> {
         for taken in 0..OUTPUT.len() {
             let mut input = Reader::new(SCRIPT);
             let mut output = Writer::new(byte_by_byte(rt.alloc(), taken + 1, failure));
-            let ended = run(rt.alloc(), &mut input, &mut output, &options, &OpenGate);
+            let ended = run(
+                &rt,
+                rt.alloc(),
+                &mut input,
+                &mut output,
+                &options,
+                &OpenGate,
+            );
             assert!(rt; matches!(ended, Err(Fault::Device)), "after {taken}");
             assert_eq!(rt; output.inner.taken.as_slice(), &OUTPUT[..taken]);
             assert_eq!(rt; (input.failures, output.failures), (0, 1));
@@ -121,6 +142,7 @@ fn a_failed_write_leaves_a_beginning(rt: HostRuntime) -> Result<(), Fail> {
     }
     let mut output = Writer::new(byte_by_byte(rt.alloc(), OUTPUT.len() + 1, Failure::Refuse));
     run(
+        &rt,
         rt.alloc(),
         &mut Reader::new(SCRIPT),
         &mut output,
@@ -144,7 +166,7 @@ fn a_refused_request_leaves_nothing_written(rt: HostRuntime) -> Result<(), Fail>
         let mut input = Reader::new(script.as_slice());
         let mut output = Writer::new(Vec::new(rt.alloc()));
         refusing.refuse_after(granted);
-        match run(&refusing, &mut input, &mut output, &options, &OpenGate) {
+        match run(&rt, &refusing, &mut input, &mut output, &options, &OpenGate) {
             Ok(()) => {
                 assert!(rt; !refusing.has_refused() && granted > 10);
                 assert_eq!(rt; output.inner.as_slice(), wanted.as_slice());

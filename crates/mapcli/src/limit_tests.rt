@@ -11,17 +11,11 @@ fn there_are_at_most_32_clients(rt: HostRuntime) -> Result<(), Fail> {
     }
     let mut most = script.clone()?;
     most.push_str("query\n")?;
-    let (status, text) = told(&rt, rt.alloc(), most.as_bytes(), &Options::new(4, 16)?)?;
+    let (status, text) = told(&rt, most.as_bytes(), &Options::new(4, 16)?)?;
     assert_eq!(rt; status, 0);
     assert!(rt; text.ends_with(b"client 30\nclient 31\n"));
     script.push_str("client\nquery\n")?;
-    check(
-        &rt,
-        rt.alloc(),
-        script.as_bytes(),
-        1,
-        "mapcli: line 33: limit\n",
-    )
+    check(&rt, script.as_bytes(), 1, "mapcli: line 33: limit\n")
 }
 
 #[test]
@@ -31,13 +25,7 @@ fn a_client_makes_at_most_1000000_calls(rt: HostRuntime) -> Result<(), Fail> {
         script.push_str("get a\n")?;
     }
     script.push_str("query\n")?;
-    check(
-        &rt,
-        rt.alloc(),
-        script.as_bytes(),
-        1,
-        "mapcli: line 1000002: limit\n",
-    )
+    check(&rt, script.as_bytes(), 1, "mapcli: line 1000002: limit\n")
 }
 
 #[test]
@@ -49,13 +37,7 @@ fn a_line_of_spaces_may_be_long(rt: HostRuntime) -> Result<(), Fail> {
         )?;
     }
     script.push_str("\nquery\n")?;
-    check(
-        &rt,
-        rt.alloc(),
-        script.as_bytes(),
-        1,
-        "mapcli: line 2: spaces\n",
-    )
+    check(&rt, script.as_bytes(), 1, "mapcli: line 2: spaces\n")
 }
 
 #[test]
@@ -64,7 +46,7 @@ fn bytes_that_are_not_printable(rt: HostRuntime) -> Result<(), Fail> {
         for place in [7usize, 11, 14] {
             let mut script = Vec::from_slice(rt.alloc(), PUT_AND_GET)?;
             script.insert(place.min(script.len()), byte)?;
-            check(&rt, rt.alloc(), &script, 1, "mapcli: line 2: bytes\n")?;
+            check(&rt, &script, 1, "mapcli: line 2: bytes\n")?;
         }
     }
     Ok(())
@@ -102,7 +84,7 @@ fn ends_of_ranges(rt: HostRuntime) -> Result<(), Fail> {
         ("client\nput a +1\nquery\n", 1, "mapcli: line 2: number\n"),
     ];
     for (script, wanted_status, wanted) in rows {
-        check(&rt, rt.alloc(), script.as_bytes(), wanted_status, wanted)?;
+        check(&rt, script.as_bytes(), wanted_status, wanted)?;
     }
     Ok(())
 }

@@ -1,8 +1,11 @@
-//! `mapcli` runs scripts of client blocks over a concurrent hash map, one client after the other for now, and
-//! answers queries of it.
+//! `mapcli` runs scripts of client blocks over a concurrent hash map, all clients at the same time, and answers
+//! queries of it.
 #![tactic(auto)]
 
 mod answers;
+mod client;
+#[cfg(test)]
+mod client_tests;
 mod device;
 #[cfg(test)]
 mod device_tests;
@@ -12,8 +15,13 @@ mod laws;
 #[cfg(test)]
 mod limit_tests;
 mod options;
+#[cfg(test)]
+mod plain;
 mod play;
+#[cfg(test)]
+mod query_tests;
 mod run;
+mod tasks;
 #[cfg(test)]
 mod tests;
 mod text;
@@ -34,13 +42,12 @@ use std::process::ExitCode;
 use std::{env, io};
 pub use words::{line, status, words};
 
-/// Reads the words of the command line, and then runs the script in FILE, from it to standard output.
-fn run_file(rt: &HostRuntime) -> Result<(), Fault> {
+/// Reads the words of the command line, and opens FILE.
+fn open(rt: &HostRuntime) -> Result<(Options, File), Fault> {
     let after_name: Vec<String> = env::args(rt).map_err(refused)?.skip(1).collect(rt.alloc())?;
     let (options, path) = words(rt.alloc(), &after_name)?;
-    let mut script = Reader::new(File::open(rt, &path).map_err(refused)?);
-    let mut printed = Writer::new(rt.stdout());
-    run(rt.alloc(), &mut script, &mut printed, &options, &OpenGate)
+    let script = File::open(rt, &path).map_err(refused)?;
+    Ok((options, script))
 }
 
 /// What the system did not give: memory, or else a device.
@@ -62,8 +69,20 @@ fn tell(rt: &HostRuntime, fault: &Fault) {
     }
 }
 
+/// Runs the script in FILE, from it to standard output.
 fn main(rt: HostRuntime) -> ExitCode {
-    match run_file(&rt) {
+    let ended = match open(&rt) {
+        Ok((options, script)) => run(
+            &rt,
+            rt.alloc(),
+            &mut Reader::new(script),
+            &mut Writer::new(rt.stdout()),
+            &options,
+            &OpenGate,
+        ),
+        Err(fault) => Err(fault),
+    };
+    match ended {
         Ok(()) => ExitCode::SUCCESS,
         Err(fault) => {
             tell(&rt, &fault);

@@ -5,7 +5,7 @@ ghost use Rattle.script.specs.Verdicts.{blocks_of, IsText, IsWithinLimits};
 ghost use Rattle.mapcli.specs.Devices.{AppendsFront};
 ghost use Rattle.mapcli.specs.Runs.{IsOutputOf, IsRefusalOf, OfInput, OfOutput, OneCounts};
 
-use crate::answers::push_answers;
+use crate::answers::{Crew, push_answers};
 use crate::device::{Input, Output};
 use crate::fault::Fault;
 use crate::gate::ClientGate;
@@ -13,9 +13,10 @@ use crate::options::Options;
 use crate::play::play;
 use crate::text::push_clients;
 use crate::whole::{read_all, write_all};
-use hashkeys::Salt;
 use script::Script;
 use std::alloc::Allocator;
+use std::sync::Wait;
+use std::thread::Threads;
 
 /// The script that the text is. It is refused where the text is no script, with its first bad line, and where
 /// memory runs out.
@@ -28,32 +29,36 @@ pub fn parse<A: Allocator + Clone>(alloc: A, text: &[u8]) -> Result<Script<A>, F
 }
 
 /// The output text of the script that the text is.
-fn output_of<G: ClientGate, A: Allocator + Clone>(
-    alloc: A,
-    text: &[u8],
-    salt: Salt,
-    gate: &G,
-) -> Result<Vec<u8, A>, Fault>
+fn output_of<
+    R: Threads + Wait + AllocGlobal + Sync,
+    G: ClientGate + Sync,
+    A: Allocator + Clone + Send + Sync,
+>(rt: &R, alloc: A, text: &[u8], options: &Options, gate: &G) -> Result<Vec<u8, A>, Fault>
     ensures { MatchResult result (λ bytes. IsOutputOf text.now bytes.items) (λ fault. IsRefusalOf text.now fault) }
 {
     let Script { blocks, queries } = parse(alloc.clone()?, text)?;
-    let played = play(alloc.clone()?, salt, blocks, gate)?;
+    let played = play(rt, alloc.clone()?, options, blocks, gate)?;
     let mut bytes = Vec::new(alloc.clone()?);
     push_clients(&mut bytes, &played.replies)?;
-    push_answers(alloc, &mut bytes, played.bin.entries(), &queries)?;
+    let crew = Crew {
+        workers: options.workers(),
+        gate,
+    };
+    push_answers(rt, rt.alloc(), &mut bytes, &played.map, &crew, &queries)?;
     Ok(bytes)
 }
 
-/// Reads the whole input, runs the script that it is, and writes the output text. Each client's calls are made in
-/// their order, and the gate is called before each. Nothing is written before all queries are answered; where a
-/// write fails, a beginning of the output text was written.
-pub fn run<I: Input, O: Output, G: ClientGate, A: Allocator + Clone>(
-    alloc: A,
-    input: &mut I,
-    output: &mut O,
-    options: &Options,
-    gate: &G,
-) -> Result<(), Fault>
+/// Reads the whole input, runs the script that it is, and writes the output text. The clients make their calls at the
+/// same time, each in a thread of its own, or in one that there is where no more can be started; each client's calls are
+/// made in their order, and the gate is called before each. Queries are answered by the workers of a pool. Nothing is written before all queries are answered; where a
+/// write fails, a beginning of the output text was written. It waits for its threads.
+pub fn run<
+    R: Threads + Wait + AllocGlobal + Sync,
+    I: Input,
+    O: Output,
+    G: ClientGate + Sync,
+    A: Allocator + Clone + Send + Sync,
+>(rt: &R, alloc: A, input: &mut I, output: &mut O, options: &Options, gate: &G) -> Result<(), Fault>
     ensures ok { OnOk result (OfOutput (I.remaining input.old) (λ bytes. Appends (O.contents output.old) (O.contents output.new) bytes)) }
     ensures fault { IfErr result (λ fault. (fault ≡ Fault.Device) ⊎ OfInput (I.remaining input.old) (λ text. IsRefusalOf text fault)) }
     ensures unwritten { OnErr result (O.failures output.new ≡ O.failures output.old → Keeps (O.contents output.old) (O.contents output.new)) }
@@ -62,6 +67,6 @@ pub fn run<I: Input, O: Output, G: ClientGate, A: Allocator + Clone>(
     ensures device { IsErrOf result Fault.Device ↔ ((I.failures input.new ≢ I.failures input.old) ⊎ (O.failures output.new ≢ O.failures output.old)) }
 {
     let text = read_all(alloc.clone()?, input)?;
-    let bytes = output_of(alloc, &text, options.salt(), gate)?;
+    let bytes = output_of(rt, alloc, &text, options, gate)?;
     write_all(output, &bytes)
 }

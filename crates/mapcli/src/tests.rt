@@ -1,56 +1,46 @@
 //! Runs of scripts, from the bytes of a script to the bytes that it prints.
-use crate::{ClientGate, Gate, OpenGate, Options, Reader, Writer, line, run, status};
+use crate::{OpenGate, Options, Reader, Writer, line, run, status};
 use hashkeys::Salt;
-use std::alloc::{AllocError, Global};
+use std::alloc::{AllocError, AllocGlobal};
 use std::process::Abort;
-use std::sync::atomic::AtomicU64;
-use std::sync::atomic::Ordering::SeqCst;
+use std::sync::Wait;
 use std::test::Fail;
+use std::thread::Threads;
 
 /// The status that a run of the script ends with, and all that it tells: the output text, or the line of the fault.
-pub(crate) fn told(
-    rt: &impl Abort,
-    alloc: Global,
+pub(crate) fn told<R: Threads + Wait + Sync + Abort + AllocGlobal>(
+    rt: &R,
     script: &[u8],
     options: &Options,
 ) -> Result<(u8, Vec<u8>), AllocError> {
     let mut input = Reader::new(script);
-    let mut output = Writer::new(Vec::new(alloc));
-    match run(alloc, &mut input, &mut output, options, &OpenGate) {
+    let mut output = Writer::new(Vec::new(rt.alloc()));
+    match run(rt, rt.alloc(), &mut input, &mut output, options, &OpenGate) {
         Ok(()) => Ok((0, output.inner)),
         Err(fault) => {
             assert!(rt; output.inner.is_empty());
-            Ok((status(&fault), line(alloc, &fault)?.into_bytes()))
+            Ok((status(&fault), line(rt.alloc(), &fault)?.into_bytes()))
         }
     }
 }
 
-pub(crate) fn check(
-    rt: &impl Abort,
-    alloc: Global,
+pub(crate) fn check<R: Threads + Wait + Sync + Abort + AllocGlobal>(
+    rt: &R,
     script: &[u8],
     wanted_status: u8,
     wanted: &str,
 ) -> Result<(), Fail> {
-    check_with(
-        rt,
-        alloc,
-        &Options::new(4, 16)?,
-        script,
-        wanted_status,
-        wanted,
-    )
+    check_with(rt, &Options::new(4, 16)?, script, wanted_status, wanted)
 }
 
-fn check_with(
-    rt: &impl Abort,
-    alloc: Global,
+pub(crate) fn check_with<R: Threads + Wait + Sync + Abort + AllocGlobal>(
+    rt: &R,
     options: &Options,
     script: &[u8],
     wanted_status: u8,
     wanted: &str,
 ) -> Result<(), Fail> {
-    let (status, text) = told(rt, alloc, script, options)?;
+    let (status, text) = told(rt, script, options)?;
     assert_eq!(rt; text.as_slice(), wanted.as_bytes());
     assert_eq!(rt; status, wanted_status);
     Ok(())
@@ -61,7 +51,7 @@ pub(crate) const PUT_AND_GET: &[u8] = b"client\nput a 1\nget a\nquery\ncount\n";
 
 #[test]
 fn scripts_print_their_rows(rt: HostRuntime) -> Result<(), Fail> {
-    let rows: [(&str, &str); 14] = [
+    let rows: [(&str, &str); 13] = [
         (
             "client\nput apples 3\nput pears 5\nmerge apples 4 sum\nclient\nput plums -2\nput_if_absent plums 9\ncontains plums\nquery\ncount\nreduce sum 1\nreduce max 1\nsearch above 6 1\nlist 1\n",
             "client 0\nnone\nnone\nsome 7\nclient 1\nnone\nsome -2\ntrue\n3\n10\nsome 7\nsome 7\napples 7\npears 5\nplums -2\n",
@@ -77,10 +67,6 @@ fn scripts_print_their_rows(rt: HostRuntime) -> Result<(), Fail> {
         (
             "client\nput a 1\nget a\nclient\nput b 2\nremove b\nquery\ncount\n",
             "client 0\nnone\nsome 1\nclient 1\nnone\nsome 2\n1\n",
-        ),
-        (
-            "client\nput a 1\nclient\nput a 2\nquery\ncount\n",
-            "client 0\nnone\nclient 1\nsome 1\n1\n",
         ),
         (
             "client\nquery\ncount\nreduce sum 1\nreduce max 1\nlist 1\n",
@@ -117,7 +103,7 @@ fn scripts_print_their_rows(rt: HostRuntime) -> Result<(), Fail> {
         ),
     ];
     for (script, wanted) in rows {
-        check(&rt, rt.alloc(), script.as_bytes(), 0, wanted)?;
+        check(&rt, script.as_bytes(), 0, wanted)?;
     }
     Ok(())
 }
@@ -147,7 +133,7 @@ fn functions_make_what_their_vectors_say(rt: HostRuntime) -> Result<(), Fail> {
         ),
     ];
     for (script, wanted) in rows {
-        check(&rt, rt.alloc(), script.as_bytes(), 0, wanted)?;
+        check(&rt, script.as_bytes(), 0, wanted)?;
     }
     Ok(())
 }
@@ -160,7 +146,6 @@ fn a_search_finds_a_value_above_its_bound_alone(rt: HostRuntime) -> Result<(), F
     script.push_str("query\nsearch above 10 1\n")?;
     check(
         &rt,
-        rt.alloc(),
         script.as_bytes(),
         0,
         "client 0\nnone\nnone\nnone\nnone\nnone\nnone\nnone\nnone\nnone\nnone\nnone\n",
@@ -169,7 +154,6 @@ fn a_search_finds_a_value_above_its_bound_alone(rt: HostRuntime) -> Result<(), F
     script.push_str("put k11 11\nquery\nsearch above 10 1\n")?;
     check(
         &rt,
-        rt.alloc(),
         script.as_bytes(),
         0,
         "client 0\nnone\nnone\nnone\nnone\nnone\nnone\nnone\nnone\nnone\nnone\nnone\nsome 11\n",
@@ -181,10 +165,9 @@ fn a_search_finds_a_value_above_its_bound_alone(rt: HostRuntime) -> Result<(), F
 fn keys_of_one_code_are_two_keys(rt: HostRuntime) -> Result<(), Fail> {
     let script = b"client\nput Aa 1\nput BB 2\nquery\ncount\nlist 1\n";
     let wanted = "client 0\nnone\nnone\n2\nAa 1\nBB 2\n";
-    check_with(&rt, rt.alloc(), &Options::new(4, 4096)?, script, 0, wanted)?;
+    check_with(&rt, &Options::new(4, 4096)?, script, 0, wanted)?;
     check_with(
         &rt,
-        rt.alloc(),
         &Options::with_salt(1, 1, Salt(4294967295))?,
         script,
         0,
@@ -230,7 +213,7 @@ fn bad_scripts_print_nothing_and_name_their_first_bad_line(rt: HostRuntime) -> R
         ),
     ];
     for (script, wanted) in rows {
-        check(&rt, rt.alloc(), script.as_bytes(), 1, wanted)?;
+        check(&rt, script.as_bytes(), 1, wanted)?;
     }
     Ok(())
 }
@@ -256,55 +239,8 @@ fn beginnings_of_a_script(rt: HostRuntime) -> Result<(), Fail> {
             let Some(beginning) = PUT_AND_GET.get(..length) else {
                 panic!(rt; "no beginning of {length} bytes");
             };
-            check(&rt, rt.alloc(), beginning, wanted_status, wanted)?;
+            check(&rt, beginning, wanted_status, wanted)?;
         }
     }
-    check(
-        &rt,
-        rt.alloc(),
-        PUT_AND_GET,
-        0,
-        "client 0\nnone\nsome 1\n1\n",
-    )
-}
-
-/// Counts calls, and those that came in another place than their client and number say.
-#[derive(Drop)]
-struct Counting {
-    calls: AtomicU64,
-    misplaced: AtomicU64,
-}
-
-impl Gate for Counting {
-    fn leaf(&self, _worker: usize, _lo: usize, _hi: usize) {}
-}
-
-impl ClientGate for Counting {
-    fn call(&self, client: usize, ordinal: u64) {
-        let place = self.calls.fetch_add(1, SeqCst);
-        if (client, ordinal) != (usize::from(place >= 2), place % 2) {
-            self.misplaced.fetch_add(1, SeqCst);
-        }
-    }
-}
-
-/// Two clients of two calls each.
-#[test]
-fn the_gate_sees_each_call_in_its_place(rt: HostRuntime) -> Result<(), Fail> {
-    let script = b"client\nput a 1\nget a\nclient\nget b\nremove a\nquery\n";
-    let gate = Counting {
-        calls: AtomicU64::new(0),
-        misplaced: AtomicU64::new(0),
-    };
-    let mut output = Writer::new(Vec::new(rt.alloc()));
-    run(
-        rt.alloc(),
-        &mut Reader::new(script.as_slice()),
-        &mut output,
-        &Options::new(4, 16)?,
-        &gate,
-    )?;
-    assert_eq!(rt; gate.calls.load(SeqCst), 4);
-    assert_eq!(rt; gate.misplaced.load(SeqCst), 0);
-    Ok(())
+    check(&rt, PUT_AND_GET, 0, "client 0\nnone\nsome 1\n1\n")
 }

@@ -27,6 +27,17 @@ pub(crate) fn push_number<I: Integer, A: Allocator>(
     push(text, buffer.format(number).as_bytes())
 }
 
+/// Appends a number, and ends the line.
+pub(crate) fn push_number_line<I: Integer, A: Allocator>(
+    text: &mut Vec<u8, A>,
+    number: I,
+) -> Result<(), AllocError>
+    ensures { OnOk result (text.new.items ≡ text.old.items ++ ended (I.text number)) }
+{
+    push_number(text, number)?;
+    push(text, b"\n")
+}
+
 /// Appends `some V` or `none`, and ends the line.
 pub(crate) fn push_option<A: Allocator>(
     text: &mut Vec<u8, A>,

@@ -132,7 +132,7 @@ Leads-within _ _ _ (next_client blocks block few) h =
     (omega (arith, length_push blocks block), All-push (λ (b : List ScriptCall). length b ≤ 1000000) blocks block h.1 h.2, omega arith)
 Leads-within _ _ _ (next_call blocks block c few) h = (h.0, h.1, omega (arith, length_push block c))
 Leads-within _ _ _ (first_query blocks block) h =
-    record { few = omega (arith, length_push blocks block); short = All-push (λ (b : List ScriptCall). length b ≤ 1000000) blocks block h.1 h.2 }
+    record { some = omega (arith, length_push blocks block); few = omega (arith, length_push blocks block); short = All-push (λ (b : List ScriptCall). length b ≤ 1000000) blocks block h.1 h.2 }
 Leads-within _ _ _ (next_query blocks asked q) h = h
 
 pub IsRead-within : (p : Place) (n : ℕ) (text : List ℕ) (v : Verdict) → IsRead p n text v → Within p → AreWithin v

@@ -1,5 +1,5 @@
 -- What a text is, and what its reading answers.
-use Rattle.std.specs.Prelude.{◌≡◌, ℕ, ◌≤◌, List, length, All, map}
+use Rattle.std.specs.Prelude.{◌≡◌, ℕ, ◌<◌, ◌≤◌, List, length, All, map}
 use Rattle.script.specs.Grammar.{ScriptCall}
 use Rattle.script.specs.Reading.{start, Verdict, whole, faulty, IsRead}
 use Rattle.script.specs.declared.script.Script.{Script}
@@ -28,8 +28,9 @@ IsText text s = IsJust text (whole (blocks_of s) s.queries.items)
 abbrev pub IsFaulty : List ℕ → ℕ → Kind → Type 0
 IsFaulty text n kind = IsJust text (faulty n kind)
 
--- there are at most 32 blocks, each of at most 1,000,000 calls
+-- there are 1 to 32 blocks, each of at most 1,000,000 calls
 pub record IsWithinLimits (blocks : List (List ScriptCall)) : Type 0 where
+  pub some : 0 < length blocks
   pub few : length blocks ≤ 32
   pub short : All (λ b. length b ≤ 1000000) blocks
 

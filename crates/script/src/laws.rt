@@ -10,7 +10,7 @@ pub fn one_verdict()
     ensures { (text : List ℕ) (u v : Verdict) → HasVerdict text u → HasVerdict text v → u ≡ v }
 {}
 
-/// A script has at most 32 blocks, each of at most 1,000,000 calls.
+/// A script has 1 to 32 blocks, each of at most 1,000,000 calls.
 pub fn scripts_are_within_limits()
     ensures { (text : List ℕ) (blocks : List (List ScriptCall)) (asked : List Query) → HasVerdict text (whole blocks asked) → IsWithinLimits blocks }
 {}

@@ -1,13 +1,8 @@
-use Rattle.std.proofs.Common.{FitsSigned, arith, rules}
-use Rattle.std.proofs.lemmas.Int.{to_z-of_z}
-use Rattle.std.specs.Int.{w64}
-use Rattle.mapcli.proofs.Values.{values_more, IsGreatest-push}
+use Rattle.std.proofs.Common.{ℤ, Option, map, sym, subst}
+use Rattle.chm.specs.Quiets.{entries_of}
+use Rattle.mapcli.specs.Texts.{IsGreatest}
+use Rattle.mapcli.proofs.Reduced.{greatest-folded}
 use Rattle.mapcli.proofs.answers.greatest.Goals as goal
 
-pub loop-value-preserved : goal.loop-value-preserved
-loop-value-preserved c =
-    let v = c.loop-value-item.result.1 in
-    let fits : FitsSigned w64 v = search rules in
-    let best = simp to_z-of_z at c.greater-best.ensures in
-    rw (values_more c.args.pairs.now c.loop-value.value-index c.loop-value-item.result (omega arith) c.loop-value-item.is, best)
-    (IsGreatest-push _ c.loop-value.best v c.loop-value.invariant)
+pub returns-in-Ok : goal.returns-in-Ok
+returns-in-Ok g c = subst (IsGreatest (map (λ e. e.1) (entries_of c.args.quiet.now.bins))) (sym c.in-Ok.ensures.fold) (greatest-folded (entries_of c.args.quiet.now.bins))

@@ -1,4 +1,5 @@
 use Rattle.std.proofs.Common.{ℕ, List, ◌++◌, ap, ◌∙◌, arith, append_assoc}
+use Rattle.chm.specs.Quiets.{entries_of}
 use Rattle.std.proofs.lemmas.List.{take_more}
 use Rattle.mapcli.proofs.Answered.{AnswersAll-push}
 use Rattle.mapcli.proofs.answers.push_answers.Goals as goal
@@ -9,6 +10,6 @@ loop-query-preserved g c =
     let (answer, one, more) = c.in_ok-push_answer.ensures in
     let next = take_more c.args.queries.now c.loop-query.query-index _ (omega arith) in (
       answers ++ answer,
-      rw next (AnswersAll-push c.args.pairs.now _ _ answers answer all one),
+      rw next (AnswersAll-push (entries_of c.args.quiet.now.bins) _ _ answers answer all one),
       more ∙ ap (λ (t : List ℕ). t ++ answer) text ∙ append_assoc c.args.text.now.items answers answer,
     )

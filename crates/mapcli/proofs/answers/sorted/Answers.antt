@@ -1,13 +1,10 @@
-use Rattle.std.proofs.Common.{◌≡◌, false, refl, is_lt}
+use Rattle.std.proofs.Common.{◌≡◌, false, refl, is_lt, IsPermutation, List, sym, subst, ◌∙◌}
 use Rattle.std.specs.declared.cmp.Ordering.{Ordering}
 use Rattle.std.specs.declared.cmp.Ordering.TheVariants.{Less, Equal, Greater}
 use Rattle.std.specs.Ordering.{ordering_then}
+use Rattle.chm.specs.Quiets.{entries_of}
+use Rattle.mapcli.proofs.Reduced.{answers-pairs}
 use Rattle.mapcli.proofs.answers.sorted.Goals as goal
 
-first_not_less : (first second : Ordering) → is_lt (ordering_then first second) ≡ false → is_lt first ≡ false
-first_not_less Less second h = h
-first_not_less Equal second h = refl
-first_not_less Greater second h = refl
-
-pub returns-clause-sorted : goal.returns-clause-sorted
-returns-clause-sorted g c = λ k d low high. first_not_less _ _ (c.sort_unstable.ensures.sorted k d low high)
+pub returns-clause-permutation : goal.returns-clause-permutation
+returns-clause-permutation g c = subst (λ (l : List (_ × _)). IsPermutation l c.sort_unstable.new.self.items) (c.in-Ok.ensures.answers ∙ answers-pairs (entries_of c.args.quiet.now.bins)) c.sort_unstable.ensures.permutation

@@ -1,13 +1,11 @@
-use Rattle.std.proofs.Common.{map, take, FitsSigned, arith, rules, ap, ◌∙◌}
-use Rattle.std.proofs.lemmas.Int.{ints}
-use Rattle.std.specs.Int.{w64}
-use Rattle.mapcli.proofs.Values.{values_more, sum_of-push}
-use Rattle.mapcli.specs.Texts.{sum_of}
+use Rattle.std.proofs.Common.{◌∙◌, FitsSigned, rules}
+use Rattle.std.proofs.lemmas.Int.{to_z-of_z}
+use Rattle.std.specs.Int.{w128}
+use Rattle.chm.specs.Quiets.{entries_of}
+use Rattle.mapcli.proofs.Reduced.{sum-folded}
 use Rattle.mapcli.proofs.answers.sum_of.Goals as goal
 
-pub loop-value-preserved : goal.loop-value-preserved
-loop-value-preserved c =
-    let more = values_more c.args.pairs.now c.loop-value.value-index c.loop-value-item.result (omega arith) c.loop-value-item.is in
-    let push = ap sum_of more ∙ sum_of-push (map (λ e. e.1) (take c.loop-value.value-index c.args.pairs.now)) c.loop-value-item.result.1 in
-    let fits : FitsSigned w64 c.loop-value-item.result.1 = search rules in
-    (omega (arith, ints, push, c.from-sum.ensures), omega (arith, ints, c.from-sum.ensures), omega (arith, ints, c.from-sum.ensures))
+pub returns-in-Ok : goal.returns-in-Ok
+returns-in-Ok g c =
+    let fits : FitsSigned w128 c.in-Ok.sum = search rules in
+    simp (to_z-of_z, fits) (c.in-Ok.ensures.fold ∙ sum-folded (entries_of c.args.quiet.now.bins))

@@ -1,26 +1,31 @@
-use Rattle.std.proofs.Common.{◌≡◌, ◌++◌, [], ◌∷◌, Vec, sym, ap, ◌∙◌, arith, rules, append_assoc}
-use Rattle.std.proofs.lemmas.Grind.{common_steps}
-use Rattle.std.proofs.lemmas.List.{map-append, length-map, length_push}
-use Rattle.mapcli.proofs.Kept.{IsKept-more}
-use Rattle.mapcli.proofs.Allowed.{IsAllowed-kept}
+use Rattle.std.proofs.Common.{◌≡◌, Vec, ap, subst, sym, ◌∙◌, arith, inl, inr}
+use Rattle.std.proofs.lemmas.List.{length-map}
+use Rattle.chm.specs.Closing.{NotClosedView}
+use Rattle.mapcli.specs.Played.{ArePlayed, lists_of}
+use Rattle.mapcli.proofs.Allowed.{IsAllowed-closed}
 use Rattle.mapcli.proofs.play.play.Goals as goal
 
-pub loop-calls-preserved : goal.loop-calls-preserved
-loop-calls-preserved g c =
-    let (kept, whole, history, is_kept, rest, count, room) = c.loop-calls.invariant in
-    let (rs, own, told_is, answered, goes_on) = c.in_ok-play_block.ensures.made in (
-      kept ++ rs,
-      c.in_ok-play_block.ensures.bin,
-      goes_on kept history,
-      rw (map-append (λ (b : Vec _ _). b.items) c.loop-calls.yielded (c.in-Some.calls ∷ []), c.push_reserved.ensures.items, map-append (λ (b : Vec _ _). b.items) c.loop-calls.replies.items (c.in_ok-play_block.field-0 ∷ []))
-          (IsKept-more _ _ kept rs _ _ _ is_kept (omega (arith, length-map c.loop-calls.yielded (λ (b : Vec _ _). b.items))) own told_is answered),
-      append_assoc c.loop-calls.yielded _ _ ∙ ap (λ (cs : _). c.loop-calls.yielded ++ cs) (sym c.in-Some.ensures.steps.0) ∙ rest,
-      omega (arith, length_push c.loop-calls.yielded c.in-Some.calls),
-      omega (arith, c.in-Some.ensures.steps),
-    )
+pub returns-in-Ok-close-clause-ok : goal.returns-in-Ok-close-clause-ok
+returns-in-Ok-close-clause-ok g c =
+    let ledger = c.in-Ok-close.ensures.ledger in
+    IsAllowed-closed (lists_of c.args.blocks) (lists_of c.in-Ok-play_blocks.replies) c.in-Ok-close.map c.lawful.ensures
+    (ap (λ l. l.opening) ledger ∙ c.in-Ok.ensures.opening)
+    (let clients : c.in-Ok-close.map.ledger.clients ≡ c.len.result = ap (λ l. l.clients) ledger ∙ c.in-Ok.ensures.clients in omega (arith, c.len.ensures, length-map c.args.blocks.items (λ (b : Vec _ _). b.items)))
+    (subst (ArePlayed (lists_of c.args.blocks) (lists_of c.in-Ok-play_blocks.replies)) (sym c.in-Ok-close.ensures.passes) c.in-Ok-play_blocks.ensures.played)
 
-pub returns : goal.returns
-returns g c =
-    let (kept, whole, history, is_kept, rest, count, room) = c.loop-calls.invariant in
-    let done : c.loop-calls.yielded ≡ c.args.blocks.items = search (rules, common_steps) in
-    rw (← done) (IsAllowed-kept _ _ kept _ is_kept history c.lawful.ensures.lawful c.lawful.ensures.replayed)
+pub refused-requires-in-Err-close : goal.refused-requires-in-Err-close
+refused-requires-in-Err-close g c =
+    let refused = c.in-Err-close.ensures.refused in
+    let same : c.not_closed.inside.fault ≡ c.in-Err-close.not_closed.fault = ap (λ (e : NotClosedView _ _ _). e.fault) c.not_closed.view_is in
+    elim refused.faults [
+      | inl memory ↦ inl (same ∙ memory)
+      | inr others ↦
+          elim others [
+            | inl missing ↦
+                let few = refused.missing.0 missing in
+                let clients = c.in-Ok.ensures.clients in
+                let many = c.in-Ok-play_blocks.ensures.played.as_many in
+                absurd (omega (arith, c.len.ensures, length-map c.args.blocks.items (λ (b : Vec _ _). b.items)))
+            | inr bins ↦ inr (same ∙ bins)
+          ]
+    ]

@@ -1,0 +1,5 @@
+pub mod Ranges
+pub mod Folding
+pub mod Probing
+pub mod Orders
+pub mod Wrapped

@@ -1,0 +1,30 @@
+-- The entries of bins side by side.
+use Rattle.std.proofs.Common.{◌≡◌, ◌<◌, [], ◌∷◌, length, get_or, ℕ, ◌+◌, ◌-◌, ◌≤◌, List, ◌++◌, take, drop, ap, sym, ◌∙◌, arith}
+use Rattle.std.specs.Prelude.{slice_range}
+use Rattle.std.proofs.Math.Seq.{take-add}
+use Rattle.std.proofs.lemmas.List.{drop-drop, take-append-drop, take_more, append-nil}
+use Rattle.std.proofs.lemmas.Grind.{flat_map-append}
+use Rattle.bin_history.specs.Lawful.{BinView}
+use Rattle.chm.specs.Quiets.{entries_of}
+
+slices : {X : Type 0} → (xs : List X) (lo mid hi : ℕ) → lo ≤ mid → mid ≤ hi → slice_range xs lo mid ++ slice_range xs mid hi ≡ slice_range xs lo hi
+slices xs lo mid hi p q =
+    let here : lo + (mid - lo) ≡ mid = omega arith in
+    let size : (mid - lo) + (hi - mid) ≡ hi - lo = omega arith in
+    let rest : drop (mid - lo) (drop lo xs) ≡ drop mid xs = drop-drop (mid - lo) lo xs ∙ ap (λ n. drop n xs) here in
+    let both : take (hi - lo) (drop lo xs) ≡ take (mid - lo) (drop lo xs) ++ take (hi - mid) (drop (mid - lo) (drop lo xs)) =
+    ap (λ n. take n (drop lo xs)) (sym size) ∙ take-add (mid - lo) (hi - mid) (drop lo xs) in
+    sym (both ∙ ap (λ ys. take (mid - lo) (drop lo xs) ++ take (hi - mid) ys) rest)
+
+pub entries_side_by_side : {K V F : Type 0} → (bins : List (BinView K V F)) (lo mid hi : ℕ) → lo ≤ mid → mid ≤ hi
+    → entries_of (slice_range bins lo mid) ++ entries_of (slice_range bins mid hi) ≡ entries_of (slice_range bins lo hi)
+entries_side_by_side bins lo mid hi p q =
+    sym (flat_map-append (λ b. b.entries) (slice_range bins lo mid) (slice_range bins mid hi)) ∙ ap entries_of (slices bins lo mid hi p q)
+
+pub entries_rest : {K V F : Type 0} → (bins : List (BinView K V F)) (i : ℕ) → entries_of (take i bins) ++ entries_of (drop i bins) ≡ entries_of bins
+entries_rest bins i = sym (flat_map-append (λ b. b.entries) (take i bins) (drop i bins)) ∙ ap entries_of (take-append-drop i bins)
+
+pub entries_more : {K V F : Type 0} → (bins : List (BinView K V F)) (i : ℕ) (d : BinView K V F) → i < length bins → entries_of (take i bins) ++ (get_or bins i d).entries ≡ entries_of (take (i + 1) bins)
+entries_more bins i d h =
+    ap (λ es. entries_of (take i bins) ++ es) (sym (append-nil (get_or bins i d).entries))
+    ∙ sym (flat_map-append (λ b. b.entries) (take i bins) (get_or bins i d ∷ [])) ∙ ap entries_of (sym (take_more bins i d h))

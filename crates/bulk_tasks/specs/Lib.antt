@@ -1,0 +1,5 @@
+pub mod Folds
+pub mod Searches
+pub mod Actions
+pub mod Batches
+pub mod Plans

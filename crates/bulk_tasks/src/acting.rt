@@ -1,0 +1,90 @@
+//! What an action answers for all entries.
+ghost use Rattle.std.specs.Prelude.{◌≡◌, IfOk};
+ghost use Rattle.chm.specs.Quiets.{entries_of};
+ghost use Rattle.bulk_tasks.specs.Actions.{answers};
+ghost use Rattle.bulk_tasks.specs.Plans.{IsPlanned};
+
+use crate::collector::Collector;
+use crate::fault::BulkFault;
+use crate::gather::gather;
+use crate::plan::Plan;
+use crate::traits::Action;
+use bin_history::Remap;
+use chm::Quiet;
+use hashkeys::HashKey;
+use std::alloc::{AllocError, Allocator, Global};
+use std::sync::Wait;
+use std::thread::Threads;
+use steal_pool::Gate;
+
+/// Collects what an action answers.
+#[derive(Drop)]
+pub(crate) struct Acting<'a, X> {
+    alloc: Global,
+    action: &'a X,
+}
+
+impl<K, V, X: Action<K, V>> Collector<K, V> for Acting<'_, X> {
+    ghost use Rattle.std.specs.Prelude.{◌≡◌, IfOk};
+    ghost use Rattle.bulk_tasks.specs.Actions.{answers};
+
+    type Part = Result<Vec<X::R>, AllocError>;
+
+    ghost collected = { λ c es part. IfOk part (λ list. list.items ≡ answers (X.acted c.action.now) es) };
+
+    fn start(&self) -> Result<Vec<X::R>, AllocError> {
+        Ok(Vec::new(self.alloc))
+    }
+
+    fn add(
+        &self,
+        part: Result<Vec<X::R>, AllocError>,
+        key: &K,
+        value: &V,
+    ) -> Result<Vec<X::R>, AllocError> {
+        let mut list = part?;
+        let answer = self.action.act(key, value)?;
+        list.push(answer)?;
+        Ok(list)
+    }
+
+    fn append(
+        &self,
+        left: Result<Vec<X::R>, AllocError>,
+        right: Result<Vec<X::R>, AllocError>,
+    ) -> Result<Vec<X::R>, AllocError> {
+        let mut list = left?;
+        let mut more = right?;
+        list.append(&mut more)?;
+        Ok(list)
+    }
+
+    fn is_settled(&self, part: &Result<Vec<X::R>, AllocError>) -> bool {
+        part.is_err()
+    }
+}
+
+/// Does the action with each entry. The answers come in walk order, one an entry. Where it is refused memory, what was done is done, and nothing is answered. It waits for its workers.
+pub fn for_each<
+    K: HashKey + Send + Sync,
+    V: Clone + Eq + Send + Sync,
+    F: Remap<K, V> + Clone + Send + Sync,
+    A: Allocator + Clone + Send + Sync,
+    X: Action<K, V> + Sync,
+    G: Gate + Sync,
+    Rt: Threads + Wait + Sync,
+>(
+    rt: &Rt,
+    alloc: Global,
+    quiet: &Quiet<K, V, F, A>,
+    plan: &Plan<'_, G>,
+    action: &X,
+) -> Result<Vec<X::R>, BulkFault>
+where
+    X::R: Send,
+    ensures answers { IfOk result (λ list. list.items ≡ answers (X.acted action.now) (entries_of quiet.now.bins)) }
+    ensures workers { IsPlanned plan.now.workers result }
+{
+    plan.check()?;
+    Ok(gather(rt, alloc, quiet, plan, &Acting { alloc, action })?)
+}

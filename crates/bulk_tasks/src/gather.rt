@@ -1,0 +1,40 @@
+//! What the workers of a pool collect.
+ghost use Rattle.std.specs.Prelude.{◌≡◌};
+ghost use Rattle.chm.specs.Quiets.{entries_of};
+ghost use Rattle.bulk_tasks.specs.Plans.{AreWorkers};
+
+use crate::batches::batch;
+use crate::collector::{Collecting, Collector};
+use crate::plan::Plan;
+use bin_history::Remap;
+use chm::Quiet;
+use hashkeys::HashKey;
+use std::alloc::{Allocator, Global};
+use std::sync::Wait;
+use std::thread::Threads;
+use steal_pool::{Gate, run};
+
+/// What the entries of a closed map give, in walk order, whichever worker took which.
+pub(crate) fn gather<
+    K: HashKey + Send + Sync,
+    V: Clone + Eq + Send + Sync,
+    F: Remap<K, V> + Clone + Send + Sync,
+    A: Allocator + Clone + Send + Sync,
+    C: Collector<K, V> + Sync,
+    G: Gate + Sync,
+    Rt: Threads + Wait + Sync,
+>(rt: &Rt, alloc: Global, quiet: &Quiet<K, V, F, A>, plan: &Plan<'_, G>, collector: &C) -> C::Part
+where
+    C::Part: Send,
+    requires { AreWorkers plan.now.workers }
+    ensures { C.collected collector.now (entries_of quiet.now.bins) result }
+{
+    let count = quiet.mapping_count();
+    if count == 0 {
+        return collector.start();
+    }
+    let bins = quiet.bins();
+    let batch = batch(count, plan.threshold, plan.workers);
+    let body = Collecting { bins, collector };
+    run(rt, alloc, plan.workers, plan.gate, &body, bins.len(), batch)
+}

@@ -1,0 +1,27 @@
+//! Bulk operations on a closed map: `reduce`, `reduce_based`, `search` and `for_each`. Each halves the range of the map's bins into tasks, which the workers of a pool share, and
+//! answers what one thread answers that goes over the entries in walk order, whoever did which task.
+#![tactic(auto)]
+
+mod acting;
+mod batches;
+mod collector;
+mod fault;
+mod gather;
+mod plan;
+mod reducers;
+mod reducing;
+#[cfg(test)]
+mod samples;
+mod searching;
+#[cfg(test)]
+mod tests;
+mod traits;
+
+pub use acting::for_each;
+pub use batches::batch;
+pub use fault::BulkFault;
+pub use plan::Plan;
+pub use reducers::{Greatest, Sum};
+pub use reducing::{reduce, reduce_based};
+pub use searching::search;
+pub use traits::{Action, BasedReducer, Probe, Reducer};

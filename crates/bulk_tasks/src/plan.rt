@@ -1,0 +1,28 @@
+//! How a bulk operation is to be done.
+ghost use Rattle.std.specs.Prelude.{◌≡◌, IfErr};
+
+use crate::fault::BulkFault;
+
+/// How a bulk operation is shared out. The threshold is the least number of entries worth a task of their own (`batch` has the whole rule); there are 1 to 16 workers, the caller among
+/// them; and the gate is called before each task.
+#[derive(Drop, Debug)]
+pub struct Plan<'a, G> {
+    pub threshold: u64,
+    pub workers: usize,
+    pub gate: &'a G,
+}
+
+impl<G> Plan<'_, G> {
+    ghost use Rattle.bulk_tasks.specs.Plans.{IsPlanned};
+
+    // Refuses a bad number of workers.
+    pub(crate) fn check(&self) -> Result<(), BulkFault>
+        ensures workers { IsPlanned self.now.workers result }
+        ensures faults { IfErr result (λ f. f ≡ BulkFault.BadWorkers) }
+    {
+        if self.workers == 0 || self.workers > 16 {
+            return Err(BulkFault::BadWorkers);
+        }
+        Ok(())
+    }
+}

@@ -1,0 +1,152 @@
+//! Reductions of all entries to one value.
+ghost use Rattle.std.specs.Prelude.{◌≡◌, List, IfOk, IsOk, IsErrOf, IsTrue};
+ghost use Rattle.std.specs.List.Sorted.{IsPermutation};
+ghost use Rattle.chm.specs.Quiets.{entries_of};
+ghost use Rattle.bulk_tasks.specs.Folds.{fold_from, plain_fold, FoldsInAnyOrder};
+ghost use Rattle.bulk_tasks.specs.Plans.{IsPlanned};
+
+use crate::collector::Collector;
+use crate::fault::BulkFault;
+use crate::gather::gather;
+use crate::plan::Plan;
+use crate::traits::{BasedReducer, Reducer};
+use bin_history::Remap;
+use chm::Quiet;
+use hashkeys::HashKey;
+use std::alloc::{AllocError, Allocator, Global};
+use std::sync::Wait;
+use std::thread::Threads;
+use steal_pool::Gate;
+
+/// Collects the fold of the pairs by a reducer.
+#[derive(Drop)]
+pub(crate) struct Folding<'a, R> {
+    reducer: &'a R,
+}
+
+impl<K, V, R: Reducer<K, V>> Collector<K, V> for Folding<'_, R> {
+    ghost use Rattle.bulk_tasks.specs.Folds.{IsFolded};
+
+    type Part = Result<Option<R::A>, AllocError>;
+
+    ghost collected = { λ c es part. IsFolded (R.lifted c.reducer.now) (R.joined c.reducer.now) R.never_refuses es part };
+
+    fn start(&self) -> Result<Option<R::A>, AllocError> {
+        Ok(None)
+    }
+
+    fn add(
+        &self,
+        part: Result<Option<R::A>, AllocError>,
+        key: &K,
+        value: &V,
+    ) -> Result<Option<R::A>, AllocError> {
+        let folded = part?;
+        let lifted = self.reducer.lift(key, value)?;
+        match folded {
+            None => Ok(Some(lifted)),
+            Some(folded) => Ok(Some(self.reducer.join(folded, lifted)?)),
+        }
+    }
+
+    fn append(
+        &self,
+        left: Result<Option<R::A>, AllocError>,
+        right: Result<Option<R::A>, AllocError>,
+    ) -> Result<Option<R::A>, AllocError> {
+        let left = left?;
+        let right = right?;
+        let Some(first) = left else {
+            return Ok(right);
+        };
+        match right {
+            None => Ok(Some(first)),
+            Some(second) => Ok(Some(self.reducer.join(first, second)?)),
+        }
+    }
+
+    fn is_settled(&self, part: &Result<Option<R::A>, AllocError>) -> bool {
+        part.is_err()
+    }
+}
+
+// Whatever order pairs stand in, the reducer folds them to the same. It does nothing when it runs.
+fn any_order<K, V, R: Reducer<K, V>>(reducer: &R)
+    ensures { FoldsInAnyOrder (R.lifted reducer.now) (R.joined reducer.now) }
+{
+    let _ = reducer;
+}
+
+// The fold from a basis, of the plain fold.
+fn join_onto<K, V, R: Reducer<K, V>>(
+    reducer: &R,
+    basis: R::A,
+    folded: Option<R::A>,
+) -> Result<R::A, AllocError>
+    ensures fold { IfOk result (λ a. (es : List (K × V)) → folded ≡ plain_fold (R.lifted reducer.now) (R.joined reducer.now) es → a ≡ fold_from (R.lifted reducer.now) (R.joined reducer.now) basis es) }
+    ensures total { IsTrue R.never_refuses → IsOk result }
+{
+    match folded {
+        None => Ok(basis),
+        Some(folded) => Ok(reducer.join(basis, folded)?),
+    }
+}
+
+/// The value of all entries by the reducer: what lifting each and joining from left to right in walk order gives; none of no entries. With a reducer that never refuses it is refused a bad
+/// number of workers alone. It waits for its workers.
+pub fn reduce<
+    K: HashKey + Send + Sync,
+    V: Clone + Eq + Send + Sync,
+    F: Remap<K, V> + Clone + Send + Sync,
+    A: Allocator + Clone + Send + Sync,
+    R: Reducer<K, V> + Sync,
+    G: Gate + Sync,
+    Rt: Threads + Wait + Sync,
+>(
+    rt: &Rt,
+    alloc: Global,
+    quiet: &Quiet<K, V, F, A>,
+    plan: &Plan<'_, G>,
+    reducer: &R,
+) -> Result<Option<R::A>, BulkFault>
+where
+    R::A: Send,
+    ensures fold { IfOk result (λ a. a ≡ plain_fold (R.lifted reducer.now) (R.joined reducer.now) (entries_of quiet.now.bins)) }
+    ensures order { IfOk result (λ a. (es : List (K × V)) → IsPermutation (entries_of quiet.now.bins) es → a ≡ plain_fold (R.lifted reducer.now) (R.joined reducer.now) es) }
+    ensures workers { IsPlanned plan.now.workers result }
+    ensures total { IsTrue R.never_refuses → ¬ IsErrOf result BulkFault.NoMemory }
+{
+    plan.check()?;
+    any_order(reducer);
+    Ok(gather(rt, alloc, quiet, plan, &Folding { reducer })?)
+}
+
+/// The value of all entries by the reducer, as `reduce` gives it, from the reducer's basis on.
+pub fn reduce_based<
+    K: HashKey + Send + Sync,
+    V: Clone + Eq + Send + Sync,
+    F: Remap<K, V> + Clone + Send + Sync,
+    A: Allocator + Clone + Send + Sync,
+    R: BasedReducer<K, V> + Sync,
+    G: Gate + Sync,
+    Rt: Threads + Wait + Sync,
+>(
+    rt: &Rt,
+    alloc: Global,
+    quiet: &Quiet<K, V, F, A>,
+    plan: &Plan<'_, G>,
+    reducer: &R,
+) -> Result<R::A, BulkFault>
+where
+    R::A: Send,
+    ensures fold { IfOk result (λ a. a ≡ fold_from (R.lifted reducer.now) (R.joined reducer.now) (R.based reducer.now) (entries_of quiet.now.bins)) }
+    ensures order { IfOk result (λ a. (es : List (K × V)) → IsPermutation (entries_of quiet.now.bins) es → a ≡ fold_from (R.lifted reducer.now) (R.joined reducer.now) (R.based reducer.now) es) }
+    ensures workers { IsPlanned plan.now.workers result }
+    ensures total { IsTrue R.never_refuses → ¬ IsErrOf result BulkFault.NoMemory }
+{
+    plan.check()?;
+    any_order(reducer);
+    let basis = reducer.basis()?;
+    let folded = gather(rt, alloc, quiet, plan, &Folding { reducer })?;
+    Ok(join_onto(reducer, basis, folded)?)
+}

@@ -1,0 +1,219 @@
+//! What the tests run: closed maps at the program's keys, reducers, a probe, an action, and gates.
+ghost use Rattle.std.specs.Prelude.{◌≡◌};
+
+use crate::{Action, Probe, Reducer};
+use bin_history::Remap;
+use chm::{Map, NotClosed, Quiet};
+use count_ledger::Pass;
+use hashkeys::Key;
+use std::alloc::{AllocError, Global};
+use std::hint;
+use std::sync::Wait;
+use std::sync::atomic::AtomicU64;
+use std::sync::atomic::Ordering::SeqCst;
+use steal_pool::Gate;
+
+/// A remapping function that takes a value away. No test calls it.
+#[derive(Drop)]
+pub(crate) struct Forget;
+
+impl Clone for Forget {
+    ghost use Rattle.std.specs.Prelude.{◌≡◌};
+
+    ghost is_clone = { λ x y. y ≡ x };
+
+    fn clone(&self) -> Result<Forget, AllocError> {
+        Ok(Forget)
+    }
+}
+
+impl Remap<Key, i64> for Forget {
+    ghost use Rattle.std.specs.Prelude.{None};
+
+    ghost remapped = { λ _ _ _. None };
+
+    ghost merged = { λ _ _ _. None };
+
+    fn remap(&self, _key: &Key, _value: Option<&i64>) -> Result<Option<i64>, AllocError> {
+        Ok(None)
+    }
+
+    fn merge(&self, _old: &i64, _given: &i64) -> Result<Option<i64>, AllocError> {
+        Ok(None)
+    }
+}
+
+type KeyMap = Map<Key, i64, Forget, Global>;
+
+type KeyPass = Pass<Key, i64, Forget>;
+
+pub(crate) type KeyQuiet = Quiet<Key, i64, Forget, Global>;
+
+fn retire_all(passes: Vec<KeyPass>) {
+    let mut passes = passes;
+    while let Some(pass) = passes.pop() {
+        pass.retire();
+    }
+    passes.destroy_empty();
+}
+
+fn put_all<Rt: Wait>(rt: &Rt, map: &KeyMap, pass: &mut KeyPass, pairs: Vec<(Key, i64)>) -> bool
+    requires { pass.old.ledger ≡ map.now.ledger.id }
+    ensures { pass.new.ledger ≡ pass.old.ledger }
+{
+    let mut all = true;
+    for (key, value) in pairs {
+        match map.put(rt, pass, key, value) {
+            Ok(_) => (),
+            Err(_) => all = false,
+        }
+    }
+    all
+}
+
+/// A map of these pairs, that one client put in their order, closed.
+pub(crate) fn closed<Rt: Wait>(
+    rt: &Rt,
+    alloc: Global,
+    capacity: usize,
+    pairs: Vec<(Key, i64)>,
+) -> Option<KeyQuiet> {
+    let Ok((map, mut passes)) = KeyMap::new(alloc, capacity, 1) else {
+        return None;
+    };
+    let mut all = false;
+    if let Some(pass) = passes.first_mut() {
+        all = put_all(rt, &map, pass, pairs);
+    }
+    match map.close(rt, passes) {
+        Ok(quiet) => {
+            if all {
+                return Some(quiet);
+            }
+            None
+        }
+        Err(
+            NotClosed {
+                fault: _,
+                map: _,
+                passes,
+            },
+        ) => {
+            retire_all(passes);
+            None
+        }
+    }
+}
+
+/// The greatest of the values, which is refused at the value 7 while memory is short.
+#[derive(Drop)]
+pub(crate) struct ShortGreatest {
+    pub(crate) short: AtomicU64,
+}
+
+impl Reducer<Key, i64> for ShortGreatest {
+    ghost use Rattle.std.specs.Prelude.{false};
+    ghost use Rattle.std.specs.Int.{int_max};
+    ghost use Rattle.std.proofs.Common.{arith};
+    ghost use Rattle.std.proofs.lemmas.Int.{ints, int_max_is};
+
+    type A = i64;
+
+    ghost lifted = { λ _ _ v. v };
+
+    ghost joined = { λ _ a b. int_max a b };
+
+    ghost never_refuses = { false };
+
+    fn lift(&self, _key: &Key, value: &i64) -> Result<i64, AllocError> {
+        if self.short.load(SeqCst) > 0 && *value == 7 {
+            return Err(AllocError);
+        }
+        Ok(*value)
+    }
+
+    fn join(&self, left: i64, right: i64) -> Result<i64, AllocError> {
+        Ok(left.max(right))
+    }
+
+    ghost associative = { λ _ a b c. Prim.omega (arith, ints, int_max_is a b, int_max_is (int_max a b) c, int_max_is b c, int_max_is a (int_max b c)) };
+
+    ghost commutative = { λ _ a b. Prim.omega (arith, ints, int_max_is a b, int_max_is b a) };
+}
+
+/// Finds a value above this one.
+#[derive(Drop)]
+pub(crate) struct Above(pub(crate) i64);
+
+impl Probe<Key, i64> for Above {
+    ghost use Rattle.std.specs.Prelude.{true, Some, None, if◌then◌else◌};
+    ghost use Rattle.std.specs.Int.Signed.{lt_z};
+
+    type U = i64;
+
+    ghost probed = { λ p _ v. if lt_z p.0 v then Some v else None };
+
+    ghost never_refuses = { true };
+
+    fn probe(&self, _key: &Key, value: &i64) -> Result<Option<i64>, AllocError> {
+        if self.0 < *value {
+            return Ok(Some(*value));
+        }
+        Ok(None)
+    }
+}
+
+/// Answers the first byte of a key and its value, and is refused at one value.
+#[derive(Drop)]
+pub(crate) struct Initials {
+    pub(crate) refused_at: i64,
+}
+
+impl Action<Key, i64> for Initials {
+    ghost use Rattle.std.specs.Prelude.{slice_index};
+
+    type R = (u8, i64);
+
+    ghost acted = { λ _ k v. (slice_index k 0, v) };
+
+    fn act(&self, key: &Key, value: &i64) -> Result<(u8, i64), AllocError> {
+        if *value == self.refused_at {
+            return Err(AllocError);
+        }
+        match key.bytes().first() {
+            Some(byte) => Ok((*byte, *value)),
+            None => Ok((0, *value)),
+        }
+    }
+}
+
+/// Holds the first task until a second has begun, for at most so many turns. It is late where none did.
+#[derive(Drop)]
+pub(crate) struct Meeting {
+    pub(crate) turns: u32,
+    pub(crate) begun: AtomicU64,
+    pub(crate) late: AtomicU64,
+}
+
+pub(crate) fn new_meeting(turns: u32) -> Meeting {
+    Meeting {
+        turns,
+        begun: AtomicU64::new(0),
+        late: AtomicU64::new(0),
+    }
+}
+
+impl Gate for Meeting {
+    fn leaf(&self, _worker: usize, _lo: usize, _hi: usize) {
+        if self.begun.fetch_add(1, SeqCst) > 0 {
+            return;
+        }
+        for _ in 0..self.turns {
+            if self.begun.load(SeqCst) > 1 {
+                return;
+            }
+            hint::spin_loop();
+        }
+        self.late.store(1, SeqCst);
+    }
+}
