@@ -8,3 +8,4 @@ pub mod Clearing
 pub mod Dealing
 pub mod Reopening
 pub mod Shared
+pub mod Returned

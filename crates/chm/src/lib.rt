@@ -15,6 +15,8 @@ mod moving;
 mod quiet;
 mod reopen;
 mod size;
+#[cfg(test)]
+mod tests;
 mod under;
 mod visit;
 

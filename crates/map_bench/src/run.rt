@@ -1,0 +1,93 @@
+//! One run of the workload.
+ghost use Rattle.std.specs.Prelude.{◌≡◌, ◌<◌, All, length};
+
+use crate::settings::Settings;
+use crate::work::{BenchMap, BenchPass, fill, names, work_together};
+use anyhow::{Result, anyhow, bail};
+use chm::{Map, NotClosed};
+use hashkeys::Key;
+use std::alloc::Global;
+use std::sync::Wait;
+use std::thread::Threads;
+use std::time::{Clock, Duration, Instant};
+
+/// Fills the map with one pass, and says how long the others took for their calls.
+fn time_calls<R: Threads + Wait + Clock + Sync>(
+    rt: &R,
+    map: &BenchMap,
+    names: &[Key],
+    settings: &Settings,
+    filler: &mut BenchPass,
+    callers: &mut [BenchPass],
+) -> Result<Duration>
+    requires names { 0 < length names.now }
+    requires filler { filler.old.ledger ≡ map.now.ledger.id }
+    requires callers { All (λ p. p.ledger ≡ map.now.ledger.id) callers.old }
+    ensures filler { filler.new.ledger ≡ map.now.ledger.id }
+    ensures callers { All (λ p. p.ledger ≡ map.now.ledger.id) callers.new }
+{
+    fill(rt, map, names, filler)?;
+    let start = Instant::now(rt)?;
+    work_together(rt, map, names, settings, callers);
+    let taken = start.elapsed(rt)?;
+    for pass in callers.iter() {
+        if pass.made() != u64::from(settings.calls) {
+            bail!("a call was refused");
+        }
+    }
+    Ok(taken)
+}
+
+/// The same of all passes, the last of which fills the map.
+fn time_passes<R: Threads + Wait + Clock + Sync>(
+    rt: &R,
+    map: &BenchMap,
+    names: &[Key],
+    settings: &Settings,
+    passes: &mut [BenchPass],
+) -> Result<Duration>
+    requires names { 0 < length names.now }
+    requires passes { All (λ p. p.ledger ≡ map.now.ledger.id) passes.old }
+    ensures { All (λ p. p.ledger ≡ map.now.ledger.id) passes.new }
+{
+    match passes.split_last_mut() {
+        Some((filler, callers)) => time_calls(rt, map, names, settings, filler, callers),
+        None => Err(anyhow!("no pass")),
+    }
+}
+
+/// Ends passes with which no map was closed.
+fn retire_all(mut passes: Vec<BenchPass>) {
+    while let Some(pass) = passes.pop() {
+        pass.retire();
+    }
+    passes.destroy_empty();
+}
+
+/// Says how long the threads took to make their calls of a new map, which is closed afterwards: so no call was lost.
+pub(crate) fn measure<R: Threads + Wait + Clock + Sync>(
+    rt: &R,
+    alloc: Global,
+    settings: &Settings,
+) -> Result<Duration> {
+    let names = names(alloc, settings.keys)?;
+    if names.is_empty() {
+        bail!("no keys");
+    }
+    let clients = u32::from(settings.threads) + 1;
+    let (map, mut passes) = Map::new(alloc, usize::from(settings.capacity), clients)?;
+    let taken = time_passes(rt, &map, &names, settings, &mut passes);
+    match map.close(rt, passes) {
+        Ok(_) => taken,
+        Err(
+            NotClosed {
+                fault,
+                map: _,
+                passes,
+            },
+        ) => {
+            retire_all(passes);
+            bail!("the map was not closed: {fault}")
+        }
+    }
+}

@@ -1,0 +1,121 @@
+//! What a run of the benchmark is told.
+use clap::{Arg, ArgAction, ArgMatches, Command};
+use std::alloc::{AllocError, Global};
+
+/// Which calls are made.
+#[derive(Clone, Copy, PartialEq, Eq, Debug)]
+pub(crate) enum Mode {
+    /// Of a hundred calls about 80 gets, 15 puts and 5 removes.
+    Mix,
+    /// Gets alone.
+    Get,
+    /// Merges that add 1.
+    Merge,
+}
+
+impl Mode {
+    /// The word that names it.
+    pub(crate) fn name(&self) -> &'static str {
+        match self {
+            Mode::Mix => "mix",
+            Mode::Get => "get",
+            Mode::Merge => "merge",
+        }
+    }
+
+    fn named(name: &str) -> Mode {
+        match name {
+            "get" => Mode::Get,
+            "merge" => Mode::Merge,
+            _ => Mode::Mix,
+        }
+    }
+}
+
+/// The workload: each of the threads makes so many calls on so many keys, of which every second one is present at first.
+#[derive(Clone, Copy, Debug)]
+pub(crate) struct Settings {
+    pub(crate) threads: u8,
+    pub(crate) calls: u32,
+    pub(crate) keys: u32,
+    pub(crate) capacity: u16,
+    pub(crate) mode: Mode,
+}
+
+/// The run that is made without words.
+pub(crate) const SMALL: Settings = Settings {
+    threads: 4,
+    calls: 2_000,
+    keys: 500,
+    capacity: 1,
+    mode: Mode::Mix,
+};
+
+impl Settings {
+    /// The workload that the matches of `command` name.
+    pub(crate) fn matched(matches: &ArgMatches) -> Settings {
+        Settings {
+            threads: matches.get_one::<u8>("threads").unwrap_or(4),
+            calls: matches.get_one::<u32>("calls").unwrap_or(1_000_000),
+            keys: matches.get_one::<u32>("keys").unwrap_or(20_000),
+            capacity: matches.get_one::<u16>("capacity").unwrap_or(16),
+            mode: Mode::named(matches.get_str("mode").unwrap_or("mix")),
+        }
+    }
+
+    /// How many calls the threads make together.
+    pub(crate) fn all_calls(&self) -> u64 {
+        u64::from(self.threads) * u64::from(self.calls)
+    }
+}
+
+fn number<'a>(alloc: Global, name: &'a str, help: &'a str, default: &'a str) -> Arg<'a> {
+    Arg::new(alloc, name)
+        .long(name)
+        .value_name("N")
+        .help(help)
+        .action(ArgAction::Set)
+        .default_value(default)
+}
+
+/// The command line that the program takes.
+pub(crate) fn command<'a>(alloc: Global) -> Result<Command<'a>, AllocError> {
+    let threads = number(
+        alloc,
+        "threads",
+        "How many threads make calls, 1 to 31",
+        "4",
+    )
+    .value_parser(clap::value_parser!(u8).range(1..=31));
+    let calls = number(
+        alloc,
+        "calls",
+        "How many calls each makes, 1 to 1000000",
+        "1000000",
+    )
+    .value_parser(clap::value_parser!(u32).range(1..=1_000_000));
+    let keys = number(alloc, "keys", "On how many keys, 1 to 1000000", "20000").value_parser(
+        clap::value_parser!(u32).range(1..=1_000_000),
+    );
+    let capacity = number(
+        alloc,
+        "capacity",
+        "How many bins the map opens with at least, 1 to 4096",
+        "16",
+    )
+    .value_parser(clap::value_parser!(u16).range(1..=4096));
+    let mode = Arg::new(alloc, "mode")
+        .long("mode")
+        .value_name("MODE")
+        .help("mix: 80 gets, 15 puts and 5 removes of a hundred; get; merge")
+        .action(ArgAction::Set)
+        .value_parser(["mix", "get", "merge"].as_slice())
+        .default_value("mix");
+    Command::new(alloc, "map_bench")
+        .about("Measures how many million calls a second threads make of one map")
+        .arg(threads)?
+        .arg(calls)?
+        .arg(keys)?
+        .arg(capacity)?
+        .arg(mode)
+}
