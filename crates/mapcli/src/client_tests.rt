@@ -32,15 +32,13 @@ fn one_of_32_clients_is_first(rt: HostRuntime) -> Result<(), Fail> {
     let (status, text) = told(&rt, script.as_bytes(), &Options::new(4, 16)?)?;
     assert_eq!(rt; status, 0);
     let lines = str::from_utf8(&text)?.lines();
-    let (mut first, mut later) = (0, 0);
-    let mut last = "";
+    let (mut first, mut later) = (0u32, 0u32);
     for line in lines {
-        first += u32::from(line == "none");
-        later += u32::from(line == "some 1");
-        last = line;
+        first = first.saturating_add(u32::from(line == "none"));
+        later = later.saturating_add(u32::from(line == "some 1"));
     }
     assert_eq!(rt; (first, later), (1, 31));
-    assert_eq!(rt; last, "1");
+    assert!(rt; text.ends_with(b"\n1\n"));
     Ok(())
 }
 
@@ -65,11 +63,11 @@ fn two_clients_count_to_2000(rt: HostRuntime) -> Result<(), Fail> {
             let Some(count) = replies.get_mut(sum) else {
                 panic!(rt; "a sum of {sum}");
             };
-            *count += 1;
+            *count = count.saturating_add(1);
         }
     }
-    assert_eq!(rt; replies[0], 0);
-    assert!(rt; replies[1..].iter().all(|count| *count == 1));
+    assert_eq!(rt; replies.first(), Some(&0));
+    assert!(rt; replies.iter().skip(1).all(|count| *count == 1));
     Ok(())
 }
 
@@ -85,9 +83,10 @@ fn clients_of_many_keys_do_not_meet(rt: HostRuntime) -> Result<(), Fail> {
             writeln!(script, "put c{client}_{number} {number}")?;
             writeln!(wanted, "none")?;
         }
-        for number in 0..20 {
-            writeln!(script, "remove c{client}_{}", 2 * number)?;
-            writeln!(wanted, "some {}", 2 * number)?;
+        for half in 0u32..20 {
+            let number = half.saturating_mul(2);
+            writeln!(script, "remove c{client}_{number}")?;
+            writeln!(wanted, "some {number}")?;
         }
         writeln!(script, "get c{client}_39")?;
         writeln!(wanted, "some 39")?;
