@@ -6,6 +6,7 @@ use crate::change::find;
 use crate::copies::copy_of_entries;
 use crate::fold::{FOLDED, fold_front};
 use crate::ready::{Ready, work_out};
+use crate::room::make_room_in;
 use crate::split::{part_of_entries, part_of_records};
 use hashkeys::{Class, HashKey, Salt};
 use std::alloc::{AllocError, Allocator};
@@ -163,13 +164,14 @@ impl<K: HashKey, V: Clone + Eq, F: Remap<K, V> + Clone, A: Allocator + Clone> Bi
         ensures class { self.new.class ≡ self.old.class }
         ensures salt { self.new.salt ≡ self.old.salt }
     {
-        self.records.reserve(1)?;
         self.entries.reserve(1)?;
         if self.records.len() == MOST_RECORDS {
             self.base.reserve(FOLDED)?;
             fold_front(&mut self.base, &mut self.records);
+            Ok(())
+        } else {
+            make_room_in(&mut self.records)
         }
-        Ok(())
     }
 
     /// Prepares a call on a key of the bin's class: makes all growths and copies, asks the call's function,

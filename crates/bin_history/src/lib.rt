@@ -11,6 +11,7 @@ mod laws;
 #[cfg(test)]
 mod plain;
 mod ready;
+mod room;
 mod split;
 #[cfg(test)]
 mod tests;

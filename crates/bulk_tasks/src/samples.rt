@@ -4,7 +4,7 @@ ghost use Rattle.std.specs.Prelude.{◌≡◌};
 use crate::{Action, Probe, Reducer};
 use bin_history::Remap;
 use chm::{Map, NotClosed, Quiet};
-use count_ledger::Pass;
+use count_ledger::{Pass, retire_all};
 use hashkeys::Key;
 use std::alloc::{AllocError, Global};
 use std::hint;
@@ -48,14 +48,6 @@ type KeyMap = Map<Key, i64, Forget, Global>;
 type KeyPass = Pass<Key, i64, Forget>;
 
 pub(crate) type KeyQuiet = Quiet<Key, i64, Forget, Global>;
-
-fn retire_all(passes: Vec<KeyPass>) {
-    let mut passes = passes;
-    while let Some(pass) = passes.pop() {
-        pass.retire();
-    }
-    passes.destroy_empty();
-}
 
 fn put_all<Rt: Wait>(rt: &Rt, map: &KeyMap, pass: &mut KeyPass, pairs: Vec<(Key, i64)>) -> bool
     requires { pass.old.ledger ≡ map.now.ledger.id }

@@ -13,7 +13,7 @@ use crate::fault::Fault;
 use crate::growth::Growth;
 use crate::size::size_for;
 use bin_history::Remap;
-use count_ledger::{Ledger, Pass};
+use count_ledger::{Ledger, Pass, retire_all};
 use generations::Generations;
 use hashkeys::{HashKey, Salt};
 use std::alloc::{AllocError, Allocator};
@@ -54,14 +54,6 @@ pub(crate) fn no_bases<K: Drop, V: Drop, A: Allocator + Clone>(
         bases.push_reserved(Vec::new(alloc.clone()?));
     }
     Ok(bases)
-}
-
-/// Ends passes of a map that could not be made.
-pub(crate) fn retire_all<K, V, F, A: Allocator>(mut passes: Vec<Pass<K, V, F>, A>) {
-    while let Some(pass) = passes.pop() {
-        pass.retire();
-    }
-    passes.destroy_empty();
 }
 
 impl<

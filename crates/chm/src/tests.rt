@@ -12,7 +12,7 @@ ghost use Rattle.bin_history.specs.Copies.{IsExact};
 
 use crate::{Entries, Fault, Map, NotClosed, Opened, Quiet};
 use bin_history::{Call, Remap, Reply};
-use count_ledger::Pass;
+use count_ledger::{Pass, retire_all};
 use hashkeys::Key;
 use std::alloc::{AllocError, Allocator};
 use std::process::Abort;
@@ -80,13 +80,6 @@ fn numbered(rt: &impl Abort, number: u32) -> Key {
     let fourth = DIGITS[(number / 16 % 16) as usize];
     let last = DIGITS[(number % 16) as usize];
     key(rt, &[b'k', first, second, third, fourth, last])
-}
-
-fn retire_all<V, F, A: Allocator>(mut passes: Vec<Pass<Key, V, F>, A>) {
-    while let Some(pass) = passes.pop() {
-        pass.retire();
-    }
-    passes.destroy_empty();
 }
 
 /// A new map, with the passes of its clients.

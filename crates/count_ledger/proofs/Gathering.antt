@@ -1,5 +1,5 @@
 -- All books of a list of tokens come into one seat, the last token's first.
-use Rattle.std.proofs.Common.{◌≡◌, ℕ, List, [], ◌∷◌, ◌++◌, map, sym, ap, ◌∙◌, append_assoc}
+use Rattle.std.proofs.Common.{◌≡◌, List, [], ◌∷◌, ◌++◌, map, sym, ap, ◌∙◌, append_assoc}
 use Rattle.std.proofs.lemmas.List.{map_push}
 use Rattle.atomic_table.specs.Table.{Me}
 use Rattle.count_ledger.specs.Steps.{view_of}

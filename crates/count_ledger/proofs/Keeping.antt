@@ -1,10 +1,9 @@
 -- The steps of a ledger keep its rule.
-use Rattle.std.proofs.Common.{◌≡◌, ◌≢◌, ℕ, ◌+◌, ◌*◌, ◌%◌, ◌^◌, ◌<◌, ◌&&◌, ◌||◌, Bool, true, false, List, [], ◌∷◌, ◌++◌, length, set, sym, refl, ap, subst, ◌∙◌}
-use Rattle.std.specs.Prelude.{Some, slice_index}
+use Rattle.std.proofs.Common.{◌≡◌, ℕ, ◌+◌, ◌*◌, ◌%◌, ◌^◌, ◌<◌, ◌&&◌, ◌||◌, Bool, true, false, List, [], ◌∷◌, ◌++◌, length, set, sym, refl, ap, subst, ◌∙◌}
+use Rattle.std.specs.Prelude.{Some}
 use Rattle.std.proofs.lemmas.List.{length-set, set-get_or}
 use mathlib.Core.Option.{some, none}
-use lib.ListN.{get_elem?}
-use Rattle.atomic_table.specs.Table.{State, keeps, Me, step, Allows, Splits, Joins}
+use Rattle.atomic_table.specs.Table.{keeps, Me, step, Allows, Splits, Joins}
 use Rattle.atomic_table.proofs.Lists.{set_again}
 use Rattle.hashkeys.specs.Classes.{ClassView, covers, is_of, AreApart, low_half, high_half}
 use Rattle.hashkeys.specs.declared.hashing.Salt.{Salt}
@@ -72,13 +71,13 @@ module _ {K V F : Type 0} (code : K → ℕ) where
 
     pub Keeps-posted : (c : ℕ) (made : List (Record K V F)) (salt : Salt) (class : ClassView) (pairs : List (K × V)) (kept : List (Record K V F)) (r : Record K V F)
         → r.client ≡ c → r.ordinal ≡ length made → length made < 1000000 → is_of code salt class (key_of r.call) ≡ true
-        → Keeps (Holds code t) id (Pass c made ∷ Role salt class pairs kept ∷ []) (8 * c) (λ n. (n + word_of (delta r)) % 2 ^ 64) (posted r (Pass c made ∷ Role salt class pairs kept ∷ []))
+        → Keeps (Holds code t) id (Pass c made ∷ Role salt class pairs kept ∷ []) (8 * (c + 1)) (λ n. (n + word_of (delta r)) % 2 ^ 64) (posted r (Pass c made ∷ Role salt class pairs kept ∷ []))
     Keeps-posted c made salt class pairs kept r by next room on s h at =
         let v : List (Book K V F) = Pass c made ∷ Role salt class pairs kept ∷ [] in
         let ws = words_after code t s.words h.sized c made salt class pairs kept r by next room on in
         let fit = h.books.within id v at in
         record {
-          sized = length-set s.words (8 * c) _ ∙ h.sized;
+          sized = length-set s.words (8 * (c + 1)) _ ∙ h.sized;
           books = AmongSeats-changed (AreTogether code) together_turn (IsSound code t s.words) (IsSound code t ws) s.views id v (posted r v) h.books at
               (posted_fit code t s.words h.sized c made salt class pairs kept r by next room on fit)
               (posted_others code t s.words h.sized c made salt class pairs kept r by next room on fit);

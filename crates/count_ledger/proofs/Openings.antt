@@ -1,5 +1,5 @@
 -- A new ledger's books: they are as the rule says, and are dealt out one by one.
-use Rattle.std.proofs.Common.{◌≡◌, ◌≢◌, ℕ, zero, suc, ◌+◌, ◌-◌, ◌*◌, ◌%◌, ◌<◌, ◌≤◌, ◌==◌, ◌&&◌, Bool, true, false, cond, List, [], ◌∷◌, ◌++◌, length, get_or, replicate, map, take, filter, inl, inr, ⊎_elim, sym, refl, ap, subst, ◌∙◌, arith, All}
+use Rattle.std.proofs.Common.{◌≡◌, ◌≢◌, ℕ, zero, suc, ◌+◌, ◌-◌, ◌*◌, ◌%◌, ◌<◌, ◌≤◌, ◌==◌, ◌&&◌, Bool, true, false, cond, List, [], ◌∷◌, ◌++◌, length, get_or, replicate, map, take, filter, ⊎_elim, sym, refl, ap, subst, ◌∙◌, arith, All}
 use Rattle.std.specs.Prelude.{slice_index, flat_map}
 use Rattle.std.specs.List.{range_with_len, AllByRecursion as Each}
 use Rattle.std.proofs.lemmas.List.{append-nil, length-replicate, length-take-le, get_or_past}
@@ -9,16 +9,16 @@ use Rattle.std.proofs.lemmas.Bool.Decides.{nat_tests}
 use mathlib.Core.Option.{some, some-injective, some-ne-none}
 use lib.ListN.{get_elem?}
 use Rattle.atomic_table.specs.Table.{Me, opening}
-use Rattle.hashkeys.specs.Classes.{ClassView, is_of, AreApart}
+use Rattle.hashkeys.specs.Classes.{is_of}
 use Rattle.hashkeys.specs.Hashing.{hash_of}
 use Rattle.hashkeys.specs.declared.hashing.Salt.{Salt}
 use Rattle.bin_history.specs.Part.{part_of_entries}
 use Rattle.bin_history.specs.declared.call.Record.{Record}
 use Rattle.count_ledger.specs.declared.books.Book.{Book}
-use Rattle.count_ledger.specs.declared.books.Book.TheVariants.{Pass, Role}
-use Rattle.count_ledger.specs.Terms.{TermsView, opening_of}
+use Rattle.count_ledger.specs.declared.books.Book.TheVariants.{Pass}
+use Rattle.count_ledger.specs.Terms.{TermsView}
 use Rattle.count_ledger.specs.Opening.{AreOfTheirClasses, base_at, class_at}
-use Rattle.count_ledger.specs.Rule.{Among, Across, AmongSeats, IsSound, AreTogether, Holds, new_pass_book, new_role_book, first_books}
+use Rattle.count_ledger.specs.Rule.{Among, AmongSeats, IsSound, AreTogether, Holds, new_pass_book, new_role_book, first_books}
 use Rattle.count_ledger.specs.Tokens.{IsPass}
 use Rattle.count_ledger.proofs.Together.{Among-append}
 
@@ -99,17 +99,17 @@ module _ {K V : Type 0} (F : Type 0) (code : K → ℕ) (t : TermsView K V) (wor
   first_fit =
       let n = length t.bases in
       Among-append (IsSound {F = F} code t words) (AreTogether code) (map new_pass_book (range_with_len 0 t.clients)) (map (new_role_book t) (range_with_len 0 n))
-      (Among-range new_pass_book (IsSound {F = F} code t words) (AreTogether code) 0 t.clients (λ i lt. (omega arith, tt, omega arith, zeros (8 * i))) (λ i j lt lt' e. omega (arith, e)))
+      (Among-range new_pass_book (IsSound {F = F} code t words) (AreTogether code) 0 t.clients (λ i lt. (omega arith, tt, omega arith, zeros (8 * (i + 1)))) (λ i j lt lt' e. omega (arith, e)))
       (Among-range (new_role_book t) (IsSound {F = F} code t words) (AreTogether code) 0 n
       (λ i lt. (refl, base_is_part code t.salt t.bases own i (omega arith), All-nil (λ (r : Record K V F). r.client < t.clients)))
       (λ i j lt lt' h. only_one n h i j (λ e. omega (arith, e))))
       (Each-range new_pass_book (λ b. Each (AreTogether {F = F} code b) (map (new_role_book t) (range_with_len 0 n))) 0 t.clients (λ c low lt. Each-range (new_role_book t) (AreTogether {F = F} code (Pass c [])) 0 n (λ i low' lt'. refl)))
 
-  pub Holds-first : (homes : List (Unit {0})) → length words ≡ 8 * t.clients → Holds {F = F} code t (opening words homes (first_books t))
+  pub Holds-first : (homes : List (Unit {0})) → length words ≡ 8 * (t.clients + 1) → Holds {F = F} code t (opening words homes (first_books t))
   Holds-first homes sized = record { sized = sized; books = AmongSeats-one (IsSound {F = F} code t words) (AreTogether code) (first_books t) first_fit }
 
 -- a new pass
-pub IsPass-new : {K V F : Type 0} (words client : ℕ) (me : Me (Unit {0}) (List (Book K V F))) → me ≡ (Pass client [] ∷ [], []) → 8 * client < words → IsPass words client 0 me
+pub IsPass-new : {K V F : Type 0} (words client : ℕ) (me : Me (Unit {0}) (List (Book K V F))) → me ≡ (Pass client [] ∷ [], []) → 8 * (client + 1) < words → IsPass words client 0 me
 IsPass-new words client me is lt = subst (IsPass words client 0) (sym is) (record { word = lt; book = refl; counted = refl; at_most = omega arith })
 
 -- the words of a new ledger: the first of some zeros

@@ -1,11 +1,11 @@
 -- A post: the pass and the role get the record, and the client's word its delta.
-use Rattle.std.proofs.Common.{◌≡◌, ◌≢◌, ℕ, ◌+◌, ◌*◌, ◌%◌, ◌^◌, ◌<◌, ◌≤◌, ◌==◌, ◌&&◌, Bool, true, false, List, [], ◌∷◌, ◌++◌, length, set, get_or, sym, refl, ap, subst, ◌∙◌, arith, All}
+use Rattle.std.proofs.Common.{◌≡◌, ℕ, ◌+◌, ◌*◌, ◌%◌, ◌^◌, ◌<◌, ◌==◌, ◌&&◌, Bool, true, false, List, [], ◌∷◌, ◌++◌, length, set, sym, ap, ◌∙◌, arith}
 use Rattle.std.specs.Prelude.{slice_index}
 use Rattle.std.specs.List.{AllByRecursion as Each}
 use Rattle.std.proofs.lemmas.List.{get_or-set_same, get_or-set_other, length_push}
 use Rattle.std.proofs.lemmas.List.Elements.{All-push}
 use Rattle.std.proofs.lemmas.Bool.{eq-eqb, ne_eqb}
-use Rattle.hashkeys.specs.Classes.{ClassView, covers, is_of, AreApart}
+use Rattle.hashkeys.specs.Classes.{ClassView, is_of}
 use Rattle.hashkeys.specs.Hashing.{hash_of}
 use Rattle.hashkeys.specs.declared.hashing.Salt.{Salt}
 use Rattle.bin_history.specs.Calls.{key_of}
@@ -29,23 +29,23 @@ other_of : (a b : Bool) → (a && b) ≡ false → a ≡ true → b ≡ false
 other_of true b e t = e
 other_of false b e t = absurd cc
 
-module _ {K V F : Type 0} (code : K → ℕ) (t : TermsView K V) (words : List ℕ) (sized : length words ≡ 8 * t.clients)
+module _ {K V F : Type 0} (code : K → ℕ) (t : TermsView K V) (words : List ℕ) (sized : length words ≡ 8 * (t.clients + 1))
     (c : ℕ) (made : List (Record K V F)) (salt : Salt) (class : ClassView) (pairs : List (K × V)) (kept : List (Record K V F)) (r : Record K V F)
     (by : r.client ≡ c) (next : r.ordinal ≡ length made) (room : length made < 1000000) (on : is_of code salt class (key_of r.call) ≡ true) where
   abbrev pub words_after : List ℕ
-  words_after = set words (8 * c) ((slice_index words (8 * c) + word_of (delta r)) % 2 ^ 64)
+  words_after = set words (8 * (c + 1)) ((slice_index words (8 * (c + 1)) + word_of (delta r)) % 2 ^ 64)
 
   abbrev before : List (Book K V F)
   before = Pass c made ∷ Role salt class pairs kept ∷ []
 
   pass_sound : IsSound code t words (Pass c made) → IsSound code t words_after (Pass c (made ++ r ∷ []))
   pass_sound f =
-      let there : 8 * c < length words = (let low = f.0 in omega arith) in
+      let there : 8 * (c + 1) < length words = (let low = f.0 in omega arith) in
       let long = length_push made r in (
         f.0,
         AreNumbered-push c 0 made r f.1 by (omega arith),
         omega arith,
-        get_or-set_same words (8 * c) _ 0 there ∙ ap (λ (n : ℕ). (n + word_of (delta r)) % 2 ^ 64) f.3 ∙ sym (word_of-add (sum_of_deltas made) (delta r)) ∙ ap word_of (sym (sum_of_deltas-push made r)),
+        get_or-set_same words (8 * (c + 1)) _ 0 there ∙ ap (λ (n : ℕ). (n + word_of (delta r)) % 2 ^ 64) f.3 ∙ sym (word_of-add (sum_of_deltas made) (delta r)) ∙ ap word_of (sym (sum_of_deltas-push made r)),
       )
 
   role_sound : c < t.clients → IsSound code t words (Role salt class pairs kept) → IsSound code t words_after (Role salt class pairs (kept ++ r ∷ []))
@@ -60,7 +60,7 @@ module _ {K V F : Type 0} (code : K → ℕ) (t : TermsView K V) (words : List �
 
   -- another book is as sound as before, since no other client's word has changed
   other_sound : (b : Book K V F) → AreTogether code (Pass c made) b → IsSound code t words b → IsSound code t words_after b
-  other_sound (Pass d m) ne f = (f.0, f.1, f.2, get_or-set_other words (8 * c) (8 * d) _ 0 (λ e. ne (omega arith)) ∙ f.3)
+  other_sound (Pass d m) ne f = (f.0, f.1, f.2, get_or-set_other words (8 * (c + 1)) (8 * (d + 1)) _ 0 (λ e. ne (omega arith)) ∙ f.3)
   other_sound (Role s k o l) a f = f
 
   -- another role's class does not have the key

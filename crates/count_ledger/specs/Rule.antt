@@ -1,5 +1,5 @@
 -- The rule of a ledger's table: the books agree, and each client's word is the sum of its deltas.
-use Rattle.std.specs.Prelude.{◌≡◌, ◌≢◌, ℕ, ◌*◌, ◌<◌, ◌≤◌, List, [], ◌∷◌, ◌++◌, length, map, slice_index, All}
+use Rattle.std.specs.Prelude.{◌≡◌, ◌≢◌, ℕ, ◌+◌, ◌*◌, ◌<◌, ◌≤◌, List, [], ◌∷◌, ◌++◌, length, map, slice_index, All}
 use Rattle.std.specs.List.{AllByRecursion, range_with_len}
 use mathlib.Core.Option.{some}
 use lib.ListN.{get_elem?}
@@ -34,7 +34,7 @@ module _ {K V F : Type 0} where
   module _ (code : K → ℕ) where
     -- of one book, where the count words are these
     abbrev pub IsSound : TermsView K V → List ℕ → Book K V F → Type 0
-    IsSound t words (Pass c made) = (c < t.clients) × AreNumbered c 0 made × (length made ≤ 1000000) × (slice_index words (8 * c) ≡ word_of (sum_of_deltas made))
+    IsSound t words (Pass c made) = (c < t.clients) × AreNumbered c 0 made × (length made ≤ 1000000) × (slice_index words (8 * (c + 1)) ≡ word_of (sum_of_deltas made))
     IsSound t words (Role salt class pairs kept) = (salt ≡ t.salt) × (pairs ≡ part_of_entries (is_of code salt class) (opening_of t)) × All (λ r. r.client < t.clients) kept
 
     -- of two books: two passes have two clients, two roles have no hash in common, and a pass and a role agree
@@ -46,7 +46,7 @@ module _ {K V F : Type 0} where
 
     -- the rule, over the words and what each seat knows
     pub record Holds (t : TermsView K V) (s : State (Unit {0}) (List (Book K V F))) : Type 0 where
-      pub sized : length s.words ≡ 8 * t.clients
+      pub sized : length s.words ≡ 8 * (t.clients + 1)
       pub books : AmongSeats (IsSound t s.words) AreTogether s.views
 
   -- the books of a new ledger
@@ -65,7 +65,7 @@ ledger_of id t = record { id = id; salt = t.salt; clients = t.clients; opening =
 
 -- what each ledger keeps
 pub record IsLedger {K V : Type 0} (id : LedgerId) (t : TermsView K V) (clients : ℕ) : Type 0 where
-  pub words : id.words ≡ 8 * clients
+  pub words : id.words ≡ 8 * (clients + 1)
   pub clients_are : t.clients ≡ clients
   pub some : 0 < clients
   pub at_most : clients ≤ 32

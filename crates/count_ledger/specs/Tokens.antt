@@ -1,5 +1,5 @@
 -- What passes and roles keep in their seats.
-use Rattle.std.specs.Prelude.{◌≡◌, ℕ, ◌*◌, ◌/◌, ◌<◌, ◌≤◌, List, [], ◌∷◌, length, sum_by, All}
+use Rattle.std.specs.Prelude.{◌≡◌, ℕ, ◌+◌, ◌*◌, ◌/◌, ◌<◌, ◌≤◌, List, [], ◌∷◌, length, sum_by, All}
 use Rattle.atomic_table.specs.Table.{Me}
 use Rattle.hashkeys.specs.Classes.{ClassView, IsClass}
 use Rattle.hashkeys.specs.declared.hashing.Salt.{Salt}
@@ -29,7 +29,7 @@ module _ {K V F : Type 0} where
 
   -- a seat with the book of a client, who has a word and made so many calls
   pub record IsPass (words client calls : ℕ) (me : Me (Unit {0}) (List (Book K V F))) : Type 0 where
-    pub word : 8 * client < words
+    pub word : 8 * (client + 1) < words
     pub book : me ≡ (Pass client (made_in me.0) ∷ [], [])
     pub counted : calls ≡ length (made_in me.0)
     pub at_most : calls ≤ 1000000

@@ -52,5 +52,5 @@ impl<K: HashKey, V, F, A: Allocator> TableRule<(), View<K, V, F>, Terms<K, V, A>
     ghost first = { first_books };
 }
 
-/// The table, as its users share it: eight words a client, of which client c uses word 8c.
+/// The table, as its users share it. Of each eight words the first is used: word 0 where seats are joined and split, and word 8(c + 1) by client c.
 pub(crate) type Books<K, V, F, A> = Shared<(), View<K, V, F>, Terms<K, V, A>, LedgerRule>;

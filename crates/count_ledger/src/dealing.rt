@@ -7,7 +7,7 @@ ghost use Rattle.count_ledger.specs.Rule.{first_books, new_role_book};
 ghost use Rattle.count_ledger.specs.Steps.{first_of, rest_of, view_of};
 
 use crate::books::{Books, LedgerRule, Terms, View};
-use crate::ledger::{Ledger, MOST_CLIENTS, WORDS_PER_CLIENT};
+use crate::ledger::{Ledger, MOST_CLIENTS, WORDS_PER_LINE, word_at};
 use crate::seats::part;
 use crate::tokens::{BinRole, Pass};
 use atomic_table::{Badge, Seat, Table};
@@ -26,17 +26,13 @@ fn open_table<K: HashKey, V, F, A: Allocator>(
     requires clients { terms.now.clients ≤ 32 }
     requires size { IsTableSize (length terms.now.bases) }
     requires keys { AreOfTheirClasses K.code terms.now.salt terms.now.bases }
-    ensures words { IfOk result (λ r. r.0.shared.table_id.words ≡ 8 * terms.now.clients) }
+    ensures words { IfOk result (λ r. r.0.shared.table_id.words ≡ 8 * (terms.now.clients + 1)) }
     ensures terms { IfOk result (λ r. r.0.shared.key ≡ terms.now) }
     ensures table { IfOk result (λ r. r.1.table_id ≡ r.0.shared.table_id) }
     ensures books { IfOk result (λ r. r.1.me ≡ (first_books terms.now, [])) }
 {
-    let words = [0; WORDS_PER_CLIENT * MOST_CLIENTS as usize];
-    Table::of_words(
-        alloc,
-        &words[..WORDS_PER_CLIENT * terms.clients as usize],
-        terms,
-    )
+    let words = [0; WORDS_PER_LINE * (MOST_CLIENTS as usize + 1)];
+    Table::of_words(alloc, &words[..word_at(terms.clients)], terms)
 }
 
 /// The seat of the first book, without the others, which stay.
@@ -64,7 +60,7 @@ fn deal_passes<K: HashKey, V, F, A: Allocator>(
     clients: u32,
 )
     requires table { all.old.table_id ≡ shared.now.table_id }
-    requires words { shared.now.table_id.words ≡ 8 * clients }
+    requires words { shared.now.table_id.words ≡ 8 * (clients + 1) }
     requires clients { shared.now.key.clients ≡ clients }
     requires empty { passes.old.items ≡ [] }
     requires room { clients ≤ vec_capacity passes.old }

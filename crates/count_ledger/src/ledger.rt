@@ -1,5 +1,5 @@
 //! The ledger, and the calls on a pass or a role.
-ghost use Rattle.std.specs.Prelude.{◌≡◌, ℕ, ◌<◌, ◌≤◌, true, [], ◌∷◌, ◌++◌, length};
+ghost use Rattle.std.specs.Prelude.{◌≡◌, ℕ, ◌+◌, ◌*◌, ◌<◌, ◌≤◌, true, [], ◌∷◌, ◌++◌, length};
 ghost use Rattle.hashkeys.specs.Classes.{is_of, low_half, high_half};
 ghost use Rattle.bin_history.specs.Calls.{key_of};
 ghost use Rattle.bin_history.specs.Deltas.{sum_of_deltas};
@@ -22,8 +22,15 @@ pub const MOST_CALLS: u64 = 1_000_000;
 /// A ledger has no more clients than this.
 pub const MOST_CLIENTS: u32 = 32;
 
-/// How many words stand between those of two clients, so that each has a cache line of its own.
-pub(crate) const WORDS_PER_CLIENT: usize = 8;
+/// How many words fill a cache line.
+pub(crate) const WORDS_PER_LINE: usize = 8;
+
+/// The place of a client's count word, which has a cache line of its own. So has word 0, which is only read: there seats are joined and split.
+pub(crate) fn word_at(client: u32) -> usize
+    ensures { result ≡ 8 * (client + 1) }
+{
+    WORDS_PER_LINE * (client as usize + 1)
+}
 
 /// The books of one map: a pass for each client, a role for each class of keys, and a count word for each
 /// client. Its rule holds between any two atomic steps: each role has kept, in order, just those calls of
@@ -78,7 +85,7 @@ impl<K: HashKey, V, F, A: Allocator> Ledger<K, V, F, A> {
     {
         let shared = &self.table.shared;
         join(shared, &mut pass.seat, &mut role.badge);
-        let word = WORDS_PER_CLIENT * pass.client as usize;
+        let word = word_at(pass.client);
         add_delta::<K, V, F, A, Brand>(shared, &mut pass.seat, word, entry);
         part(shared, &mut pass.seat, &mut role.badge);
         pass.made += 1;
@@ -108,7 +115,7 @@ impl<K: HashKey, V, F, A: Allocator> Ledger<K, V, F, A> {
         ensures of_pass { IsPassOf self.now pass.old }
         ensures same { pass.new ≡ pass.old }
     {
-        let word = WORDS_PER_CLIENT * pass.client as usize;
+        let word = word_at(pass.client);
         look::<K, V, F, A, Brand>(&self.table.shared, &mut pass.seat, word)
     }
 

@@ -19,4 +19,4 @@ pub use laws::{agreement_laws, totals_of_all, words_of_sums};
 pub use ledger::{Ledger, MOST_CALLS, MOST_CLIENTS};
 pub use name::LedgerName;
 pub use settling::Unsettled;
-pub use tokens::{BinRole, Pass};
+pub use tokens::{BinRole, Pass, retire_all};

@@ -3,7 +3,7 @@ ghost use Rattle.std.specs.Prelude.{◌≡◌, length, All};
 ghost use Rattle.count_ledger.specs.Books.{IsPassOf};
 ghost use Rattle.count_ledger.specs.Words.{word_of, total_made};
 
-use crate::ledger::{Ledger, WORDS_PER_CLIENT};
+use crate::ledger::{Ledger, word_at};
 use crate::tokens::Pass;
 use hashkeys::HashKey;
 use std::alloc::Allocator;
@@ -14,8 +14,7 @@ impl<K: HashKey, V, F, A: Allocator> Ledger<K, V, F, A> {
     pub fn sum(&self) -> u64 {
         let mut total: u64 = 0;
         for client in 0..self.clients {
-            let word = WORDS_PER_CLIENT * client as usize;
-            total = total.wrapping_add(self.table.shared.peek(word));
+            total = total.wrapping_add(self.table.shared.peek(word_at(client)));
         }
         total
     }

@@ -3,7 +3,7 @@ ghost use Rattle.std.specs.Prelude.{◌≡◌, ◌<◌, ◌≤◌, [], length, I
 ghost use Rattle.hashkeys.specs.Classes.{IsTableSize};
 ghost use Rattle.count_ledger.specs.Opening.{new_passes, new_roles, lists_of};
 
-use crate::{BinRole, Ledger, LedgerName, MOST_CALLS, Pass, Unsettled};
+use crate::{BinRole, Ledger, LedgerName, MOST_CALLS, Pass, Unsettled, retire_all};
 use bin_history::{Call, Record};
 use hashkeys::{Key, Salt};
 use std::alloc::{AllocError, Global};
@@ -107,13 +107,6 @@ fn open(alloc: Global, clients: u32) -> Result<(KeyLedger, Vec<KeyPass>, Vec<Key
 {
     let bases = Vec::from_array(alloc, [Vec::new(alloc), Vec::new(alloc)])?;
     Ledger::new(alloc, Salt(0), clients, &bases)
-}
-
-fn retire_all(mut passes: Vec<KeyPass>) {
-    while let Some(pass) = passes.pop() {
-        pass.retire();
-    }
-    passes.destroy_empty();
 }
 
 /// Settles, or hands back passes and roles of the ledger.

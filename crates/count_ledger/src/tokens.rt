@@ -4,6 +4,7 @@ ghost use Rattle.std.specs.Prelude.{◌≡◌, ◌≤◌, [], ◌∷◌, length}
 use crate::books::View;
 use atomic_table::{Badge, Seat};
 use hashkeys::Class;
+use std::alloc::Allocator;
 use std::marker::Model;
 
 /// The right of one client to make calls, and what it made. It cannot be dropped: it ends by
@@ -97,4 +98,12 @@ impl<K, V, F> BinRole<K, V, F> {
         let BinRole { class: _, badge } = self;
         badge.into_seat()
     }
+}
+
+/// Ends the passes. A ledger of which one is missing can never be settled.
+pub fn retire_all<K, V, F, A: Allocator>(mut passes: Vec<Pass<K, V, F>, A>) {
+    while let Some(pass) = passes.pop() {
+        pass.retire();
+    }
+    passes.destroy_empty();
 }

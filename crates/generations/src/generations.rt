@@ -5,6 +5,7 @@ ghost use Rattle.generations.specs.Inside.{AreOpening, map_named};
 ghost use Rattle.generations.specs.Views.{IsOfMap, place_of};
 
 use crate::place::{Halves, Place};
+use crate::shortcuts::Shortcuts;
 use crate::state::PlaceTag;
 use bin_history::Remap;
 use boxcar::Keeps;
@@ -66,6 +67,7 @@ fn tag_of(n: u32, salt: Salt, ledger: &LedgerName) -> Tag
 pub struct Generations<K: HashKey, V: Clone + Eq, F: Remap<K, V> + Clone, A: Allocator> {
     opening: Vec<Place<K, V, F, A>, A>,
     pub(crate) arena: boxcar::Vec<Place<K, V, F, A>, A, OfMap>,
+    pub(crate) shortcuts: Shortcuts<A>,
     pub(crate) salt: Salt,
     pub(crate) ledger: LedgerName,
 }
@@ -135,12 +137,24 @@ impl<K: HashKey, V: Clone + Eq, F: Remap<K, V> + Clone, A: Allocator> Generation
         place.class().covers(hash).then_some(place)
     }
 
+    /// A place that has the hash, past those that were forwarded before it, if one was noted.
+    fn noted_place(&self, hash: u32) -> Option<&Place<K, V, F, A>>
+        ensures of_map { IfSome result (λ p. IsOfMap self.now p.now) }
+        ensures covers { IfSome result (λ p. covers p.now.class hash ≡ true) }
+    {
+        let place = self.arena.get(self.shortcuts.number_for(hash)?)?;
+        place.class().covers(hash).then_some(place)
+    }
+
     /// The place of the hash that was not forwarded, as far as is known now. It goes past forwarded places without their locks.
     pub(crate) fn find(&self, hash: u32) -> Option<&Place<K, V, F, A>>
         ensures of_map { IfSome result (λ p. IsOfMap self.now p.now) }
         ensures covers { IfSome result (λ p. covers p.now.class hash ≡ true) }
     {
-        let mut place = self.opening_place(hash);
+        let mut place = match self.noted_place(hash) {
+            Some(place) => place,
+            None => self.opening_place(hash),
+        };
         for _ in 0..MOST_PLACES {
             let Some(halves) = place.halves() else {
                 return Some(place);
@@ -168,10 +182,12 @@ impl<
         requires places { AreOpening (record { ledger = ledger; salt = salt; n = length opening.items }) opening.items }
         ensures { IfOk result (λ g. g ≡ record { ledger = ledger; salt = salt; n = length opening.items }) }
     {
+        let shortcuts = Shortcuts::new(alloc.clone()?)?;
         let arena = boxcar::Vec::with_rule(alloc, tag_of(opening.len() as u32, salt, &ledger))?;
         Ok(Generations {
             opening,
             arena,
+            shortcuts,
             salt,
             ledger,
         })

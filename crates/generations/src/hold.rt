@@ -158,6 +158,8 @@ impl<
             high: high_at.index(),
         });
         drop(claim.put(State::Forwarded, AWAY));
+        home.shortcuts.note(low_class, low_at.index());
+        home.shortcuts.note(high_class, high_at.index());
         Ok(())
     }
 }

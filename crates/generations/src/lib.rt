@@ -11,6 +11,7 @@ mod hold;
 mod leaves;
 mod opening;
 mod place;
+mod shortcuts;
 mod shown;
 mod state;
 #[cfg(test)]

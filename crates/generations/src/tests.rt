@@ -1,5 +1,6 @@
 //! Maps at the program's keys.
 mod refused;
+mod shortcuts;
 mod threads;
 
 ghost use Rattle.std.specs.Prelude.{◌≡◌, ◌<◌, ◌≤◌, true, [], All, IfOk, length};
@@ -10,7 +11,7 @@ ghost use Rattle.count_ledger.specs.Agreement.{Agree};
 
 use crate::{Generations, Moved, next_in_walk};
 use bin_history::{Bin, Call, Remap};
-use count_ledger::{BinRole, Ledger, MOST_CALLS, Pass, agreement_laws};
+use count_ledger::{BinRole, Ledger, MOST_CALLS, Pass, agreement_laws, retire_all};
 use hashkeys::{Class, HashKey, Key, Salt};
 use std::alloc::{AllocError, Allocator, Global};
 use std::process::Abort;
@@ -84,13 +85,6 @@ fn no_bases<A: Allocator + Clone>(
         bases.push_reserved(Vec::new(alloc.clone()?));
     }
     Ok(bases)
-}
-
-fn retire_all<A: Allocator>(mut passes: Vec<KeyPass, A>) {
-    while let Some(pass) = passes.pop() {
-        pass.retire();
-    }
-    passes.destroy_empty();
 }
 
 fn open<A: Allocator + Clone>(

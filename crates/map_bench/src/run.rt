@@ -5,6 +5,7 @@ use crate::settings::Settings;
 use crate::work::{BenchMap, BenchPass, fill, names, work_together};
 use anyhow::{Result, anyhow, bail};
 use chm::{Map, NotClosed};
+use count_ledger::retire_all;
 use hashkeys::Key;
 use std::alloc::Global;
 use std::sync::Wait;
@@ -54,14 +55,6 @@ fn time_passes<R: Threads + Wait + Clock + Sync>(
         Some((filler, callers)) => time_calls(rt, map, names, settings, filler, callers),
         None => Err(anyhow!("no pass")),
     }
-}
-
-/// Ends passes with which no map was closed.
-fn retire_all(mut passes: Vec<BenchPass>) {
-    while let Some(pass) = passes.pop() {
-        pass.retire();
-    }
-    passes.destroy_empty();
 }
 
 /// Says how long the threads took to make their calls of a new map, which is closed afterwards: so no call was lost.

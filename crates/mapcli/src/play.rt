@@ -13,6 +13,7 @@ use crate::gate::ClientGate;
 use crate::options::Options;
 use bin_history::Reply;
 use chm::{Map, NotClosed, Quiet};
+use count_ledger::retire_all;
 use hashkeys::Key;
 use script::{Function, ScriptCall};
 use std::alloc::{AllocError, Allocator};
@@ -129,14 +130,6 @@ fn play_blocks<R: Threads + Wait + Sync, G: ClientGate + Sync, A: Allocator + Cl
     seat(&mut clients, passes, blocks);
     play_clients(rt, map, gate, &mut clients);
     gather(clients, passes, replies)
-}
-
-/// Ends passes with which no map is closed.
-fn retire_all<A: Allocator>(mut passes: Vec<ScriptPass, A>) {
-    while let Some(pass) = passes.pop() {
-        pass.retire();
-    }
-    passes.destroy_empty();
 }
 
 /// What playing the client blocks came to: the replies of each client, and the closed map.

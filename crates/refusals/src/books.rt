@@ -2,7 +2,7 @@
 ghost use Rattle.std.specs.Prelude.{◌≡◌, All, IfOk};
 
 use crate::values::Alloc;
-use count_ledger::{BinRole, Ledger, Pass, Unsettled};
+use count_ledger::{BinRole, Ledger, Pass, Unsettled, retire_all};
 use hashkeys::{Key, Salt};
 use refusing_alloc::Refusing;
 use std::alloc::{AllocError, Global};
@@ -20,13 +20,6 @@ type Made<'a> = (
     Vec<KeyPass, Alloc<'a>>,
     Vec<BinRole<Key, u64, ()>, Alloc<'a>>,
 );
-
-fn retire_all(mut passes: Vec<KeyPass, Alloc<'_>>) {
-    while let Some(pass) = passes.pop() {
-        pass.retire();
-    }
-    passes.destroy_empty();
-}
 
 /// Settles a ledger of two clients over two bins that nobody called.
 fn assert_settles(rt: &impl Abort, made: Made<'_>)

@@ -1,9 +1,9 @@
 //! Threads that share one map.
 ghost use Rattle.std.specs.Prelude.{◌≡◌, All, IfOk};
 
-use super::{KeyLedger, KeyMap, KeyPass, KeyRole, Opened, open, open_quiet, put, retire_all};
+use super::{KeyLedger, KeyMap, KeyPass, KeyRole, Opened, open, open_quiet, put};
 use crate::Moved;
-use count_ledger::Unsettled;
+use count_ledger::{Unsettled, retire_all};
 use hashkeys::{Class, Salt};
 use std::alloc::{Allocator, Global};
 use std::process::Abort;

@@ -1,7 +1,6 @@
-use Rattle.std.proofs.Common.{◌+◌, refl, sym, ap, ◌∙◌, arith}
+use Rattle.std.proofs.Common.{◌+◌, sym, ap, ◌∙◌, arith}
 use Rattle.std.proofs.lemmas.List.FromFn.{map-range_with_len_more}
 use Rattle.count_ledger.specs.Opening.{new_pass}
-use Rattle.count_ledger.specs.Steps.{view_of, rest_of}
 use Rattle.count_ledger.proofs.Openings.{range_next, IsPass-new}
 use Rattle.count_ledger.proofs.dealing.deal_passes.Goals as goal
 

@@ -1,8 +1,8 @@
-use Rattle.std.proofs.Common.{◌≡◌, ℕ, ◌+◌, ◌/◌, ◌<◌, length, get_or, take, map, sym, ap, ◌∙◌, arith, List, ◌++◌, ◌∷◌, [], sum_by, All}
+use Rattle.std.proofs.Common.{◌≡◌, ◌+◌, ◌/◌, take, sym, ap, ◌∙◌, arith, ◌++◌, ◌∷◌, []}
 use Rattle.std.proofs.lemmas.List.{map_more, take_all}
 use Rattle.std.proofs.lemmas.List.Elements.{All-push}
 use Rattle.std.proofs.lemmas.List.Sums.{sum_by_push}
-use Rattle.hashkeys.specs.Classes.{ClassView, IsClass}
+use Rattle.hashkeys.specs.Classes.{IsClass}
 use Rattle.count_ledger.specs.Books.{classes_of}
 use Rattle.count_ledger.proofs.Covering.{wide_by_rest}
 use Rattle.count_ledger.proofs.settling.are_wide.Goals as goal

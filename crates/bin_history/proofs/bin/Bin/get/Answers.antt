@@ -1,5 +1,4 @@
-use Rattle.std.proofs.Common.{◌≡◌, Option, None, ap, sym, ◌∙◌}
-use Rattle.bin_history.specs.Entries.{lookup}
+use Rattle.std.proofs.Common.{ap}
 use Rattle.bin_history.specs.Lawful.{BinView}
 use Rattle.bin_history.proofs.Keys.{key_tells}
 use Rattle.bin_history.proofs.Changes.{lookup_at, lookup_absent}

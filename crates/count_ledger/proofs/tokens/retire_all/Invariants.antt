@@ -1,4 +1,4 @@
-use Rattle.chm.proofs.tests.retire_all.Given as goal
+use Rattle.count_ledger.proofs.tokens.retire_all.Given as goal
 
 abbrev pub decreases-loop-pass : goal.decreases-loop-pass
 decreases-loop-pass g l = goal.left-loop-pass g l

@@ -1,4 +1,0 @@
-use Rattle.mapcli.proofs.play.retire_all.Given as goal
-
-abbrev pub decreases-loop-pass : goal.decreases-loop-pass
-decreases-loop-pass g l = goal.left-loop-pass g l
