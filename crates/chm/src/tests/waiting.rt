@@ -1,8 +1,9 @@
 //! Functions and copies that wait for another thread while a bin is held or read.
-ghost use Rattle.std.specs.Prelude.{◌≡◌};
+ghost use Rattle.std.specs.Prelude.{◌≡◌, All};
 ghost use Rattle.bin_history.specs.Copies.{IsExact};
 
 use super::{close_all, key, open};
+use crate::Map;
 use bin_history::{Remap, Reply};
 use count_ledger::Pass;
 use crossbeam_utils::Backoff;
@@ -188,24 +189,36 @@ impl<'a> Remap<Key, Paired<'a>> for () {
     }
 }
 
+/// Gives the key `a` this value by the one pass of the map, and says whether it had none.
+fn put_a<'a, R: Wait + Abort>(
+    rt: &R,
+    map: &Map<Key, Paired<'a>, (), Global>,
+    passes: &mut Vec<Pass<Key, Paired<'a>, ()>>,
+    value: Paired<'a>,
+) -> bool
+    requires { All (λ p. p.ledger ≡ map.now.ledger.id) passes.old.items }
+    ensures { All (λ p. p.ledger ≡ map.now.ledger.id) passes.new.items }
+{
+    assert!(rt; passes.len() == 1);
+    map.put(rt, &mut passes[0], key(rt, b"a"), value) == Ok(Reply::Value(None))
+}
+
 #[test]
 fn two_glances_copy_one_value_at_once(rt: HostRuntime) -> Result<(), Fail> {
     let event = Event::new();
     let told = AtomicU64::new(0);
     let (map, mut passes) = open::<Paired, (), Global>(&rt, rt.alloc(), 16, 1);
-    assert!(rt; passes.len() == 1);
     let value = Paired {
         event: &event,
         told: &told,
     };
-    let put = map.put(&rt, &mut passes[0], key(&rt, b"a"), value);
+    let put = put_a(&rt, &map, &mut passes, value);
     told.store(1, SeqCst);
     let glance = || matches!(map.glance(&rt, &key(&rt, b"a")), Ok(Some(_)));
     let both = thread::join(&rt, glance, glance);
     told.store(0, SeqCst);
     let closed = close_all(&rt, map, passes);
-    assert!(rt; put == Ok(Reply::Value(None)));
-    assert_eq!(rt; both, (true, true));
+    assert_eq!(rt; (put, both), (true, (true, true)));
     assert_eq!(rt; (event.given_up(), closed.mapping_count()), (0, 1));
     Ok(())
 }

@@ -65,6 +65,25 @@ fn put_to_all<R: Wait + Abort>(
     }
 }
 
+/// Each pass puts to each key, at the same time as the others.
+fn put_from_threads<R: Threads + Wait + Abort + Sync>(
+    rt: &R,
+    map: &KeyMap<Global>,
+    ledger: &KeyLedger<Global>,
+    passes: &mut Vec<KeyPass>,
+)
+    requires ledger { map.now.ledger ≡ ledger.now.id }
+    requires passes { All (λ p. p.ledger ≡ ledger.now.id) passes.old.items }
+    ensures { All (λ p. p.ledger ≡ ledger.now.id) passes.new.items }
+{
+    thread::for_each_mut(
+        rt,
+        passes,
+        8,
+        &|_number, pass| { put_to_all(rt, map, ledger, pass) },
+    );
+}
+
 /// Takes the bins out of the map, and gives their roles and how many keys each has.
 fn roles_of<R: Wait + Abort>(
     rt: &R,
@@ -119,12 +138,7 @@ fn eight_threads_post_to_eight_bins(rt: HostRuntime) -> Result<(), Fail> {
         ledger,
         mut passes,
     } = open(rt.alloc(), Salt(0), 8, 8)?;
-    let work = |_number: usize, pass: &mut KeyPass|
-        requires map { map.ledger ≡ ledger.id }
-        requires pass { pass.now.ledger ≡ ledger.id }
-        ensures { pass.exit.now.ledger ≡ ledger.id }
-    { put_to_all(&rt, &map, &ledger, pass) };
-    thread::for_each_mut(&rt, &mut passes, 8, &work);
+    put_from_threads(&rt, &map, &ledger, &mut passes);
     let (roles, counts) = roles_of(&rt, rt.alloc(), map);
     assert_eq!(rt; counts.as_slice(), [1usize; 8].as_slice());
     for pass in &passes {
