@@ -5,7 +5,7 @@ ghost use Rattle.generations.specs.Inside.{AreOpening, map_named};
 ghost use Rattle.generations.specs.Views.{IsOfMap, place_of};
 
 use crate::place::{Halves, Place};
-use crate::shortcuts::Shortcuts;
+use crate::shortcuts::{SIZES, Shortcuts};
 use crate::state::PlaceTag;
 use bin_history::Remap;
 use boxcar::Keeps;
@@ -14,9 +14,6 @@ use count_ledger::LedgerName;
 use hashkeys::{Class, HashKey, Salt};
 use std::alloc::{AllocError, Allocator};
 use std::marker::Model;
-
-/// From an opening bin of the least table to a leaf of the greatest there are 16 halvings.
-const MOST_PLACES: u32 = 17;
 
 /// The rule of the arena, whose tag names the map: each place is of this map.
 pub struct OfMap;
@@ -123,6 +120,15 @@ impl<K: HashKey, V: Clone + Eq, F: Remap<K, V> + Clone, A: Allocator> Generation
         &self.opening[hash as usize % self.opening.len()]
     }
 
+    /// The place with this number in the arena, if it has the hash.
+    fn place_at(&self, number: usize, hash: u32) -> Option<&Place<K, V, F, A>>
+        ensures of_map { IfSome result (λ p. IsOfMap self.now p.now) }
+        ensures covers { IfSome result (λ p. covers p.now.class hash ≡ true) }
+    {
+        let place = self.arena.get(number)?;
+        place.class().covers(hash).then_some(place)
+    }
+
     /// The place of the half that has the hash.
     fn half_place(&self, class: Class, halves: Halves, hash: u32) -> Option<&Place<K, V, F, A>>
         ensures of_map { IfSome result (λ p. IsOfMap self.now p.now) }
@@ -133,8 +139,7 @@ impl<K: HashKey, V: Clone + Eq, F: Remap<K, V> + Clone, A: Allocator> Generation
         } else {
             halves.high
         };
-        let place = self.arena.get(number)?;
-        place.class().covers(hash).then_some(place)
+        self.place_at(number, hash)
     }
 
     /// A place that has the hash, past those that were forwarded before it, if one was noted.
@@ -142,8 +147,7 @@ impl<K: HashKey, V: Clone + Eq, F: Remap<K, V> + Clone, A: Allocator> Generation
         ensures of_map { IfSome result (λ p. IsOfMap self.now p.now) }
         ensures covers { IfSome result (λ p. covers p.now.class hash ≡ true) }
     {
-        let place = self.arena.get(self.shortcuts.number_for(hash)?)?;
-        place.class().covers(hash).then_some(place)
+        self.place_at(self.shortcuts.number_for(hash)?, hash)
     }
 
     /// The place of the hash that was not forwarded, as far as is known now. It goes past forwarded places without their locks.
@@ -155,7 +159,7 @@ impl<K: HashKey, V: Clone + Eq, F: Remap<K, V> + Clone, A: Allocator> Generation
             Some(place) => place,
             None => self.opening_place(hash),
         };
-        for _ in 0..MOST_PLACES {
+        for _ in 0..SIZES {
             let Some(halves) = place.halves() else {
                 return Some(place);
             };

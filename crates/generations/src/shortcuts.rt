@@ -5,8 +5,8 @@ use std::sync::OnceLock;
 use std::sync::atomic::AtomicU64;
 use std::sync::atomic::Ordering::SeqCst;
 
-/// A table has at most 2 to this many bins.
-const MOST_EXPONENT: u32 = 16;
+/// How many sizes a table can have: 1, 2, 4 and so on to 65,536 bins. So many places there are at most on the way to a bin.
+pub(crate) const SIZES: u32 = 17;
 
 /// For each size of a table, the numbers of the places of its classes in the arena, as far as they were noted: a word is one more than a number, or 0. What is
 /// noted here saves time and no more: whoever goes by a number looks whether the place has the hash.
@@ -28,8 +28,8 @@ fn no_numbers<A: Allocator>(alloc: A, n: u32) -> Result<Vec<AtomicU64, A>, Alloc
 impl<A: Allocator + Clone> Shortcuts<A> {
     /// None is noted.
     pub(crate) fn new(alloc: A) -> Result<Shortcuts<A>, AllocError> {
-        let mut sizes = Vec::with_capacity(alloc, MOST_EXPONENT as usize + 1)?;
-        for _exponent in 0..MOST_EXPONENT + 1 {
+        let mut sizes = Vec::with_capacity(alloc, SIZES as usize)?;
+        for _exponent in 0..SIZES {
             sizes.push_reserved(OnceLock::new());
         }
         Ok(Shortcuts {
@@ -65,7 +65,7 @@ impl<A: Allocator + Clone> Shortcuts<A> {
 impl<A: Allocator> Shortcuts<A> {
     /// The number that is noted for the hash at the widest table that has one.
     pub(crate) fn number_for(&self, hash: u32) -> Option<usize> {
-        let newest = self.newest.load(SeqCst).min(u64::from(MOST_EXPONENT)) as u32;
+        let newest = self.newest.load(SeqCst).min(u64::from(SIZES - 1)) as u32;
         for narrower in 0..=newest {
             let exponent = newest - narrower;
             if let Some(words) = self.sizes.get(exponent as usize)?.get() {
