@@ -3,9 +3,11 @@
 
 ghost use Rattle.std.specs.Prelude.{◌≡◌, ◌*◌, ◌/◌, ◌<◌};
 
+mod name;
 mod random;
 mod run;
 mod settings;
+mod sum;
 mod work;
 
 use anyhow::Result;

@@ -16,7 +16,7 @@ use std::time::{Clock, Duration, Instant};
 fn time_calls<R: Threads + Wait + Clock + Sync>(
     rt: &R,
     map: &BenchMap,
-    names: &[Key],
+    names: &'static [Key],
     settings: &Settings,
     filler: &mut BenchPass,
     callers: &mut [BenchPass],
@@ -43,16 +43,20 @@ fn time_calls<R: Threads + Wait + Clock + Sync>(
 fn time_passes<R: Threads + Wait + Clock + Sync>(
     rt: &R,
     map: &BenchMap,
-    names: &[Key],
+    names: &'static [Key],
     settings: &Settings,
-    passes: &mut [BenchPass],
+    passes: &mut Vec<BenchPass>,
 ) -> Result<Duration>
     requires names { 0 < length names.now }
-    requires passes { All (λ p. p.ledger ≡ map.now.ledger.id) passes.old }
-    ensures { All (λ p. p.ledger ≡ map.now.ledger.id) passes.new }
+    requires passes { All (λ p. p.ledger ≡ map.now.ledger.id) passes.old.items }
+    ensures { All (λ p. p.ledger ≡ map.now.ledger.id) passes.new.items }
 {
-    match passes.split_last_mut() {
-        Some((filler, callers)) => time_calls(rt, map, names, settings, filler, callers),
+    match passes.pop() {
+        Some(mut filler) => {
+            let taken = time_calls(rt, map, names, settings, &mut filler, passes);
+            passes.push_reserved(filler);
+            taken
+        }
         None => Err(anyhow!("no pass")),
     }
 }

@@ -1,29 +1,30 @@
 //! The calls that are measured.
 ghost use Rattle.std.specs.Prelude.{◌≡◌, ◌<◌, All, length};
 
+use crate::name::Name;
 use crate::random::Random;
 use crate::settings::{Mode, Settings};
+use crate::sum::Sum;
 use bin_history::Call;
 use chm::{Fault, Map};
 use count_ledger::Pass;
 use hashkeys::Key;
-use script::Function;
 use std::alloc::{AllocError, Global};
 use std::sync::Wait;
 use std::thread;
 use std::thread::Threads;
 
 /// The map that is measured.
-pub(crate) type BenchMap = Map<Key, i64, Function, Global>;
+pub(crate) type BenchMap = Map<Name, i64, Sum, Global>;
 
 /// The right of one thread to make calls of it.
-pub(crate) type BenchPass = Pass<Key, i64, Function>;
+pub(crate) type BenchPass = Pass<Name, i64, Sum>;
 
 /// How many threads make calls at most, beside the one that fills the map.
 const MOST_CALLERS: usize = 31;
 
-/// The keys `k0`, `k1` and so on.
-pub(crate) fn names(alloc: Global, count: u32) -> Result<Vec<Key>, AllocError> {
+/// The keys `k0`, `k1` and so on, which live as long as the program.
+pub(crate) fn names(alloc: Global, count: u32) -> Result<&'static [Key], AllocError> {
     let mut names = Vec::with_capacity(alloc, count as usize)?;
     for i in 0..count {
         let text = format!(in alloc; "k{i}")?;
@@ -31,14 +32,14 @@ pub(crate) fn names(alloc: Global, count: u32) -> Result<Vec<Key>, AllocError> {
             names.push(name)?;
         }
     }
-    Ok(names)
+    Ok(names.leak())
 }
 
 /// Makes every second key present.
 pub(crate) fn fill<R: Wait>(
     rt: &R,
     map: &BenchMap,
-    names: &[Key],
+    names: &'static [Key],
     pass: &mut BenchPass,
 ) -> Result<(), Fault>
     requires { pass.old.ledger ≡ map.now.ledger.id }
@@ -46,39 +47,34 @@ pub(crate) fn fill<R: Wait>(
 {
     for (i, name) in names.iter().enumerate() {
         if i % 2 == 0 {
-            let _reply = map.put(rt, pass, name.clone()?, i as i64)?;
+            let _reply = map.put(rt, pass, Name(name), i as i64)?;
         }
     }
     Ok(())
 }
 
 /// A call drawn at random on one of the keys, which puts this value if it is a put.
-fn draw(
-    random: &mut Random,
-    names: &[Key],
-    mode: Mode,
-    value: i64,
-) -> Result<Call<Key, i64, Function>, AllocError>
+fn draw(random: &mut Random, names: &'static [Key], mode: Mode, value: i64) -> Call<Name, i64, Sum>
     requires { 0 < length names.now }
 {
     let drawn = random.draw();
-    let key = names[(drawn >> 16) as usize % names.len()].clone()?;
-    Ok(match mode {
-        Mode::Merge => Call::Merge(key, 1, Function::Sum(1)),
+    let key = Name(&names[(drawn >> 16) as usize % names.len()]);
+    match mode {
+        Mode::Merge => Call::Merge(key, 1, Sum),
         Mode::Get => Call::Get(key),
         Mode::Mix => match drawn % 100 {
             0..80 => Call::Get(key),
             80..95 => Call::Put(key, value),
             _ => Call::Remove(key),
         },
-    })
+    }
 }
 
 /// Makes the calls of the thread with this number, up to one that is refused.
 fn work<R: Wait>(
     rt: &R,
     map: &BenchMap,
-    names: &[Key],
+    names: &'static [Key],
     settings: &Settings,
     number: usize,
     pass: &mut BenchPass,
@@ -89,9 +85,7 @@ fn work<R: Wait>(
 {
     let mut random = Random::new((number as u64).wrapping_add(1));
     for i in 0..settings.calls {
-        let Ok(call) = draw(&mut random, names, settings.mode, i64::from(i)) else {
-            return;
-        };
+        let call = draw(&mut random, names, settings.mode, i64::from(i));
         if map.call(rt, pass, call).is_err() {
             return;
         }
@@ -102,7 +96,7 @@ fn work<R: Wait>(
 pub(crate) fn work_together<R: Threads + Wait + Sync>(
     rt: &R,
     map: &BenchMap,
-    names: &[Key],
+    names: &'static [Key],
     settings: &Settings,
     passes: &mut [BenchPass],
 )
