@@ -7,7 +7,7 @@ use Rattle.bin_history.specs.Deltas.{change_of_count, sum_of_deltas}
 use Rattle.bin_history.specs.Entries.{lookup, HasDistinctKeys, put, remove, store, replay}
 use Rattle.bin_history.specs.Plain.{IsLegal}
 use Rattle.bin_history.specs.declared.call.Call.{Call}
-use Rattle.bin_history.specs.declared.call.Record.{Record}
+use Rattle.bin_history.specs.Records.{RecordView}
 use Rattle.bin_history.proofs.Entries.{lookup-store, HasDistinctKeys-store}
 
 module _ {K V : Type 0} (same : K → K → Bool) where
@@ -34,7 +34,7 @@ module _ {K V : Type 0} (same : K → K → Bool) where
   length-store es k (Some w) (Some v) b = let l = length-put_there es k v w (sym b) in omega (arith, ints)
 
 module _ {K V F : Type 0} (same : K → K → Bool) (tells : (x y : K) → Decides (same x y) (x ≡ y)) (after : Call K V F → Option V → Option V) where
-  pub length-replay : (es : List (K × V)) (rs : List (Record K V F)) → HasDistinctKeys same es → IsLegal same after (lookup same es) rs → pos (length (replay same es rs)) ≡ pos (length es) +ℤ sum_of_deltas rs
+  pub length-replay : (es : List (K × V)) (rs : List (RecordView K V F)) → HasDistinctKeys same es → IsLegal same after (lookup same es) rs → pos (length (replay same es rs)) ≡ pos (length es) +ℤ sum_of_deltas rs
   length-replay es [] d l = omega (arith, ints)
   length-replay es (r ∷ rs) d l =
       let P : (K → Option V) → Type 0 = λ m. IsLegal same after m rs in

@@ -12,7 +12,7 @@ use Rattle.bin_history.specs.Part.{part_of_map, part_of_entries, part_of_records
 use Rattle.bin_history.specs.Plain.{run, IsLegal}
 use Rattle.bin_history.specs.Readiness.{KeepsOrFolds}
 use Rattle.bin_history.specs.declared.call.Call.{Call}
-use Rattle.bin_history.specs.declared.call.Record.{Record}
+use Rattle.bin_history.specs.Records.{RecordView}
 use Rattle.bin_history.proofs.Parts.{lookup-part, replay-part, IsLegal-part, HasDistinctKeys-part}
 use Rattle.bin_history.proofs.Runs.{replay-append, lookup-replay, IsLegal-append, IsLegal-front}
 
@@ -21,28 +21,28 @@ module _ {K V F : Type 0} (same : K → K → Bool) (tells : (x y : K) → Decid
   HasHistory-new b d e = ([], record { distinct = d; kept_is = sym e; legal = tt; base_is = refl })
 
   -- a record more
-  pub HasHistory-applied : (opening : List (K × V)) (kept : List (Record K V F)) (b c : BinView K V F) (r : Record K V F)
+  pub HasHistory-applied : (opening : List (K × V)) (kept : List (RecordView K V F)) (b c : BinView K V F) (r : RecordView K V F)
       → HasHistory same after opening kept b → c.base ≡ b.base → c.records ≡ b.records ++ r ∷ []
       → HasHistory same after opening (kept ++ r ∷ []) c
   HasHistory-applied opening kept b c r (front, h) base records = (
     front,
     record {
       distinct = h.distinct;
-      kept_is = ap (λ (ks : List (Record K V F)). ks ++ r ∷ []) h.kept_is ∙ append_assoc front b.records (r ∷ []) ∙ ap (λ (rs : List (Record K V F)). front ++ rs) (sym records);
+      kept_is = ap (λ (ks : List (RecordView K V F)). ks ++ r ∷ []) h.kept_is ∙ append_assoc front b.records (r ∷ []) ∙ ap (λ (rs : List (RecordView K V F)). front ++ rs) (sym records);
       legal = h.legal;
       base_is = base ∙ h.base_is;
     },
   )
 
   -- the oldest records folded, or not
-  pub HasHistory-prepared : (opening : List (K × V)) (kept : List (Record K V F)) (b c : BinView K V F)
+  pub HasHistory-prepared : (opening : List (K × V)) (kept : List (RecordView K V F)) (b c : BinView K V F)
       → HasHistory same after opening kept b → IsLegal same after (lookup same b.base) b.records → KeepsOrFolds same b c
       → HasHistory same after opening kept c
   HasHistory-prepared opening kept b c (front, h) legal (inl k) = (
     front,
     record {
       distinct = h.distinct;
-      kept_is = h.kept_is ∙ ap (λ (rs : List (Record K V F)). front ++ rs) (sym k.records);
+      kept_is = h.kept_is ∙ ap (λ (rs : List (RecordView K V F)). front ++ rs) (sym k.records);
       legal = h.legal;
       base_is = k.base ∙ h.base_is;
     },
@@ -56,14 +56,14 @@ module _ {K V F : Type 0} (same : K → K → Bool) (tells : (x y : K) → Decid
         front ++ old,
         record {
           distinct = h.distinct;
-          kept_is = h.kept_is ∙ ap (λ (rs : List (Record K V F)). front ++ rs) (sym whole ∙ ap (λ (rs : List (Record K V F)). old ++ rs) (sym k.records)) ∙ sym (append_assoc front old c.records);
+          kept_is = h.kept_is ∙ ap (λ (rs : List (RecordView K V F)). front ++ rs) (sym whole ∙ ap (λ (rs : List (RecordView K V F)). old ++ rs) (sym k.records)) ∙ sym (append_assoc front old c.records);
           legal = IsLegal-append same tells after (lookup same opening) front old h.legal (subst L base first);
           base_is = k.base ∙ ap (λ (es : List (K × V)). replay same es old) h.base_is ∙ sym (replay-append same tells opening front old);
         },
       )
 
   -- the part of a bin in a class
-  pub HasHistory-part : (opening : List (K × V)) (kept : List (Record K V F)) (b c : BinView K V F)
+  pub HasHistory-part : (opening : List (K × V)) (kept : List (RecordView K V F)) (b c : BinView K V F)
       → HasHistory same after opening kept b → IsPartOf code b c
       → HasHistory same after (part_of_entries (is_of code b.salt c.class) opening) (part_of_records (is_of code b.salt c.class) kept) c
   HasHistory-part opening kept b c (front, h) p =
@@ -73,14 +73,14 @@ module _ {K V F : Type 0} (same : K → K → Bool) (tells : (x y : K) → Decid
         part_of_records passes front,
         record {
           distinct = HasDistinctKeys-part same tells passes opening h.distinct;
-          kept_is = ap (part_of_records passes) h.kept_is ∙ filter-append (λ (r : Record K V F). passes (key_of r.call)) front b.records ∙ ap (λ (rs : List (Record K V F)). part_of_records passes front ++ rs) (sym p.records);
+          kept_is = ap (part_of_records passes) h.kept_is ∙ filter-append (λ (r : RecordView K V F). passes (key_of r.call)) front b.records ∙ ap (λ (rs : List (RecordView K V F)). part_of_records passes front ++ rs) (sym p.records);
           legal = subst L (sym part) (IsLegal-part same tells passes after (lookup same opening) front h.legal);
           base_is = p.base ∙ ap (part_of_entries passes) h.base_is ∙ sym (replay-part same tells passes opening front);
         },
       )
 
   -- the kept records are legal on the opening map, and the bin's entries are their replay
-  pub HasHistory-replay : (opening : List (K × V)) (kept : List (Record K V F)) (b : BinView K V F)
+  pub HasHistory-replay : (opening : List (K × V)) (kept : List (RecordView K V F)) (b : BinView K V F)
       → HasHistory same after opening kept b → IsLegal same after (lookup same b.base) b.records → b.entries ≡ replay same b.base b.records
       → IsLegal same after (lookup same opening) kept × (b.entries ≡ replay same opening kept)
   HasHistory-replay opening kept b (front, h) legal replayed =

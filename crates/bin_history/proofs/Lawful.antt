@@ -11,7 +11,7 @@ use Rattle.bin_history.specs.Plain.{run, IsLegal}
 use Rattle.bin_history.specs.Part.{part_of_entries, part_of_records}
 use Rattle.bin_history.specs.Lawful.{BinView, IsReplayed, IsLawful}
 use Rattle.bin_history.specs.declared.call.Call.{Call}
-use Rattle.bin_history.specs.declared.call.Record.{Record}
+use Rattle.bin_history.specs.Records.{RecordView}
 use Rattle.bin_history.proofs.Runs.{replay-append, HasDistinctKeys-replay, All-replay, lookup-replay, IsLegal-append, IsLegal-rest}
 use Rattle.bin_history.proofs.Orders.{in_order_replay}
 use Rattle.bin_history.proofs.Parts.{lookup-part, HasDistinctKeys-part, replay-part, IsLegal-part}
@@ -28,36 +28,36 @@ length-filter-le p [] = omega arith
 length-filter-le p (x ∷ xs) = let ih = length-filter-le p xs in grind (arith, common_steps)
 
 module _ {K V F : Type 0} (same : K → K → Bool) (tells : (x y : K) → Decides (same x y) (x ≡ y)) (code : K → ℕ) (after : Call K V F → Option V → Option V) where
-  pub IsReplayed-new : (salt : Salt) (class : ClassView) (base : List (K × V)) (records : List (Record K V F)) (entries : List (K × V)) → HasDistinctKeys same base → All (λ e. is_of code salt class e.0 ≡ true) base → records ≡ [] → entries ≡ base → IsReplayed same code after salt class base records entries
+  pub IsReplayed-new : (salt : Salt) (class : ClassView) (base : List (K × V)) (records : List (RecordView K V F)) (entries : List (K × V)) → HasDistinctKeys same base → All (λ e. is_of code salt class e.0 ≡ true) base → records ≡ [] → entries ≡ base → IsReplayed same code after salt class base records entries
   IsReplayed-new salt class base records entries d c r e =
-      let P : List (Record K V F) → Type 0 = λ rs. IsReplayed same code after salt class base rs entries in
+      let P : List (RecordView K V F) → Type 0 = λ rs. IsReplayed same code after salt class base rs entries in
       subst P (sym r) (record {
         base_distinct = d;
         base_of_class = c;
-        records_of_class = All-nil (λ (x : Record K V F). is_of code salt class (key_of x.call) ≡ true);
+        records_of_class = All-nil (λ (x : RecordView K V F). is_of code salt class (key_of x.call) ≡ true);
         legal = tt;
         at_most = omega arith;
         replayed = e;
       })
 
-  pub IsReplayed-applied : (salt : Salt) (class : ClassView) (base : List (K × V)) (records : List (Record K V F)) (entries : List (K × V)) (r : Record K V F) → IsReplayed same code after salt class base records entries → is_of code salt class (key_of r.call) ≡ true → r.before ≡ lookup same entries (key_of r.call) → r.after ≡ after r.call r.before → length records < 1024 → IsReplayed same code after salt class base (records ++ r ∷ []) (store same entries (key_of r.call) r.after)
+  pub IsReplayed-applied : (salt : Salt) (class : ClassView) (base : List (K × V)) (records : List (RecordView K V F)) (entries : List (K × V)) (r : RecordView K V F) → IsReplayed same code after salt class base records entries → is_of code salt class (key_of r.call) ≡ true → r.before ≡ lookup same entries (key_of r.call) → r.after ≡ after r.call r.before → length records < 1024 → IsReplayed same code after salt class base (records ++ r ∷ []) (store same entries (key_of r.call) r.after)
   IsReplayed-applied salt class base records entries r k of_class before_is after_is few =
       let now : lookup same entries ≡ run same (lookup same base) records = ap (lookup same) k.replayed ∙ lookup-replay same tells base records k.base_distinct in
       let at_key : lookup same entries (key_of r.call) ≡ run same (lookup same base) records (key_of r.call) = ap (λ (m : K → Option V). m (key_of r.call)) now in
       record {
         base_distinct = k.base_distinct;
         base_of_class = k.base_of_class;
-        records_of_class = All-push (λ (x : Record K V F). is_of code salt class (key_of x.call) ≡ true) records r k.records_of_class of_class;
+        records_of_class = All-push (λ (x : RecordView K V F). is_of code salt class (key_of x.call) ≡ true) records r k.records_of_class of_class;
         legal = IsLegal-append same tells after (lookup same base) records (r ∷ []) k.legal ((before_is ∙ at_key, after_is), tt);
         at_most = let l = length_push records r in omega arith;
         replayed = ap (λ es. store same es (key_of r.call) r.after) k.replayed ∙ sym (replay-append same tells base records (r ∷ []));
       }
 
-  pub IsReplayed-folded : (salt : Salt) (class : ClassView) (base : List (K × V)) (records : List (Record K V F)) (entries : List (K × V)) (n : ℕ) → IsReplayed same code after salt class base records entries → IsReplayed same code after salt class (replay same base (take n records)) (drop n records) entries
+  pub IsReplayed-folded : (salt : Salt) (class : ClassView) (base : List (K × V)) (records : List (RecordView K V F)) (entries : List (K × V)) (n : ℕ) → IsReplayed same code after salt class base records entries → IsReplayed same code after salt class (replay same base (take n records)) (drop n records) entries
   IsReplayed-folded salt class base records entries n k =
       let whole : take n records ++ drop n records ≡ records = take-append-drop n records in
       let legal : IsLegal same after (lookup same base) (take n records ++ drop n records) = rw whole k.legal in
-      let Q : Record K V F → Type 0 = λ x. is_of code salt class (key_of x.call) ≡ true in
+      let Q : RecordView K V F → Type 0 = λ x. is_of code salt class (key_of x.call) ≡ true in
       let now : run same (lookup same base) (take n records) ≡ lookup same (replay same base (take n records)) = sym (lookup-replay same tells base (take n records) k.base_distinct) in
       let L : (K → Option V) → Type 0 = λ m. IsLegal same after m (drop n records) in
       record {
@@ -69,16 +69,16 @@ module _ {K V F : Type 0} (same : K → K → Bool) (tells : (x y : K) → Decid
         replayed = k.replayed ∙ ap (replay same base) (sym whole) ∙ replay-append same tells base (take n records) (drop n records);
       }
 
-  pub IsReplayed-part : (salt : Salt) (class half : ClassView) (base : List (K × V)) (records : List (Record K V F)) (entries : List (K × V)) → IsReplayed same code after salt class base records entries → IsReplayed same code after salt half (part_of_entries (is_of code salt half) base) (part_of_records (is_of code salt half) records) (part_of_entries (is_of code salt half) entries)
+  pub IsReplayed-part : (salt : Salt) (class half : ClassView) (base : List (K × V)) (records : List (RecordView K V F)) (entries : List (K × V)) → IsReplayed same code after salt class base records entries → IsReplayed same code after salt half (part_of_entries (is_of code salt half) base) (part_of_records (is_of code salt half) records) (part_of_entries (is_of code salt half) entries)
   IsReplayed-part salt class half base records entries k =
       let passes : K → Bool = is_of code salt half in
       let L : (K → Option V) → Type 0 = λ m. IsLegal same after m (part_of_records passes records) in
       record {
         base_distinct = HasDistinctKeys-part same tells passes base k.base_distinct;
         base_of_class = All-passed (λ (e : K × V). passes e.0) base;
-        records_of_class = All-passed (λ (r : Record K V F). passes (key_of r.call)) records;
+        records_of_class = All-passed (λ (r : RecordView K V F). passes (key_of r.call)) records;
         legal = subst L (λ i q. sym (lookup-part same tells passes base q) i) (IsLegal-part same tells passes after (lookup same base) records k.legal);
-        at_most = let l = length-filter-le (λ (r : Record K V F). passes (key_of r.call)) records in let m = k.at_most in omega arith;
+        at_most = let l = length-filter-le (λ (r : RecordView K V F). passes (key_of r.call)) records in let m = k.at_most in omega arith;
         replayed = ap (part_of_entries passes) k.replayed ∙ sym (replay-part same tells passes base records);
       }
 

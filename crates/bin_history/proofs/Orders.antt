@@ -7,7 +7,7 @@ use Rattle.bin_history.specs.Calls.{key_of}
 use Rattle.bin_history.specs.Plain.{IsLegal}
 use Rattle.bin_history.specs.Births.{is_birth, place, born, births_from, birth, IsInOrder}
 use Rattle.bin_history.specs.declared.call.Call.{Call}
-use Rattle.bin_history.specs.declared.call.Record.{Record}
+use Rattle.bin_history.specs.Records.{RecordView}
 use Rattle.bin_history.proofs.Entries.{lookup-store, HasDistinctKeys-store, All-store, All-cond}
 
 module _ {K V : Type 0} (same : K → K → Bool) (tells : (x y : K) → Decides (same x y) (x ≡ y)) where
@@ -103,7 +103,7 @@ module _ {K V : Type 0} (same : K → K → Bool) (tells : (x y : K) → Decides
           at_key (Some x) e' = let m = All-lookup same tells (λ q. f q < n) es k x l (sym is ∙ e') in cond-lt (same k k && is_birth b a) n (f k) m
 
 module _ {K V F : Type 0} (same : K → K → Bool) (tells : (x y : K) → Decides (same x y) (x ≡ y)) (after : Call K V F → Option V → Option V) where
-  in_order_from : (n : ℕ) (f : K → ℕ) (es : List (K × V)) (rs : List (Record K V F)) → HasDistinctKeys same es → IsLegal same after (lookup same es) rs → IsInOrder f es → All (λ e. f e.0 < n) es → IsInOrder (births_from same n f rs) (replay same es rs)
+  in_order_from : (n : ℕ) (f : K → ℕ) (es : List (K × V)) (rs : List (RecordView K V F)) → HasDistinctKeys same es → IsLegal same after (lookup same es) rs → IsInOrder f es → All (λ e. f e.0 < n) es → IsInOrder (births_from same n f rs) (replay same es rs)
   in_order_from n f es [] d l o b = o
   in_order_from n f es (r ∷ rs) d l o b =
       let k = key_of r.call in
@@ -152,5 +152,5 @@ module _ {K V : Type 0} (same : K → K → Bool) (tells : (x y : K) → Decides
 
 module _ {K V F : Type 0} (same : K → K → Bool) (tells : (x y : K) → Decides (same x y) (x ≡ y)) (after : Call K V F → Option V → Option V) where
   -- the entries of a replay stand in the order of their births
-  pub in_order_replay : (base : List (K × V)) (rs : List (Record K V F)) → HasDistinctKeys same base → IsLegal same after (lookup same base) rs → IsInOrder (birth same base rs) (replay same base rs)
+  pub in_order_replay : (base : List (K × V)) (rs : List (RecordView K V F)) → HasDistinctKeys same base → IsLegal same after (lookup same base) rs → IsInOrder (birth same base rs) (replay same base rs)
   in_order_replay base rs d l = in_order_from same tells after (length base) (place same base) base rs d l (IsInOrder-place same tells base d) (All-place same tells base)

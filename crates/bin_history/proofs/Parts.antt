@@ -7,7 +7,7 @@ use Rattle.bin_history.specs.Plain.{step, run, IsLegal}
 use Rattle.bin_history.specs.Part.{part_of_map, part_of_entries, part_of_records}
 use Rattle.bin_history.proofs.Entries.{cond_same}
 use Rattle.bin_history.specs.declared.call.Call.{Call}
-use Rattle.bin_history.specs.declared.call.Record.{Record}
+use Rattle.bin_history.specs.Records.{RecordView}
 
 module _ {K V : Type 0} (same : K → K → Bool) (tells : (x y : K) → Decides (same x y) (x ≡ y)) (passes : K → Bool) where
   pub lookup-part : (es : List (K × V)) (q : K) → lookup same (part_of_entries passes es) q ≡ part_of_map passes (lookup same es) q
@@ -31,25 +31,25 @@ module _ {K V : Type 0} (same : K → K → Bool) (tells : (x y : K) → Decides
   HasDistinctKeys-part (e ∷ es) d = let ih = HasDistinctKeys-part es d.1 in let a = lookup-part es e.0 in let b = tells e.0 e.0 in grind (arith, common_steps)
 
 module _ {K V F : Type 0} (same : K → K → Bool) (tells : (x y : K) → Decides (same x y) (x ≡ y)) (passes : K → Bool) where
-  pub replay-part : (es : List (K × V)) (rs : List (Record K V F)) → replay same (part_of_entries passes es) (part_of_records passes rs) ≡ part_of_entries passes (replay same es rs)
+  pub replay-part : (es : List (K × V)) (rs : List (RecordView K V F)) → replay same (part_of_entries passes es) (part_of_records passes rs) ≡ part_of_entries passes (replay same es rs)
   replay-part es [] = refl
   replay-part es (r ∷ rs) = let ih = replay-part (store same es (key_of r.call) r.after) rs in let a = part-store same tells passes es (key_of r.call) r.after in grind (arith, common_steps)
 
-  step-part : (m : K → Option V) (r : Record K V F) → passes (key_of r.call) ≡ true → (q : K) → step same (part_of_map passes m) r q ≡ part_of_map passes (step same m r) q
+  step-part : (m : K → Option V) (r : RecordView K V F) → passes (key_of r.call) ≡ true → (q : K) → step same (part_of_map passes m) r q ≡ part_of_map passes (step same m r) q
   step-part m r p q = let a = tells (key_of r.call) q in grind (arith, common_steps)
 
-  step_apart : (m : K → Option V) (r : Record K V F) → passes (key_of r.call) ≡ false → (q : K) → part_of_map passes m q ≡ part_of_map passes (step same m r) q
+  step_apart : (m : K → Option V) (r : RecordView K V F) → passes (key_of r.call) ≡ false → (q : K) → part_of_map passes m q ≡ part_of_map passes (step same m r) q
   step_apart m r p q = let a = tells (key_of r.call) q in grind (arith, common_steps)
 
   -- the part of a run is the run of the part
-  pub run-part : (m : K → Option V) (rs : List (Record K V F)) → run same (part_of_map passes m) (part_of_records passes rs) ≡ part_of_map passes (run same m rs)
+  pub run-part : (m : K → Option V) (rs : List (RecordView K V F)) → run same (part_of_map passes m) (part_of_records passes rs) ≡ part_of_map passes (run same m rs)
   run-part m [] = refl
   run-part m (r ∷ rs) = go (passes (key_of r.call)) refl ∙ run-part (step same m r) rs where
     go : (b : Bool) → passes (key_of r.call) ≡ b → run same (part_of_map passes m) (cond b (r ∷ part_of_records passes rs) (part_of_records passes rs)) ≡ run same (part_of_map passes (step same m r)) (part_of_records passes rs)
     go true p = ap (λ (f : K → Option V). run same f (part_of_records passes rs)) (λ i q. step-part m r p q i)
     go false p = ap (λ (f : K → Option V). run same f (part_of_records passes rs)) (λ i q. step_apart m r p q i)
 
-  pub IsLegal-part : (after : Call K V F → Option V → Option V) (m : K → Option V) (rs : List (Record K V F)) → IsLegal same after m rs → IsLegal same after (part_of_map passes m) (part_of_records passes rs)
+  pub IsLegal-part : (after : Call K V F → Option V → Option V) (m : K → Option V) (rs : List (RecordView K V F)) → IsLegal same after m rs → IsLegal same after (part_of_map passes m) (part_of_records passes rs)
   IsLegal-part after m [] l = tt
   IsLegal-part after m (r ∷ rs) l = go (IsLegal-part after (step same m r) rs l.1) (passes (key_of r.call)) refl where
     go : IsLegal same after (part_of_map passes (step same m r)) (part_of_records passes rs) → (b : Bool) → passes (key_of r.call) ≡ b → IsLegal same after (part_of_map passes m) (cond b (r ∷ part_of_records passes rs) (part_of_records passes rs))

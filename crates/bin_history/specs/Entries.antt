@@ -1,7 +1,7 @@
 -- Lists of pairs of a key and a value, as maps.
 use Rattle.std.specs.Prelude.{◌≡◌, Bool, Option, Some, None, cond, List, [], ◌∷◌}
 use Rattle.bin_history.specs.Calls.{key_of}
-use Rattle.bin_history.specs.declared.call.Record.{Record}
+use Rattle.bin_history.specs.Records.{RecordView}
 
 module _ {K V : Type 0} (same_key : K → K → Bool) where
   -- the value at a key
@@ -30,6 +30,6 @@ module _ {K V : Type 0} (same_key : K → K → Bool) where
 
 module _ {K V F : Type 0} (same_key : K → K → Bool) where
   -- the entries after records, each key in its place
-  abbrev pub replay : List (K × V) → List (Record K V F) → List (K × V)
+  abbrev pub replay : List (K × V) → List (RecordView K V F) → List (K × V)
   replay es [] = es
   replay es (r ∷ rs) = replay (store same_key es (key_of r.call) r.after) rs

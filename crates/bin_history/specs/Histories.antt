@@ -4,17 +4,17 @@ use Rattle.bin_history.specs.Plain.{IsLegal}
 use Rattle.bin_history.specs.Entries.{lookup, HasDistinctKeys, replay}
 use Rattle.bin_history.specs.Lawful.{BinView}
 use Rattle.bin_history.specs.declared.call.Call.{Call}
-use Rattle.bin_history.specs.declared.call.Record.{Record}
+use Rattle.bin_history.specs.Records.{RecordView}
 
 module _ {K V F : Type 0} (same_key : K → K → Bool) (after : Call K V F → Option V → Option V) where
   -- the opening pairs have distinct keys; the records kept are a front and then the bin's records; the front is legal on the opening
   -- map, and the bin's base is its replay
-  pub record FollowsFront (opening : List (K × V)) (kept front : List (Record K V F)) (b : BinView K V F) : Type 0 where
+  pub record FollowsFront (opening : List (K × V)) (kept front : List (RecordView K V F)) (b : BinView K V F) : Type 0 where
     pub distinct : HasDistinctKeys same_key opening
     pub kept_is : kept ≡ front ++ b.records
     pub legal : IsLegal same_key after (lookup same_key opening) front
     pub base_is : b.base ≡ replay same_key opening front
 
   -- the bin is what the kept records made of the opening map
-  abbrev pub HasHistory : List (K × V) → List (Record K V F) → BinView K V F → Type 0
-  HasHistory opening kept b = (front : List (Record K V F)) × FollowsFront opening kept front b
+  abbrev pub HasHistory : List (K × V) → List (RecordView K V F) → BinView K V F → Type 0
+  HasHistory opening kept b = (front : List (RecordView K V F)) × FollowsFront opening kept front b

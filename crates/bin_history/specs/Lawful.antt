@@ -7,14 +7,14 @@ use Rattle.bin_history.specs.Plain.{run, IsLegal}
 use Rattle.bin_history.specs.Entries.{lookup, HasDistinctKeys, replay}
 use Rattle.bin_history.specs.Births.{birth, IsInOrder}
 use Rattle.bin_history.specs.declared.call.Call.{Call}
-use Rattle.bin_history.specs.declared.call.Record.{Record}
+use Rattle.bin_history.specs.Records.{RecordView}
 
 -- a bin, as contracts see it; `record_room` and `entry_room` say how many more of each it has memory for
 pub record BinView (K V F : Type 0) : Type 0 where
   pub salt : Salt
   pub class : ClassView
   pub base : List (K × V)
-  pub records : List (Record K V F)
+  pub records : List (RecordView K V F)
   pub entries : List (K × V)
   pub record_room : ℕ
   pub entry_room : ℕ
@@ -32,7 +32,7 @@ module _ {K V F : Type 0} (same_key : K → K → Bool) (code : K → ℕ) (afte
     pub in_order : IsInOrder (birth same_key b.base b.records) b.entries
 
   -- what a bin keeps, from which it is lawful: its entries are the replay of its records over its base
-  pub record IsReplayed (salt : Salt) (class : ClassView) (base : List (K × V)) (records : List (Record K V F)) (entries : List (K × V)) : Type 0 where
+  pub record IsReplayed (salt : Salt) (class : ClassView) (base : List (K × V)) (records : List (RecordView K V F)) (entries : List (K × V)) : Type 0 where
     pub base_distinct : HasDistinctKeys same_key base
     pub base_of_class : All (λ e. is_of code salt class e.0 ≡ true) base
     pub records_of_class : All (λ r. is_of code salt class (key_of r.call) ≡ true) records

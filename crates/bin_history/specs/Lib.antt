@@ -5,6 +5,7 @@ pub mod Cells
 pub mod Entries
 pub mod Births
 pub mod Deltas
+pub mod Records
 pub mod Part
 pub mod Lawful
 pub mod BinPart

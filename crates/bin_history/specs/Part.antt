@@ -1,7 +1,7 @@
 -- The part of a map, of entries or of records at the keys that a test passes.
 use Rattle.std.specs.Prelude.{Bool, Option, None, cond, List, filter}
 use Rattle.bin_history.specs.Calls.{key_of}
-use Rattle.bin_history.specs.declared.call.Record.{Record}
+use Rattle.bin_history.specs.Records.{RecordView}
 
 module _ {K V : Type 0} (passes : K → Bool) where
   -- the map at the keys that pass
@@ -14,5 +14,5 @@ module _ {K V : Type 0} (passes : K → Bool) where
 
 module _ {K V F : Type 0} (passes : K → Bool) where
   -- the records whose keys pass, in order
-  abbrev pub part_of_records : List (Record K V F) → List (Record K V F)
+  abbrev pub part_of_records : List (RecordView K V F) → List (RecordView K V F)
   part_of_records rs = filter (λ r. passes (key_of r.call)) rs

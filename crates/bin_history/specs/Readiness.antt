@@ -7,7 +7,7 @@ use Rattle.bin_history.specs.Changes.{changed, HasPlace}
 use Rattle.bin_history.specs.Lawful.{BinView}
 use Rattle.bin_history.specs.declared.call.Call.{Call}
 use Rattle.bin_history.specs.declared.call.Reply.{Reply}
-use Rattle.bin_history.specs.declared.call.Record.{Record}
+use Rattle.bin_history.specs.Records.{RecordView}
 use Rattle.bin_history.specs.declared.change.Change.{Change}
 
 -- a call whose effects are worked out, as contracts see it
@@ -41,7 +41,7 @@ module _ {K V F : Type 0} (same_key : K → K → Bool) (code : K → ℕ) (same
     pub of_class : is_of code b.salt b.class (key_of ready.call) ≡ true
 
 -- the record of a call that is ready
-abbrev pub recorded : {K V F : Type 0} → ℕ → ℕ → ReadyView K V F → Record K V F
+abbrev pub recorded : {K V F : Type 0} → ℕ → ℕ → ReadyView K V F → RecordView K V F
 recorded client ordinal ready = record { client = client; ordinal = ordinal; call = ready.call; before = ready.before; after = ready.after }
 
 -- base and records as they were

@@ -1,11 +1,12 @@
 //! One bin.
 ghost use Rattle.std.specs.Prelude.{◌≡◌};
 
-use crate::call::{Call, Record, Remap, Reply};
+use crate::call::{Call, Remap, Reply};
 use crate::change::find;
 use crate::copies::copy_of_entries;
 use crate::fold::{FOLDED, fold_front};
 use crate::ready::{Ready, work_out};
+use crate::record::Record;
 use crate::room::make_room_in;
 use crate::split::{part_of_entries, part_of_records};
 use hashkeys::{Class, HashKey, Salt};
@@ -198,7 +199,7 @@ impl<K: HashKey, V: Clone + Eq, F: Remap<K, V> + Clone, A: Allocator + Clone> Bi
 
     /// Makes a call that was prepared on this bin, since when nothing was applied, as the client's call of
     /// this ordinal, and answers its reply.
-    pub fn apply(&mut self, ready: Ready<K, V, F>, client: u32, ordinal: u64) -> Reply<V>
+    pub fn apply(&mut self, ready: Ready<K, V, F>, client: u32, ordinal: u32) -> Reply<V>
         requires { IsPrepared K.eq K.code V.eq F.remapped F.merged ready self.old }
         ensures records { self.new.records ≡ self.old.records ++ recorded client ordinal ready ∷ [] }
         ensures reply { result ≡ reply V.eq ready.call ready.before ready.after }
@@ -215,13 +216,8 @@ impl<K: HashKey, V: Clone + Eq, F: Remap<K, V> + Clone, A: Allocator + Clone> Bi
             change,
         } = ready;
         change.carry_out(&mut self.entries);
-        self.records.push_reserved(Record {
-            client,
-            ordinal,
-            call,
-            before,
-            after,
-        });
+        self.records
+            .push_reserved(Record::new(client, ordinal, call, before, after));
         reply
     }
 }

@@ -1,7 +1,6 @@
-//! Calls, what they reply, and records of them.
+//! Calls, and what they reply.
 ghost use Rattle.std.specs.Prelude.{◌≡◌, Option, IfOk, option_copied};
 ghost use Rattle.bin_history.specs.Calls.{key_of};
-ghost use Rattle.bin_history.specs.Deltas.{delta};
 
 use std::alloc::AllocError;
 
@@ -46,17 +45,6 @@ pub enum Reply<V> {
     Truth(bool),
 }
 
-/// A call that was made: the client's number, the call's place among the client's calls, and the
-/// value at its key just before it and just after it.
-#[derive(Drop)]
-pub struct Record<K, V, F> {
-    pub client: u32,
-    pub ordinal: u64,
-    pub call: Call<K, V, F>,
-    pub before: Option<V>,
-    pub after: Option<V>,
-}
-
 impl<K, V, F> Call<K, V, F> {
     /// The key that the call is on.
     pub fn key(&self) -> &K
@@ -97,19 +85,6 @@ impl<K: Drop, V: Drop, F: Drop> Call<K, V, F> {
             Call::ComputeIfPresent(key, _) => key,
             Call::Compute(key, _) => key,
             Call::Merge(key, _, _) => key,
-        }
-    }
-}
-
-impl<K, V, F> Record<K, V, F> {
-    /// How the call changed the number of keys: by 1, 0 or -1.
-    pub fn delta(&self) -> i64
-        ensures { result ≡ delta self.now }
-    {
-        match (&self.before, &self.after) {
-            (None, Some(_)) => 1,
-            (Some(_), None) => -1,
-            _ => 0,
         }
     }
 }

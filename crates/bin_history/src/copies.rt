@@ -1,8 +1,8 @@
-//! Copies of keys, values, functions and records.
+//! Copies of keys, values, functions and calls.
 ghost use Rattle.std.specs.Prelude.{◌≡◌, IfOk};
 ghost use Rattle.bin_history.specs.Copies.{IsExact};
 
-use crate::call::{Call, Record};
+use crate::call::Call;
 use std::alloc::{AllocError, Allocator};
 
 pub(crate) fn copy_of<T: Clone>(value: &T) -> Result<T, AllocError>
@@ -37,7 +37,7 @@ pub(crate) fn copy_of_entries<K: Clone, V: Clone, A: Allocator>(
     Ok(copies)
 }
 
-fn copy_of_call<K: Clone, V: Clone, F: Clone>(
+pub(crate) fn copy_of_call<K: Clone, V: Clone, F: Clone>(
     call: &Call<K, V, F>,
 ) -> Result<Call<K, V, F>, AllocError>
     requires keys { IsExact K.is_clone }
@@ -67,24 +67,4 @@ fn copy_of_call<K: Clone, V: Clone, F: Clone>(
             Ok(Call::Merge(copy_of(key)?, copy_of(value)?, copy_of(function)?))
         }
     }
-}
-
-pub(crate) fn copy_of_record<K: Clone, V: Clone, F: Clone>(
-    entry: &Record<K, V, F>,
-) -> Result<Record<K, V, F>, AllocError>
-    requires keys { IsExact K.is_clone }
-    requires values { IsExact V.is_clone }
-    requires functions { IsExact F.is_clone }
-    ensures { IfOk result (λ copy. copy ≡ entry.now) }
-{
-    let call = copy_of_call(&entry.call)?;
-    let before = copy_of_option(&entry.before)?;
-    let after = copy_of_option(&entry.after)?;
-    Ok(Record {
-        client: entry.client,
-        ordinal: entry.ordinal,
-        call,
-        before,
-        after,
-    })
 }

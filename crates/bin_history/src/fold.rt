@@ -3,8 +3,8 @@ ghost use Rattle.std.specs.Prelude.{◌≡◌, ◌+◌, ◌<◌, ◌≤◌, take
 ghost use Rattle.bin_history.specs.Calls.{key_of};
 ghost use Rattle.bin_history.specs.Entries.{store, replay};
 
-use crate::call::Record;
 use crate::change::{Change, find};
+use crate::record::Record;
 use hashkeys::HashKey;
 use std::alloc::Allocator;
 
@@ -21,13 +21,7 @@ fn store_record<K: HashKey, V: Drop, F: Drop, A: Allocator>(
     ensures len { vec_len base.new ≤ vec_len base.old + 1 }
     ensures capacity { vec_capacity base.old ≤ vec_capacity base.new }
 {
-    let Record {
-        client: _,
-        ordinal: _,
-        call,
-        before: _,
-        after,
-    } = entry;
+    let (call, after) = entry.into_call();
     let key = call.into_key();
     let found = find(base, &key);
     Change::to(key, found, after).carry_out(base);

@@ -6,7 +6,7 @@ ghost use Rattle.bin_history.specs.Deltas.{sum_of_deltas};
 ghost use Rattle.bin_history.specs.Entries.{lookup, HasDistinctKeys, replay};
 ghost use Rattle.bin_history.specs.Part.{part_of_map, part_of_records};
 ghost use Rattle.bin_history.specs.Plain.{run, IsLegal};
-ghost use Rattle.bin_history.specs.declared.call.Record.{Record};
+ghost use Rattle.bin_history.specs.Records.{RecordView};
 
 use crate::call::Remap;
 use hashkeys::HashKey;
@@ -14,25 +14,25 @@ use hashkeys::HashKey;
 /// The part of a run, at the keys that any test passes, is the run of the part; and the part of a legal list is
 /// legal on the part of the map.
 pub fn part_of_a_run<K: HashKey, V: Eq, F: Remap<K, V>>()
-    ensures run { (passes : K → Bool) (map : K → Option V) (rs : List (Record K V F)) (k : K)
+    ensures run { (passes : K → Bool) (map : K → Option V) (rs : List (RecordView K V F)) (k : K)
         → run K.eq (part_of_map passes map) (part_of_records passes rs) k ≡ part_of_map passes (run K.eq map rs) k }
-    ensures legal { (passes : K → Bool) (map : K → Option V) (rs : List (Record K V F))
+    ensures legal { (passes : K → Bool) (map : K → Option V) (rs : List (RecordView K V F))
         → IsLegal K.eq (after V.eq F.remapped F.merged) map rs
         → IsLegal K.eq (after V.eq F.remapped F.merged) (part_of_map passes map) (part_of_records passes rs) }
 {}
 
 /// In a legal list each key by itself behaves as a cell of one thread.
 pub fn cells_of_a_run<K: HashKey, V: Eq, F: Remap<K, V>>()
-    ensures history { (map : K → Option V) (rs : List (Record K V F)) (k : K)
+    ensures history { (map : K → Option V) (rs : List (RecordView K V F)) (k : K)
         → IsLegal K.eq (after V.eq F.remapped F.merged) map rs
         → IsCellHistory (after V.eq F.remapped F.merged) (map k) (records_on K.eq k rs) }
-    ensures value { (map : K → Option V) (rs : List (Record K V F)) (k : K)
+    ensures value { (map : K → Option V) (rs : List (RecordView K V F)) (k : K)
         → run K.eq map rs k ≡ cell_after (map k) (records_on K.eq k rs) }
 {}
 
 /// The deltas of a legal list add up to the change of the number of keys.
 pub fn count_after_a_run<K: HashKey, V: Eq, F: Remap<K, V>>()
-    ensures { (base : List (K × V)) (rs : List (Record K V F))
+    ensures { (base : List (K × V)) (rs : List (RecordView K V F))
         → HasDistinctKeys K.eq base
         → IsLegal K.eq (after V.eq F.remapped F.merged) (lookup K.eq base) rs
         → pos (length (replay K.eq base rs)) ≡ pos (length base) +ℤ sum_of_deltas rs }

@@ -11,12 +11,14 @@ mod laws;
 #[cfg(test)]
 mod plain;
 mod ready;
+mod record;
 mod room;
 mod split;
 #[cfg(test)]
 mod tests;
 
 pub use bin::{Bin, MOST_RECORDS};
-pub use call::{Call, Record, Remap, Reply};
+pub use call::{Call, Remap, Reply};
 pub use laws::{cells_of_a_run, count_after_a_run, part_of_a_run};
 pub use ready::Ready;
+pub use record::Record;

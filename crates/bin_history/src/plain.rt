@@ -144,7 +144,7 @@ fn a_bin_answers_as_a_plain_map(rt: HostRuntime) -> Result<(), Fail> {
     let mut bin = Bin::new(alloc, Salt(0), Class::new(1, 0), Vec::new(alloc))?;
     let mut pairs = Vec::new(alloc);
     let mut numbers = Numbers(1);
-    for line in 0..10_000u64 {
+    for line in 0..10_000u32 {
         let plain = numbers.call();
         let call = plain.call(&rt);
         assert!(rt; bin.class().covers(bin.salt().hash_of(call.key())));

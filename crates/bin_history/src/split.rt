@@ -4,8 +4,8 @@ ghost use Rattle.hashkeys.specs.Classes.{is_of};
 ghost use Rattle.bin_history.specs.Copies.{IsExact};
 ghost use Rattle.bin_history.specs.Part.{part_of_entries, part_of_records};
 
-use crate::call::Record;
-use crate::copies::{copy_of, copy_of_record};
+use crate::copies::copy_of;
+use crate::record::{Record, copy_of_record};
 use hashkeys::{Class, HashKey, Salt};
 use std::alloc::{AllocError, Allocator};
 
@@ -48,7 +48,7 @@ pub(crate) fn part_of_records<K: HashKey, V: Clone, F: Clone, A: Allocator>(
 {
     let mut part = Vec::new(alloc);
     for entry in records {
-        if is_of(salt, class, entry.call.key()) {
+        if is_of(salt, class, entry.call().key()) {
             part.push(copy_of_record(entry)?)?;
         }
     }

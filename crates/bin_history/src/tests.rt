@@ -1,5 +1,5 @@
 //! Bins at the program's keys.
-use crate::{Bin, Call, Remap, Reply};
+use crate::{Bin, Call, Record, Remap, Reply};
 use hashkeys::{Class, Key, Salt};
 use std::alloc::{AllocError, Global};
 use std::process::Abort;
@@ -55,7 +55,7 @@ fn make(
 ) -> Result<Reply<u64>, AllocError> {
     let (salt, class) = (bin.salt(), bin.class());
     assert!(rt; class.covers(salt.hash_of(call.key())));
-    let ordinal = bin.records().len() as u64;
+    let ordinal = u32::try_from(bin.records().len()).expect(rt, "a short list");
     let ready = bin.prepare(call)?;
     Ok(bin.apply(ready, 7, ordinal))
 }
@@ -114,12 +114,15 @@ fn each_call_replies_and_leaves_what_its_row_says(rt: HostRuntime) -> Result<(),
         (Call::Merge(c(), 1, Plus(Some(0))), some(u64::MAX), 0),
     ];
     let mut bin = empty(rt.alloc(), Class::new(1, 0))?;
-    let mut line = 0u64;
+    let mut line = 0u32;
     for (call, reply, delta) in Vec::from_array(rt.alloc(), rows)? {
         let answered = make(&rt, &mut bin, call)?;
         assert!(rt; answered == reply, "call {line} replied {answered:?}");
         let last = bin.records().last().expect(&rt, "a record");
-        assert_eq!(rt; (last.client, last.ordinal, last.delta()), (7, line, delta));
+        assert_eq!(rt;
+            (last.client(), last.ordinal(), last.delta()),
+            (7, line, delta)
+        );
         line = line.wrapping_add(1);
     }
     assert_entries(
@@ -180,6 +183,27 @@ fn a_bin_stores_few_records(rt: HostRuntime) -> Result<(), Fail> {
         let folded = bin.base().first().map(|pair| pair.1);
         assert_eq!(rt; (folded, bin.base().len() <= 1), (base, true));
         assert_entries(&rt, bin.entries(), &[(b"a", wanted)]);
+    }
+    Ok(())
+}
+
+#[test]
+fn a_record_tells_its_call_and_both_values(rt: HostRuntime) -> Result<(), Fail> {
+    for (before, after, delta) in [
+        (None, None, 0),
+        (None, Some(1), 1),
+        (Some(1), None, -1),
+        (Some(1), Some(2), 0),
+    ] {
+        let call: Call<Key, u64, Plus> = Call::Get(key(&rt, b"a"));
+        let entry = Record::new(3, 5, call, before, after);
+        assert_eq!(rt; (entry.client(), entry.ordinal()), (3, 5));
+        assert_eq!(rt; entry.call().key().bytes(), b"a".as_slice());
+        assert_eq!(rt;
+            (entry.before().copied(), entry.after().copied()),
+            (before, after)
+        );
+        assert_eq!(rt; entry.delta(), delta);
     }
     Ok(())
 }

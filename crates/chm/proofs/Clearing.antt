@@ -12,7 +12,7 @@ use Rattle.bin_history.specs.Entries.{lookup, remove, replay, store}
 use Rattle.bin_history.specs.Part.{part_of_records}
 use Rattle.bin_history.specs.declared.call.Call.{Call}
 use Rattle.bin_history.specs.declared.call.Call.TheVariants.{Remove}
-use Rattle.bin_history.specs.declared.call.Record.{Record}
+use Rattle.bin_history.specs.Records.{RecordView}
 use Rattle.bin_history.specs.declared.call.Reply.{Reply}
 use Rattle.count_ledger.specs.Views.{LedgerView, PassView}
 use Rattle.chm.specs.Called.{IsCalledOn}
@@ -47,27 +47,27 @@ module _ {K V F : Type 0} (same : K → K → Bool) (tells : (x y : K) → Decid
       let left : others ≡ es = stored ∙ (λ i. store same (e ∷ es) (same_key i) (none i)) ∙ removed_here e es in
       let removal : IsRemoval r = record { call_is = made.call_is ∙ ap (λ (k : K). Remove k) (sym its_key); took = λ i. change_of_count (found i) (none i) } in
       let its_class : is_of code salt class (key_of r.call) ≡ true = ap (is_of code salt class) its_key ∙ of in
-      let R : Record K V F → Type 0 = IsRemoval in
-      let C : Record K V F → Type 0 = λ x. is_of code salt class (key_of x.call) ≡ true in
+      let R : RecordView K V F → Type 0 = IsRemoval in
+      let C : RecordView K V F → Type 0 = λ x. is_of code salt class (key_of x.call) ≡ true in
       let shorter : length others ≡ length es = ap (λ (l : List (K × V)). length l) left in
       ((r ∷ [], All-cons R r [] removal (All-nil R), All-cons C r [] its_class (All-nil C), made.pass), omega arith)
 
 module _ {K V F : Type 0} where
   pub unchanged : (old new : PassView K V F) → new ≡ old → HasRemoved old new
-  unchanged old new is = ([], All-nil IsRemoval, is ∙ ap (λ (l : List (Record K V F)). record old { made = l }) (sym (append-nil old.made)))
+  unchanged old new is = ([], All-nil IsRemoval, is ∙ ap (λ (l : List (RecordView K V F)). record old { made = l }) (sym (append-nil old.made)))
 
   pub removed-more : (old mid new : PassView K V F) → HasRemoved old mid → HasRemoved mid new → HasRemoved old new
   removed-more old mid new (rs, each, is) (ss, each', is') =
-      (rs ++ ss, All-append IsRemoval rs ss each each', is' ∙ ap (λ (p : PassView K V F). record p { made = p.made ++ ss }) is ∙ ap (λ (l : List (Record K V F)). record old { made = l }) (append_assoc old.made rs ss))
+      (rs ++ ss, All-append IsRemoval rs ss each each', is' ∙ ap (λ (p : PassView K V F). record p { made = p.made ++ ss }) is ∙ ap (λ (l : List (RecordView K V F)). record old { made = l }) (append_assoc old.made rs ss))
 
   module _ (code : K → ℕ) (salt : Salt) (class : ClassView) where
     pub unchanged_in : (old new : PassView K V F) → new ≡ old → HasRemovedIn code salt class old new
     unchanged_in old new is =
-        ([], All-nil IsRemoval, All-nil (λ (r : Record K V F). is_of code salt class (key_of r.call) ≡ true), is ∙ ap (λ (l : List (Record K V F)). record old { made = l }) (sym (append-nil old.made)))
+        ([], All-nil IsRemoval, All-nil (λ (r : RecordView K V F). is_of code salt class (key_of r.call) ≡ true), is ∙ ap (λ (l : List (RecordView K V F)). record old { made = l }) (sym (append-nil old.made)))
 
     pub removed_in-more : (old mid new : PassView K V F) → HasRemovedIn code salt class old mid → HasRemovedIn code salt class mid new → HasRemovedIn code salt class old new
     removed_in-more old mid new (rs, each, of, is) (ss, each', of', is') =
-        (rs ++ ss, All-append IsRemoval rs ss each each', All-append (λ (r : Record K V F). is_of code salt class (key_of r.call) ≡ true) rs ss of of', is' ∙ ap (λ (p : PassView K V F). record p { made = p.made ++ ss }) is ∙ ap (λ (l : List (Record K V F)). record old { made = l }) (append_assoc old.made rs ss))
+        (rs ++ ss, All-append IsRemoval rs ss each each', All-append (λ (r : RecordView K V F). is_of code salt class (key_of r.call) ≡ true) rs ss of of', is' ∙ ap (λ (p : PassView K V F). record p { made = p.made ++ ss }) is ∙ ap (λ (l : List (RecordView K V F)). record old { made = l }) (append_assoc old.made rs ss))
 
     pub removed_in-somewhere : (old new : PassView K V F) → HasRemovedIn code salt class old new → HasRemoved old new
     removed_in-somewhere old new (rs, each, of, is) = (rs, each, is)
@@ -93,11 +93,11 @@ module _ {K V F : Type 0} (same : K → K → Bool) (code : K → ℕ) (after : 
   pub IsVisit-later : (old new : PassView K V F) (class : ClassView) (v : VisitView K V) → HasRemovedIn code ledger.salt class old new → ((hash : ℕ) → covers class hash ≡ true → covers v.class hash ≡ false)
       → IsVisit same code after ledger old v → IsVisit same code after ledger new v
   IsVisit-later old new class v (rs, each, of, is) other (kept, history, entries) =
-      let In : Record K V F → Type 0 = λ r. is_of code ledger.salt class (key_of r.call) ≡ true in
-      let Out : Record K V F → Type 0 = λ r. is_of code ledger.salt v.class (key_of r.call) ≡ false in
-      let none : part_of_records (is_of code ledger.salt v.class) rs ≡ [] = filter-none (λ (r : Record K V F). is_of code ledger.salt v.class (key_of r.call)) rs (All-weaker In Out (λ r i. other (hash_of ledger.salt (code (key_of r.call))) i) rs of) in
+      let In : RecordView K V F → Type 0 = λ r. is_of code ledger.salt class (key_of r.call) ≡ true in
+      let Out : RecordView K V F → Type 0 = λ r. is_of code ledger.salt v.class (key_of r.call) ≡ false in
+      let none : part_of_records (is_of code ledger.salt v.class) rs ≡ [] = filter-none (λ (r : RecordView K V F). is_of code ledger.salt v.class (key_of r.call)) rs (All-weaker In Out (λ r i. other (hash_of ledger.salt (code (key_of r.call))) i) rs of) in
       let grown : part_of_records (is_of code ledger.salt v.class) (old.made ++ rs) ≡ part_of_records (is_of code ledger.salt v.class) old.made =
-      filter-append (λ (r : Record K V F). is_of code ledger.salt v.class (key_of r.call)) old.made rs ∙ ap (λ (l : List (Record K V F)). part_of_records (is_of code ledger.salt v.class) old.made ++ l) none ∙ append-nil (part_of_records (is_of code ledger.salt v.class) old.made)
+      filter-append (λ (r : RecordView K V F). is_of code ledger.salt v.class (key_of r.call)) old.made rs ∙ ap (λ (l : List (RecordView K V F)). part_of_records (is_of code ledger.salt v.class) old.made ++ l) none ∙ append-nil (part_of_records (is_of code ledger.salt v.class) old.made)
       in
       let later : IsHistory same code after ledger (record old { made = old.made ++ rs }) v.class kept = record { client = history.client; legal = history.legal; clients = history.clients; own = history.own ∙ sym grown } in
       (kept, subst (λ (p : PassView K V F). IsHistory same code after ledger p v.class kept) (sym is) later, entries)

@@ -10,7 +10,7 @@ use Rattle.bin_history.specs.Part.{part_of_entries, part_of_records}
 use Rattle.bin_history.specs.Plain.{IsLegal}
 use Rattle.bin_history.specs.declared.call.Call.{Call}
 use Rattle.bin_history.specs.Readiness.{ReadyView, IsWorkedOut, recorded}
-use Rattle.bin_history.specs.declared.call.Record.{Record}
+use Rattle.bin_history.specs.Records.{RecordView}
 use Rattle.bin_history.specs.declared.call.Reply.{Reply}
 use Rattle.bin_history.proofs.Runs.{lookup-replay}
 use Rattle.count_ledger.specs.Agreement.{Agree}
@@ -61,20 +61,20 @@ last-of xs l x d is = ap (λ (m : List _). slice_index_or m (length m - 1) d) is
 
 module _ {K V F : Type 0} (same : K → K → Bool) (code : K → ℕ) (same_value : V → V → Bool) (remapped : F → K → Option V → Option V) (merged : F → V → V → Option V) where
   -- a call that was worked out on a bin's entries and applied was made on them
-  pub IsCalledOn-applied : (ready : ReadyView K V F) (call : Call K V F) (old new : PassView K V F) (answer : Reply V) (es worked others : List (K × V)) (r : Record K V F) (client ordinal : ℕ)
+  pub IsCalledOn-applied : (ready : ReadyView K V F) (call : Call K V F) (old new : PassView K V F) (answer : Reply V) (es worked others : List (K × V)) (r : RecordView K V F) (client ordinal : ℕ)
       → IsWorkedOut same same_value remapped merged ready worked → worked ≡ es → ready.call ≡ call → r ≡ recorded client ordinal ready → client ≡ old.client → ordinal ≡ length old.made
       → others ≡ store same worked (key_of ready.call) ready.after → new ≡ record old { made = old.made ++ r ∷ [] } → answer ≡ reply same_value ready.call ready.before ready.after
       → IsCalledOn same code same_value remapped merged es others call old new answer
   IsCalledOn-applied ready call old new answer es worked others r client ordinal w kept is_call is by next stored pass replied =
-      let r_call : r.call ≡ call = ap (λ (x : Record K V F). x.call) is ∙ is_call in
-      let r_before : r.before ≡ ready.before = ap (λ (x : Record K V F). x.before) is in
-      let r_after : r.after ≡ ready.after = ap (λ (x : Record K V F). x.after) is in (
+      let r_call : r.call ≡ call = ap (λ (x : RecordView K V F). x.call) is ∙ is_call in
+      let r_before : r.before ≡ ready.before = ap (λ (x : RecordView K V F). x.before) is in
+      let r_after : r.after ≡ ready.after = ap (λ (x : RecordView K V F). x.after) is in (
         r,
         record {
           pass = pass;
           call_is = r_call;
-          client = ap (λ (x : Record K V F). x.client) is ∙ by;
-          ordinal = ap (λ (x : Record K V F). x.ordinal) is ∙ next;
+          client = ap (λ (x : RecordView K V F). x.client) is ∙ by;
+          ordinal = ap (λ (x : RecordView K V F). x.ordinal) is ∙ next;
           left = r_after ∙ w.after_is ∙ (λ i. after same_value remapped merged (is_call i) (sym r_before i));
           reply_is = replied ∙ (λ i. reply same_value (is_call i) (sym r_before i) (sym r_after i));
         },

@@ -11,7 +11,7 @@ use Rattle.bin_history.specs.Entries.{lookup, replay}
 use Rattle.bin_history.specs.Lawful.{BinView}
 use Rattle.bin_history.specs.Part.{part_of_records}
 use Rattle.bin_history.specs.declared.call.Call.{Call}
-use Rattle.bin_history.specs.declared.call.Record.{Record}
+use Rattle.bin_history.specs.Records.{RecordView}
 use Rattle.count_ledger.specs.Views.{LedgerView, PassView, RoleView}
 use Rattle.generations.specs.Leaves.{IsLeaf}
 use Rattle.generations.specs.Views.{GenerationsView}
@@ -20,23 +20,23 @@ use Rattle.chm.specs.Views.{MapView, bins_of, opening_in}
 use Rattle.chm.specs.Visits.{VisitView, classes_of, IsVisit, IsOwn, IsShown}
 
 -- all records are the only client's
-only_client : {K V F : Type 0} (c : ℕ) (rs : List (Record K V F)) → c < 1 → All (λ r. r.client < 1) rs → by_client c rs ≡ rs
+only_client : {K V F : Type 0} (c : ℕ) (rs : List (RecordView K V F)) → c < 1 → All (λ r. r.client < 1) rs → by_client c rs ≡ rs
 only_client c [] l h = refl
 only_client {K} {V} {F} c (r ∷ rs) l h =
-    let P : Record K V F → Type 0 = λ x. x.client < 1 in
+    let P : RecordView K V F → Type 0 = λ x. x.client < 1 in
     let its : (r.client == c) ≡ true = let first = All-head P r rs h in grind (arith, nat_tests) in
-    rw its (ap (λ (xs : List (Record K V F)). r ∷ xs) (only_client c rs l (All-tail P r rs h)))
+    rw its (ap (λ (xs : List (RecordView K V F)). r ∷ xs) (only_client c rs l (All-tail P r rs h)))
 
 module _ {K V F : Type 0} (same : K → K → Bool) (code : K → ℕ) (after : Call K V F → Option V → Option V) (ledger : LedgerView K V) (pass : PassView K V F) where
   -- with one client a history has the client's own calls and no others
-  own_history : (class : ClassView) (kept : List (Record K V F)) → ledger.clients ≡ 1 → IsHistory same code after ledger pass class kept → kept ≡ part_of_records (is_of code ledger.salt class) pass.made
+  own_history : (class : ClassView) (kept : List (RecordView K V F)) → ledger.clients ≡ 1 → IsHistory same code after ledger pass class kept → kept ≡ part_of_records (is_of code ledger.salt class) pass.made
   own_history class kept one h =
       let few : All (λ r. r.client < 1) kept = rw (← one) h.clients in
       let mine : pass.client < 1 = (let l = h.client in omega arith) in
       sym (only_client pass.client kept mine few) ∙ h.own
 
   pub IsOwn-visit : (v : VisitView K V) → ledger.clients ≡ 1 → IsVisit same code after ledger pass v → IsOwn same code ledger pass v
-  IsOwn-visit v one (kept, h, is) = is ∙ ap (λ (rs : List (Record K V F)). replay same (opening_in code ledger v.class) rs) (own_history v.class kept one h)
+  IsOwn-visit v one (kept, h, is) = is ∙ ap (λ (rs : List (RecordView K V F)). replay same (opening_in code ledger v.class) rs) (own_history v.class kept one h)
 
 pub classes-push : {K V : Type 0} (vs : List (VisitView K V)) (v : VisitView K V) → classes_of (vs ++ v ∷ []) ≡ classes_of vs ++ v.class ∷ []
 classes-push vs v = map-append (λ (x : VisitView _ _). x.class) vs (v ∷ [])

@@ -8,25 +8,25 @@ use Rattle.bin_history.specs.Entries.{replay}
 use Rattle.bin_history.specs.Part.{part_of_records}
 use Rattle.bin_history.specs.declared.call.Call.{Call}
 use Rattle.bin_history.specs.declared.call.Call.TheVariants.{Remove}
-use Rattle.bin_history.specs.declared.call.Record.{Record}
+use Rattle.bin_history.specs.Records.{RecordView}
 use Rattle.count_ledger.specs.Views.{LedgerView, PassView}
 use Rattle.generations.specs.Walks.{IsWalk}
 use Rattle.chm.specs.Views.{opening_in}
 use Rattle.chm.specs.Visits.{VisitView, AreVisits}
 
 -- a call that took a key away
-pub record IsRemoval {K V F : Type 0} (r : Record K V F) : Type 0 where
+pub record IsRemoval {K V F : Type 0} (r : RecordView K V F) : Type 0 where
   pub call_is : r.call ≡ Remove (key_of r.call)
   pub took : delta r ≡ negsuc 0
 
 -- the pass made some more calls, each of which took a key away
 abbrev pub HasRemoved : {K V F : Type 0} → PassView K V F → PassView K V F → Type 0
-HasRemoved {K} {V} {F} old new = (removals : List (Record K V F)) × All IsRemoval removals × (new ≡ record old { made = old.made ++ removals })
+HasRemoved {K} {V} {F} old new = (removals : List (RecordView K V F)) × All IsRemoval removals × (new ≡ record old { made = old.made ++ removals })
 
 -- the same of keys of a class
 abbrev pub HasRemovedIn : {K V F : Type 0} → (K → ℕ) → Salt → ClassView → PassView K V F → PassView K V F → Type 0
 HasRemovedIn {K} {V} {F} code salt class old new =
-    (removals : List (Record K V F)) × All IsRemoval removals × All (λ r. is_of code salt class (key_of r.call) ≡ true) removals × (new ≡ record old { made = old.made ++ removals })
+    (removals : List (RecordView K V F)) × All IsRemoval removals × All (λ r. is_of code salt class (key_of r.call) ≡ true) removals × (new ≡ record old { made = old.made ++ removals })
 
 module _ {K V F : Type 0} (same_key : K → K → Bool) (code : K → ℕ) (after : Call K V F → Option V → Option V) where
   -- a walk over the bins as they were left would have shown none with entries

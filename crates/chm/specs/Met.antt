@@ -5,7 +5,7 @@ use Rattle.bin_history.specs.Clients.{by_client}
 use Rattle.bin_history.specs.Part.{part_of_records}
 use Rattle.bin_history.specs.Plain.{run, IsLegal}
 use Rattle.bin_history.specs.declared.call.Call.{Call}
-use Rattle.bin_history.specs.declared.call.Record.{Record}
+use Rattle.bin_history.specs.Records.{RecordView}
 use Rattle.count_ledger.specs.Views.{LedgerView, PassView, RoleView}
 use Rattle.bin_history.specs.Entries.{lookup, replay}
 use Rattle.bin_history.specs.Lawful.{BinView}
@@ -14,7 +14,7 @@ use Rattle.chm.specs.Views.{opening_in}
 module _ {K V F : Type 0} (same_key : K → K → Bool) (code : K → ℕ) (after : Call K V F → Option V → Option V) where
   -- records of calls on keys of a class: legal on the opening map's part, all of clients of the map, and those of the pass's client just the
   -- calls that it made on keys of the class, in its order
-  pub record IsHistory (ledger : LedgerView K V) (pass : PassView K V F) (class : ClassView) (kept : List (Record K V F)) : Type 0 where
+  pub record IsHistory (ledger : LedgerView K V) (pass : PassView K V F) (class : ClassView) (kept : List (RecordView K V F)) : Type 0 where
     pub client : pass.client < ledger.clients
     pub legal : IsLegal same_key after (lookup same_key (opening_in code ledger class)) kept
     pub clients : All (λ r. r.client < ledger.clients) kept

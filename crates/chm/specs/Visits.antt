@@ -5,7 +5,7 @@ use Rattle.bin_history.specs.Entries.{lookup, replay}
 use Rattle.bin_history.specs.Lawful.{BinView}
 use Rattle.bin_history.specs.Part.{part_of_records}
 use Rattle.bin_history.specs.declared.call.Call.{Call}
-use Rattle.bin_history.specs.declared.call.Record.{Record}
+use Rattle.bin_history.specs.Records.{RecordView}
 use Rattle.count_ledger.specs.Views.{LedgerView, PassView, RoleView}
 use Rattle.generations.specs.Leaves.{IsLeaf}
 use Rattle.generations.specs.Walks.{IsWalk}
@@ -30,7 +30,7 @@ pub record IsFirstOf (next class : ClassView) : Type 0 where
 module _ {K V F : Type 0} (same_key : K → K → Bool) (code : K → ℕ) (after : Call K V F → Option V → Option V) where
   -- the entries are what a history of the class made of the opening map's part
   abbrev pub IsVisit : LedgerView K V → PassView K V F → VisitView K V → Type 0
-  IsVisit ledger pass v = (kept : List (Record K V F)) × IsHistory same_key code after ledger pass v.class kept × (v.entries ≡ replay same_key (opening_in code ledger v.class) kept)
+  IsVisit ledger pass v = (kept : List (RecordView K V F)) × IsHistory same_key code after ledger pass v.class kept × (v.entries ≡ replay same_key (opening_in code ledger v.class) kept)
 
   -- visits of a whole table that opened with n bins: in walk order, and every hash is of one of them
   pub record AreVisits (n : ℕ) (ledger : LedgerView K V) (pass : PassView K V F) (visits : List (VisitView K V)) : Type 0 where

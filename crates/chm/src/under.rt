@@ -46,7 +46,7 @@ impl<
     {
         bin.lawful();
         let ready = bin.prepare(call)?;
-        let reply = bin.apply(ready, pass.client(), pass.made());
+        let reply = bin.apply(ready, pass.client(), pass.made() as u32);
         let records = bin.records();
         let entry = &records[records.len() - 1];
         self.ledger.post(pass, role, entry);

@@ -10,7 +10,7 @@ use Rattle.bin_history.specs.Part.{part_of_entries, part_of_records}
 use Rattle.bin_history.specs.Plain.{IsLegal}
 use Rattle.bin_history.specs.Readiness.{KeepsOrFolds}
 use Rattle.bin_history.specs.declared.call.Call.{Call}
-use Rattle.bin_history.specs.declared.call.Record.{Record}
+use Rattle.bin_history.specs.Records.{RecordView}
 use Rattle.bin_history.proofs.Counts.{length-replay}
 use Rattle.bin_history.proofs.Histories.{HasHistory-new, HasHistory-applied, HasHistory-prepared, HasHistory-part, HasHistory-replay}
 use Rattle.count_ledger.specs.Agreement.{Agree, part_of_role}
@@ -24,7 +24,7 @@ module _ {K V F : Type 0} (same : K → K → Bool) (tells : (x y : K) → Decid
     history = rw (kept, ← base) (HasHistory-new same tells code after b distinct records);
   }
 
-  pub Agree-posted : (b c : BinView K V F) (r s : RoleView K V F) (x : Record K V F) → Agree same after b r → c.class ≡ b.class → c.salt ≡ b.salt → c.base ≡ b.base → c.records ≡ b.records ++ x ∷ [] → s ≡ record r { kept = r.kept ++ x ∷ [] } → Agree same after c s
+  pub Agree-posted : (b c : BinView K V F) (r s : RoleView K V F) (x : RecordView K V F) → Agree same after b r → c.class ≡ b.class → c.salt ≡ b.salt → c.base ≡ b.base → c.records ≡ b.records ++ x ∷ [] → s ≡ record r { kept = r.kept ++ x ∷ [] } → Agree same after c s
   Agree-posted b c r s x a class salt base records is =
       rw is (record {
         class = class ∙ a.class;

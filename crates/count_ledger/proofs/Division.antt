@@ -6,7 +6,7 @@ use Rattle.hashkeys.specs.Hashing.{hash_of}
 use Rattle.hashkeys.specs.declared.hashing.Salt.{Salt}
 use Rattle.bin_history.specs.Calls.{key_of}
 use Rattle.bin_history.specs.Part.{part_of_entries, part_of_records}
-use Rattle.bin_history.specs.declared.call.Record.{Record}
+use Rattle.bin_history.specs.Records.{RecordView}
 use Rattle.count_ledger.specs.declared.books.Book.{Book}
 use Rattle.count_ledger.specs.declared.books.Book.TheVariants.{Pass, Role}
 use Rattle.count_ledger.specs.Terms.{TermsView}
@@ -28,7 +28,7 @@ neither a b false f e = refl
 neither true b true f e = e
 neither false b true f e = absurd (let x = f refl in cc)
 
-module _ {K V F : Type 0} (code : K → ℕ) (t : TermsView K V) (words : List ℕ) (salt : Salt) (class : ClassView) (pairs : List (K × V)) (kept : List (Record K V F)) where
+module _ {K V F : Type 0} (code : K → ℕ) (t : TermsView K V) (words : List ℕ) (salt : Salt) (class : ClassView) (pairs : List (K × V)) (kept : List (RecordView K V F)) where
   abbrev whole : Book K V F
   whole = Role salt class pairs kept
 
@@ -37,14 +37,14 @@ module _ {K V F : Type 0} (code : K → ℕ) (t : TermsView K V) (words : List �
     half_sound f = (
       f.0,
       ap (part_of_entries (is_of code salt half)) f.1 ∙ filter_within (λ (e : K × V). is_of code salt half e.0) (λ e. is_of code salt class e.0) (λ e. within (hash_of salt (code e.0))) _,
-      All-filter (λ (r : Record K V F). is_of code salt half (key_of r.call)) (λ r. r.client < t.clients) kept f.2,
+      All-filter (λ (r : RecordView K V F). is_of code salt half (key_of r.call)) (λ r. r.client < t.clients) kept f.2,
     )
 
     half_beside : (b : Book K V F) → AreTogether code whole b → AreTogether code (half_book code salt half pairs kept) b
     half_beside (Pass c made) a =
-        filter_turn (λ (r : Record K V F). r.client == c) (λ r. is_of code salt half (key_of r.call)) kept
+        filter_turn (λ (r : RecordView K V F). r.client == c) (λ r. is_of code salt half (key_of r.call)) kept
         ∙ ap (part_of_records (is_of code salt half)) a
-        ∙ filter_within (λ (r : Record K V F). is_of code salt half (key_of r.call)) (λ r. is_of code salt class (key_of r.call)) (λ r. within (hash_of salt (code (key_of r.call)))) made
+        ∙ filter_within (λ (r : RecordView K V F). is_of code salt half (key_of r.call)) (λ r. is_of code salt class (key_of r.call)) (λ r. within (hash_of salt (code (key_of r.call)))) made
     half_beside (Role s k o l) apart = λ h. neither (covers class h) (covers k h) (covers half h) (within h) (apart h)
 
   module _ (one : (h : ℕ) → covers class h ≡ (covers (low_half class) h || covers (high_half class) h)) (apart : AreApart (low_half class) (high_half class)) where

@@ -9,7 +9,7 @@ use Rattle.hashkeys.specs.Classes.{ClassView, covers, is_of, AreApart, low_half,
 use Rattle.hashkeys.specs.declared.hashing.Salt.{Salt}
 use Rattle.bin_history.specs.Calls.{key_of}
 use Rattle.bin_history.specs.Deltas.{delta}
-use Rattle.bin_history.specs.declared.call.Record.{Record}
+use Rattle.bin_history.specs.Records.{RecordView}
 use Rattle.count_ledger.specs.declared.books.Book.{Book}
 use Rattle.count_ledger.specs.declared.books.Book.TheVariants.{Pass, Role}
 use Rattle.count_ledger.specs.Terms.{TermsView}
@@ -56,7 +56,7 @@ module _ {K V F : Type 0} (code : K → ℕ) where
         subst (λ (ws : List ℕ). Holds code t record { words = ws; homes = s.homes; views = set s.views id v }) (sym (set-get_or s.words word 0))
         (subst (λ (vs : List (List (Book K V F))). Holds code t record { words = s.words; homes = s.homes; views = vs }) (sym (set_again s.views id v at)) h)
 
-    pub Keeps-divided : (word : ℕ) (salt : Salt) (class : ClassView) (pairs : List (K × V)) (kept : List (Record K V F))
+    pub Keeps-divided : (word : ℕ) (salt : Salt) (class : ClassView) (pairs : List (K × V)) (kept : List (RecordView K V F))
         → ((h : ℕ) → covers class h ≡ (covers (low_half class) h || covers (high_half class) h)) → AreApart (low_half class) (high_half class)
         → Keeps (Holds code t) id (Role salt class pairs kept ∷ []) word (λ n. n) (divided code (Role salt class pairs kept ∷ []))
     Keeps-divided word salt class pairs kept one apart s h at =
@@ -69,7 +69,7 @@ module _ {K V F : Type 0} (code : K → ℕ) where
               (λ u f a. (f, divided_others code t s.words salt class pairs kept one apart u a));
         })
 
-    pub Keeps-posted : (c : ℕ) (made : List (Record K V F)) (salt : Salt) (class : ClassView) (pairs : List (K × V)) (kept : List (Record K V F)) (r : Record K V F)
+    pub Keeps-posted : (c : ℕ) (made : List (RecordView K V F)) (salt : Salt) (class : ClassView) (pairs : List (K × V)) (kept : List (RecordView K V F)) (r : RecordView K V F)
         → r.client ≡ c → r.ordinal ≡ length made → length made < 1000000 → is_of code salt class (key_of r.call) ≡ true
         → Keeps (Holds code t) id (Pass c made ∷ Role salt class pairs kept ∷ []) (8 * (c + 1)) (λ n. (n + word_of (delta r)) % 2 ^ 64) (posted r (Pass c made ∷ Role salt class pairs kept ∷ []))
     Keeps-posted c made salt class pairs kept r by next room on s h at =

@@ -13,7 +13,7 @@ use Rattle.hashkeys.specs.Classes.{is_of}
 use Rattle.hashkeys.specs.Hashing.{hash_of}
 use Rattle.hashkeys.specs.declared.hashing.Salt.{Salt}
 use Rattle.bin_history.specs.Part.{part_of_entries}
-use Rattle.bin_history.specs.declared.call.Record.{Record}
+use Rattle.bin_history.specs.Records.{RecordView}
 use Rattle.count_ledger.specs.declared.books.Book.{Book}
 use Rattle.count_ledger.specs.declared.books.Book.TheVariants.{Pass}
 use Rattle.count_ledger.specs.Terms.{TermsView}
@@ -101,7 +101,7 @@ module _ {K V : Type 0} (F : Type 0) (code : K → ℕ) (t : TermsView K V) (wor
       Among-append (IsSound {F = F} code t words) (AreTogether code) (map new_pass_book (range_with_len 0 t.clients)) (map (new_role_book t) (range_with_len 0 n))
       (Among-range new_pass_book (IsSound {F = F} code t words) (AreTogether code) 0 t.clients (λ i lt. (omega arith, tt, omega arith, zeros (8 * (i + 1)))) (λ i j lt lt' e. omega (arith, e)))
       (Among-range (new_role_book t) (IsSound {F = F} code t words) (AreTogether code) 0 n
-      (λ i lt. (refl, base_is_part code t.salt t.bases own i (omega arith), All-nil (λ (r : Record K V F). r.client < t.clients)))
+      (λ i lt. (refl, base_is_part code t.salt t.bases own i (omega arith), All-nil (λ (r : RecordView K V F). r.client < t.clients)))
       (λ i j lt lt' h. only_one n h i j (λ e. omega (arith, e))))
       (Each-range new_pass_book (λ b. Each (AreTogether {F = F} code b) (map (new_role_book t) (range_with_len 0 n))) 0 t.clients (λ c low lt. Each-range (new_role_book t) (AreTogether {F = F} code (Pass c [])) 0 n (λ i low' lt'. refl)))
 

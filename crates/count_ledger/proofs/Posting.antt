@@ -10,7 +10,7 @@ use Rattle.hashkeys.specs.Hashing.{hash_of}
 use Rattle.hashkeys.specs.declared.hashing.Salt.{Salt}
 use Rattle.bin_history.specs.Calls.{key_of}
 use Rattle.bin_history.specs.Deltas.{delta, sum_of_deltas}
-use Rattle.bin_history.specs.declared.call.Record.{Record}
+use Rattle.bin_history.specs.Records.{RecordView}
 use Rattle.count_ledger.specs.declared.books.Book.{Book}
 use Rattle.count_ledger.specs.declared.books.Book.TheVariants.{Pass, Role}
 use Rattle.count_ledger.specs.Terms.{TermsView}
@@ -21,7 +21,7 @@ use Rattle.count_ledger.specs.Steps.{posted}
 use Rattle.count_ledger.proofs.Filters.{filter_push_kept, filter_push_left}
 use Rattle.count_ledger.proofs.WordSums.{word_of-add, sum_of_deltas-push}
 
-AreNumbered-push : {K V F : Type 0} (c n : ℕ) (made : List (Record K V F)) (r : Record K V F) → AreNumbered c n made → r.client ≡ c → r.ordinal ≡ n + length made → AreNumbered c n (made ++ r ∷ [])
+AreNumbered-push : {K V F : Type 0} (c n : ℕ) (made : List (RecordView K V F)) (r : RecordView K V F) → AreNumbered c n made → r.client ≡ c → r.ordinal ≡ n + length made → AreNumbered c n (made ++ r ∷ [])
 AreNumbered-push c n [] r m by at = (by, omega arith, tt)
 AreNumbered-push c n (x ∷ xs) r m by at = (m.0, m.1, AreNumbered-push c (n + 1) xs r m.2 by (omega arith))
 
@@ -30,7 +30,7 @@ other_of true b e t = e
 other_of false b e t = absurd cc
 
 module _ {K V F : Type 0} (code : K → ℕ) (t : TermsView K V) (words : List ℕ) (sized : length words ≡ 8 * (t.clients + 1))
-    (c : ℕ) (made : List (Record K V F)) (salt : Salt) (class : ClassView) (pairs : List (K × V)) (kept : List (Record K V F)) (r : Record K V F)
+    (c : ℕ) (made : List (RecordView K V F)) (salt : Salt) (class : ClassView) (pairs : List (K × V)) (kept : List (RecordView K V F)) (r : RecordView K V F)
     (by : r.client ≡ c) (next : r.ordinal ≡ length made) (room : length made < 1000000) (on : is_of code salt class (key_of r.call) ≡ true) where
   abbrev pub words_after : List ℕ
   words_after = set words (8 * (c + 1)) ((slice_index words (8 * (c + 1)) + word_of (delta r)) % 2 ^ 64)
@@ -49,12 +49,12 @@ module _ {K V F : Type 0} (code : K → ℕ) (t : TermsView K V) (words : List �
       )
 
   role_sound : c < t.clients → IsSound code t words (Role salt class pairs kept) → IsSound code t words_after (Role salt class pairs (kept ++ r ∷ []))
-  role_sound low f = (f.0, f.1, All-push (λ (x : Record K V F). x.client < t.clients) kept r f.2 (omega arith))
+  role_sound low f = (f.0, f.1, All-push (λ (x : RecordView K V F). x.client < t.clients) kept r f.2 (omega arith))
 
   pub posted_fit : Among (IsSound code t words) (AreTogether code) before → Among (IsSound code t words_after) (AreTogether code) (posted r before)
   posted_fit a = (
     pass_sound a.0,
-    (filter_push_kept (λ x. x.client == c) kept r (eq-eqb _ _ by) ∙ ap (λ (l : List (Record K V F)). l ++ r ∷ []) a.1.0 ∙ sym (filter_push_kept (λ x. is_of code salt class (key_of x.call)) made r on), tt),
+    (filter_push_kept (λ x. x.client == c) kept r (eq-eqb _ _ by) ∙ ap (λ (l : List (RecordView K V F)). l ++ r ∷ []) a.1.0 ∙ sym (filter_push_kept (λ x. is_of code salt class (key_of x.call)) made r on), tt),
     (role_sound a.0.0 a.2.0, tt, tt),
   )
 

@@ -9,7 +9,7 @@ use Rattle.hashkeys.specs.Hashing.{hash_of}
 use Rattle.bin_history.specs.Calls.{key_of}
 use Rattle.bin_history.specs.Deltas.{delta, sum_of_deltas}
 use Rattle.bin_history.specs.Part.{part_of_entries, part_of_records}
-use Rattle.bin_history.specs.declared.call.Record.{Record}
+use Rattle.bin_history.specs.Records.{RecordView}
 use Rattle.count_ledger.specs.Views.{LedgerView, PassView, RoleView}
 use Rattle.bin_history.specs.Clients.{by_client}
 use Rattle.count_ledger.specs.Books.{BooksAgree, IsRoleOf, classes_of}
@@ -68,7 +68,7 @@ total_of-cut {X} {T} passes f ts (x ∷ xs) a =
       first true rest = refl
       first false rest = omega (arith, ints)
 
-sum_of_deltas_is : {K V F : Type 0} (rs : List (Record K V F)) → sum_of_deltas rs ≡ total_of delta rs
+sum_of_deltas_is : {K V F : Type 0} (rs : List (RecordView K V F)) → sum_of_deltas rs ≡ total_of delta rs
 sum_of_deltas_is [] = refl
 sum_of_deltas_is (r ∷ rs) = ap (λ z. delta r +ℤ z) (sum_of_deltas_is rs)
 
@@ -92,17 +92,17 @@ module _ {K V F : Type 0} (code : K → ℕ) (ledger : LedgerView K V) where
     everywhere : {X : Type 0} (P : X → Type 0) (xs : List X) → ((x : X) → P x) → All P xs
     everywhere P xs p i d lt = p _
 
-    made_cut : (made : List (Record K V F)) → total_of (λ r. sum_of_deltas (part_of_records (is_of code r.salt r.class) made)) roles ≡ sum_of_deltas made
+    made_cut : (made : List (RecordView K V F)) → total_of (λ r. sum_of_deltas (part_of_records (is_of code r.salt r.class) made)) roles ≡ sum_of_deltas made
     made_cut made =
         ap (λ (g : RoleView K V F → ℤ). total_of g roles) (λ i r. sum_of_deltas_is (part_of_records (is_of code r.salt r.class) made) i)
         ∙ total_of-cut (λ (r : RoleView K V F) x. is_of code r.salt r.class (key_of x.call)) delta roles made (everywhere (λ x. count_by (λ r. is_of code r.salt r.class (key_of x.call)) roles ≡ 1) made (λ x. key_once (key_of x.call)))
         ∙ sym (sum_of_deltas_is made)
 
-    kept_cut : (kept : List (Record K V F)) → All (λ x. x.client < ledger.clients) kept → total_of (λ p. sum_of_deltas (by_client p.client kept)) passes ≡ sum_of_deltas kept
+    kept_cut : (kept : List (RecordView K V F)) → All (λ x. x.client < ledger.clients) kept → total_of (λ p. sum_of_deltas (by_client p.client kept)) passes ≡ sum_of_deltas kept
     kept_cut kept low =
         ap (λ (g : PassView K V F → ℤ). total_of g passes) (λ i p. sum_of_deltas_is (by_client p.client kept) i)
         ∙ total_of-cut (λ (p : PassView K V F) x. x.client == p.client) delta passes kept
-        (All-weaker (λ (x : Record K V F). x.client < ledger.clients) (λ x. count_by (λ p. x.client == p.client) passes ≡ 1) (λ x lt. ap (λ (t : PassView K V F → Bool). count_by t passes) (λ i p. eqb_turn x.client p.client i) ∙ all.each_client x.client lt) kept low)
+        (All-weaker (λ (x : RecordView K V F). x.client < ledger.clients) (λ x. count_by (λ p. x.client == p.client) passes ≡ 1) (λ x lt. ap (λ (t : PassView K V F → Bool). count_by t passes) (λ i p. eqb_turn x.client p.client i) ∙ all.each_client x.client lt) kept low)
         ∙ sym (sum_of_deltas_is kept)
 
     pub total_made-settled : total_made passes ≡ total_kept roles

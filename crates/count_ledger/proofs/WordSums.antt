@@ -7,7 +7,7 @@ use Rattle.std.proofs.lemmas.List.{take_more}
 use Rattle.std.proofs.lemmas.List.Elements.{All-head, All-tail}
 use Rattle.std.proofs.Math.Nat.{mod-add-mod, add-mod-mod, mod-eq_of_lt}
 use Rattle.bin_history.specs.Deltas.{change_of_count, delta, sum_of_deltas}
-use Rattle.bin_history.specs.declared.call.Record.{Record}
+use Rattle.bin_history.specs.Records.{RecordView}
 use Rattle.count_ledger.specs.Books.{IsPassOf}
 use Rattle.count_ledger.specs.Views.{LedgerView, PassView}
 use Rattle.count_ledger.specs.Words.{word_of, total_of, total_made}
@@ -46,13 +46,13 @@ word_of_change (Some x) None = refl
 word_of_change (Some x) (Some y) = refl
 
 -- a delta, as a signed word of 64 bits that is cast to an unsigned one
-pub word_of-delta : {K V F : Type 0} (r : Record K V F) → cast_unsigned w64 (cast_signed w64 (cast_unsigned w64 (delta r))) ≡ word_of (delta r)
+pub word_of-delta : {K V F : Type 0} (r : RecordView K V F) → cast_unsigned w64 (cast_signed w64 (cast_unsigned w64 (delta r))) ≡ word_of (delta r)
 word_of-delta r = word_of_change r.before r.after
 
 add_assoc_ℤ : (a b c : ℤ) → (a +ℤ b) +ℤ c ≡ a +ℤ (b +ℤ c)
 add_assoc_ℤ a b c = omega (arith, ints)
 
-pub sum_of_deltas-push : {K V F : Type 0} (rs : List (Record K V F)) (r : Record K V F) → sum_of_deltas (rs ++ r ∷ []) ≡ sum_of_deltas rs +ℤ delta r
+pub sum_of_deltas-push : {K V F : Type 0} (rs : List (RecordView K V F)) (r : RecordView K V F) → sum_of_deltas (rs ++ r ∷ []) ≡ sum_of_deltas rs +ℤ delta r
 sum_of_deltas-push [] r = omega (arith, ints)
 sum_of_deltas-push (x ∷ xs) r = ap (λ z. delta x +ℤ z) (sum_of_deltas-push xs r) ∙ sym (add_assoc_ℤ (delta x) (sum_of_deltas xs) (delta r))
 
@@ -69,7 +69,7 @@ change_bounds None (Some y) = (omega (arith, ints), omega (arith, ints))
 change_bounds (Some x) None = (omega (arith, ints), omega (arith, ints))
 change_bounds (Some x) (Some y) = (omega (arith, ints), omega (arith, ints))
 
-sum_of_deltas_bounds : {K V F : Type 0} (rs : List (Record K V F)) → (neg_ℤ (pos (length rs)) ≤ℤ sum_of_deltas rs) × (sum_of_deltas rs ≤ℤ pos (length rs))
+sum_of_deltas_bounds : {K V F : Type 0} (rs : List (RecordView K V F)) → (neg_ℤ (pos (length rs)) ≤ℤ sum_of_deltas rs) × (sum_of_deltas rs ≤ℤ pos (length rs))
 sum_of_deltas_bounds [] = (omega (arith, ints), omega (arith, ints))
 sum_of_deltas_bounds (r ∷ rs) =
     let d = change_bounds r.before r.after in

@@ -3,17 +3,17 @@ use Rattle.std.specs.Prelude.{◌≡◌, ℕ, ◌+◌, ◌<◌, ◌≤◌, Bool,
 use Rattle.hashkeys.specs.Classes.{ClassView, is_of}
 use Rattle.bin_history.specs.Clients.{by_client}
 use Rattle.bin_history.specs.Part.{part_of_entries, part_of_records}
-use Rattle.bin_history.specs.declared.call.Record.{Record}
+use Rattle.bin_history.specs.Records.{RecordView}
 use Rattle.count_ledger.specs.Views.{LedgerView, PassView, RoleView}
 
 module _ {K V F : Type 0} where
   -- calls of one client, whose ordinals count up from `first`
-  abbrev pub AreNumbered : ℕ → ℕ → List (Record K V F) → Type 0
+  abbrev pub AreNumbered : ℕ → ℕ → List (RecordView K V F) → Type 0
   AreNumbered client first [] = Unit {0}
   AreNumbered client first (r ∷ rs) = (r.client ≡ client) × (r.ordinal ≡ first) × AreNumbered client (first + 1) rs
 
   -- of the records kept, those of the client are, in order, what it made on the keys that pass
-  abbrev pub AgreeOn : (K → Bool) → ℕ → List (Record K V F) → List (Record K V F) → Type 0
+  abbrev pub AgreeOn : (K → Bool) → ℕ → List (RecordView K V F) → List (RecordView K V F) → Type 0
   AgreeOn passes client made kept = by_client client kept ≡ part_of_records passes made
 
   -- the books of a pass and of a role agree: the role keeps, in order, just those of the client's calls that are on keys of its class

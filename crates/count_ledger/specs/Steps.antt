@@ -6,7 +6,7 @@ use Rattle.atomic_table.specs.Table.{State, Step, Me}
 use Rattle.hashkeys.specs.Classes.{ClassView, low_half, high_half, is_of}
 use Rattle.hashkeys.specs.declared.hashing.Salt.{Salt}
 use Rattle.bin_history.specs.Part.{part_of_entries, part_of_records}
-use Rattle.bin_history.specs.declared.call.Record.{Record}
+use Rattle.bin_history.specs.Records.{RecordView}
 use Rattle.count_ledger.specs.declared.books.Book.{Book}
 use Rattle.count_ledger.specs.declared.books.Book.TheVariants.{Pass, Role}
 use Rattle.count_ledger.specs.Terms.{TermsView}
@@ -28,16 +28,16 @@ view_of (v ∷ vs) = v
 
 module _ {K V F : Type 0} where
   -- the book with one more record
-  abbrev pub with_record : Record K V F → Book K V F → Book K V F
+  abbrev pub with_record : RecordView K V F → Book K V F → Book K V F
   with_record r (Pass c made) = Pass c (made ++ r ∷ [])
   with_record r (Role salt class pairs kept) = Role salt class pairs (kept ++ r ∷ [])
 
-  abbrev pub posted : Record K V F → List (Book K V F) → List (Book K V F)
+  abbrev pub posted : RecordView K V F → List (Book K V F) → List (Book K V F)
   posted r books = map (with_record r) books
 
   module _ (code : K → ℕ) where
     -- the book of a half of a role's class
-    abbrev pub half_book : Salt → ClassView → List (K × V) → List (Record K V F) → Book K V F
+    abbrev pub half_book : Salt → ClassView → List (K × V) → List (RecordView K V F) → Book K V F
     half_book salt class pairs kept = Role salt class (part_of_entries (is_of code salt class) pairs) (part_of_records (is_of code salt class) kept)
 
     abbrev pub divided : List (Book K V F) → List (Book K V F)

@@ -3,14 +3,14 @@ use Rattle.std.specs.Prelude.{◌≡◌, ℕ, ◌+◌, ◌*◌, ◌/◌, ◌<◌
 use Rattle.atomic_table.specs.Table.{Me}
 use Rattle.hashkeys.specs.Classes.{ClassView, IsClass}
 use Rattle.hashkeys.specs.declared.hashing.Salt.{Salt}
-use Rattle.bin_history.specs.declared.call.Record.{Record}
+use Rattle.bin_history.specs.Records.{RecordView}
 use Rattle.count_ledger.specs.Views.{PassView, RoleView}
 use Rattle.count_ledger.specs.declared.books.Book.{Book}
 use Rattle.count_ledger.specs.declared.books.Book.TheVariants.{Pass, Role}
 
 module _ {K V F : Type 0} where
   -- what the first book says was made
-  abbrev pub made_in : List (Book K V F) → List (Record K V F)
+  abbrev pub made_in : List (Book K V F) → List (RecordView K V F)
   made_in (Pass c made ∷ _) = made
   made_in _ = []
 
@@ -23,7 +23,7 @@ module _ {K V F : Type 0} where
   opening_in ((Role salt class opening kept ∷ _) ∷ _) = opening
   opening_in _ = []
 
-  abbrev pub kept_in : List (List (Book K V F)) → List (Record K V F)
+  abbrev pub kept_in : List (List (Book K V F)) → List (RecordView K V F)
   kept_in ((Role salt class opening kept ∷ _) ∷ _) = kept
   kept_in _ = []
 

@@ -2,7 +2,7 @@
 use Rattle.std.specs.Prelude.{ℕ, List}
 use Rattle.hashkeys.specs.Classes.{ClassView}
 use Rattle.hashkeys.specs.declared.hashing.Salt.{Salt}
-use Rattle.bin_history.specs.declared.call.Record.{Record}
+use Rattle.bin_history.specs.Records.{RecordView}
 -- which ledger it is: no two have one identity
 pub use Rattle.atomic_table.specs.Seated.{TableId as LedgerId}
 
@@ -17,7 +17,7 @@ pub record LedgerView (K V : Type 0) : Type 0 where
 pub record PassView (K V F : Type 0) : Type 0 where
   pub ledger : LedgerId
   pub client : ℕ
-  pub made : List (Record K V F)
+  pub made : List (RecordView K V F)
 
 -- a role: its class, the opening pairs of that class, and the records of calls on its keys that were kept since
 pub record RoleView (K V F : Type 0) : Type 0 where
@@ -25,4 +25,4 @@ pub record RoleView (K V F : Type 0) : Type 0 where
   pub salt : Salt
   pub class : ClassView
   pub opening : List (K × V)
-  pub kept : List (Record K V F)
+  pub kept : List (RecordView K V F)

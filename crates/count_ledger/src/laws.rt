@@ -9,7 +9,7 @@ ghost use Rattle.bin_history.specs.Entries.{lookup, HasDistinctKeys, replay};
 ghost use Rattle.bin_history.specs.Lawful.{BinView, IsLawful};
 ghost use Rattle.bin_history.specs.Plain.{IsLegal};
 ghost use Rattle.bin_history.specs.Readiness.{KeepsOrFolds};
-ghost use Rattle.bin_history.specs.declared.call.Record.{Record};
+ghost use Rattle.bin_history.specs.Records.{RecordView};
 ghost use Rattle.count_ledger.specs.Agreement.{Agree, part_of_role};
 ghost use Rattle.count_ledger.specs.Books.{IsPassOf};
 ghost use Rattle.count_ledger.specs.Settled.{AllAgree};
@@ -26,7 +26,7 @@ pub fn agreement_laws<K: HashKey, V: Eq, F: Remap<K, V>>()
     ensures new { (b : BinView K V F) (r : RoleView K V F)
         → b.class ≡ r.class → b.salt ≡ r.salt → HasDistinctKeys K.eq b.base → b.base ≡ r.opening → b.records ≡ [] → r.kept ≡ []
         → Agree K.eq (after V.eq F.remapped F.merged) b r }
-    ensures posted { (b c : BinView K V F) (r s : RoleView K V F) (x : Record K V F)
+    ensures posted { (b c : BinView K V F) (r s : RoleView K V F) (x : RecordView K V F)
         → Agree K.eq (after V.eq F.remapped F.merged) b r
         → c.class ≡ b.class → c.salt ≡ b.salt → c.base ≡ b.base → c.records ≡ b.records ++ x ∷ []
         → s ≡ record r { kept = r.kept ++ x ∷ [] }

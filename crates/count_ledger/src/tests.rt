@@ -55,13 +55,8 @@ fn make(rt: &impl Abort, ledger: &KeyLedger, pass: &mut KeyPass, role: &mut KeyR
         Some(value) => Call::Put(key, value),
         None => Call::Remove(key),
     };
-    let entry = Record {
-        client: pass.client(),
-        ordinal: pass.made(),
-        call,
-        before: row.before,
-        after: row.after,
-    };
+    let ordinal = pass.made() as u32;
+    let entry = Record::new(pass.client(), ordinal, call, row.before, row.after);
     ledger.post(pass, role, &entry);
 }
 

@@ -23,7 +23,8 @@ use Rattle.hashkeys.specs.declared.hashing.HashKey as HashKey
 use Rattle.bin_history.specs.declared.call.Remap as Remap
 use Rattle.bin_history.specs.contracts.bin.Bin as Bin
 use Rattle.bin_history.specs.contracts.bin.Bin.TheInside as BinInside
-use Rattle.bin_history.specs.contracts.call.Record as Record
+use Rattle.bin_history.specs.contracts.record.Record as Record
+use Rattle.bin_history.specs.contracts.record.Record.TheInside as RecordInside
 use Rattle.count_ledger.specs.contracts.tokens.BinRole as Role
 use Rattle.generations.specs.contracts.shortcuts.Shortcuts as Shortcuts
 use Rattle.generations.specs.contracts.state.State as State
@@ -69,14 +70,17 @@ module _ (K V F A : RattleType) (hash : HashKey.Ghosts K.Denot) (key_eq : Eq.Gho
   pub role_sync : IsSync (Role.the_row K V F)
   role_sync = search (sendable, badge_sync) depth 30
 
-  record_fields_send : AllSend (shape (Record.the_type K V F)).fields
-  record_fields_send = (search sendable depth 20, (search sendable depth 20, (search sendable depth 20, (search sendable depth 20, (search sendable depth 20, tt)))))
+  record_fields_send : AllSend (shape (RecordInside.the_type K V F)).fields
+  record_fields_send = (search sendable depth 20, (search sendable depth 20, (search sendable depth 20, (search sendable depth 20, tt))))
+
+  record_fields_sync : AllSync (shape (RecordInside.the_type K V F)).fields
+  record_fields_sync = (search sendable depth 20, (search sendable depth 20, (search sendable depth 20, (search sendable depth 20, tt))))
 
   record_send : IsSend (Record.the_row K V F)
   record_send = search (sendable, record_fields_send) depth 20
 
   record_sync : IsSync (Record.the_row K V F)
-  record_sync = search sendable depth 30
+  record_sync = search (sendable, record_fields_sync) depth 20
 
   bin_fields_send : AllSend (shape (BinInside.the_type K V F A hash key_same key_clone value_clone value_same remap function_clone alloc)).fields
   bin_fields_send = (search sendable depth 20, (search sendable depth 20, (search (sendable, crosses) depth 20, (search (sendable, crosses, record_send) depth 20, (search (sendable, crosses) depth 20, tt)))))

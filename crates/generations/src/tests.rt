@@ -184,7 +184,7 @@ fn make<
     agreement_laws::<K, V, F>();
     bin.lawful();
     let ready = bin.prepare(call)?;
-    bin.apply(ready, pass.client(), pass.made());
+    bin.apply(ready, pass.client(), pass.made() as u32);
     let records = bin.records();
     ledger.post(pass, role, &records[records.len() - 1]);
     Ok(())

@@ -7,7 +7,7 @@ use Rattle.bin_history.specs.Calls.{key_of, after, reply}
 use Rattle.bin_history.specs.Cells.{cell_after, IsCellHistory}
 use Rattle.bin_history.specs.Clients.{by_client}
 use Rattle.bin_history.specs.Entries.{lookup, HasDistinctKeys}
-use Rattle.bin_history.specs.declared.call.Record.{Record}
+use Rattle.bin_history.specs.Records.{RecordView}
 use Rattle.bin_history.specs.declared.call.Reply.{Reply}
 use Rattle.script.specs.Functions.{remapped, merged}
 use Rattle.script.specs.Grammar.{ScriptCall}
@@ -26,7 +26,7 @@ pub record Outcome : Type 0 where
   pub pairs : List (List ℕ × ℤ)
 
 -- the call of a record, and what it replied
-abbrev pub told : Record (List ℕ) ℤ Function → ScriptCall × Reply ℤ
+abbrev pub told : RecordView (List ℕ) ℤ Function → ScriptCall × Reply ℤ
 told r = (r.call, reply int_eq r.call r.before r.after)
 
 -- a client's calls on a key, with their replies
@@ -35,7 +35,7 @@ made_on k calls replies = filter (λ m. same_key (key_of m.0) k) (zip calls repl
 
 module _ (blocks : List (List ScriptCall)) (o : Outcome) where
   -- these records are a history of the key: of its calls of each client, in that client's order and with the replies, as those of one cell
-  pub record IsHistoryOf (k : List ℕ) (rs : List (Record (List ℕ) ℤ Function)) : Type 0 where
+  pub record IsHistoryOf (k : List ℕ) (rs : List (RecordView (List ℕ) ℤ Function)) : Type 0 where
     pub clients : All (λ r. r.client < length blocks) rs
     pub made : (c : ℕ) → c < length blocks → map told (by_client c rs) ≡ made_on k (slice_index_or blocks c []) (slice_index_or o.replies c [])
     pub legal : IsCellHistory value_after None rs
@@ -45,4 +45,4 @@ module _ (blocks : List (List ScriptCall)) (o : Outcome) where
   pub record IsAllowed : Type 0 where
     pub answered : map length o.replies ≡ map length blocks
     pub distinct : HasDistinctKeys same_key o.pairs
-    pub histories : (k : List ℕ) → (rs : List (Record (List ℕ) ℤ Function)) × IsHistoryOf k rs
+    pub histories : (k : List ℕ) → (rs : List (RecordView (List ℕ) ℤ Function)) × IsHistoryOf k rs

@@ -2,7 +2,7 @@
 use Rattle.std.specs.Prelude.{◌≡◌, ℕ, ℤ, ◌<◌, ◌≤◌, None, IfSome, List, [], length, map, slice_index_or}
 use Rattle.std.specs.List.{zip}
 use Rattle.std.specs.declared.vec.Vec.{Vec}
-use Rattle.bin_history.specs.declared.call.Record.{Record}
+use Rattle.bin_history.specs.Records.{RecordView}
 use Rattle.bin_history.specs.declared.call.Reply.{Reply}
 use Rattle.chm.specs.Quiets.{QuietView, entries_of}
 use Rattle.count_ledger.specs.Views.{LedgerId, PassView}
@@ -12,7 +12,7 @@ use Rattle.mapcli.specs.Outcomes.{Outcome, told}
 use Rattle.mapcli.specs.declared.client.Client.{Client}
 
 abbrev pub ScriptRecord : Type 0
-ScriptRecord = Record (List ℕ) ℤ Function
+ScriptRecord = RecordView (List ℕ) ℤ Function
 
 abbrev pub ScriptPass : Type 0
 ScriptPass = PassView (List ℕ) ℤ Function

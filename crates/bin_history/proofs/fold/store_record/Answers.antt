@@ -5,6 +5,7 @@ use Rattle.bin_history.proofs.fold.store_record.Goals as goal
 pub returns-clause-items : goal.returns-clause-items
 returns-clause-items g c =
     let tells = key_tells g.met.K.Eq.laws g.met.K.HashKey.equal_is_same in
-    let found = rw (c.deref.ensures.value, c.into_key-key.ensures) at c.find-found.ensures in
-    rw (c.carry_out.ensures.items, c.to.ensures, c.into_key-key.ensures)
+    let of = c.into_call-call.ensures in
+    let found = rw (c.deref.ensures.value, c.into_key-key.ensures, of.call) at c.find-found.ensures in
+    rw (c.carry_out.ensures.items, c.to.ensures, c.into_key-key.ensures, of.call, of.after)
     (changed-to g.K.PartialEq.eq tells _ _ _ c.args.entry.after found)

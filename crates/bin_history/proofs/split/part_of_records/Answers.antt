@@ -8,7 +8,7 @@ use Rattle.bin_history.proofs.split.part_of_records.Goals.{then-is_of+in_ok-copy
 pub loop-entry-preserved : goal.loop-entry-preserved
 loop-entry-preserved g c =
     let x = c.entry-item.result in
-    let tested = rw c.key.ensures at c.is_of.ensures in
+    let tested = rw (c.key.ensures, c.call.ensures) at c.is_of.ensures in
     elim c.if-is_of.branch [
       | then-is_of+in_ok-copy_of_record+in_ok-push w ↦
           let kept = filter_more_kept (λ r. is_of g.K.HashKey.code c.args.salt c.args.class (key_of r.call)) c.args.records.now c.loop-entry.entry-index x (omega arith) c.entry-item.is (sym tested ∙ w.if-is_of.true) in

@@ -1,7 +1,7 @@
 use Rattle.std.proofs.Common.{◌≡◌, ℕ, ◌-◌, List, [], ◌∷◌, ◌++◌, length, get_or, ap, sym, ◌∙◌, arith}
 use Rattle.std.proofs.Math.Seq.{get_or-append_seam}
 use Rattle.std.proofs.lemmas.List.{length_push}
-use Rattle.bin_history.specs.declared.call.Record.{Record}
+use Rattle.bin_history.specs.Records.{RecordView}
 use Rattle.generations.proofs.tests.make.Goals as goal
 
 -- the last of a list that got one more
@@ -16,4 +16,4 @@ returns-clause-agree g c =
     let entry = last_is c.prepare.new.self.records c.apply.new.self.records c.records-records.result.now _ c.index-records-records.result c.apply.ensures.records c.records-records.ensures c.index-records-records.is in
     let prepared = c.agreement_laws.ensures.prepared c.args.bin.now c.prepare.new.self c.args.role.now c.requires.agree c.lawful.ensures.lawful c.in_ok-ready.ensures.class c.in_ok-ready.ensures.salt c.in_ok-ready.ensures.ok in
     c.agreement_laws.ensures.posted c.prepare.new.self c.apply.new.self c.args.role.now c.post.new.role c.index-records-records.result prepared c.apply.ensures.class c.apply.ensures.salt c.apply.ensures.base
-    (c.apply.ensures.records ∙ ap (λ (r : Record _ _ _). c.prepare.new.self.records ++ r ∷ []) (sym entry)) c.post.ensures.role
+    (c.apply.ensures.records ∙ ap (λ (r : RecordView _ _ _). c.prepare.new.self.records ++ r ∷ []) (sym entry)) c.post.ensures.role

@@ -1,7 +1,7 @@
 use Rattle.std.proofs.Common.{◌≡◌, [], ◌∷◌, ◌++◌, ap, sym, subst, ◌∙◌}
 use Rattle.bin_history.specs.Calls.{after}
 use Rattle.bin_history.proofs.Keys.{key_tells}
-use Rattle.bin_history.specs.declared.call.Record.{Record}
+use Rattle.bin_history.specs.Records.{RecordView}
 use Rattle.count_ledger.specs.Views.{LedgerView}
 use Rattle.count_ledger.proofs.Agreements.{Agree-prepared, Agree-posted}
 use Rattle.chm.specs.Met.{IsMet}
@@ -33,4 +33,4 @@ returns-clause-agree g c =
     let tells = key_tells g.met.K.Eq.laws g.met.K.HashKey.equal_is_same in
     let prepared = Agree-prepared g.K.PartialEq.eq tells g.K.HashKey.code _ c.args.bin.now c.prepare.new.self c.args.role.now c.requires.agree c.lawful.ensures.lawful c.prepare.ensures.class c.prepare.ensures.salt c.in_ok-ready.ensures.ok in
     Agree-posted g.K.PartialEq.eq tells g.K.HashKey.code _ c.prepare.new.self c.apply-reply.new.self c.args.role.now c.post.new.role c.index-records-records.result prepared
-    c.apply-reply.ensures.class c.apply-reply.ensures.salt c.apply-reply.ensures.base (c.apply-reply.ensures.records ∙ ap (λ (x : Record _ _ _). c.prepare.new.self.records ++ x ∷ []) (sym is)) c.post.ensures.role
+    c.apply-reply.ensures.class c.apply-reply.ensures.salt c.apply-reply.ensures.base (c.apply-reply.ensures.records ∙ ap (λ (x : RecordView _ _ _). c.prepare.new.self.records ++ x ∷ []) (sym is)) c.post.ensures.role
