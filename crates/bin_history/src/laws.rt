@@ -21,13 +21,16 @@ pub fn part_of_a_run<K: HashKey, V: Eq, F: Remap<K, V>>()
         → IsLegal K.eq (after V.eq F.remapped F.merged) (part_of_map passes map) (part_of_records passes rs) }
 {}
 
-/// In a legal list each key by itself behaves as a cell of one thread.
+/// In a legal list each key by itself behaves as a cell of one thread, and a list in which each key does is legal.
 pub fn cells_of_a_run<K: HashKey, V: Eq, F: Remap<K, V>>()
     ensures history { (map : K → Option V) (rs : List (RecordView K V F)) (k : K)
         → IsLegal K.eq (after V.eq F.remapped F.merged) map rs
         → IsCellHistory (after V.eq F.remapped F.merged) (map k) (records_on K.eq k rs) }
     ensures value { (map : K → Option V) (rs : List (RecordView K V F)) (k : K)
         → run K.eq map rs k ≡ cell_after (map k) (records_on K.eq k rs) }
+    ensures legal { (map : K → Option V) (rs : List (RecordView K V F))
+        → ((k : K) → IsCellHistory (after V.eq F.remapped F.merged) (map k) (records_on K.eq k rs))
+        → IsLegal K.eq (after V.eq F.remapped F.merged) map rs }
 {}
 
 /// The deltas of a legal list add up to the change of the number of keys.

@@ -99,7 +99,7 @@ module _ {K V F : Type 0} (same : K → K → Bool) (code : K → ℕ) (after : 
       let grown : part_of_records (is_of code ledger.salt v.class) (old.made ++ rs) ≡ part_of_records (is_of code ledger.salt v.class) old.made =
       filter-append (λ (r : RecordView K V F). is_of code ledger.salt v.class (key_of r.call)) old.made rs ∙ ap (λ (l : List (RecordView K V F)). part_of_records (is_of code ledger.salt v.class) old.made ++ l) none ∙ append-nil (part_of_records (is_of code ledger.salt v.class) old.made)
       in
-      let later : IsHistory same code after ledger (record old { made = old.made ++ rs }) v.class kept = record { client = history.client; legal = history.legal; clients = history.clients; own = history.own ∙ sym grown } in
+      let later : IsHistory same code after ledger (record old { made = old.made ++ rs }) v.class kept = record { client = history.client; legal = history.legal; clients = history.clients; of_class = history.of_class; own = history.own ∙ sym grown } in
       (kept, subst (λ (p : PassView K V F). IsHistory same code after ledger p v.class kept) (sym is) later, entries)
 
   -- the same of all visits of a walk that goes on by that class

@@ -4,6 +4,8 @@ pub mod Sizes
 pub mod Empty
 pub mod Visiting
 pub mod Closing
+pub mod Homes
+pub mod Ordering
 pub mod Clearing
 pub mod Dealing
 pub mod Reopening

@@ -1,8 +1,9 @@
 -- What the books of a pass and of the role of a bin tell of the bin.
-use Rattle.std.proofs.Common.{◌≡◌, ℕ, Bool, true, Option, Decides, List, [], ◌∷◌, ◌++◌, length, ◌-◌, slice_index_or, sym, ap, subst, ◌∙◌, arith}
+use Rattle.std.proofs.Common.{◌≡◌, ℕ, Bool, true, Option, Decides, List, [], ◌∷◌, ◌++◌, length, ◌-◌, slice_index_or, All, sym, ap, subst, ◌∙◌, arith}
 use Rattle.std.proofs.Math.Seq.{get_or-append_seam}
 use Rattle.std.proofs.lemmas.List.{length-append}
-use Rattle.hashkeys.specs.Classes.{IsClass, is_of}
+use Rattle.hashkeys.specs.Classes.{ClassView, IsClass, is_of}
+use Rattle.hashkeys.specs.declared.hashing.Salt.{Salt}
 use Rattle.bin_history.specs.Calls.{key_of, after, reply}
 use Rattle.bin_history.specs.Entries.{lookup, HasDistinctKeys, replay, store}
 use Rattle.bin_history.specs.Lawful.{BinView, IsLawful}
@@ -47,6 +48,8 @@ module _ {K V F : Type 0} (same : K → K → Bool) (tells : (x y : K) → Decid
             client = of.client;
             legal = subst L opening-met legal;
             clients = role.clients;
+            of_class = let On : Salt → ClassView → Type 0 = λ salt class. All (λ (x : RecordView K V F). is_of code salt class (key_of x.call) ≡ true) r.kept in
+                subst (On ledger.salt) (sym agree.class) (subst (λ salt. On salt r.class) role.salt role.of_class);
             own = books
                 ∙ (λ i. part_of_records (is_of code (role.salt i) r.class) pass.made)
                 ∙ (λ i. part_of_records (is_of code ledger.salt (sym agree.class i)) pass.made);

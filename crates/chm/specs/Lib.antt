@@ -5,6 +5,7 @@ pub mod Sizes
 pub mod Refusals
 pub mod Visits
 pub mod Quiets
+pub mod Orders
 pub mod Closing
 pub mod Cleared
 pub mod Reopened

@@ -1,6 +1,7 @@
 -- What a pass and a locked bin tell when they meet.
-use Rattle.std.specs.Prelude.{◌≡◌, ℕ, ◌<◌, Bool, Option, List, All}
+use Rattle.std.specs.Prelude.{◌≡◌, ℕ, ◌<◌, Bool, true, Option, List, All}
 use Rattle.hashkeys.specs.Classes.{ClassView, is_of}
+use Rattle.bin_history.specs.Calls.{key_of}
 use Rattle.bin_history.specs.Clients.{by_client}
 use Rattle.bin_history.specs.Part.{part_of_records}
 use Rattle.bin_history.specs.Plain.{run, IsLegal}
@@ -18,6 +19,7 @@ module _ {K V F : Type 0} (same_key : K → K → Bool) (code : K → ℕ) (afte
     pub client : pass.client < ledger.clients
     pub legal : IsLegal same_key after (lookup same_key (opening_in code ledger class)) kept
     pub clients : All (λ r. r.client < ledger.clients) kept
+    pub of_class : All (λ r. is_of code ledger.salt class (key_of r.call) ≡ true) kept
     pub own : by_client pass.client kept ≡ part_of_records (is_of code ledger.salt class) pass.made
 
   -- a bin's entries are what such a history, which its role kept, made of the opening map's part: in order, and as a map

@@ -1,5 +1,5 @@
 -- A role is divided into those of the halves of its class.
-use Rattle.std.proofs.Common.{◌≡◌, ℕ, ◌<◌, ◌==◌, ◌&&◌, ◌||◌, Bool, true, false, List, [], ◌∷◌, refl, ap, ◌∙◌}
+use Rattle.std.proofs.Common.{◌≡◌, ℕ, ◌<◌, ◌&&◌, ◌||◌, Bool, true, false, List, [], ◌∷◌, refl, sym, ap, ◌∙◌}
 use Rattle.std.proofs.lemmas.List.Elements.{All-filter}
 use Rattle.hashkeys.specs.Classes.{ClassView, covers, is_of, AreApart, low_half, high_half}
 use Rattle.hashkeys.specs.Hashing.{hash_of}
@@ -13,7 +13,7 @@ use Rattle.count_ledger.specs.Terms.{TermsView}
 use Rattle.count_ledger.specs.Rule.{Among, Across, IsSound, AreTogether}
 use Rattle.count_ledger.specs.Steps.{half_book, divided}
 use Rattle.count_ledger.proofs.Together.{Each-weaker}
-use Rattle.count_ledger.proofs.Filters.{filter_within, filter_turn}
+use Rattle.count_ledger.proofs.Filters.{filter_within}
 
 in_low : (c l h : Bool) → c ≡ (l || h) → l ≡ true → c ≡ true
 in_low c true h e t = e
@@ -28,23 +28,22 @@ neither a b false f e = refl
 neither true b true f e = e
 neither false b true f e = absurd (let x = f refl in cc)
 
-module _ {K V F : Type 0} (code : K → ℕ) (t : TermsView K V) (words : List ℕ) (salt : Salt) (class : ClassView) (pairs : List (K × V)) (kept : List (RecordView K V F)) where
+module _ {K V F : Type 0} (code : K → ℕ) (t : TermsView K V) (words : List ℕ) (calls : List (RecordView K V F)) (salt : Salt) (class : ClassView) (pairs : List (K × V)) (kept : List (RecordView K V F)) where
   abbrev whole : Book K V F
   whole = Role salt class pairs kept
 
   module _ (half : ClassView) (within : (h : ℕ) → covers half h ≡ true → covers class h ≡ true) where
-    half_sound : IsSound code t words whole → IsSound code t words (half_book code salt half pairs kept)
+    half_sound : IsSound code t words calls whole → IsSound code t words calls (half_book code salt half pairs kept)
     half_sound f = (
       f.0,
       ap (part_of_entries (is_of code salt half)) f.1 ∙ filter_within (λ (e : K × V). is_of code salt half e.0) (λ e. is_of code salt class e.0) (λ e. within (hash_of salt (code e.0))) _,
       All-filter (λ (r : RecordView K V F). is_of code salt half (key_of r.call)) (λ r. r.client < t.clients) kept f.2,
+      sym (filter_within (λ (r : RecordView K V F). is_of code salt half (key_of r.call)) (λ r. is_of code salt class (key_of r.call)) (λ r. within (hash_of salt (code (key_of r.call)))) calls)
+          ∙ ap (part_of_records (is_of code salt half)) f.3,
     )
 
     half_beside : (b : Book K V F) → AreTogether code whole b → AreTogether code (half_book code salt half pairs kept) b
-    half_beside (Pass c made) a =
-        filter_turn (λ (r : RecordView K V F). r.client == c) (λ r. is_of code salt half (key_of r.call)) kept
-        ∙ ap (part_of_records (is_of code salt half)) a
-        ∙ filter_within (λ (r : RecordView K V F). is_of code salt half (key_of r.call)) (λ r. is_of code salt class (key_of r.call)) (λ r. within (hash_of salt (code (key_of r.call)))) made
+    half_beside (Pass c made) a = tt
     half_beside (Role s k o l) apart = λ h. neither (covers class h) (covers k h) (covers half h) (within h) (apart h)
 
   module _ (one : (h : ℕ) → covers class h ≡ (covers (low_half class) h || covers (high_half class) h)) (apart : AreApart (low_half class) (high_half class)) where
@@ -54,7 +53,7 @@ module _ {K V F : Type 0} (code : K → ℕ) (t : TermsView K V) (words : List �
     high : (h : ℕ) → covers (high_half class) h ≡ true → covers class h ≡ true
     high h = in_high _ _ _ (one h)
 
-    pub divided_fit : Among (IsSound code t words) (AreTogether code) (whole ∷ []) → Among (IsSound code t words) (AreTogether code) (divided code (whole ∷ []))
+    pub divided_fit : Among (IsSound code t words calls) (AreTogether code) (whole ∷ []) → Among (IsSound code t words calls) (AreTogether code) (divided code (whole ∷ []))
     divided_fit a = (half_sound (low_half class) low a.0, (apart, tt), (half_sound (high_half class) high a.0, tt, tt))
 
     pub divided_others : (u : List (Book K V F)) → Across (AreTogether code) (whole ∷ []) u → Across (AreTogether code) (divided code (whole ∷ [])) u

@@ -33,21 +33,23 @@ first-rest (x ∷ xs) = refl
 module _ {K V F : Type 0} (code : K → ℕ) where
   together_turn : (x y : Book K V F) → AreTogether code x y → AreTogether code y x
   together_turn (Pass c m) (Pass d n) ne = λ e. ne (sym e)
-  together_turn (Pass c m) (Role s k p l) a = a
-  together_turn (Role s k p l) (Pass c m) a = a
+  together_turn (Pass c m) (Role s k p l) a = tt
+  together_turn (Role s k p l) (Pass c m) a = tt
   together_turn (Role s k p l) (Role s' k' p' l') apart = λ h. and_turn (covers k h) (covers k' h) (apart h)
 
   module _ (t : TermsView K V) (id : ℕ) where
     pub Splits-parted : (v : List (Book K V F)) → Splits (Holds code t) id v (first_of v) (rest_of v)
     Splits-parted v s h at = record {
       sized = h.sized;
-      books = AmongSeats-parted (AreTogether code) together_turn (IsSound code t s.words) s.views id (first_of v) (rest_of v) h.books (at ∙ ap some (first-rest v));
+      calls = h.calls;
+      books = AmongSeats-parted (AreTogether code) together_turn (IsSound code t s.words h.calls) s.views id (first_of v) (rest_of v) h.books (at ∙ ap some (first-rest v));
     }
 
     pub Joins-joined : (v : List (Book K V F)) (other : ℕ) (w : List (Book K V F)) → Joins (Holds code t) id v other w (v ++ w) []
     Joins-joined v other w s h at ne at' = record {
       sized = h.sized;
-      books = AmongSeats-joined (AreTogether code) together_turn (IsSound code t s.words) s.views id other v w h.books at ne at';
+      calls = h.calls;
+      books = AmongSeats-joined (AreTogether code) together_turn (IsSound code t s.words h.calls) s.views id other v w h.books at ne at';
     }
 
     -- a look changes nothing
@@ -64,9 +66,10 @@ module _ {K V F : Type 0} (code : K → ℕ) where
         subst (λ (ws : List ℕ). Holds code t record { words = ws; homes = s.homes; views = set s.views id (divided code v) }) (sym (set-get_or s.words word 0))
         (record {
           sized = h.sized;
-          books = AmongSeats-changed (AreTogether code) together_turn (IsSound code t s.words) (IsSound code t s.words) s.views id v (divided code v) h.books at
-              (divided_fit code t s.words salt class pairs kept one apart (h.books.within id v at))
-              (λ u f a. (f, divided_others code t s.words salt class pairs kept one apart u a));
+          calls = h.calls;
+          books = AmongSeats-changed (AreTogether code) together_turn (IsSound code t s.words h.calls) (IsSound code t s.words h.calls) s.views id v (divided code v) h.books at
+              (divided_fit code t s.words h.calls salt class pairs kept one apart (h.books.within id v at))
+              (λ u f a. (f, divided_others code t s.words h.calls salt class pairs kept one apart u a));
         })
 
     pub Keeps-posted : (c : ℕ) (made : List (RecordView K V F)) (salt : Salt) (class : ClassView) (pairs : List (K × V)) (kept : List (RecordView K V F)) (r : RecordView K V F)
@@ -74,19 +77,20 @@ module _ {K V F : Type 0} (code : K → ℕ) where
         → Keeps (Holds code t) id (Pass c made ∷ Role salt class pairs kept ∷ []) (8 * (c + 1)) (λ n. (n + word_of (delta r)) % 2 ^ 64) (posted r (Pass c made ∷ Role salt class pairs kept ∷ []))
     Keeps-posted c made salt class pairs kept r by next room on s h at =
         let v : List (Book K V F) = Pass c made ∷ Role salt class pairs kept ∷ [] in
-        let ws = words_after code t s.words h.sized c made salt class pairs kept r by next room on in
+        let ws = words_after code t s.words h.calls h.sized c made salt class pairs kept r by next room on in
         let fit = h.books.within id v at in
         record {
           sized = length-set s.words (8 * (c + 1)) _ ∙ h.sized;
-          books = AmongSeats-changed (AreTogether code) together_turn (IsSound code t s.words) (IsSound code t ws) s.views id v (posted r v) h.books at
-              (posted_fit code t s.words h.sized c made salt class pairs kept r by next room on fit)
-              (posted_others code t s.words h.sized c made salt class pairs kept r by next room on fit);
+          calls = h.calls ++ r ∷ [];
+          books = AmongSeats-changed (AreTogether code) together_turn (IsSound code t s.words h.calls) (IsSound code t ws (h.calls ++ r ∷ [])) s.views id v (posted r v) h.books at
+              (posted_fit code t s.words h.calls h.sized c made salt class pairs kept r by next room on fit)
+              (posted_others code t s.words h.calls h.sized c made salt class pairs kept r by next room on fit);
         }
 
     -- a step that keeps the rule tells what the rule says of the seat's books
     pub Allows-told : (change : List (Book K V F) → List (Book K V F)) (slots word : ℕ) (me : Me (Unit {0}) (List (Book K V F))) (f : ℕ → ℕ) → Keeps (Holds code t) id me.0 word f (change me.0)
         → Allows (Holds code t) slots id me word f (Tells code (Some t) change (step slots word 0 0 none) me)
-    Allows-told change slots word me f k s h len at fits = (change me.0, keeps, tt, k s h at, (refl, (s.words, refl, h.books.within id me.0 at)))
+    Allows-told change slots word me f k s h len at fits = (change me.0, keeps, tt, k s h at, (refl, (s.words, h.calls, refl, h.books.within id me.0 at)))
 
 -- the books of a pass's seat after a role's badge was joined to it
 pub both_books : {B : Type 0} (me joined : Me (Unit {0}) (List B)) (views : List (List B)) (x y : B) → me ≡ (x ∷ [], []) → views ≡ (y ∷ []) ∷ [] → joined ≡ (me.0 ++ view_of views, me.1) → joined.0 ≡ x ∷ y ∷ []

@@ -9,6 +9,7 @@ pub mod Openings
 pub mod Gathering
 pub mod Tallies
 pub mod Covering
+pub mod Ordering
 pub mod Settlement
 pub mod Agreements
 pub mod Totals

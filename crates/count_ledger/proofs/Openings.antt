@@ -95,18 +95,18 @@ AmongSeats-one P R v fit = record { within = only; across = λ i j u w ne at at'
   only (suc i) u e = absurd (some-ne-none u (sym e))
 
 module _ {K V : Type 0} (F : Type 0) (code : K → ℕ) (t : TermsView K V) (words : List ℕ) (zeros : (i : ℕ) → slice_index words i ≡ 0) (own : AreOfTheirClasses code t.salt t.bases) where
-  first_fit : Among (IsSound {F = F} code t words) (AreTogether code) (first_books t)
+  first_fit : Among (IsSound {F = F} code t words []) (AreTogether code) (first_books t)
   first_fit =
       let n = length t.bases in
-      Among-append (IsSound {F = F} code t words) (AreTogether code) (map new_pass_book (range_with_len 0 t.clients)) (map (new_role_book t) (range_with_len 0 n))
-      (Among-range new_pass_book (IsSound {F = F} code t words) (AreTogether code) 0 t.clients (λ i lt. (omega arith, tt, omega arith, zeros (8 * (i + 1)))) (λ i j lt lt' e. omega (arith, e)))
-      (Among-range (new_role_book t) (IsSound {F = F} code t words) (AreTogether code) 0 n
-      (λ i lt. (refl, base_is_part code t.salt t.bases own i (omega arith), All-nil (λ (r : RecordView K V F). r.client < t.clients)))
+      Among-append (IsSound {F = F} code t words []) (AreTogether code) (map new_pass_book (range_with_len 0 t.clients)) (map (new_role_book t) (range_with_len 0 n))
+      (Among-range new_pass_book (IsSound {F = F} code t words []) (AreTogether code) 0 t.clients (λ i lt. (omega arith, tt, omega arith, zeros (8 * (i + 1)), refl)) (λ i j lt lt' e. omega (arith, e)))
+      (Among-range (new_role_book t) (IsSound {F = F} code t words []) (AreTogether code) 0 n
+      (λ i lt. (refl, base_is_part code t.salt t.bases own i (omega arith), All-nil (λ (r : RecordView K V F). r.client < t.clients), refl))
       (λ i j lt lt' h. only_one n h i j (λ e. omega (arith, e))))
-      (Each-range new_pass_book (λ b. Each (AreTogether {F = F} code b) (map (new_role_book t) (range_with_len 0 n))) 0 t.clients (λ c low lt. Each-range (new_role_book t) (AreTogether {F = F} code (Pass c [])) 0 n (λ i low' lt'. refl)))
+      (Each-range new_pass_book (λ b. Each (AreTogether {F = F} code b) (map (new_role_book t) (range_with_len 0 n))) 0 t.clients (λ c low lt. Each-range (new_role_book t) (AreTogether {F = F} code (Pass c [])) 0 n (λ i low' lt'. tt)))
 
   pub Holds-first : (homes : List (Unit {0})) → length words ≡ 8 * (t.clients + 1) → Holds {F = F} code t (opening words homes (first_books t))
-  Holds-first homes sized = record { sized = sized; books = AmongSeats-one (IsSound {F = F} code t words) (AreTogether code) (first_books t) first_fit }
+  Holds-first homes sized = record { sized = sized; calls = []; books = AmongSeats-one (IsSound {F = F} code t words []) (AreTogether code) (first_books t) first_fit }
 
 -- a new pass
 pub IsPass-new : {K V F : Type 0} (words client : ℕ) (me : Me (Unit {0}) (List (Book K V F))) → me ≡ (Pass client [] ∷ [], []) → 8 * (client + 1) < words → IsPass words client 0 me

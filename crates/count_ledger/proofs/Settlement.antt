@@ -1,19 +1,24 @@
 -- What the rule says of all books together.
-use Rattle.std.proofs.Common.{◌≡◌, ◌≢◌, ℕ, ◌<◌, ◌≤◌, ◌==◌, ◌&&◌, Bool, false, cond, List, [], ◌∷◌, ◌++◌, length, map, sum_by, refl, ap, ◌∙◌, arith, All}
+use Rattle.std.proofs.Common.{◌≡◌, ◌≢◌, ℕ, ◌<◌, ◌≤◌, ◌==◌, ◌&&◌, Bool, true, false, cond, List, [], ◌∷◌, ◌++◌, length, map, sum_by, refl, sym, ap, subst, ◌∙◌, arith, All}
 use Rattle.std.specs.List.{AllByRecursion as Each}
 use Rattle.std.proofs.lemmas.Bool.Decides.{nat_tests}
-use Rattle.std.proofs.lemmas.List.Elements.{All-from_recursion}
+use Rattle.std.proofs.lemmas.List.Elements.{All-from_recursion, All-weaker, filter_passes}
 use Rattle.std.proofs.lemmas.List.Sums.{sum_by-cons}
-use Rattle.hashkeys.specs.Classes.{AreApart}
+use Rattle.hashkeys.specs.Classes.{AreApart, is_of}
+use Rattle.bin_history.specs.Calls.{key_of}
+use Rattle.bin_history.specs.Clients.{by_client}
+use Rattle.bin_history.specs.Part.{part_of_records}
+use Rattle.bin_history.specs.Records.{RecordView}
 use Rattle.count_ledger.specs.Terms.{TermsView}
 use Rattle.count_ledger.specs.Views.{LedgerId, PassView, RoleView}
 use Rattle.count_ledger.specs.Books.{BooksAgree, IsPassOf, IsRoleOf, classes_of}
-use Rattle.count_ledger.specs.Rule.{Among, Across, IsSound, AreTogether, ledger_of}
+use Rattle.count_ledger.specs.Rule.{Among, IsSound, AreTogether, ledger_of}
 use Rattle.count_ledger.specs.Settled.{AllAgree}
 use Rattle.count_ledger.specs.Tokens.{pass_book, role_book, AreWide}
-use Rattle.count_ledger.proofs.Together.{Among-left, Among-right, Across-from_among}
+use Rattle.count_ledger.proofs.Together.{Among-left, Among-right}
 use Rattle.count_ledger.proofs.Tallies.{upto, upto-same, upto-one, hit_once}
 use Rattle.count_ledger.proofs.Covering.{CoverOnce-wide}
+use Rattle.count_ledger.proofs.Ordering.{agree_by, each_call}
 
 module _ {A B : Type 0} (f : A → B) where
   Each-of_map : (Q : B → Type 0) (xs : List A) → Each Q (map f xs) → Each (λ x. Q (f x)) xs
@@ -57,28 +62,42 @@ eqb_turn a b = grind (arith, nat_tests)
 one_client : (c n : ℕ) → c < n → upto (λ k. cond (c == k) 1 0) n ≡ 1
 one_client c n lt = upto-same (λ k. cond (c == k) 1 0) (λ k. cond (k == c) 1 0) n (λ k l. ap (λ (b : Bool). cond b 1 0) (eqb_turn c k)) ∙ upto-one c n lt
 
-module _ {K V F : Type 0} (code : K → ℕ) (id : LedgerId) (t : TermsView K V) (words : List ℕ) where
-  pub IsPassOf-sound : (p : PassView K V F) → IsSound code t words (pass_book p) → IsPassOf (ledger_of id t) p
+module _ {K V F : Type 0} (code : K → ℕ) (id : LedgerId) (t : TermsView K V) (words : List ℕ) (calls : List (RecordView K V F)) where
+  pub IsPassOf-sound : (p : PassView K V F) → IsSound code t words calls (pass_book p) → IsPassOf (ledger_of id t) p
   IsPassOf-sound p s = record { client = s.0; numbered = s.1; at_most = s.2 }
 
-  pub IsRoleOf-sound : (r : RoleView K V F) → IsSound code t words (role_book r) → IsRoleOf code (ledger_of id t) r
-  IsRoleOf-sound r s = record { salt = s.0; opening = s.1; clients = s.2 }
+  pub IsRoleOf-sound : (r : RoleView K V F) → IsSound code t words calls (role_book r) → IsRoleOf code (ledger_of id t) r
+  IsRoleOf-sound r s = record {
+    salt = s.0;
+    opening = s.1;
+    clients = s.2;
+    of_class = subst (All (λ x. is_of code r.salt r.class (key_of x.call) ≡ true)) s.3 (filter_passes (λ (x : RecordView K V F). is_of code r.salt r.class (key_of x.call)) calls);
+  }
 
-  agree : (rs : List (RoleView K V F)) (ps : List (PassView K V F)) → Across (AreTogether code) (map role_book rs) (map pass_book ps) → Each (λ r. All (λ p. BooksAgree code p r) ps) rs
-  agree [] ps x = tt
-  agree (r ∷ rs) ps x = (All-from_recursion (λ p. BooksAgree code p r) ps (Each-of_map pass_book (AreTogether code (role_book r)) ps x.0), agree rs ps x.1)
-
-  pub AllAgree-settled : (ps : List (PassView K V F)) (rs : List (RoleView K V F)) → t.clients ≤ length ps → AreWide (classes_of rs) → Among (IsSound code t words) (AreTogether code) (map role_book rs ++ map pass_book ps) → AllAgree code (ledger_of id t) ps rs
+  pub AllAgree-settled : (ps : List (PassView K V F)) (rs : List (RoleView K V F)) → t.clients ≤ length ps → AreWide (classes_of rs) → Among (IsSound code t words calls) (AreTogether code) (map role_book rs ++ map pass_book ps) → AllAgree code (ledger_of id t) ps rs
   AllAgree-settled ps rs enough wide a =
-      let P = IsSound code t words in
+      let P = IsSound code t words calls in
       let R = AreTogether code in
       let passes = Among-of_map pass_book P R ps (Among-right P R (map role_book rs) (map pass_book ps) a) in
       let roles = Among-of_map role_book P R rs (Among-left P R (map role_book rs) (map pass_book ps) a) in
+      let made = All-from_recursion (λ p. by_client p.client calls ≡ p.made) ps (Each-from_among (λ p. P (pass_book p)) (λ p q. R (pass_book p) (pass_book q)) (λ p. by_client p.client calls ≡ p.made) (λ p s. s.4) ps passes) in
+      let kept = All-from_recursion (λ r. part_of_records (is_of code r.salt r.class) calls ≡ r.kept) rs (Each-from_among (λ r. P (role_book r)) (λ r s. R (role_book r) (role_book s)) (λ r. part_of_records (is_of code r.salt r.class) calls ≡ r.kept) (λ r s. s.3) rs roles) in
       let apart = Among-weaker (λ p. P (pass_book p)) (λ p q. R (pass_book p) (pass_book q)) (λ p q. (k : ℕ) → ((p.client == k) && (q.client == k)) ≡ false) (λ p q ne k. two_clients p.client q.client k ne) ps passes in
       record {
         each_pass = All-from_recursion (IsPassOf (ledger_of id t)) ps (Each-from_among (λ p. P (pass_book p)) (λ p q. R (pass_book p) (pass_book q)) (IsPassOf (ledger_of id t)) IsPassOf-sound ps passes);
         each_client = hit_once (λ p k. p.client == k) (λ p. P (pass_book p)) (λ _. 1) t.clients ps apart (All-from_recursion (λ p. upto (λ k. cond (p.client == k) 1 0) t.clients ≡ 1) ps (Each-from_among (λ p. P (pass_book p)) (λ p q. R (pass_book p) (pass_book q)) (λ p. upto (λ k. cond (p.client == k) 1 0) t.clients ≡ 1) (λ p s. one_client p.client t.clients s.0) ps passes)) (let n = ones ps in omega arith);
         each_role = All-from_recursion (IsRoleOf code (ledger_of id t)) rs (Each-from_among (λ r. P (role_book r)) (λ r s. R (role_book r) (role_book s)) (IsRoleOf code (ledger_of id t)) IsRoleOf-sound rs roles);
         each_hash = CoverOnce-wide (λ _. Unit {0}) (classes_of rs) wide (Among-map (λ r. r.class) (λ r. P (role_book r)) AreApart rs roles);
-        agree = All-from_recursion (λ r. All (λ p. BooksAgree code p r) ps) rs (agree rs ps (Across-from_among P R (map role_book rs) (map pass_book ps) a));
+        agree = All-weaker (λ r. part_of_records (is_of code r.salt r.class) calls ≡ r.kept) (λ r. All (λ p. BooksAgree code p r) ps)
+            (λ r kept_is. All-weaker (λ p. by_client p.client calls ≡ p.made) (λ p. BooksAgree code p r) (λ p made_is. agree_by (is_of code r.salt r.class) p.client calls p.made r.kept made_is kept_is) ps made) rs kept;
+        order = (
+          calls,
+          record {
+            clients = each_call code t.salt t.clients rs calls (CoverOnce-wide (λ _. Unit {0}) (classes_of rs) wide (Among-map (λ r. r.class) (λ r. P (role_book r)) AreApart rs roles))
+                (All-from_recursion (λ r. r.salt ≡ t.salt) rs (Each-from_among (λ r. P (role_book r)) (λ r s. R (role_book r) (role_book s)) (λ r. r.salt ≡ t.salt) (λ r s. s.0) rs roles))
+                (All-from_recursion (λ r. All (λ x. x.client < t.clients) (part_of_records (is_of code r.salt r.class) calls)) rs (Each-from_among (λ r. P (role_book r)) (λ r s. R (role_book r) (role_book s)) (λ r. All (λ x. x.client < t.clients) (part_of_records (is_of code r.salt r.class) calls)) (λ r s. subst (All (λ x. x.client < t.clients)) (sym s.3) s.2) rs roles));
+            made = made;
+            kept = kept;
+          },
+        );
       }

@@ -1,6 +1,7 @@
 -- The books of passes and roles, and when they agree.
-use Rattle.std.specs.Prelude.{◌≡◌, ℕ, ◌+◌, ◌<◌, ◌≤◌, Bool, List, [], ◌∷◌, length, map, All}
+use Rattle.std.specs.Prelude.{◌≡◌, ℕ, ◌+◌, ◌<◌, ◌≤◌, Bool, true, List, [], ◌∷◌, length, map, All}
 use Rattle.hashkeys.specs.Classes.{ClassView, is_of}
+use Rattle.bin_history.specs.Calls.{key_of}
 use Rattle.bin_history.specs.Clients.{by_client}
 use Rattle.bin_history.specs.Part.{part_of_entries, part_of_records}
 use Rattle.bin_history.specs.Records.{RecordView}
@@ -26,11 +27,12 @@ module _ {K V F : Type 0} where
     pub numbered : AreNumbered p.client 0 p.made
     pub at_most : length p.made ≤ 1000000
 
-  -- what a ledger's rule says of a role by itself
+  -- what a ledger's rule says of a role by itself: its opening pairs are those of its class, and it kept calls on keys of its class alone
   pub record IsRoleOf (code : K → ℕ) (ledger : LedgerView K V) (r : RoleView K V F) : Type 0 where
     pub salt : r.salt ≡ ledger.salt
     pub opening : r.opening ≡ part_of_entries (is_of code r.salt r.class) ledger.opening
     pub clients : All (λ x. x.client < ledger.clients) r.kept
+    pub of_class : All (λ x. is_of code r.salt r.class (key_of x.call) ≡ true) r.kept
 
   -- the classes of roles
   abbrev pub classes_of : List (RoleView K V F) → List ClassView

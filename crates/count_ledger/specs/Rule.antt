@@ -1,4 +1,4 @@
--- The rule of a ledger's table: the books agree, and each client's word is the sum of its deltas.
+-- The rule of a ledger's table: there is one order of all calls; the books agree, and each client's word is the sum of its deltas.
 use Rattle.std.specs.Prelude.{◌≡◌, ◌≢◌, ℕ, ◌+◌, ◌*◌, ◌<◌, ◌≤◌, List, [], ◌∷◌, ◌++◌, length, map, slice_index, All}
 use Rattle.std.specs.List.{AllByRecursion, range_with_len}
 use mathlib.Core.Option.{some}
@@ -6,13 +6,15 @@ use lib.ListN.{get_elem?}
 use Rattle.atomic_table.specs.Table.{State}
 use Rattle.hashkeys.specs.Classes.{AreApart, is_of}
 use Rattle.bin_history.specs.Deltas.{sum_of_deltas}
-use Rattle.bin_history.specs.Part.{part_of_entries}
+use Rattle.bin_history.specs.Clients.{by_client}
+use Rattle.bin_history.specs.Part.{part_of_entries, part_of_records}
+use Rattle.bin_history.specs.Records.{RecordView}
 use Rattle.count_ledger.specs.declared.books.Book.{Book}
 use Rattle.count_ledger.specs.declared.books.Book.TheVariants.{Pass, Role}
 use Rattle.count_ledger.specs.Terms.{TermsView, opening_of}
 use Rattle.count_ledger.specs.Views.{LedgerId, LedgerView}
 use Rattle.count_ledger.specs.Words.{word_of}
-use Rattle.count_ledger.specs.Books.{AreNumbered, AgreeOn}
+use Rattle.count_ledger.specs.Books.{AreNumbered}
 use Rattle.count_ledger.specs.Opening.{class_at, base_at}
 
 module _ {A : Type 0} (P : A → Type 0) (R : A → A → Type 0) where
@@ -32,22 +34,22 @@ pub record AmongSeats {A : Type 0} (P : A → Type 0) (R : A → A → Type 0) (
 
 module _ {K V F : Type 0} where
   module _ (code : K → ℕ) where
-    -- of one book, where the count words are these
-    abbrev pub IsSound : TermsView K V → List ℕ → Book K V F → Type 0
-    IsSound t words (Pass c made) = (c < t.clients) × AreNumbered c 0 made × (length made ≤ 1000000) × (slice_index words (8 * (c + 1)) ≡ word_of (sum_of_deltas made))
-    IsSound t words (Role salt class pairs kept) = (salt ≡ t.salt) × (pairs ≡ part_of_entries (is_of code salt class) (opening_of t)) × All (λ r. r.client < t.clients) kept
+    -- of one book, where the count words are these and all calls were made in this order: a pass made those by its client, and a role kept those on keys of its class
+    abbrev pub IsSound : TermsView K V → List ℕ → List (RecordView K V F) → Book K V F → Type 0
+    IsSound t words calls (Pass c made) = (c < t.clients) × AreNumbered c 0 made × (length made ≤ 1000000) × (slice_index words (8 * (c + 1)) ≡ word_of (sum_of_deltas made)) × (by_client c calls ≡ made)
+    IsSound t words calls (Role salt class pairs kept) = (salt ≡ t.salt) × (pairs ≡ part_of_entries (is_of code salt class) (opening_of t)) × All (λ r. r.client < t.clients) kept × (part_of_records (is_of code salt class) calls ≡ kept)
 
-    -- of two books: two passes have two clients, two roles have no hash in common, and a pass and a role agree
+    -- of two books: two passes have two clients, and two roles have no hash in common
     abbrev pub AreTogether : Book K V F → Book K V F → Type 0
     AreTogether (Pass c made) (Pass d _) = c ≢ d
-    AreTogether (Pass c made) (Role salt class pairs kept) = AgreeOn (is_of code salt class) c made kept
-    AreTogether (Role salt class pairs kept) (Pass c made) = AgreeOn (is_of code salt class) c made kept
     AreTogether (Role _ class _ _) (Role _ other _ _) = AreApart class other
+    AreTogether _ _ = Unit {0}
 
-    -- the rule, over the words and what each seat knows
+    -- the rule, over the words and what each seat knows: the calls in the one order in which they were posted
     pub record Holds (t : TermsView K V) (s : State (Unit {0}) (List (Book K V F))) : Type 0 where
       pub sized : length s.words ≡ 8 * (t.clients + 1)
-      pub books : AmongSeats (IsSound t s.words) AreTogether s.views
+      pub calls : List (RecordView K V F)
+      pub books : AmongSeats (IsSound t s.words calls) AreTogether s.views
 
   -- the books of a new ledger
   abbrev pub new_pass_book : ℕ → Book K V F

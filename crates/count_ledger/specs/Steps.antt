@@ -45,10 +45,10 @@ module _ {K V F : Type 0} where
     divided (Pass c made ∷ books) = Pass c made ∷ books
     divided (Role salt class pairs kept ∷ books) = half_book salt (low_half class) pairs kept ∷ half_book salt (high_half class) pairs kept ∷ books
 
-    -- a word was found, among some words with which the books are as the rule says
+    -- a word was found, among some words and after some calls with which the books are as the rule says
     abbrev pub IsFound : Option (TermsView K V) → ℕ → ℕ → List (Book K V F) → Type 0
     IsFound None word found books = Unit {0}
-    IsFound (Some t) word found books = (words : List ℕ) × (found ≡ slice_index words word) × Among (IsSound code t words) (AreTogether code) books
+    IsFound (Some t) word found books = (words : List ℕ) × (calls : List (RecordView K V F)) × (found ≡ slice_index words word) × Among (IsSound code t words calls) (AreTogether code) books
 
     -- the seat's books change in this way, and the step tells what the rule said of them before
     abbrev pub Tells : Option (TermsView K V) → (List (Book K V F) → List (Book K V F)) → Step (Unit {0}) → Me (Unit {0}) (List (Book K V F)) → ℕ → Me (Unit {0}) (List (Book K V F)) → Type 0

@@ -33,9 +33,10 @@ pub(crate) fn word_at(client: u32) -> usize
 }
 
 /// The books of one map: a pass for each client, a role for each class of keys, and a count word for each
-/// client. Its rule holds between any two atomic steps: each role has kept, in order, just those calls of
-/// each client that are on keys of its class; no two roles have a hash in common; and each client's word
-/// is the sum of the deltas of its calls. No call but `new` takes memory, and none waits.
+/// client. Its rule holds between any two atomic steps: there is one list of all calls, in the order of their
+/// posts, of which each pass made just those by its client, and each role kept just those on keys of its class;
+/// no two roles have a hash in common; and each client's word is the sum of the deltas of its calls. No call but
+/// `new` takes memory, and none waits.
 #[derive(Drop)]
 pub struct Ledger<K: HashKey, V, F, A: Allocator> {
     pub(crate) table: Table<(), View<K, V, F>, Terms<K, V, A>, LedgerRule, A>,

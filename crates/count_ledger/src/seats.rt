@@ -4,6 +4,7 @@ ghost use Rattle.count_ledger.specs.Rule.{Holds, Among, IsSound, AreTogether};
 ghost use Rattle.count_ledger.specs.Steps.{Keeps, posted, first_of, rest_of, view_of};
 ghost use Rattle.count_ledger.specs.Words.{word_of};
 ghost use Rattle.bin_history.specs.Deltas.{delta};
+ghost use Rattle.bin_history.specs.Records.{RecordView};
 
 use crate::books::{Books, View};
 use crate::steps::{KeepFirst, Tells, Together, Told};
@@ -25,7 +26,7 @@ pub(crate) fn look<K: HashKey, V, F, A: Allocator, T: Told<K, V, F>>(
     requires rule { Keeps (Holds K.code shared.now.key) seat.old.id seat.old.me.0 word (λ n. n) (T.change seat.old.me.0) }
     ensures seat { seat.new.table_id ≡ seat.old.table_id }
     ensures books { seat.new.me ≡ (T.change seat.old.me.0, seat.old.me.1) }
-    ensures told { (words : List ℕ) × (result ≡ slice_index words word) × Among (IsSound K.code shared.now.key words) (AreTogether K.code) seat.old.me.0 }
+    ensures told { (words : List ℕ) × (calls : List (RecordView K V F)) × (result ≡ slice_index words word) × Among (IsSound K.code shared.now.key words calls) (AreTogether K.code) seat.old.me.0 }
 {
     shared.load::<Tells<T>>(seat, word)
 }
@@ -45,7 +46,7 @@ pub(crate) fn add_delta<K: HashKey, V, F, A: Allocator, T: Told<K, V, F>>(
     requires rule { Keeps (Holds K.code shared.now.key) seat.old.id seat.old.me.0 word (λ n. (n + word_of (delta entry.now)) % 2 ^ 64) (posted entry.now seat.old.me.0) }
     ensures seat { seat.new.table_id ≡ seat.old.table_id }
     ensures books { seat.new.me ≡ (posted entry.now seat.old.me.0, seat.old.me.1) }
-    ensures told { (words : List ℕ) × Among (IsSound K.code shared.now.key words) (AreTogether K.code) seat.old.me.0 }
+    ensures told { (words : List ℕ) × (calls : List (RecordView K V F)) × Among (IsSound K.code shared.now.key words calls) (AreTogether K.code) seat.old.me.0 }
 {
     shared.fetch_add::<Tells<T>>(seat, word, entry.delta().cast_unsigned());
 }

@@ -1,10 +1,11 @@
 pub mod Values
 pub mod Reduced
-pub mod Closed
 pub mod Shared
 pub mod Made
 pub mod Seats
 pub mod Allowed
+pub mod EachKey
+pub mod Crossed
 pub mod Answered
 pub mod OneClient
 pub mod SamePairs

@@ -16,6 +16,8 @@ mod laws;
 mod limit_tests;
 mod options;
 #[cfg(test)]
+mod order_tests;
+#[cfg(test)]
 mod plain;
 mod play;
 #[cfg(test)]
@@ -33,7 +35,7 @@ mod words_tests;
 pub use device::{DeviceError, Input, Output, Reader, Writer};
 pub use fault::Fault;
 pub use gate::{ClientGate, Gate, OpenGate};
-pub use laws::one_output;
+pub use laws::{each_key, no_crossed_misses, one_output};
 pub use options::Options;
 pub use run::{parse, run};
 use std::fs::File;

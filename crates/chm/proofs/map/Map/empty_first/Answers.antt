@@ -1,10 +1,11 @@
-use Rattle.std.proofs.Common.{sym, subst, ap, ◌∙◌}
+use Rattle.std.proofs.Common.{[], sym, subst, ap, ◌∙◌}
 use Rattle.hashkeys.specs.Classes.{ClassView}
 use Rattle.hashkeys.specs.declared.hashing.Salt.{Salt}
 use Rattle.bin_history.specs.Calls.{after}
 use Rattle.count_ledger.specs.Agreement.{Agree}
 use Rattle.count_ledger.specs.Views.{PassView, RoleView}
 use Rattle.chm.specs.Cleared.{HasRemovedIn}
+use Rattle.chm.specs.Visits.{IsVisit}
 use Rattle.chm.proofs.map.Map.empty_first.Goals as goal
 
 pub release-requires : goal.release-requires
@@ -24,3 +25,12 @@ returns-clause-there g c =
     subst (λ (p : PassView _ _ _). HasRemovedIn g.K.HashKey.code c.args.self.now.ledger.salt c.class-class.result c.args.pass.now p) (sym c.meet_under.ensures.same_pass)
     (subst (λ (k : ClassView). HasRemovedIn g.K.HashKey.code c.args.self.now.ledger.salt k c.args.pass.now c.empty-done.new.pass) (sym c.class-class.ensures)
     (subst (λ (s : Salt). HasRemovedIn g.K.HashKey.code s held.result.bin.class c.args.pass.now c.empty-done.new.pass) held.ensures.salt c.empty-done.ensures.removed))
+
+pub returns-clause-visit : goal.returns-clause-visit
+returns-clause-visit g c =
+    let met = c.meet_under.ensures.met in
+    let Visited : ClassView → PassView _ _ _ → Type 0 = λ class pass.
+    IsVisit g.K.PartialEq.eq g.K.HashKey.code (after g.V.PartialEq.eq g.F.Remap.remapped g.F.Remap.merged) c.args.self.now.ledger pass (record { class = class; entries = [] }) in
+    subst (Visited c.class-class.result) (sym c.meet_under.ensures.same_pass)
+    (subst (λ (class : ClassView). Visited class c.empty-done.new.pass) (sym (c.class-class.ensures ∙ sym c.empty-done.ensures.class))
+    (c.empty-done.new.role.kept, met.history, sym c.in_ok-done.ensures.empty ∙ met.entries))
