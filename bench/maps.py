@@ -118,7 +118,7 @@ def own(binary):
     """This repository's map in each form, by the given binary, or else by the proved one, which is built where it is not current."""
     if not binary:
         need("rt")
-        if subprocess.run([f"{TOP}/bin/map_bench", "--help"], stdout=subprocess.DEVNULL).returncode:
+        if subprocess.run([f"{TOP}/bin/map_bench"], stdout=subprocess.DEVNULL).returncode:
             raise Lacking("map_bench was not proved and built")
         binary = f"{TOP}/crates/map_bench/out/map_bench"
     if not os.access(binary, os.X_OK):
