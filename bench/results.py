@@ -6,6 +6,7 @@ import re
 import shlex
 import statistics
 import sys
+import textwrap
 import time
 
 from maps import OUT, TOP, Failed, versions
@@ -79,15 +80,20 @@ def heading(maps, given):
     words = sys.argv[1:]
     words = ["PATH" if before == "--binary" else it for before, it in zip(["", *words], words) if it != "--docs"]
     lines += [f"- The command: `{shlex.join([f'bench/{os.path.basename(sys.argv[0])}', *words])}`."]
-    lines += [f"- {given.rounds} round{'s' * (given.rounds > 1)} of runs, {given.calls:,} calls a thread. Built with: {'; '.join(versions())}."]
+    lines += [f"- {given.rounds} round{'s' * (given.rounds > 1)} of runs, {given.calls:,} calls a thread."]
+    lines += [f"- Built with: {'; '.join(versions())}."]
     if any(it.is_own for it in maps):
         whose = "a program that was given by `--binary`, of which this page knows nothing" if given.binary else "the proved program"
         lines.append(f"- This repository's map was measured by {whose}.")
-    return lines
+    return wrapped(lines)
 
 
 def left_out(lacking, failed):
-    return [f"- Left out: {it}." for it in [*lacking, *failed]]
+    return wrapped([f"- Left out: {it}." for it in [*lacking, *failed]])
+
+
+def wrapped(items):
+    return [textwrap.fill(it, 118, subsequent_indent="  ", break_long_words=False) for it in items]
 
 
 def median(rates):
