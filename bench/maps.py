@@ -143,13 +143,18 @@ def build_all(binary):
     return found, lacking
 
 
-def versions():
+def versions(maps):
     """Returns what the maps were built with, as far as it tells."""
-    kinds = [("rt", "version"), ("java", "-version"), ("rustc", "--version"), ("g++", "--version")]
-    found = [first_line(*it) for it in kinds]
-    crates = sorted(os.listdir(DEBIAN_CRATES)) if os.path.isdir(DEBIAN_CRATES) else []
-    found += [it for it in crates if re.fullmatch(r"dashmap-[\d.]+", it)]
-    for package in ("libtbb-dev", "libcuckoo-dev"):
-        version = first_line("dpkg-query", "-W", "-f", "${Package} ${Version}", package)
-        found.append(version)
+    names, found = {it.name for it in maps}, []
+    if any(it.is_own for it in maps):
+        found.append(first_line("rt", "version"))
+    if "JDK" in names:
+        found.append(first_line("java", "-version"))
+    if "dashmap" in names:
+        found += [it for it in sorted(os.listdir(DEBIAN_CRATES)) if re.fullmatch(r"dashmap-[\d.]+", it)]
+        found.append(first_line("rustc", "--version"))
+    packages = [package for name, package in (("TBB", "libtbb-dev"), ("libcuckoo", "libcuckoo-dev")) if name in names]
+    found += [first_line("dpkg-query", "-W", "-f", "${Package} ${Version}", it) for it in packages]
+    if packages:
+        found.append(first_line("g++", "--version"))
     return [it for it in found if it]

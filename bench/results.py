@@ -56,7 +56,7 @@ def measure(maps, workloads, rounds):
             try:
                 rates.setdefault((it.name, workload), []).append(it.run(workload))
             except Failed as why:
-                failed[it.name, workload] = f"{it.name}, {told(workload)}: {why}"
+                failed[it.name, workload] = f"{told(workload)}: {why}"
                 rates.pop((it.name, workload), None)
                 print(f"\nbench: left out: {failed[it.name, workload]}", file=sys.stderr)
     say("")
@@ -81,7 +81,7 @@ def heading(maps, given):
     words = ["PATH" if before == "--binary" else it for before, it in zip(["", *words], words) if it != "--docs"]
     lines += [f"- The command: `{shlex.join([f'bench/{os.path.basename(sys.argv[0])}', *words])}`."]
     lines += [f"- {given.rounds} round{'s' * (given.rounds > 1)} of runs, {given.calls:,} calls a thread."]
-    lines += [f"- Built with: {'; '.join(versions())}."]
+    lines += [f"- Built with: {'; '.join(versions(maps))}."]
     if any(it.is_own for it in maps):
         whose = "a program that was given by `--binary`, of which this page knows nothing" if given.binary else "the proved program"
         lines.append(f"- This repository's map was measured by {whose}.")
