@@ -309,7 +309,10 @@ def main(name, *words):
         raise
     except NotBuilt as why:
         build.progress.clear()
-        raise NotBuilt(f"{why}. {short(build.log)} has what rt said") from None
+        has_log = os.path.isfile(build.log) and os.path.getsize(build.log)
+        raise NotBuilt(f"{why}; {short(build.log)} has what rt said" if has_log else str(why)) from None
+    except OSError as error:
+        raise NotBuilt(f"{error.filename}: {error.strerror}") from None
     for it in (signal.SIGINT, signal.SIGTERM, signal.SIGHUP, signal.SIGPIPE, signal.SIGXFSZ):
         signal.signal(it, signal.SIG_DFL)
     os.execv(build.program, [build.program, *words])
