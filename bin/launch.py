@@ -19,8 +19,8 @@ import sys
 import time
 
 TOP = os.path.dirname(os.path.dirname(os.path.realpath(__file__)))
-# A first check of 1,000 lines takes a processor about a minute, and one over kept work much less.
-MINUTES_A_LINE, KEPT_SHARE = 1 / 1000, 0.2
+# A first check of 1,000 lines took a processor 0.9 to 1.4 minutes, and one over kept work takes much less.
+MINUTES_A_LINE, KEPT_SHARE = 1.2 / 1000, 0.2
 # The programs' own status where the machine is at fault.
 NOT_BUILT = 3
 # So long a trial run may take.
