@@ -117,7 +117,6 @@ def libcuckoo():
 def own(binary):
     """This repository's map in each form, by the given binary, or else by the proved one, which is built where it is not current."""
     if not binary:
-        need("rt")
         if subprocess.run([f"{TOP}/bin/map_bench"], stdout=subprocess.DEVNULL).returncode:
             raise Lacking("map_bench was not proved and built")
         binary = f"{TOP}/crates/map_bench/out/map_bench"

@@ -69,10 +69,10 @@ def bars(title, note, panels, names, own, kinds):
 
 
 def ticks(low, high):
-    """Returns the numbers 1, 2 and 5 times a power of ten from low to high, or the powers alone where there are many."""
+    """Returns the numbers from low to high that are 1, 2 or 5 times a power of ten, or the powers alone where there are many."""
     powers = [10**it for it in range(math.floor(math.log10(low)), math.ceil(math.log10(high)) + 1)]
-    found = [step * it for it in powers for step in ((1, 2, 5) if len(powers) < 5 else (1,))]
-    return [it for it in found if low <= it <= high]
+    found = [step * it for it in powers for step in (1, 2, 5) if low <= step * it <= high]
+    return found if len(found) < 10 else [it for it in powers if low <= it <= high]
 
 
 def lines(title, panels, names, own):
