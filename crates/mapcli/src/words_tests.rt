@@ -1,5 +1,5 @@
 //! Command lines, and how the ends of runs are told.
-use crate::{Fault, line, status, words};
+use crate::{BINS_MISSING, DEVICE, Fault, NO_MEMORY, line, status, words};
 use hashkeys::Salt;
 use script::Kind;
 use std::alloc::{AllocError, Global};
@@ -177,6 +177,19 @@ fn each_fault_has_its_status_and_its_line(rt: HostRuntime) -> Result<(), Fail> {
     for (fault, wanted_status, wanted) in rows {
         assert_eq!(rt; line(rt.alloc(), &fault)?.as_str(), wanted);
         assert_eq!(rt; status(&fault), wanted_status);
+    }
+    Ok(())
+}
+
+#[test]
+fn constant_texts_are_the_lines_of_their_faults(rt: HostRuntime) -> Result<(), Fail> {
+    let rows = [
+        (Fault::NoMemory, NO_MEMORY),
+        (Fault::Device, DEVICE),
+        (Fault::BinMissing, BINS_MISSING),
+    ];
+    for (fault, wanted) in rows {
+        assert_eq!(rt; line(rt.alloc(), &fault)?.as_str(), wanted);
     }
     Ok(())
 }

@@ -1,0 +1,159 @@
+"""The maps that are measured: what builds each, and the command that runs it."""
+import os
+import re
+import shutil
+import subprocess
+import sys
+from collections import namedtuple
+
+BENCH = os.path.dirname(os.path.realpath(__file__))
+TOP = os.path.dirname(BENCH)
+PEERS = f"{BENCH}/peers"
+OUT = f"{BENCH}/out"
+# Where Debian's packages put the sources of Rust crates.
+DEBIAN_CRATES = "/usr/share/cargo/registry"
+# A run that takes longer is given up.
+SECONDS = 900
+
+# The forms of this repository's own map: the name of a form, and the words that map_bench takes for it.
+OWN_FORMS = [("facingberyl", [])]
+# This repository's map lends each caller one of at most 32 passes, and one caller fills it.
+OWN_THREADS = 31
+
+# What a run is of.
+Workload = namedtuple("Workload", "mode keys threads calls")
+
+
+class Lacking(Exception):
+    """What a map needs is not on this machine, or did not build."""
+
+
+class Failed(Exception):
+    """A run gave no rate."""
+
+
+class Map:
+    """One map to measure. `words` gives the command for a workload."""
+
+    def __init__(self, name, words, is_own=False, most_threads=None):
+        self.name, self.words, self.is_own, self.most_threads = name, words, is_own, most_threads
+
+    def run(self, workload):
+        """Returns how many million calls a second the map made."""
+        words = [str(it) for it in self.words(workload)]
+        try:
+            ran = subprocess.run(words, capture_output=True, text=True, timeout=SECONDS)
+        except subprocess.TimeoutExpired:
+            raise Failed(f"{self.name} had not ended after {SECONDS} seconds") from None
+        lines = ran.stdout.splitlines()
+        found = re.fullmatch(r"\S+ (\w+) (\d+) (\d+\.\d+)", lines[-1]) if lines else None
+        if ran.returncode or not found or found[1] != workload.mode or int(found[2]) != workload.threads:
+            why = (ran.stderr or ran.stdout).strip().split("\n")[0]
+            raise Failed(f"{self.name} ended with status {ran.returncode}: {why[:200]}")
+        return float(found[3])
+
+
+def need(tool):
+    if not shutil.which(tool):
+        raise Lacking(f"there is no {tool}")
+
+
+def build(what, words, **how):
+    """Runs a compiler."""
+    need(words[0])
+    ran = subprocess.run(words, stdout=subprocess.PIPE, stderr=subprocess.STDOUT, text=True, **how)
+    if ran.returncode:
+        lines = [it for it in ran.stdout.splitlines() if "error" in it] or ran.stdout.splitlines() or ["no reason told"]
+        raise Lacking(f"{what} did not build: {lines[0].strip()[:200]}")
+
+
+def first_line(*words):
+    """Returns the first line that a command prints, as its version."""
+    try:
+        ran = subprocess.run(words, stdout=subprocess.PIPE, stderr=subprocess.STDOUT, text=True)
+    except OSError:
+        return None
+    return ran.stdout.strip().split("\n")[0] if ran.returncode == 0 else None
+
+
+def jdk():
+    """The JDK's map, plain and with each call recorded."""
+    need("java")
+    build("JdkMap.java", ["javac", "-d", f"{OUT}/jdk", f"{PEERS}/JdkMap.java"])
+    words = lambda kind: lambda it: ["java", "-cp", f"{OUT}/jdk", "JdkMap", kind, it.mode, it.threads, it.calls, it.keys]
+    return [Map("JDK, recorded", words("recorded")), Map("JDK", words("plain"))]
+
+
+def peer(name, program):
+    """A peer whose program takes the workload in four words."""
+    return [Map(name, lambda it: [program, it.mode, it.threads, it.calls, it.keys])]
+
+
+def dashmap():
+    if not os.path.isdir(f"{DEBIAN_CRATES}/"):
+        raise Lacking("librust-dashmap-dev is not installed")
+    # (a copy, since cargo writes a file beside Cargo.toml)
+    shutil.copytree(f"{PEERS}/dashmap", f"{OUT}/dashmap", dirs_exist_ok=True)
+    words = ["cargo", "build", "--release", "--offline", "--target-dir", "target"]
+    words += ["--config", 'source.crates-io.replace-with="debian"', "--config", f'source.debian.directory="{DEBIAN_CRATES}"']
+    build("dashmap", words, cwd=f"{OUT}/dashmap")
+    return peer("dashmap", f"{OUT}/dashmap/target/release/dashmap_peer")
+
+
+def of_cpp(name, libraries):
+    words = ["g++", "-O3", "-std=c++17", "-o", f"{OUT}/{name}", f"{PEERS}/{name}.cpp", *libraries, "-pthread"]
+    build(f"{name}.cpp", words)
+    return f"{OUT}/{name}"
+
+
+def tbb():
+    return peer("TBB", of_cpp("tbb", ["-ltbb"]))
+
+
+def libcuckoo():
+    return peer("libcuckoo", of_cpp("libcuckoo", []))
+
+
+def own(binary):
+    """This repository's map in each form, by the given binary, or else by the proved one, which is built where it is not current."""
+    if not binary:
+        if subprocess.run([f"{TOP}/bin/map_bench"], stdout=subprocess.DEVNULL).returncode:
+            raise Lacking("map_bench was not proved and built")
+        binary = f"{TOP}/crates/map_bench/out/map_bench"
+    if not os.access(binary, os.X_OK):
+        raise Lacking(f"{binary} is no program")
+    words = lambda more: lambda it: [binary, "--mode", it.mode, "--threads", it.threads, "--calls", it.calls, "--keys", it.keys, *more]
+    return [Map(name, words(more), is_own=True, most_threads=OWN_THREADS) for name, more in OWN_FORMS]
+
+
+PEER_BUILDS = [("the JDK's map", jdk), ("dashmap", dashmap), ("TBB", tbb), ("libcuckoo", libcuckoo)]
+
+
+def build_all(binary):
+    """Builds what this machine can build. Returns the maps, and a line on each that is left out."""
+    os.makedirs(OUT, exist_ok=True)
+    found, lacking = [], []
+    for name, make in [("this repository's map", lambda: own(binary)), *PEER_BUILDS]:
+        try:
+            found += make()
+        except Lacking as why:
+            lacking.append(f"{name}: {why}")
+            print(f"bench: left out {name}: {why}", file=sys.stderr)
+    return found, lacking
+
+
+def versions(maps):
+    """Returns what the maps were built with, as far as it tells."""
+    names, found = {it.name for it in maps}, []
+    if any(it.is_own for it in maps):
+        found.append(first_line("rt", "version"))
+    if "JDK" in names:
+        found.append(first_line("java", "-version"))
+    if "dashmap" in names:
+        found += [it for it in sorted(os.listdir(DEBIAN_CRATES)) if re.fullmatch(r"dashmap-[\d.]+", it)]
+        found.append(first_line("rustc", "--version"))
+    packages = [package for name, package in (("TBB", "libtbb-dev"), ("libcuckoo", "libcuckoo-dev")) if name in names]
+    found += [first_line("dpkg-query", "-W", "-f", "${Package} ${Version}", it) for it in packages]
+    if packages:
+        found.append(first_line("g++", "--version"))
+    return [it for it in found if it]

@@ -1,0 +1,181 @@
+import java.util.ArrayList;
+import java.util.Locale;
+import java.util.concurrent.ConcurrentHashMap;
+
+/**
+ * Measures the JDK's ConcurrentHashMap on the workload that docs/SPEED.md describes.
+ *
+ * <p>usage: JdkMap plain|recorded mix|get|merge THREADS CALLS KEYS
+ *
+ * <p>"plain" is the map as it comes. Under "recorded" each call, a get too, is kept with who made it, what it found and
+ * what it left, in a list of its key that is written under the lock of the key's bin. A list holds at most 1,024 records: then
+ * the oldest 512 go. The JDK compiles what runs often, so the run is made three times, and the last is told.
+ */
+public final class JdkMap {
+    /** How often the run is made. */
+    private static final int RUNS = 3;
+
+    private enum Mode { MIX, GET, MERGE }
+
+    private enum Call { GET, PUT, REMOVE, MERGE }
+
+    /** The generator splitmix64. */
+    private static final class Random {
+        private long state;
+
+        Random(long seed) {
+            state = seed;
+        }
+
+        long draw() {
+            state += 0x9e3779b97f4a7c15L;
+            long z = state;
+            z = (z ^ (z >>> 30)) * 0xbf58476d1ce4e5b9L;
+            z = (z ^ (z >>> 27)) * 0x94d049bb133111ebL;
+            return z ^ (z >>> 31);
+        }
+    }
+
+    /** The way in which one thread calls the map. */
+    private interface Client {
+        /** Makes the call, and returns the value that a get found, else 0. */
+        long make(Call call, String key, long value);
+    }
+
+    /** A map that gives each thread its way in. */
+    private interface Shared {
+        Client client(int number);
+    }
+
+    private static final class PlainMap implements Shared {
+        private final ConcurrentHashMap<String, Long> entries = new ConcurrentHashMap<>();
+
+        @Override
+        public Client client(int number) {
+            return (call, key, value) -> {
+                switch (call) {
+                    case GET -> {
+                        Long found = entries.get(key);
+                        return found == null ? 0 : found;
+                    }
+                    case PUT -> entries.put(key, value);
+                    case REMOVE -> entries.remove(key);
+                    case MERGE -> entries.merge(key, value, Long::sum);
+                }
+                return 0;
+            };
+        }
+    }
+
+    /** One call, as a history keeps it. */
+    private record Made(int client, long ordinal, Call call, String key, long given, Long before, Long after) {}
+
+    /** A key's value, null where it has none, and the calls that were made of it. */
+    private static final class Cell {
+        private static final int MOST = 1024;
+
+        private Long value;
+        private final ArrayList<Made> history = new ArrayList<>();
+
+        void keep(Made made) {
+            history.add(made);
+            if (history.size() > MOST) {
+                history.subList(0, MOST / 2).clear();
+            }
+        }
+    }
+
+    private static final class RecordedMap implements Shared {
+        private final ConcurrentHashMap<String, Cell> cells = new ConcurrentHashMap<>();
+
+        @Override
+        public Client client(int number) {
+            return new Client() {
+                private long made;
+
+                @Override
+                public long make(Call call, String key, long value) {
+                    long ordinal = made++;
+                    long[] found = {0};
+                    // compute holds the lock of the key's bin while it calls the function.
+                    cells.compute(key, (same, old) -> {
+                        Cell cell = old == null ? new Cell() : old;
+                        Long before = cell.value;
+                        Long after = switch (call) {
+                            case GET -> before;
+                            case PUT -> (Long) value;
+                            case REMOVE -> null;
+                            case MERGE -> before == null ? (Long) value : (Long) (before + value);
+                        };
+                        cell.value = after;
+                        cell.keep(new Made(number, ordinal, call, key, value, before, after));
+                        found[0] = call == Call.GET && before != null ? before : 0;
+                        return cell;
+                    });
+                    return found[0];
+                }
+            };
+        }
+    }
+
+    /** Where results go, so that no get can be left out by the compiler. */
+    private static volatile long kept;
+
+    private static void work(Client client, Mode mode, long seed, long calls, String[] names) {
+        Random random = new Random(seed);
+        long sum = 0;
+        for (long i = 0; i < calls; i++) {
+            long drawn = random.draw();
+            String name = names[(int) ((drawn >>> 16) % names.length)];
+            long part = Long.remainderUnsigned(drawn, 100);
+            if (mode == Mode.MERGE) {
+                client.make(Call.MERGE, name, 1);
+            } else if (mode == Mode.GET || part < 80) {
+                sum += client.make(Call.GET, name, 0);
+            } else if (part < 95) {
+                client.make(Call.PUT, name, i);
+            } else {
+                client.make(Call.REMOVE, name, 0);
+            }
+        }
+        kept = sum;
+    }
+
+    /** Returns how many million calls a second the threads made together of a new map. */
+    private static double run(boolean isRecorded, Mode mode, int threads, long calls, String[] names) throws InterruptedException {
+        Shared map = isRecorded ? new RecordedMap() : new PlainMap();
+        Client filler = map.client(threads);
+        for (int i = 0; i < names.length; i += 2) {
+            filler.make(Call.PUT, names[i], i);
+        }
+        Thread[] started = new Thread[threads];
+        long start = System.nanoTime();
+        for (int i = 0; i < threads; i++) {
+            Client client = map.client(i);
+            long seed = i + 1;
+            started[i] = new Thread(() -> work(client, mode, seed, calls, names));
+            started[i].start();
+        }
+        for (Thread thread : started) {
+            thread.join();
+        }
+        double seconds = (System.nanoTime() - start) / 1e9;
+        return threads * calls / seconds / 1e6;
+    }
+
+    public static void main(String[] words) throws InterruptedException {
+        boolean isRecorded = words[0].equals("recorded");
+        Mode mode = Mode.valueOf(words[1].toUpperCase(Locale.ROOT));
+        int threads = Integer.parseInt(words[2]);
+        long calls = Long.parseLong(words[3]);
+        String[] names = new String[Integer.parseInt(words[4])];
+        for (int i = 0; i < names.length; i++) {
+            names[i] = "k" + i;
+        }
+        double rate = 0;
+        for (int i = 0; i < RUNS; i++) {
+            rate = run(isRecorded, mode, threads, calls, names);
+        }
+        System.out.printf(Locale.ROOT, "%s %s %d %.3f%n", isRecorded ? "jdk_recorded" : "jdk", words[1], threads, rate);
+    }
+}
