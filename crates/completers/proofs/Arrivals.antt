@@ -13,11 +13,12 @@ use Rattle.completers.proofs.Cells.{within, played_more, Ticketed, St, Homes, Al
 use Rattle.completers.proofs.Moves.{one_right, elsewhere, beside, few_of, restaged, going_set, given_out_set, position_arrived, numbers, tickets, arrived_not_held, given_at, Rule}
 use Rattle.completers.proofs.Parting.{takes_up, carried_up, up_frame, up_long, up_valid, all_parts}
 use Rattle.completers.specs.Game.{arrive, number, Allowed, Played, Plays}
-use Rattle.completers.specs.Rights.{code, IsAbove, node_in}
+use Rattle.completers.specs.Rights.{code, path_of, IsAbove, node_in}
 use Rattle.completers.specs.Parts.{AreParts, IsPart, present, stack}
 use Rattle.completers.specs.Rule.{known_forks, total, indexed, Stage, held, waits, places, arrived, has_arrived, Piece, piece, going, over, missing, position_of, right_of, given_out, Tiled, PlaceOk, Going}
 use Rattle.completers.specs.Steps.{Knows, Arrives}
 use Rattle.completers.specs.declared.relation.Partial.{Partial}
+use Rattle.completers.specs.declared.rule.Above.{Above}
 use Rattle.completers.specs.declared.rule.Right.{Right}
 use Rattle.completers.specs.declared.rule.Right.TheVariants.{Waits, Places}
 
@@ -68,21 +69,21 @@ module _ {P : Type 0} (fits : ℕ → ℕ → P → Type 0) (bins : ℕ) where
   above_in : (s : St fits bins) (r : Rule fits bins s) (slots : ℕ) → length s.homes ≡ slots → (n low top : ℕ) (above : List Right) (ps : List Piece) → get_elem? r.cells n ≡ some (going low top above ps) → IsAbove bins low top above
       → above ≢ [] → 8 * node_in above + 8 ≤ slots
   above_in s r slots wide n low top above ps at is there = ⊎_elim (λ none_is. absurd (there none_is.0))
-      (λ one. let x : Right = Waits one.0 one.1 low top one.2 in let self = one_right x in let q : 0 < total (same x) above = subst (λ (l : List Right). 0 < total (same x) l) (sym one.4) self in
-      let t = keeps_waiting fits bins s r n (going low top above ps) one.0 one.1 low top one.2 at q in let w : one.0 < length r.cells = within r.cells one.0 (going t.low t.top t.above t.pieces) t.cell_is in
+      (λ one. let x : Right = Waits one.0 one.1 low top one.2 one.3 in let self = one_right x in let q : 0 < total (same x) above = subst (λ (l : List Right). 0 < total (same x) l) (sym one.5) self in
+      let t = keeps_waiting fits bins s r n (going low top above ps) one.0 one.1 low top one.2 one.3 at q in let w : one.0 < length r.cells = within r.cells one.0 (going t.low t.top t.above t.pieces) t.cell_is in
       let l : ℕ = length r.cells in let w' : one.0 < l = w in let h : ℕ = length s.homes in let e : h ≡ 8 * l = r.homes_wide in let e' : h ≡ slots = wide in
-      subst (λ (rs : List Right). 8 * node_in rs + 8 ≤ slots) (sym one.4) (let z : 8 * one.0 + 8 ≤ slots = omega arith in z)) is
+      subst (λ (rs : List Right). 8 * node_in rs + 8 ≤ slots) (sym one.5) (let z : 8 * one.0 + 8 ≤ slots = omega arith in z)) is
 
   plays : (s : St fits bins) (r : Rule fits bins s) (n i lo hi : ℕ) (t : Ticketed r.cells n i lo hi places) → Allowed (position_of t.pieces) (arrive i)
   plays s r n i lo hi t = (at_map (λ (p : Piece). has_arrived p.stage) t.pieces i (piece lo hi places) t.piece_is, (λ z. given_at t.pieces (piece lo hi places) (subst (λ (k : ℕ). get_elem? t.pieces k ≡ some (piece lo hi places)) z t.piece_is)))
 
-  module _ (slots id : ℕ) (n i lo hi fk d : ℕ) (xp : Partial P) (part : IsPart fits lo hi xp) where
+  module _ (slots id : ℕ) (n i lo hi fk d : ℕ) (up : List Above) (xp : Partial P) (part : IsPart fits lo hi xp) where
     abbrev me : Knows P
-    me = (Places n i lo hi fk d ∷ [], (8 * n + i, Some xp) ∷ [])
+    me = (Places n i lo hi fk d up ∷ [], (8 * n + i, Some xp) ∷ [])
 
     arrives_step : Allows (Rule fits bins) slots id me (2 * n) (λ x. (x + (2 ^ 64 - 1)) % 2 ^ 64) (Arrives fits bins slots me)
     arrives_step s r wide at small =
-        let car : List (ℕ × Option (Partial P)) = [] in let v : List Right = Places n i lo hi fk d ∷ [] in let f = has_placing fits bins s r id v n i lo hi fk d at (one_right (Places n i lo hi fk d)) in let t : Ticketed r.cells n i lo hi places = f.0 in let ps = t.pieces in
+        let car : List (ℕ × Option (Partial P)) = [] in let v : List Right = Places n i lo hi fk d up ∷ [] in let f = has_placing fits bins s r id v n i lo hi fk d up at (one_right (Places n i lo hi fk d up)) in let t : Ticketed r.cells n i lo hi places = f.0 in let ps = t.pieces in
         let g : Going fits bins s.words s.homes n t.low t.top t.above ps = r.each_node n (going t.low t.top t.above ps) t.cell_is in let x : ℕ = get_or s.words (2 * n) 0 in
         let room = counted s r n i lo hi places t refl in let y : ℕ = (x + (2 ^ 64 - 1)) % 2 ^ 64 in let less : y + 1 ≡ x = less_one x room.1 small in
         let k : ℕ = 8 * n + i in let near : i < 8 = few_of fits bins s r n i lo hi places t in let homes' : Homes fits bins = set s.homes k (some (Some xp)) in let words' : List ℕ = set s.words (2 * n) y in
@@ -128,8 +129,8 @@ module _ {P : Type 0} (fits : ℕ → ℕ → P → Type 0) (bins : ℕ) where
               (λ m apart. let o = others m apart in (o.0, o.1, (λ j low. set_else hs (8 * n) (8 * m + j) none (λ e. apart (omega arith)) ∙ (up_frame n value 7 (8 * m + j) homes' car (λ u l e. apart (omega arith)) ∙ o.2 j low))))
               tt
               (λ h. let a = given_out_set h n t.low t.top t.above ps i (piece lo hi places) (piece lo hi arrived) t.piece_is in let z : given_out h n (going t.low t.top t.above qs) ≡ 0 = all_zero _ 0 qs (λ j p e. ap (λ (st : Stage). right_of h n t.above (length qs) (0 + j) p.lo p.hi st) (all j p e)) in
-              let u : ℕ = given_out h n (going t.low t.top t.above qs) in let u' : ℕ = given_out h n (going t.low t.top t.above ps) in let c : ℕ = h (Places n i lo hi (known_forks i (length ps)) (code t.above)) in let c' : ℕ = h (Places n i lo hi fk d) in let a' : u + c ≡ u' + 0 = a in let z' : u ≡ 0 = z in
-              let e : c' ≡ c = λ k. h (Places n i lo hi (f.1 k) (f.2 k)) in let b : ℕ = total h t.above in let q : b + 0 + u' ≤ c' + 0 + b + 0 = omega arith in q),
+              let u : ℕ = given_out h n (going t.low t.top t.above qs) in let u' : ℕ = given_out h n (going t.low t.top t.above ps) in let c : ℕ = h (Places n i lo hi (known_forks i (length ps)) (code t.above) (path_of t.above)) in let c' : ℕ = h (Places n i lo hi fk d up) in let a' : u + c ≡ u' + 0 = a in let z' : u ≡ 0 = z in
+              let e : c' ≡ c = λ k. h (Places n i lo hi (f.1 k) (f.2 k) (f.3 k)) in let b : ℕ = total h t.above in let q : b + 0 + u' ≤ c' + 0 + b + 0 = omega arith in q),
           (
             told,
             (λ _. record {
@@ -142,6 +143,7 @@ module _ {P : Type 0} (fits : ℕ → ℕ → P → Type 0) (bins : ℕ) where
               first = (let o = first_piece t.low t.top qs g'.tiled in let z = shows 0 o.0 o.1 in (z.0, ap read z.1, z.2.0 ∙ o.2));
               above = g.above_is;
               coded = sym f.2;
+              path = sym f.3;
               inside = λ there. above_in s r slots wide n t.low t.top t.above ps t.cell_is g.above_is there;
             }),
           ),
@@ -152,10 +154,10 @@ module _ {P : Type 0} (fits : ℕ → ℕ → P → Type 0) (bins : ℕ) where
           tt,
           restaged fits bins s r n i lo hi places arrived t (λ e. arrived_not_held e) id v w at words' homes' (length-set s.words (2 * n) y) (length-set s.homes k (some (Some xp))) others code_same number_same
               (λ j apart _. beside fits bins s.homes n i (some (Some xp)) j apart) place played'
-              (λ h. let c : ℕ = h (Places n i lo hi (known_forks i (length ps)) (code t.above)) in let c' : ℕ = h (Places n i lo hi fk d) in let e : c' ≡ c = λ k. h (Places n i lo hi (f.1 k) (f.2 k)) in let q : 0 + c ≤ c' + 0 + 0 = omega arith in q),
+              (λ h. let c : ℕ = h (Places n i lo hi (known_forks i (length ps)) (code t.above) (path_of t.above)) in let c' : ℕ = h (Places n i lo hi fk d up) in let e : c' ≡ c = λ k. h (Places n i lo hi (f.1 k) (f.2 k) (f.3 k)) in let q : 0 + c ≤ c' + 0 + 0 = omega arith in q),
           (told, (λ one. absurd (more one))),
         ))
 
-  pub arrives : (slots id : ℕ) (found : Knows P) (n i lo hi fk d : ℕ) (xp : Partial P) → found ≡ (Places n i lo hi fk d ∷ [], (8 * n + i, Some xp) ∷ []) → IsPart fits lo hi xp
+  pub arrives : (slots id : ℕ) (found : Knows P) (n i lo hi fk d : ℕ) (up : List Above) (xp : Partial P) → found ≡ (Places n i lo hi fk d up ∷ [], (8 * n + i, Some xp) ∷ []) → IsPart fits lo hi xp
       → Allows (Rule fits bins) slots id found (2 * n) (λ x. (x + (2 ^ 64 - 1)) % 2 ^ 64) (Arrives fits bins slots found)
-  arrives slots id found n i lo hi fk d xp is part = subst (λ (m : Knows P). Allows (Rule fits bins) slots id m (2 * n) (λ x. (x + (2 ^ 64 - 1)) % 2 ^ 64) (Arrives fits bins slots m)) (sym is) (arrives_step slots id n i lo hi fk d xp part)
+  arrives slots id found n i lo hi fk d up xp is part = subst (λ (m : Knows P). Allows (Rule fits bins) slots id m (2 * n) (λ x. (x + (2 ^ 64 - 1)) % 2 ^ 64) (Arrives fits bins slots m)) (sym is) (arrives_step slots id n i lo hi fk d up xp part)

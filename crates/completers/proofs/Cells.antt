@@ -6,11 +6,12 @@ use lib.ListN.{get_elem?}
 use Rattle.std.specs.Prelude.{Option}
 use Rattle.atomic_table.specs.Table.{State}
 use Rattle.atomic_table.proofs.Lists.{at_set}
-use Rattle.completers.proofs.Weights.{total_set, total_append, total_at, indexed_set, some_indexed, same, hit_yes}
+use Rattle.completers.proofs.Weights.{total_set, total_append, total_at, indexed_set, some_indexed, same, hit_yes, hits_yes}
 use Rattle.completers.specs.Game.{Event, Position, start, Allowed, after, IsGame, reached, Played}
-use Rattle.completers.specs.Rights.{code}
+use Rattle.completers.specs.Rights.{code, path_of}
 use Rattle.completers.specs.Rule.{total, indexed, Stage, held, waits, places, arrived, Piece, piece, Cell, fresh, going, over, right_of, known_forks, given_out, kept_by, PlaceOk, CellOk, Holds}
 use Rattle.completers.specs.declared.relation.Partial.{Partial}
+use Rattle.completers.specs.declared.rule.Above.{Above}
 use Rattle.completers.specs.declared.rule.Right.{Right}
 use Rattle.completers.specs.declared.rule.Right.TheVariants.{Unopened, Opened, Waits, Places}
 
@@ -28,23 +29,23 @@ pub played_more : (p : Position) (e : Event) → Played p → Allowed p e → Pl
 played_more p e b a = let r = game_more start b.0 e b.1 (subst (λ (q : Position). Allowed q e) (sym b.2) a) in (b.0 ++ e ∷ [], r.0, r.1 ∙ ap (λ (q : Position). after q e) b.2)
 
 -- which ticket a right is for
-pub is_waiting : (n i lo hi fk m : ℕ) (above : List Right) (k j a b : ℕ) (st : Stage) → 0 < right_of (same (Waits n i lo hi fk)) m above k j a b st → (st ≡ waits) × (n ≡ m) × (i ≡ j) × (lo ≡ a) × (hi ≡ b) × (fk ≡ known_forks j k)
-is_waiting n i lo hi fk m above k j a b held pos = absurd (omega arith)
-is_waiting n i lo hi fk m above k j a b waits pos = let p = hit_yes n m _ pos in let q = hit_yes i j _ p.1 in let r = hit_yes lo a _ q.1 in let s = hit_yes hi b _ r.1 in let t = hit_yes fk (known_forks j k) _ s.1 in (refl, p.0, q.0, r.0, s.0, t.0)
-is_waiting n i lo hi fk m above k j a b places pos = absurd (omega arith)
-is_waiting n i lo hi fk m above k j a b arrived pos = absurd (omega arith)
+pub is_waiting : (n i lo hi fk : ℕ) (up : List Above) (m : ℕ) (above : List Right) (k j a b : ℕ) (st : Stage) → 0 < right_of (same (Waits n i lo hi fk up)) m above k j a b st → (st ≡ waits) × (n ≡ m) × (i ≡ j) × (lo ≡ a) × (hi ≡ b) × (fk ≡ known_forks j k) × (up ≡ path_of above)
+is_waiting n i lo hi fk up m above k j a b held pos = absurd (omega arith)
+is_waiting n i lo hi fk up m above k j a b waits pos = let p = hit_yes n m _ pos in let q = hit_yes i j _ p.1 in let r = hit_yes lo a _ q.1 in let s = hit_yes hi b _ r.1 in let t = hit_yes fk (known_forks j k) _ s.1 in let u = hits_yes up (path_of above) 1 t.1 in (refl, p.0, q.0, r.0, s.0, t.0, u.0)
+is_waiting n i lo hi fk up m above k j a b places pos = absurd (omega arith)
+is_waiting n i lo hi fk up m above k j a b arrived pos = absurd (omega arith)
 
-pub is_placing : (n i lo hi fk c m : ℕ) (above : List Right) (k j a b : ℕ) (st : Stage) → 0 < right_of (same (Places n i lo hi fk c)) m above k j a b st → (st ≡ places) × (n ≡ m) × (i ≡ j) × (lo ≡ a) × (hi ≡ b) × (fk ≡ known_forks j k) × (c ≡ code above)
-is_placing n i lo hi fk c m above k j a b held pos = absurd (omega arith)
-is_placing n i lo hi fk c m above k j a b waits pos = absurd (omega arith)
-is_placing n i lo hi fk c m above k j a b places pos = let p = hit_yes n m _ pos in let q = hit_yes i j _ p.1 in let r = hit_yes lo a _ q.1 in let s = hit_yes hi b _ r.1 in let t = hit_yes fk (known_forks j k) _ s.1 in let u = hit_yes c (code above) _ t.1 in (refl, p.0, q.0, r.0, s.0, t.0, u.0)
-is_placing n i lo hi fk c m above k j a b arrived pos = absurd (omega arith)
+pub is_placing : (n i lo hi fk c : ℕ) (up : List Above) (m : ℕ) (above : List Right) (k j a b : ℕ) (st : Stage) → 0 < right_of (same (Places n i lo hi fk c up)) m above k j a b st → (st ≡ places) × (n ≡ m) × (i ≡ j) × (lo ≡ a) × (hi ≡ b) × (fk ≡ known_forks j k) × (c ≡ code above) × (up ≡ path_of above)
+is_placing n i lo hi fk c up m above k j a b held pos = absurd (omega arith)
+is_placing n i lo hi fk c up m above k j a b waits pos = absurd (omega arith)
+is_placing n i lo hi fk c up m above k j a b places pos = let p = hit_yes n m _ pos in let q = hit_yes i j _ p.1 in let r = hit_yes lo a _ q.1 in let s = hit_yes hi b _ r.1 in let t = hit_yes fk (known_forks j k) _ s.1 in let u = hit_yes c (code above) _ t.1 in let w = hits_yes up (path_of above) 1 u.1 in (refl, p.0, q.0, r.0, s.0, t.0, u.0, w.0)
+is_placing n i lo hi fk c up m above k j a b arrived pos = absurd (omega arith)
 
-pub is_opened : (n lo hi f m : ℕ) (above : List Right) (k j a b : ℕ) (st : Stage) → 0 < right_of (same (Opened n lo hi f)) m above k j a b st → (st ≡ held) × (n ≡ m) × (lo ≡ a) × (hi ≡ b) × (f ≡ k)
-is_opened n lo hi f m above k j a b held pos = let p = hit_yes n m _ pos in let q = hit_yes lo a _ p.1 in let r = hit_yes hi b _ q.1 in let s = hit_yes f k _ r.1 in (refl, p.0, q.0, r.0, s.0)
-is_opened n lo hi f m above k j a b waits pos = absurd (omega arith)
-is_opened n lo hi f m above k j a b places pos = absurd (omega arith)
-is_opened n lo hi f m above k j a b arrived pos = absurd (omega arith)
+pub is_opened : (n lo hi f : ℕ) (up : List Above) (m : ℕ) (above : List Right) (k j a b : ℕ) (st : Stage) → 0 < right_of (same (Opened n lo hi f up)) m above k j a b st → (st ≡ held) × (n ≡ m) × (lo ≡ a) × (hi ≡ b) × (f ≡ k) × (up ≡ path_of above)
+is_opened n lo hi f up m above k j a b held pos = let p = hit_yes n m _ pos in let q = hit_yes lo a _ p.1 in let r = hit_yes hi b _ q.1 in let s = hit_yes f k _ r.1 in let u = hits_yes up (path_of above) 1 s.1 in (refl, p.0, q.0, r.0, s.0, u.0)
+is_opened n lo hi f up m above k j a b waits pos = absurd (omega arith)
+is_opened n lo hi f up m above k j a b places pos = absurd (omega arith)
+is_opened n lo hi f up m above k j a b arrived pos = absurd (omega arith)
 
 no_free : (n m : ℕ) (above : List Right) (k j a b : ℕ) (st : Stage) → 0 < right_of (same (Unopened n)) m above k j a b st → ⊥
 no_free n m above k j a b held pos = absurd (omega arith)
@@ -75,23 +76,23 @@ ticketed cells n i lo hi st low top above ps m j p at at' a b c d e = record {
 plus_zero : (f : ℕ → ℕ) (i : ℕ) → 0 < f (0 + i) → 0 < f i
 plus_zero f i pos = let z : 0 + i ≡ i = omega arith in subst (λ (j : ℕ). 0 < f j) z pos
 
-found_waiting : (cells : List Cell) (n i lo hi fk m : ℕ) (c : Cell) → get_elem? cells m ≡ some c → 0 < given_out (same (Waits n i lo hi fk)) m c → (t : Ticketed cells n i lo hi waits) × (fk ≡ known_forks i (length t.pieces))
-found_waiting cells n i lo hi fk m fresh at pos = absurd (omega arith)
-found_waiting cells n i lo hi fk m (going low top above ps) at pos = let f : ℕ → Piece → ℕ = λ j p. right_of (same (Waits n i lo hi fk)) m above (length ps) j p.lo p.hi p.stage in let r = some_indexed f 0 ps pos in
-    let q = is_waiting n i lo hi fk m above (length ps) r.0 r.1.lo r.1.hi r.1.stage (plus_zero (λ j. f j r.1) r.0 r.3) in (ticketed cells n i lo hi waits low top above ps m r.0 r.1 at r.2 q.0 q.1 q.2 q.3 q.4, subst (λ (x : ℕ). fk ≡ known_forks x (length ps)) (sym q.2) q.5)
-found_waiting cells n i lo hi fk m over at pos = absurd (omega arith)
+found_waiting : (cells : List Cell) (n i lo hi fk : ℕ) (up : List Above) (m : ℕ) (c : Cell) → get_elem? cells m ≡ some c → 0 < given_out (same (Waits n i lo hi fk up)) m c → (t : Ticketed cells n i lo hi waits) × (fk ≡ known_forks i (length t.pieces)) × (up ≡ path_of t.above)
+found_waiting cells n i lo hi fk up m fresh at pos = absurd (omega arith)
+found_waiting cells n i lo hi fk up m (going low top above ps) at pos = let f : ℕ → Piece → ℕ = λ j p. right_of (same (Waits n i lo hi fk up)) m above (length ps) j p.lo p.hi p.stage in let r = some_indexed f 0 ps pos in
+    let q = is_waiting n i lo hi fk up m above (length ps) r.0 r.1.lo r.1.hi r.1.stage (plus_zero (λ j. f j r.1) r.0 r.3) in (ticketed cells n i lo hi waits low top above ps m r.0 r.1 at r.2 q.0 q.1 q.2 q.3 q.4, subst (λ (x : ℕ). fk ≡ known_forks x (length ps)) (sym q.2) q.5, q.6)
+found_waiting cells n i lo hi fk up m over at pos = absurd (omega arith)
 
-found_placing : (cells : List Cell) (n i lo hi fk c m : ℕ) (x : Cell) → get_elem? cells m ≡ some x → 0 < given_out (same (Places n i lo hi fk c)) m x → (t : Ticketed cells n i lo hi places) × (fk ≡ known_forks i (length t.pieces)) × (c ≡ code t.above)
-found_placing cells n i lo hi fk c m fresh at pos = absurd (omega arith)
-found_placing cells n i lo hi fk c m (going low top above ps) at pos = let f : ℕ → Piece → ℕ = λ j p. right_of (same (Places n i lo hi fk c)) m above (length ps) j p.lo p.hi p.stage in let r = some_indexed f 0 ps pos in
-    let q = is_placing n i lo hi fk c m above (length ps) r.0 r.1.lo r.1.hi r.1.stage (plus_zero (λ j. f j r.1) r.0 r.3) in (ticketed cells n i lo hi places low top above ps m r.0 r.1 at r.2 q.0 q.1 q.2 q.3 q.4, subst (λ (x : ℕ). fk ≡ known_forks x (length ps)) (sym q.2) q.5, q.6)
-found_placing cells n i lo hi fk c m over at pos = absurd (omega arith)
+found_placing : (cells : List Cell) (n i lo hi fk c : ℕ) (up : List Above) (m : ℕ) (x : Cell) → get_elem? cells m ≡ some x → 0 < given_out (same (Places n i lo hi fk c up)) m x → (t : Ticketed cells n i lo hi places) × (fk ≡ known_forks i (length t.pieces)) × (c ≡ code t.above) × (up ≡ path_of t.above)
+found_placing cells n i lo hi fk c up m fresh at pos = absurd (omega arith)
+found_placing cells n i lo hi fk c up m (going low top above ps) at pos = let f : ℕ → Piece → ℕ = λ j p. right_of (same (Places n i lo hi fk c up)) m above (length ps) j p.lo p.hi p.stage in let r = some_indexed f 0 ps pos in
+    let q = is_placing n i lo hi fk c up m above (length ps) r.0 r.1.lo r.1.hi r.1.stage (plus_zero (λ j. f j r.1) r.0 r.3) in (ticketed cells n i lo hi places low top above ps m r.0 r.1 at r.2 q.0 q.1 q.2 q.3 q.4, subst (λ (x : ℕ). fk ≡ known_forks x (length ps)) (sym q.2) q.5, q.6, q.7)
+found_placing cells n i lo hi fk c up m over at pos = absurd (omega arith)
 
-found_opened : (cells : List Cell) (n lo hi k m : ℕ) (x : Cell) → get_elem? cells m ≡ some x → 0 < given_out (same (Opened n lo hi k)) m x → (j : ℕ) × (t : Ticketed cells n j lo hi held) × (k ≡ length t.pieces)
-found_opened cells n lo hi k m fresh at pos = absurd (omega arith)
-found_opened cells n lo hi k m (going low top above ps) at pos = let f : ℕ → Piece → ℕ = λ j p. right_of (same (Opened n lo hi k)) m above (length ps) j p.lo p.hi p.stage in let r = some_indexed f 0 ps pos in
-    let q = is_opened n lo hi k m above (length ps) r.0 r.1.lo r.1.hi r.1.stage (plus_zero (λ j. f j r.1) r.0 r.3) in (r.0, ticketed cells n r.0 lo hi held low top above ps m r.0 r.1 at r.2 q.0 q.1 refl q.2 q.3, q.4)
-found_opened cells n lo hi k m over at pos = absurd (omega arith)
+found_opened : (cells : List Cell) (n lo hi k : ℕ) (up : List Above) (m : ℕ) (x : Cell) → get_elem? cells m ≡ some x → 0 < given_out (same (Opened n lo hi k up)) m x → (j : ℕ) × (t : Ticketed cells n j lo hi held) × (k ≡ length t.pieces) × (up ≡ path_of t.above)
+found_opened cells n lo hi k up m fresh at pos = absurd (omega arith)
+found_opened cells n lo hi k up m (going low top above ps) at pos = let f : ℕ → Piece → ℕ = λ j p. right_of (same (Opened n lo hi k up)) m above (length ps) j p.lo p.hi p.stage in let r = some_indexed f 0 ps pos in
+    let q = is_opened n lo hi k up m above (length ps) r.0 r.1.lo r.1.hi r.1.stage (plus_zero (λ j. f j r.1) r.0 r.3) in (r.0, ticketed cells n r.0 lo hi held low top above ps m r.0 r.1 at r.2 q.0 q.1 refl q.2 q.3, q.4, q.5)
+found_opened cells n lo hi k up m over at pos = absurd (omega arith)
 
 found_unopened : (cells : List Cell) (n m : ℕ) (x : Cell) → get_elem? cells m ≡ some x → 0 < given_out (same (Unopened n)) m x → get_elem? cells n ≡ some fresh
 found_unopened cells n m fresh at pos = subst (λ (z : ℕ). get_elem? cells z ≡ some fresh) (sym (hit_yes n m 1 pos).0) at
@@ -120,8 +121,8 @@ module _ {P : Type 0} (fits : ℕ → ℕ → P → Type 0) (bins : ℕ) where
       let one : a ≤ k = total_at (kept_by h) r.cells n c at in let all : t + k ≤ g = r.each_right h in let some_pos : 0 < a = pos in let f = some_indexed (given_out h) 0 r.cells (let q : 0 < g = omega arith in q) in
       (f.0, f.1, f.2, plus_zero (λ j. given_out h j f.1) f.0 f.3)
 
-  pub keeps_waiting : (s : St) (r : Holds fits bins s) (n : ℕ) (c : Cell) (m i lo hi fk : ℕ) → get_elem? r.cells n ≡ some c → 0 < kept_by (same (Waits m i lo hi fk)) c → Ticketed r.cells m i lo hi waits
-  keeps_waiting s r n c m i lo hi fk at pos = let b = kept_backed s r n c (Waits m i lo hi fk) at pos in (found_waiting r.cells m i lo hi fk b.0 b.1 b.2 b.3).0
+  pub keeps_waiting : (s : St) (r : Holds fits bins s) (n : ℕ) (c : Cell) (m i lo hi fk : ℕ) (up : List Above) → get_elem? r.cells n ≡ some c → 0 < kept_by (same (Waits m i lo hi fk up)) c → Ticketed r.cells m i lo hi waits
+  keeps_waiting s r n c m i lo hi fk up at pos = let b = kept_backed s r n c (Waits m i lo hi fk up) at pos in (found_waiting r.cells m i lo hi fk up b.0 b.1 b.2 b.3).0
 
   pub place_frame : (homes homes' : Homes) (k lo hi : ℕ) (st : Stage) → get_elem? homes' k ≡ get_elem? homes k → PlaceOk fits bins homes k lo hi st → PlaceOk fits bins homes' k lo hi st
   place_frame homes homes' k lo hi held e x = e ∙ x
@@ -202,14 +203,14 @@ module _ {P : Type 0} (fits : ℕ → ℕ → P → Type 0) (bins : ℕ) where
         let q : t'' + k ≤ g = omega arith in q;
   }
 
-  pub has_waiting : (s : St) (r : Holds fits bins s) (id : ℕ) (v : List Right) (n i lo hi fk : ℕ) → get_elem? s.views id ≡ some v → 0 < total (same (Waits n i lo hi fk)) v → (t : Ticketed r.cells n i lo hi waits) × (fk ≡ known_forks i (length t.pieces))
-  has_waiting s r id v n i lo hi fk at pos = let b = backed s r id v (Waits n i lo hi fk) at pos in found_waiting r.cells n i lo hi fk b.0 b.1 b.2 b.3
+  pub has_waiting : (s : St) (r : Holds fits bins s) (id : ℕ) (v : List Right) (n i lo hi fk : ℕ) (up : List Above) → get_elem? s.views id ≡ some v → 0 < total (same (Waits n i lo hi fk up)) v → (t : Ticketed r.cells n i lo hi waits) × (fk ≡ known_forks i (length t.pieces)) × (up ≡ path_of t.above)
+  has_waiting s r id v n i lo hi fk up at pos = let b = backed s r id v (Waits n i lo hi fk up) at pos in found_waiting r.cells n i lo hi fk up b.0 b.1 b.2 b.3
 
-  pub has_placing : (s : St) (r : Holds fits bins s) (id : ℕ) (v : List Right) (n i lo hi fk c : ℕ) → get_elem? s.views id ≡ some v → 0 < total (same (Places n i lo hi fk c)) v → (t : Ticketed r.cells n i lo hi places) × (fk ≡ known_forks i (length t.pieces)) × (c ≡ code t.above)
-  has_placing s r id v n i lo hi fk c at pos = let b = backed s r id v (Places n i lo hi fk c) at pos in found_placing r.cells n i lo hi fk c b.0 b.1 b.2 b.3
+  pub has_placing : (s : St) (r : Holds fits bins s) (id : ℕ) (v : List Right) (n i lo hi fk c : ℕ) (up : List Above) → get_elem? s.views id ≡ some v → 0 < total (same (Places n i lo hi fk c up)) v → (t : Ticketed r.cells n i lo hi places) × (fk ≡ known_forks i (length t.pieces)) × (c ≡ code t.above) × (up ≡ path_of t.above)
+  has_placing s r id v n i lo hi fk c up at pos = let b = backed s r id v (Places n i lo hi fk c up) at pos in found_placing r.cells n i lo hi fk c up b.0 b.1 b.2 b.3
 
-  pub has_opened : (s : St) (r : Holds fits bins s) (id : ℕ) (v : List Right) (n lo hi k : ℕ) → get_elem? s.views id ≡ some v → 0 < total (same (Opened n lo hi k)) v → (j : ℕ) × (t : Ticketed r.cells n j lo hi held) × (k ≡ length t.pieces)
-  has_opened s r id v n lo hi k at pos = let b = backed s r id v (Opened n lo hi k) at pos in found_opened r.cells n lo hi k b.0 b.1 b.2 b.3
+  pub has_opened : (s : St) (r : Holds fits bins s) (id : ℕ) (v : List Right) (n lo hi k : ℕ) (up : List Above) → get_elem? s.views id ≡ some v → 0 < total (same (Opened n lo hi k up)) v → (j : ℕ) × (t : Ticketed r.cells n j lo hi held) × (k ≡ length t.pieces) × (up ≡ path_of t.above)
+  has_opened s r id v n lo hi k up at pos = let b = backed s r id v (Opened n lo hi k up) at pos in found_opened r.cells n lo hi k up b.0 b.1 b.2 b.3
 
   pub has_unopened : (s : St) (r : Holds fits bins s) (id : ℕ) (v : List Right) (n : ℕ) → get_elem? s.views id ≡ some v → 0 < total (same (Unopened n)) v → get_elem? r.cells n ≡ some fresh
   has_unopened s r id v n at pos = let b = backed s r id v (Unopened n) at pos in found_unopened r.cells n b.0 b.1 b.2 b.3

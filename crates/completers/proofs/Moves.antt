@@ -10,10 +10,11 @@ use Rattle.atomic_table.proofs.Lists.{at_set, set_else, set_again, at_map}
 use Rattle.completers.proofs.Weights.{total_set, indexed_set, same, same_self}
 use Rattle.completers.proofs.Cells.{within, played_more, Ticketed, St, Homes, Alike, moved, has_waiting, has_opened, place_frame}
 use Rattle.completers.specs.Game.{own, arrive, after, waiting, Played}
-use Rattle.completers.specs.Rights.{code}
+use Rattle.completers.specs.Rights.{code, path_of}
 use Rattle.completers.specs.Rule.{known_forks, total, indexed, Stage, held, waits, places, arrived, has_arrived, is_given, Piece, piece, going, missing, given, position_of, right_of, given_out, Down, Tiled, PlaceOk, Going, Holds}
 use Rattle.completers.specs.Steps.{Knows, Owns, Takes}
 use Rattle.completers.specs.declared.relation.Partial.{Partial}
+use Rattle.completers.specs.declared.rule.Above.{Above}
 use Rattle.completers.specs.declared.rule.Right.{Right}
 use Rattle.completers.specs.declared.rule.Right.TheVariants.{Opened, Waits, Places}
 
@@ -166,35 +167,35 @@ module _ {P : Type 0} (fits : ℕ → ℕ → P → Type 0) (bins : ℕ) where
   same_words : (s : St fits bins) (k : ℕ) (homes' : Homes fits bins) (views' : List (List Right)) → Rule record { words = s.words; homes = homes'; views = views' } → Rule record { words = set s.words k (get_or s.words k 0); homes = homes'; views = views' }
   same_words s k homes' views' = subst (λ (ws : List ℕ). Rule record { words = ws; homes = homes'; views = views' }) (sym (set_get s.words k))
 
-  places_step : (slots id : ℕ) (car : List (ℕ × Option (Partial P))) (n i lo hi fk : ℕ)
-      → let me : Knows P = (Waits n i lo hi fk ∷ [], car) in Allows Rule slots id me (2 * n + 1) (λ x. x) (Takes me)
-  places_step slots id car n i lo hi fk s r wide at _ =
-      let v : List Right = Waits n i lo hi fk ∷ [] in let f = has_waiting fits bins s r id v n i lo hi fk at (one_right (Waits n i lo hi fk)) in let t = f.0 in let ps = t.pieces in
+  places_step : (slots id : ℕ) (car : List (ℕ × Option (Partial P))) (n i lo hi fk : ℕ) (up : List Above)
+      → let me : Knows P = (Waits n i lo hi fk up ∷ [], car) in Allows Rule slots id me (2 * n + 1) (λ x. x) (Takes me)
+  places_step slots id car n i lo hi fk up s r wide at _ =
+      let v : List Right = Waits n i lo hi fk up ∷ [] in let f = has_waiting fits bins s r id v n i lo hi fk up at (one_right (Waits n i lo hi fk up)) in let t = f.0 in let ps = t.pieces in
       let g : Going fits bins s.words s.homes n t.low t.top t.above ps = r.each_node n (going t.low t.top t.above ps) t.cell_is in let x : ℕ = get_or s.words (2 * n + 1) 0 in
-      let k : ℕ = 8 * n + i in let w : List Right = Places n i lo hi fk x ∷ [] in let small = few_of s r n i lo hi waits t in let homes' : Homes fits bins = set s.homes k none in (
+      let k : ℕ = 8 * n + i in let w : List Right = Places n i lo hi fk x up ∷ [] in let small = few_of s r n i lo hi waits t in let homes' : Homes fits bins = set s.homes k none in (
         w,
         takes k None,
         g.each_place i (piece lo hi waits) t.piece_is,
         same_words s (2 * n + 1) homes' (set s.views id w) (restaged s r n i lo hi waits places t (λ e. not_held e) id v w at s.words homes' refl (length-set s.homes k none)
             (λ m apart. (refl, refl, elsewhere s.homes n i m none small apart)) refl refl (λ j apart _. beside s.homes n i none j apart) tt
             (subst Played (sym (position_same ps i (piece lo hi waits) (piece lo hi places) t.piece_is refl refl)) g.played)
-            (λ h. let a : ℕ = h (Places n i lo hi fk x) in let b : ℕ = h (Places n i lo hi (known_forks i (length ps)) (code t.above)) in let c : ℕ = h (Waits n i lo hi fk) in let d : ℕ = h (Waits n i lo hi (known_forks i (length ps))) in
-            let e : a ≡ b = λ z. h (Places n i lo hi (f.1 z) (g.code_is z)) in let e' : c ≡ d = ap (λ (z : ℕ). h (Waits n i lo hi z)) f.1 in let z : a + 0 + d ≤ c + 0 + b = omega arith in z)),
+            (λ h. let a : ℕ = h (Places n i lo hi fk x up) in let b : ℕ = h (Places n i lo hi (known_forks i (length ps)) (code t.above) (path_of t.above)) in let c : ℕ = h (Waits n i lo hi fk up) in let d : ℕ = h (Waits n i lo hi (known_forks i (length ps)) (path_of t.above)) in
+            let e : a ≡ b = λ z. h (Places n i lo hi (f.1 z) (g.code_is z) (f.2 z)) in let e' : c ≡ d = λ z. h (Waits n i lo hi (f.1 z) (f.2 z)) in let z : a + 0 + d ≤ c + 0 + b = omega arith in z)),
         refl,
       )
 
-  pub takes_place : (slots id : ℕ) (me : Knows P) (n i lo hi fk : ℕ) (car : List (ℕ × Option (Partial P))) → me ≡ (Waits n i lo hi fk ∷ [], car) → Allows Rule slots id me (2 * n + 1) (λ x. x) (Takes me)
-  takes_place slots id me n i lo hi fk car is = subst (λ (m : Knows P). Allows Rule slots id m (2 * n + 1) (λ x. x) (Takes m)) (sym is) (places_step slots id car n i lo hi fk)
+  pub takes_place : (slots id : ℕ) (me : Knows P) (n i lo hi fk : ℕ) (up : List Above) (car : List (ℕ × Option (Partial P))) → me ≡ (Waits n i lo hi fk up ∷ [], car) → Allows Rule slots id me (2 * n + 1) (λ x. x) (Takes me)
+  takes_place slots id me n i lo hi fk up car is = subst (λ (m : Knows P). Allows Rule slots id m (2 * n + 1) (λ x. x) (Takes m)) (sym is) (places_step slots id car n i lo hi fk up)
 
-  owns_step : (slots id : ℕ) (car : List (ℕ × Option (Partial P))) (n lo hi k : ℕ) (rs : List Right)
-      → let me : Knows P = (Opened n lo hi k ∷ rs, car) in Allows Rule slots id me (2 * n) (λ x. x) (Owns me)
-  owns_step slots id car n lo hi k rs s r wide at _ =
-      let v : List Right = Opened n lo hi k ∷ rs in let f = has_opened fits bins s r id v n lo hi k at (first_right (Opened n lo hi k) rs) in let t0 = f.1 in
+  owns_step : (slots id : ℕ) (car : List (ℕ × Option (Partial P))) (n lo hi k : ℕ) (up : List Above) (rs : List Right)
+      → let me : Knows P = (Opened n lo hi k up ∷ rs, car) in Allows Rule slots id me (2 * n) (λ x. x) (Owns me)
+  owns_step slots id car n lo hi k up rs s r wide at _ =
+      let v : List Right = Opened n lo hi k up ∷ rs in let f = has_opened fits bins s r id v n lo hi k up at (first_right (Opened n lo hi k up) rs) in let t0 = f.1 in
       let g0 : Going fits bins s.words s.homes n t0.low t0.top t0.above t0.pieces = r.each_node n (going t0.low t0.top t0.above t0.pieces) t0.cell_is in
       let first : f.0 ≡ 0 = g0.own_only f.0 (piece lo hi held) t0.piece_is refl in let ps = t0.pieces in
       let here : get_elem? ps 0 ≡ some (piece lo hi held) = subst (λ (z : ℕ). get_elem? ps z ≡ some (piece lo hi held)) first t0.piece_is in
       let t : Ticketed r.cells n 0 lo hi held = record { low = t0.low; top = t0.top; above = t0.above; pieces = ps; cell_is = t0.cell_is; piece_is = here } in
-      let w : List Right = Waits n 0 lo hi (k - 1) ∷ [] in let was : given ps ≡ false = given_at ps (piece lo hi held) here in
+      let w : List Right = Waits n 0 lo hi (k - 1) up ∷ [] in let was : given ps ≡ false = given_at ps (piece lo hi held) here in
       let now : position_of (set ps 0 (piece lo hi waits)) ≡ after (position_of ps) own = position_owned ps (piece lo hi held) (piece lo hi waits) here refl refl in (
         w,
         keeps,
@@ -202,10 +203,10 @@ module _ {P : Type 0} (fits : ℕ → ℕ → P → Type 0) (bins : ℕ) where
         same_words s (2 * n) s.homes (set s.views id w) (restaged s r n 0 lo hi held waits t (λ e. not_held' e) id v w at s.words s.homes refl refl
             (λ m apart. (refl, refl, (λ j near. refl))) refl refl (λ j apart _. refl) (g0.each_place 0 (piece lo hi held) here)
             (subst Played (sym now) (played_more (position_of ps) own g0.played was))
-            (λ h. let a : ℕ = h (Waits n 0 lo hi (k - 1)) in let a' : ℕ = h (Waits n 0 lo hi (length ps - 1)) in let b : ℕ = h (Opened n lo hi (length ps)) in let c : ℕ = h (Opened n lo hi k) in let d : ℕ = total h rs in
-            let e : c ≡ b = ap (λ (z : ℕ). h (Opened n lo hi z)) f.2 in let e' : a ≡ a' = ap (λ (z : ℕ). h (Waits n 0 lo hi (z - 1))) f.2 in let z : a + 0 + b ≤ c + d + a' = omega arith in z)),
+            (λ h. let a : ℕ = h (Waits n 0 lo hi (k - 1) up) in let a' : ℕ = h (Waits n 0 lo hi (length ps - 1) (path_of t.above)) in let b : ℕ = h (Opened n lo hi (length ps) (path_of t.above)) in let c : ℕ = h (Opened n lo hi k up) in let d : ℕ = total h rs in
+            let e : c ≡ b = λ z. h (Opened n lo hi (f.2 z) (f.3 z)) in let e' : a ≡ a' = λ z. h (Waits n 0 lo hi (f.2 z - 1) (f.3 z)) in let z : a + 0 + b ≤ c + d + a' = omega arith in z)),
         (refl, (position_of ps, g0.played, was, (numbers ps ∙ sym g0.number_is, tickets ps k f.2))),
       )
 
-  pub gives_own : (slots id : ℕ) (me : Knows P) (n lo hi k : ℕ) (rs : List Right) (car : List (ℕ × Option (Partial P))) → me ≡ (Opened n lo hi k ∷ rs, car) → Allows Rule slots id me (2 * n) (λ x. x) (Owns me)
-  gives_own slots id me n lo hi k rs car is = subst (λ (m : Knows P). Allows Rule slots id m (2 * n) (λ x. x) (Owns m)) (sym is) (owns_step slots id car n lo hi k rs)
+  pub gives_own : (slots id : ℕ) (me : Knows P) (n lo hi k : ℕ) (up : List Above) (rs : List Right) (car : List (ℕ × Option (Partial P))) → me ≡ (Opened n lo hi k up ∷ rs, car) → Allows Rule slots id me (2 * n) (λ x. x) (Owns me)
+  gives_own slots id me n lo hi k up rs car is = subst (λ (m : Knows P). Allows Rule slots id m (2 * n) (λ x. x) (Owns m)) (sym is) (owns_step slots id car n lo hi k up rs)

@@ -5,6 +5,7 @@ use mathlib.Core.Option.{some, some-injective, some-ne-none}
 use native.Mathlib.Decide.{ℕ_discrete}
 use lib.ListN.{get_elem?}
 use Rattle.completers.specs.Rule.{total, indexed}
+use Rattle.completers.specs.declared.rule.Above.{Above}
 use Rattle.completers.specs.declared.rule.Right.{Right}
 use Rattle.completers.specs.declared.rule.Right.TheVariants.{Unopened, Opened, Waits, Places}
 
@@ -64,15 +65,38 @@ hit_yes a b n pos = dite (ℕ_discrete a b) (λ e. (e, subst (λ (t : Bool). 0 <
 pub hit_self : (a n : ℕ) → hit a a n ≡ n
 hit_self a n = ap (λ (t : Bool). cond t n 0) (eq-eqb a a refl)
 
+-- the same of the tickets above
+abbrev pub hits : List Above → List Above → ℕ → ℕ
+hits [] [] n = n
+hits (a ∷ ls) (b ∷ ms) n = hit a.node b.node (hit a.number b.number (hit a.lo b.lo (hit a.hi b.hi (hit a.forks b.forks (hits ls ms n)))))
+hits _ _ n = 0
+
+pub hits_yes : (l m : List Above) (n : ℕ) → 0 < hits l m n → (l ≡ m) × (0 < n)
+hits_yes [] [] n pos = (refl, pos)
+hits_yes [] (b ∷ ms) n pos = absurd (omega arith)
+hits_yes (a ∷ ls) [] n pos = absurd (omega arith)
+hits_yes (a ∷ ls) (b ∷ ms) n pos =
+    let p = hit_yes a.node b.node _ pos in
+    let q = hit_yes a.number b.number _ p.1 in
+    let r = hit_yes a.lo b.lo _ q.1 in
+    let s = hit_yes a.hi b.hi _ r.1 in
+    let t = hit_yes a.forks b.forks _ s.1 in
+    let u = hits_yes ls ms n t.1 in
+    ((λ i. record { node = p.0 i; number = q.0 i; lo = r.0 i; hi = s.0 i; forks = t.0 i } ∷ u.0 i), u.1)
+
+pub hits_self : (l : List Above) (n : ℕ) → hits l l n ≡ n
+hits_self [] n = refl
+hits_self (a ∷ ls) n = hit_self a.node _ ∙ (hit_self a.number _ ∙ (hit_self a.lo _ ∙ (hit_self a.hi _ ∙ (hit_self a.forks _ ∙ hits_self ls n))))
+
 abbrev pub same : Right → Right → ℕ
 same (Unopened a) (Unopened b) = hit a b 1
-same (Opened a b c d) (Opened a' b' c' d') = hit a a' (hit b b' (hit c c' (hit d d' 1)))
-same (Waits a b c d e) (Waits a' b' c' d' e') = hit a a' (hit b b' (hit c c' (hit d d' (hit e e' 1))))
-same (Places a b c d e x) (Places a' b' c' d' e' x') = hit a a' (hit b b' (hit c c' (hit d d' (hit e e' (hit x x' 1)))))
+same (Opened a b c d u) (Opened a' b' c' d' u') = hit a a' (hit b b' (hit c c' (hit d d' (hits u u' 1))))
+same (Waits a b c d e u) (Waits a' b' c' d' e' u') = hit a a' (hit b b' (hit c c' (hit d d' (hit e e' (hits u u' 1)))))
+same (Places a b c d e x u) (Places a' b' c' d' e' x' u') = hit a a' (hit b b' (hit c c' (hit d d' (hit e e' (hit x x' (hits u u' 1))))))
 same _ _ = 0
 
 pub same_self : (x : Right) → same x x ≡ 1
 same_self (Unopened a) = hit_self a 1
-same_self (Opened a b c d) = hit_self a _ ∙ (hit_self b _ ∙ (hit_self c _ ∙ hit_self d 1))
-same_self (Waits a b c d e) = hit_self a _ ∙ (hit_self b _ ∙ (hit_self c _ ∙ (hit_self d _ ∙ hit_self e 1)))
-same_self (Places a b c d e x) = hit_self a _ ∙ (hit_self b _ ∙ (hit_self c _ ∙ (hit_self d _ ∙ (hit_self e _ ∙ hit_self x 1))))
+same_self (Opened a b c d u) = hit_self a _ ∙ (hit_self b _ ∙ (hit_self c _ ∙ (hit_self d _ ∙ hits_self u 1)))
+same_self (Waits a b c d e u) = hit_self a _ ∙ (hit_self b _ ∙ (hit_self c _ ∙ (hit_self d _ ∙ (hit_self e _ ∙ hits_self u 1))))
+same_self (Places a b c d e x u) = hit_self a _ ∙ (hit_self b _ ∙ (hit_self c _ ∙ (hit_self d _ ∙ (hit_self e _ ∙ (hit_self x _ ∙ hits_self u 1)))))

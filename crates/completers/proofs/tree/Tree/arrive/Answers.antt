@@ -2,8 +2,9 @@ use Rattle.std.proofs.Common.{◌≡◌, ◌≢◌, ℕ, ◌+◌, ◌*◌, ◌�
 use lib.ListN.{get_elem?}
 use mathlib.Core.Option.{some}
 use Rattle.std.specs.Prelude.{false}
-use Rattle.completers.specs.Parts.{AreParts, present, stack}
-use Rattle.completers.specs.Rights.{IsAbove, node_in}
+use Rattle.completers.specs.Arrived.{IsWholeNode}
+use Rattle.completers.specs.Parts.{AreParts, present, places_of, stack}
+use Rattle.completers.specs.Rights.{IsAbove, node_in, path_of}
 use Rattle.completers.specs.Rights.{code as code_of}
 use Rattle.completers.specs.declared.rule.Right.{Right}
 use Rattle.completers.proofs.Arrivals.{arrives}
@@ -16,7 +17,7 @@ count_down-requires-clause-rule g c =
     let key = c.self.inside.board.shared.key in
     let t = c.args.ticket in
     let part = subst (λ r. g.B.Relation.relates r c.args.partial.lo c.args.partial.hi c.args.partial.part) (ap (λ v. v.relation) (sym c.self.view_is)) c.requires.part in
-    rw (ap (λ v. v.node) c.ticket.view_is) (arrives (g.B.Relation.relates key.relation.value) key.bins _ _ _ t.node t.number t.lo t.hi t.forks _ c.args.partial c.place-seat.ensures.place
+    rw (ap (λ v. v.node) c.ticket.view_is) (arrives (g.B.Relation.relates key.relation.value) key.bins _ _ _ t.node t.number t.lo t.hi t.forks _ t.above c.args.partial c.place-seat.ensures.place
     (is_part (g.B.Relation.relates key.relation.value) t.lo t.hi c.args.partial c.requires.range.0 c.requires.range.1 part))
 
 pub returns-then-count_down-ne1-clause-event : goal.returns-then-count_down-ne1-clause-event
@@ -58,4 +59,5 @@ returns-clause-last g c =
     let n : ℕ = c.args.ticket.node in
     let t = (rw c.place-seat.ensures.place at c.count_down.ensures.told).1 c.if-count_down-ne1.false in
     let is = full n t.held _ c.empty_all-places.result t.places c.empty_all-places.ensures.found in
-    rw c.of.ensures (subst (λ l. Contains (present l) c.args.partial) (sym is) (among t.held c.args.ticket.number c.args.partial c.place-seat.ensures.inside.2 t.mine), c.above-above.ensures)
+    let rights = c.empty_all-places.ensures.rights in
+    rw c.of.ensures (subst (λ l. Contains (present l) c.args.partial) (sym is) (among t.held c.args.ticket.number c.args.partial c.place-seat.ensures.inside.2 t.mine), subst (λ up. IsWholeNode c.args.self.now (g.B.Relation.relates c.args.self.now.relation) up (present (places_of c.empty_all-places.result)) c.above-above.result) (ap path_of rights ∙ t.path) c.above-above.ensures)
