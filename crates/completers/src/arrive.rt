@@ -1,7 +1,6 @@
 //! Arrivals.
 ghost use Rattle.std.specs.Prelude.{◌≡◌, ◌≢◌, ℕ, ◌+◌, ◌*◌, ◌<◌, ◌≤◌, List, [], ◌∷◌, map, length, Contains, MatchOption, None, Some};
 ghost use Rattle.atomic_table.specs.Table.{rest, turned};
-ghost use Rattle.completers.specs.Game.{Plays, arrive, number, after};
 ghost use Rattle.completers.specs.Parts.{AreParts, pile, places_of, present};
 ghost use Rattle.completers.specs.Rights.{IsAbove, code as code_of, node_in, path_of};
 ghost use Rattle.completers.specs.declared.rule.Right.TheVariants.{Places as Placing};
@@ -116,8 +115,6 @@ impl<B: Relation, A: Allocator> Tree<B, A> {
         requires tree { ticket.tree ≡ self.now.identity }
         requires range { (partial.lo ≡ ticket.lo) × (partial.hi ≡ ticket.hi) }
         requires part { B.relates self.now.relation partial.lo partial.hi partial.part }
-        ensures event { Plays (arrive ticket.number) (λ p. (ticket.number ≡ 0 → length p.arrived ≡ ticket.forks + 1)
-            × MatchArrival result (number (after p (arrive ticket.number)) ≢ 0) (λ _ _. number (after p (arrive ticket.number)) ≡ 0)) }
         ensures last { MatchArrival result (Unit {0}) (λ parts above. Contains parts partial × IsWholeNode self.now (B.relates self.now.relation) ticket.above parts above) }
         // The own ticket of a node that forked nothing.
         ensures alone { ticket.number ≡ 0 → ticket.forks ≡ 0 → IsLast result }

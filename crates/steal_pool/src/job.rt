@@ -21,6 +21,8 @@ pub(crate) struct Job<'a, B: Body, G, W: Work> {
     pub(crate) gate: &'a G,
     pub(crate) bins: usize,
     pub(crate) batch: usize,
+    // Whether deques take what is pushed.
+    pub(crate) pushes: bool,
     pub(crate) done: &'a AtomicBool,
     pub(crate) work: PhantomData<W>,
     ghost tree_is: { (tree.now.identity ≡ W.tree) × (tree.now.bins ≡ W.bins) × (tree.now.slots ≡ 8) },
@@ -94,7 +96,12 @@ impl<B: Body, G: Gate, W: Work> Job<'_, B, G, W> {
                 batch,
                 work: PhantomData,
             };
-            if let Err(task) = me.push(task) {
+            let pushed = if self.pushes {
+                me.push(task)
+            } else {
+                Err(task)
+            };
+            if let Err(task) = pushed {
                 let (child, batch) = self.begin(task);
                 let found = self.work(rt, me, child, batch);
                 if found.is_some() {
