@@ -59,6 +59,10 @@ impl<K, V, X: Action<K, V>> Collector<K, V> for Acting<'_, X> {
         Ok(list)
     }
 
+    fn look_again(&self, part: Result<Vec<X::R>, AllocError>) -> Result<Vec<X::R>, AllocError> {
+        part
+    }
+
     fn is_settled(&self, part: &Result<Vec<X::R>, AllocError>) -> bool {
         part.is_err()
     }

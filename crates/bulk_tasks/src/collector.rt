@@ -27,6 +27,10 @@ pub trait Collector<K, V> {
     fn append(&self, left: Self::Part, right: Self::Part) -> Self::Part
         ensures { (es fs : List (K × V)) → collected self.now es left → collected self.now fs right → collected self.now (es ++ fs) result };
 
+    /// The part before the next pairs, where a collector may give up.
+    fn look_again(&self, part: Self::Part) -> Self::Part
+        ensures { (es : List (K × V)) → collected self.now es part → collected self.now es result };
+
     /// Whether no further pair changes the part.
     fn is_settled(&self, part: &Self::Part) -> bool
         ensures { IsTrue result → (es fs : List (K × V)) → collected self.now es part.now → collected self.now (es ++ fs) part.now };
@@ -55,6 +59,7 @@ pub(crate) fn collect<
 {
     let mut part = collector.start();
     for bin in bins {
+        part = collector.look_again(part);
         if collector.is_settled(&part) {
             return part;
         }

@@ -10,11 +10,7 @@ mod gather;
 mod plan;
 mod reducers;
 mod reducing;
-#[cfg(test)]
-mod samples;
 mod searching;
-#[cfg(test)]
-mod tests;
 mod traits;
 
 pub use acting::for_each;

@@ -65,6 +65,13 @@ impl<K, V, R: Reducer<K, V>> Collector<K, V> for Folding<'_, R> {
         }
     }
 
+    fn look_again(
+        &self,
+        part: Result<Option<R::A>, AllocError>,
+    ) -> Result<Option<R::A>, AllocError> {
+        part
+    }
+
     fn is_settled(&self, part: &Result<Option<R::A>, AllocError>) -> bool {
         part.is_err()
     }

@@ -27,7 +27,7 @@ pub enum Probed<U> {
     Refused,
 }
 
-/// Collects the first that a probe finds. Where it may give up, a part does so that begins after something was found.
+/// Collects the first that a probe finds. Where it may give up, a part does so at the first bin that it comes to after something was found.
 #[derive(Drop)]
 pub(crate) struct Searching<'a, P> {
     pub(crate) probe: &'a P,
@@ -44,9 +44,6 @@ impl<K, V, P: Probe<K, V>> Collector<K, V> for Searching<'_, P> {
     ghost collected = { λ c es part. IsProbed (P.probed c.probe.now) P.never_refuses (IsTrue c.may_give_up) es part };
 
     fn start(&self) -> Probed<P::U> {
-        if self.may_give_up && self.found.look().is_some() {
-            return Probed::GaveUp;
-        }
         Probed::Nothing
     }
 
@@ -77,6 +74,18 @@ impl<K, V, P: Probe<K, V>> Collector<K, V> for Searching<'_, P> {
                 Probed::Found(u) => Probed::Found(u),
                 _ => Probed::Refused,
             },
+        }
+    }
+
+    fn look_again(&self, part: Probed<P::U>) -> Probed<P::U> {
+        match part {
+            Probed::Nothing => {
+                if self.may_give_up && self.found.look().is_some() {
+                    return Probed::GaveUp;
+                }
+                Probed::Nothing
+            }
+            other => other,
         }
     }
 

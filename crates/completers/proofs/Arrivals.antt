@@ -13,11 +13,12 @@ use Rattle.completers.proofs.Cells.{within, played_more, Ticketed, St, Homes, Al
 use Rattle.completers.proofs.Moves.{one_right, elsewhere, beside, few_of, restaged, going_set, given_out_set, position_arrived, numbers, tickets, arrived_not_held, given_at, Rule}
 use Rattle.completers.proofs.Parting.{takes_up, carried_up, up_frame, up_long, up_valid, all_parts}
 use Rattle.completers.specs.Game.{arrive, number, Allowed, Played, Plays}
-use Rattle.completers.specs.Rights.{code, IsAbove, node_in}
+use Rattle.completers.specs.Rights.{code, path_of, IsAbove, node_in}
 use Rattle.completers.specs.Parts.{AreParts, IsPart, present, stack}
 use Rattle.completers.specs.Rule.{known_forks, total, indexed, Stage, held, waits, places, arrived, has_arrived, Piece, piece, going, over, missing, position_of, right_of, given_out, Tiled, PlaceOk, Going}
 use Rattle.completers.specs.Steps.{Knows, Arrives}
 use Rattle.completers.specs.declared.relation.Partial.{Partial}
+use Rattle.completers.specs.declared.rule.Above.{Above}
 use Rattle.completers.specs.declared.rule.Right.{Right}
 use Rattle.completers.specs.declared.rule.Right.TheVariants.{Waits, Places}
 
@@ -31,13 +32,17 @@ none_missing : (p : Piece) → missing p ≡ 0 → p.stage ≡ arrived
 none_missing p e = stage_arrived p.lo p.hi p.stage e
 
 all_arrived : (ps : List Piece) → total missing ps ≡ 0 → (j : ℕ) (p : Piece) → get_elem? ps j ≡ some p → p.stage ≡ arrived
-all_arrived ps z j p e = let m : missing p ≤ total missing ps = total_at missing ps j p e in let n : ℕ = missing p in let t : ℕ = total missing ps in let m' : n ≤ t = m in let z' : t ≡ 0 = z in none_missing p (let g : n ≡ 0 = omega arith in g)
+all_arrived ps z j p e = let m : missing p ≤ total missing ps = total_at missing ps j p e in let n : ℕ = missing p in
+    let t : ℕ = total missing ps in let m' : n ≤ t = m in let z' : t ≡ 0 = z in none_missing p (let g : n ≡ 0 = omega arith in g)
 
-all_zero : (f : ℕ → Piece → ℕ) (k : ℕ) (ps : List Piece) → ((i : ℕ) (p : Piece) → get_elem? ps i ≡ some p → f (k + i) p ≡ 0) → indexed f k ps ≡ 0
+all_zero : (f : ℕ → Piece → ℕ) (k : ℕ) (ps : List Piece) → ((i : ℕ) (p : Piece) → get_elem? ps i ≡ some p → f (k + i) p ≡ 0)
+    → indexed f k ps ≡ 0
 all_zero f k [] e = refl
 all_zero f k (p ∷ ps) e = let z : k + 0 ≡ k = omega arith in let one : f k p ≡ 0 = subst (λ (j : ℕ). f j p ≡ 0) z (e 0 p refl) in
-    let more : indexed f (k + 1) ps ≡ 0 = all_zero f (k + 1) ps (λ i q at. let w : k + suc i ≡ k + 1 + i = omega arith in subst (λ (j : ℕ). f j q ≡ 0) w (e (suc i) q at)) in
-    let a : ℕ = f k p in let b : ℕ = indexed f (k + 1) ps in let a' : a ≡ 0 = one in let b' : b ≡ 0 = more in let g : a + b ≡ 0 = omega arith in g
+    let more : indexed f (k + 1) ps ≡ 0 = all_zero f (k + 1) ps
+    (λ i q at. let w : k + suc i ≡ k + 1 + i = omega arith in subst (λ (j : ℕ). f j q ≡ 0) w (e (suc i) q at)) in
+    let a : ℕ = f k p in let b : ℕ = indexed f (k + 1) ps in let a' : a ≡ 0 = one in let b' : b ≡ 0 = more in
+    let g : a + b ≡ 0 = omega arith in g
 
 less_one : (x : ℕ) → 0 < x → x < 2 ^ 64 → (x + (2 ^ 64 - 1)) % 2 ^ 64 + 1 ≡ x
 less_one x pos small = let g : (x + (18446744073709551616 - 1)) % 18446744073709551616 + 1 ≡ x = omega arith in g
@@ -59,41 +64,66 @@ module _ {P : Type 0} where
 
 module _ {P : Type 0} (fits : ℕ → ℕ → P → Type 0) (bins : ℕ) where
   -- the number of the node with the ticket, and one ticket less
-  counted : (s : St fits bins) (r : Rule fits bins s) (n i lo hi : ℕ) (st : Stage) (t : Ticketed r.cells n i lo hi st) → missing (piece lo hi st) ≡ 1 → (2 * n < length s.words) × (0 < get_or s.words (2 * n) 0)
-  counted s r n i lo hi st t one = let g : Going fits bins s.words s.homes n t.low t.top t.above t.pieces = r.each_node n (going t.low t.top t.above t.pieces) t.cell_is in
-      let a : missing (piece lo hi st) ≤ total missing t.pieces = total_at missing t.pieces i (piece lo hi st) t.piece_is in let w = within r.cells n (going t.low t.top t.above t.pieces) t.cell_is in let wide = r.words_wide in
-      let m : ℕ = missing (piece lo hi st) in let u : ℕ = total missing t.pieces in let a' : m ≤ u = a in let o : m ≡ 1 = one in let c : get_or s.words (2 * n) 0 ≡ u = g.number_is in let l : ℕ = length r.cells in let w' : n < l = w in let k : ℕ = length s.words in let wide' : k ≡ 2 * l = wide in
-      let x : ℕ = get_or s.words (2 * n) 0 in let c' : x ≡ u = c in ((let q : 2 * n < k = omega arith in q), (let q : 0 < x = omega arith in q))
+  counted : (s : St fits bins) (r : Rule fits bins s) (n i lo hi : ℕ) (st : Stage) (t : Ticketed r.cells n i lo hi st)
+      → missing (piece lo hi st) ≡ 1 → (2 * n < length s.words) × (0 < get_or s.words (2 * n) 0)
+  counted s r n i lo hi st t one = let g : Going fits bins s.words s.homes n t.low t.top t.above t.pieces =
+      r.each_node n (going t.low t.top t.above t.pieces) t.cell_is in
+      let a : missing (piece lo hi st) ≤ total missing t.pieces = total_at missing t.pieces i (piece lo hi st) t.piece_is in
+      let w = within r.cells n (going t.low t.top t.above t.pieces) t.cell_is in let wide = r.words_wide in
+      let m : ℕ = missing (piece lo hi st) in let u : ℕ = total missing t.pieces in let a' : m ≤ u = a in let o : m ≡ 1 = one in
+      let c : get_or s.words (2 * n) 0 ≡ u = g.number_is in let l : ℕ = length r.cells in let w' : n < l = w in
+      let k : ℕ = length s.words in let wide' : k ≡ 2 * l = wide in
+      let x : ℕ = get_or s.words (2 * n) 0 in let c' : x ≡ u = c in
+      ((let q : 2 * n < k = omega arith in q), (let q : 0 < x = omega arith in q))
 
-  above_in : (s : St fits bins) (r : Rule fits bins s) (slots : ℕ) → length s.homes ≡ slots → (n low top : ℕ) (above : List Right) (ps : List Piece) → get_elem? r.cells n ≡ some (going low top above ps) → IsAbove bins low top above
+  above_in : (s : St fits bins) (r : Rule fits bins s) (slots : ℕ) → length s.homes ≡ slots
+      → (n low top : ℕ) (above : List Right) (ps : List Piece) → get_elem? r.cells n ≡ some (going low top above ps)
+      → IsAbove bins low top above
       → above ≢ [] → 8 * node_in above + 8 ≤ slots
   above_in s r slots wide n low top above ps at is there = ⊎_elim (λ none_is. absurd (there none_is.0))
-      (λ one. let x : Right = Waits one.0 one.1 low top one.2 in let self = one_right x in let q : 0 < total (same x) above = subst (λ (l : List Right). 0 < total (same x) l) (sym one.4) self in
-      let t = keeps_waiting fits bins s r n (going low top above ps) one.0 one.1 low top one.2 at q in let w : one.0 < length r.cells = within r.cells one.0 (going t.low t.top t.above t.pieces) t.cell_is in
-      let l : ℕ = length r.cells in let w' : one.0 < l = w in let h : ℕ = length s.homes in let e : h ≡ 8 * l = r.homes_wide in let e' : h ≡ slots = wide in
-      subst (λ (rs : List Right). 8 * node_in rs + 8 ≤ slots) (sym one.4) (let z : 8 * one.0 + 8 ≤ slots = omega arith in z)) is
+      (λ one. let x : Right = Waits one.0 one.1 low top one.2 one.3 in let self = one_right x in
+      let q : 0 < total (same x) above = subst (λ (l : List Right). 0 < total (same x) l) (sym one.5) self in
+      let t = keeps_waiting fits bins s r n (going low top above ps) one.0 one.1 low top one.2 one.3 at q in
+      let w : one.0 < length r.cells = within r.cells one.0 (going t.low t.top t.above t.pieces) t.cell_is in
+      let l : ℕ = length r.cells in let w' : one.0 < l = w in let h : ℕ = length s.homes in let e : h ≡ 8 * l = r.homes_wide in
+      let e' : h ≡ slots = wide in
+      subst (λ (rs : List Right). 8 * node_in rs + 8 ≤ slots) (sym one.5) (let z : 8 * one.0 + 8 ≤ slots = omega arith in z)) is
 
-  plays : (s : St fits bins) (r : Rule fits bins s) (n i lo hi : ℕ) (t : Ticketed r.cells n i lo hi places) → Allowed (position_of t.pieces) (arrive i)
-  plays s r n i lo hi t = (at_map (λ (p : Piece). has_arrived p.stage) t.pieces i (piece lo hi places) t.piece_is, (λ z. given_at t.pieces (piece lo hi places) (subst (λ (k : ℕ). get_elem? t.pieces k ≡ some (piece lo hi places)) z t.piece_is)))
+  plays : (s : St fits bins) (r : Rule fits bins s) (n i lo hi : ℕ) (t : Ticketed r.cells n i lo hi places)
+      → Allowed (position_of t.pieces) (arrive i)
+  plays s r n i lo hi t = (
+    at_map (λ (p : Piece). has_arrived p.stage) t.pieces i (piece lo hi places) t.piece_is,
+    (λ z. given_at t.pieces (piece lo hi places) (subst (λ (k : ℕ). get_elem? t.pieces k ≡ some (piece lo hi places)) z t.piece_is)),
+  )
 
-  module _ (slots id : ℕ) (n i lo hi fk d : ℕ) (xp : Partial P) (part : IsPart fits lo hi xp) where
+  module _ (slots id : ℕ) (n i lo hi fk d : ℕ) (up : List Above) (xp : Partial P) (part : IsPart fits lo hi xp) where
     abbrev me : Knows P
-    me = (Places n i lo hi fk d ∷ [], (8 * n + i, Some xp) ∷ [])
+    me = (Places n i lo hi fk d up ∷ [], (8 * n + i, Some xp) ∷ [])
 
     arrives_step : Allows (Rule fits bins) slots id me (2 * n) (λ x. (x + (2 ^ 64 - 1)) % 2 ^ 64) (Arrives fits bins slots me)
     arrives_step s r wide at small =
-        let car : List (ℕ × Option (Partial P)) = [] in let v : List Right = Places n i lo hi fk d ∷ [] in let f = has_placing fits bins s r id v n i lo hi fk d at (one_right (Places n i lo hi fk d)) in let t : Ticketed r.cells n i lo hi places = f.0 in let ps = t.pieces in
-        let g : Going fits bins s.words s.homes n t.low t.top t.above ps = r.each_node n (going t.low t.top t.above ps) t.cell_is in let x : ℕ = get_or s.words (2 * n) 0 in
-        let room = counted s r n i lo hi places t refl in let y : ℕ = (x + (2 ^ 64 - 1)) % 2 ^ 64 in let less : y + 1 ≡ x = less_one x room.1 small in
-        let k : ℕ = 8 * n + i in let near : i < 8 = few_of fits bins s r n i lo hi places t in let homes' : Homes fits bins = set s.homes k (some (Some xp)) in let words' : List ℕ = set s.words (2 * n) y in
+        let car : List (ℕ × Option (Partial P)) = [] in let v : List Right = Places n i lo hi fk d up ∷ [] in
+        let f = has_placing fits bins s r id v n i lo hi fk d up at (one_right (Places n i lo hi fk d up)) in
+        let t : Ticketed r.cells n i lo hi places = f.0 in let ps = t.pieces in
+        let g : Going fits bins s.words s.homes n t.low t.top t.above ps = r.each_node n (going t.low t.top t.above ps) t.cell_is in
+        let x : ℕ = get_or s.words (2 * n) 0 in
+        let room = counted s r n i lo hi places t refl in let y : ℕ = (x + (2 ^ 64 - 1)) % 2 ^ 64 in
+        let less : y + 1 ≡ x = less_one x room.1 small in
+        let k : ℕ = 8 * n + i in let near : i < 8 = few_of fits bins s r n i lo hi places t in
+        let homes' : Homes fits bins = set s.homes k (some (Some xp)) in let words' : List ℕ = set s.words (2 * n) y in
         let now : get_or words' (2 * n) 0 ≡ y = get_or-set_same s.words (2 * n) y 0 room.0 in
         let in_row : k < length s.homes =
-        (let w = within r.cells n (going t.low t.top t.above ps) t.cell_is in let l : ℕ = length r.cells in let w' : n < l = w in let h : ℕ = length s.homes in let wide' : h ≡ 8 * l = r.homes_wide in let q : k < h = omega arith in q) in
+        (let w = within r.cells n (going t.low t.top t.above ps) t.cell_is in let l : ℕ = length r.cells in let w' : n < l = w in
+        let h : ℕ = length s.homes in let wide' : h ≡ 8 * l = r.homes_wide in let q : k < h = omega arith in q) in
         let place : PlaceOk fits bins homes' k lo hi arrived = (xp, set_here s.homes k (some (Some xp)) in_row, part) in
-        let code_same : get_or words' (2 * n + 1) 0 ≡ get_or s.words (2 * n + 1) 0 = get_or-set_other s.words (2 * n) (2 * n + 1) y 0 (λ e. omega arith) in
-        let number_same : get_or words' (2 * n) 0 + 1 ≡ x + 0 = (let a : ℕ = get_or words' (2 * n) 0 in let a' : a ≡ y = now in let q : a + 1 ≡ x + 0 = omega arith in q) in
+        let code_same : get_or words' (2 * n + 1) 0 ≡ get_or s.words (2 * n + 1) 0 =
+        get_or-set_other s.words (2 * n) (2 * n + 1) y 0 (λ e. omega arith) in
+        let number_same : get_or words' (2 * n) 0 + 1 ≡ x + 0 =
+        (let a : ℕ = get_or words' (2 * n) 0 in let a' : a ≡ y = now in let q : a + 1 ≡ x + 0 = omega arith in q) in
         let allowed = plays s r n i lo hi t in
-        let played' : Played (position_of (set ps i (piece lo hi arrived))) = subst Played (sym (position_arrived ps i (piece lo hi places) (piece lo hi arrived) t.piece_is refl refl)) (played_more (position_of ps) (arrive i) g.played allowed) in
+        let played' : Played (position_of (set ps i (piece lo hi arrived))) =
+        subst Played (sym (position_arrived ps i (piece lo hi places) (piece lo hi arrived) t.piece_is refl refl))
+        (played_more (position_of ps) (arrive i) g.played allowed) in
         let told : Plays (arrive i) (λ p. (number p ≡ x) × (i ≡ 0 → length p.arrived ≡ fk + 1)) = (
           position_of ps,
           g.played,
@@ -101,7 +131,9 @@ module _ {P : Type 0} (fits : ℕ → ℕ → P → Type 0) (bins : ℕ) where
           (
             numbers ps ∙ sym g.number_is,
             (λ own_is. let l : ℕ = length ps in
-                let some_ticket : i < l = within ps i (piece lo hi places) t.piece_is in let e : fk ≡ l - 1 = subst (λ (z : ℕ). fk ≡ known_forks z (length ps)) own_is f.1 in tickets ps (fk + 1) (let q : fk + 1 ≡ l = omega arith in q)),
+                let some_ticket : i < l = within ps i (piece lo hi places) t.piece_is in
+                let e : fk ≡ l - 1 = subst (λ (z : ℕ). fk ≡ known_forks z (length ps)) own_is f.1 in
+                tickets ps (fk + 1) (let q : fk + 1 ≡ l = omega arith in q)),
           ),
         ) in
         let others : (m : ℕ) → m ≢ n → Alike fits bins s.words words' s.homes homes' m = λ m apart. (
@@ -111,25 +143,49 @@ module _ {P : Type 0} (fits : ℕ → ℕ → P → Type 0) (bins : ℕ) where
         ) in
         dite (ℕ_discrete x 1)
         (λ one. let qs : List Piece = set ps i (piece lo hi arrived) in
-        let g' : Going fits bins words' homes' n t.low t.top t.above qs = going_set fits bins s r n i lo hi places arrived t (λ e. arrived_not_held e) words' homes' code_same number_same (λ j apart _. beside fits bins s.homes n i (some (Some xp)) j apart) place played' in
-        let done : total missing qs ≡ 0 = (let a : get_or words' (2 * n) 0 ≡ total missing qs = g'.number_is in let b : ℕ = total missing qs in let c : ℕ = get_or words' (2 * n) 0 in let a' : c ≡ b = a in let c' : c ≡ y = now in let o : x ≡ 1 = one in let q : b ≡ 0 = omega arith in q) in
+        let g' : Going fits bins words' homes' n t.low t.top t.above qs =
+        going_set fits bins s r n i lo hi places arrived t (λ e. arrived_not_held e) words' homes' code_same number_same
+        (λ j apart _. beside fits bins s.homes n i (some (Some xp)) j apart) place played' in
+        let done : total missing qs ≡ 0 = (let a : get_or words' (2 * n) 0 ≡ total missing qs = g'.number_is in
+        let b : ℕ = total missing qs in let c : ℕ = get_or words' (2 * n) 0 in let a' : c ≡ b = a in let c' : c ≡ y = now in
+        let o : x ≡ 1 = one in let q : b ≡ 0 = omega arith in q) in
         let all = all_arrived qs done in let value : ℕ → Option (Partial P) = λ j. read (get_elem? homes' (8 * n + j)) in
-        let shows : (j : ℕ) (p : Piece) → get_elem? qs j ≡ some p → (z : Partial P) × (get_elem? homes' (8 * n + j) ≡ some (some (Some z))) × IsPart fits p.lo p.hi z = λ j p e. subst (λ (st : Stage). PlaceOk fits bins homes' (8 * n + j) p.lo p.hi st) (all j p e) (g'.each_place j p e) in
+        let shows : (j : ℕ) (p : Piece) → get_elem? qs j ≡ some p → (z : Partial P) × (get_elem? homes' (8 * n + j) ≡ some (some (Some z)))
+        × IsPart fits p.lo p.hi z = λ j p e. subst (λ (st : Stage). PlaceOk fits bins homes' (8 * n + j) p.lo p.hi st) (all j p e)
+        (g'.each_place j p e) in
         let there : (j : ℕ) → j < 8 → get_elem? homes' (8 * n + j) ≡ some (some (value j)) = λ j low. dite (dec_le (length qs) j)
         (λ far. let e = g'.others j far low in e ∙ ap (λ (o : Option (Partial P)). some (some o)) (sym (ap read e)))
-        (λ close. let p = present_at qs j close in let z = shows j p.0 p.1 in z.1 ∙ ap (λ (o : Option (Partial P)). some (some o)) (sym (ap read z.1))) in
-        let parts : AreParts fits t.low t.top (present (value 0 ∷ stack value 7)) = all_parts fits value t.low t.top qs g'.tiled g'.few (λ j p e. let z = shows j p e in (z.0, ap read z.1, z.2)) (λ j far low. ap read (g'.others j far low)) in
+        (λ close. let p = present_at qs j close in let z = shows j p.0 p.1 in
+        z.1 ∙ ap (λ (o : Option (Partial P)). some (some o)) (sym (ap read z.1))) in
+        let parts : AreParts fits t.low t.top (present (value 0 ∷ stack value 7)) =
+        all_parts fits value t.low t.top qs g'.tiled g'.few (λ j p e. let z = shows j p e in (z.0, ap read z.1, z.2))
+        (λ j far low. ap read (g'.others j far low)) in
         let w : List Right = t.above in let hs : Homes fits bins = homes_after homes' car (takes_up n value 7) in
-        let first : get_elem? hs (8 * n) ≡ some (some (value 0)) = (let z : 8 * n + 0 ≡ 8 * n = omega arith in up_frame n value 7 (8 * n) homes' car (λ j l e. omega arith) ∙ subst (λ (m : ℕ). get_elem? homes' m ≡ some (some (value 0))) z (there 0 (omega arith))) in (
+        let first : get_elem? hs (8 * n) ≡ some (some (value 0)) =
+        (let z : 8 * n + 0 ≡ 8 * n = omega arith in
+        up_frame n value 7 (8 * n) homes' car (λ j l e. omega arith)
+        ∙ subst (λ (m : ℕ). get_elem? homes' m ≡ some (some (value 0))) z (there 0 (omega arith))) in (
           w,
           chain gives (chain (takes_up n value 7) (takes (8 * n) (value 0))),
           (tt, (up_valid n value 7 homes' car (omega arith) there, first)),
-          moved fits bins s r n (going t.low t.top t.above ps) over t.cell_is id v w at words' (set hs (8 * n) none) (length-set s.words (2 * n) y) (length-set hs (8 * n) none ∙ (up_long n value 7 homes' car ∙ length-set s.homes k (some (Some xp))))
-              (λ m apart. let o = others m apart in (o.0, o.1, (λ j low. set_else hs (8 * n) (8 * m + j) none (λ e. apart (omega arith)) ∙ (up_frame n value 7 (8 * m + j) homes' car (λ u l e. apart (omega arith)) ∙ o.2 j low))))
+          moved fits bins s r n (going t.low t.top t.above ps) over t.cell_is id v w at words' (set hs (8 * n) none)
+              (length-set s.words (2 * n) y) (length-set hs (8 * n) none
+              ∙ (up_long n value 7 homes' car ∙ length-set s.homes k (some (Some xp))))
+              (λ m apart. let o = others m apart in (
+                o.0,
+                o.1,
+                (λ j low. set_else hs (8 * n) (8 * m + j) none (λ e. apart (omega arith))
+                    ∙ (up_frame n value 7 (8 * m + j) homes' car (λ u l e. apart (omega arith)) ∙ o.2 j low)),
+              ))
               tt
-              (λ h. let a = given_out_set h n t.low t.top t.above ps i (piece lo hi places) (piece lo hi arrived) t.piece_is in let z : given_out h n (going t.low t.top t.above qs) ≡ 0 = all_zero _ 0 qs (λ j p e. ap (λ (st : Stage). right_of h n t.above (length qs) (0 + j) p.lo p.hi st) (all j p e)) in
-              let u : ℕ = given_out h n (going t.low t.top t.above qs) in let u' : ℕ = given_out h n (going t.low t.top t.above ps) in let c : ℕ = h (Places n i lo hi (known_forks i (length ps)) (code t.above)) in let c' : ℕ = h (Places n i lo hi fk d) in let a' : u + c ≡ u' + 0 = a in let z' : u ≡ 0 = z in
-              let e : c' ≡ c = λ k. h (Places n i lo hi (f.1 k) (f.2 k)) in let b : ℕ = total h t.above in let q : b + 0 + u' ≤ c' + 0 + b + 0 = omega arith in q),
+              (λ h. let a = given_out_set h n t.low t.top t.above ps i (piece lo hi places) (piece lo hi arrived) t.piece_is in
+              let z : given_out h n (going t.low t.top t.above qs) ≡ 0 =
+              all_zero _ 0 qs (λ j p e. ap (λ (st : Stage). right_of h n t.above (length qs) (0 + j) p.lo p.hi st) (all j p e)) in
+              let u : ℕ = given_out h n (going t.low t.top t.above qs) in let u' : ℕ = given_out h n (going t.low t.top t.above ps) in
+              let c : ℕ = h (Places n i lo hi (known_forks i (length ps)) (code t.above) (path_of t.above)) in
+              let c' : ℕ = h (Places n i lo hi fk d up) in let a' : u + c ≡ u' + 0 = a in let z' : u ≡ 0 = z in
+              let e : c' ≡ c = λ k. h (Places n i lo hi (f.1 k) (f.2 k) (f.3 k)) in let b : ℕ = total h t.above in
+              let q : b + 0 + u' ≤ c' + 0 + b + 0 = omega arith in q),
           (
             told,
             (λ _. record {
@@ -142,6 +198,7 @@ module _ {P : Type 0} (fits : ℕ → ℕ → P → Type 0) (bins : ℕ) where
               first = (let o = first_piece t.low t.top qs g'.tiled in let z = shows 0 o.0 o.1 in (z.0, ap read z.1, z.2.0 ∙ o.2));
               above = g.above_is;
               coded = sym f.2;
+              path = sym f.3;
               inside = λ there. above_in s r slots wide n t.low t.top t.above ps t.cell_is g.above_is there;
             }),
           ),
@@ -150,12 +207,18 @@ module _ {P : Type 0} (fits : ℕ → ℕ → P → Type 0) (bins : ℕ) where
           w,
           gives,
           tt,
-          restaged fits bins s r n i lo hi places arrived t (λ e. arrived_not_held e) id v w at words' homes' (length-set s.words (2 * n) y) (length-set s.homes k (some (Some xp))) others code_same number_same
+          restaged fits bins s r n i lo hi places arrived t (λ e. arrived_not_held e) id v w at words' homes'
+              (length-set s.words (2 * n) y) (length-set s.homes k (some (Some xp))) others code_same number_same
               (λ j apart _. beside fits bins s.homes n i (some (Some xp)) j apart) place played'
-              (λ h. let c : ℕ = h (Places n i lo hi (known_forks i (length ps)) (code t.above)) in let c' : ℕ = h (Places n i lo hi fk d) in let e : c' ≡ c = λ k. h (Places n i lo hi (f.1 k) (f.2 k)) in let q : 0 + c ≤ c' + 0 + 0 = omega arith in q),
+              (λ h. let c : ℕ = h (Places n i lo hi (known_forks i (length ps)) (code t.above) (path_of t.above)) in
+              let c' : ℕ = h (Places n i lo hi fk d up) in let e : c' ≡ c = λ k. h (Places n i lo hi (f.1 k) (f.2 k) (f.3 k)) in
+              let q : 0 + c ≤ c' + 0 + 0 = omega arith in q),
           (told, (λ one. absurd (more one))),
         ))
 
-  pub arrives : (slots id : ℕ) (found : Knows P) (n i lo hi fk d : ℕ) (xp : Partial P) → found ≡ (Places n i lo hi fk d ∷ [], (8 * n + i, Some xp) ∷ []) → IsPart fits lo hi xp
+  pub arrives : (slots id : ℕ) (found : Knows P) (n i lo hi fk d : ℕ) (up : List Above) (xp : Partial P)
+      → found ≡ (Places n i lo hi fk d up ∷ [], (8 * n + i, Some xp) ∷ []) → IsPart fits lo hi xp
       → Allows (Rule fits bins) slots id found (2 * n) (λ x. (x + (2 ^ 64 - 1)) % 2 ^ 64) (Arrives fits bins slots found)
-  arrives slots id found n i lo hi fk d xp is part = subst (λ (m : Knows P). Allows (Rule fits bins) slots id m (2 * n) (λ x. (x + (2 ^ 64 - 1)) % 2 ^ 64) (Arrives fits bins slots m)) (sym is) (arrives_step slots id n i lo hi fk d xp part)
+  arrives slots id found n i lo hi fk d up xp is part =
+      subst (λ (m : Knows P). Allows (Rule fits bins) slots id m (2 * n) (λ x. (x + (2 ^ 64 - 1)) % 2 ^ 64) (Arrives fits bins slots m))
+      (sym is) (arrives_step slots id n i lo hi fk d up xp part)

@@ -1,5 +1,6 @@
 -- What a list of rights says. A token's rights begin with its own right: a supply's and a node's go on with nodes that are not opened.
 use Rattle.std.specs.Prelude.{◌≡◌, ◌⊎◌, ℕ, zero, suc, ◌+◌, ◌*◌, ◌/◌, ◌<◌, List, [], ◌∷◌, take, drop, length}
+use Rattle.completers.specs.declared.rule.Above.{Above}
 use Rattle.completers.specs.declared.rule.Right.{Right}
 use Rattle.completers.specs.declared.rule.Right.TheVariants.{Unopened, Opened, Waits, Places}
 
@@ -26,50 +27,66 @@ upper_half rs = drop (length rs / 2) rs
 abbrev pub code : List Right → ℕ
 code [] = 0
 code (Unopened n ∷ rs) = 0
-code (Opened n lo hi k ∷ rs) = 0
-code (Waits n i lo hi f ∷ rs) = 8 * n + i + 1
-code (Places n i lo hi f c ∷ rs) = 0
+code (Opened n lo hi k up ∷ rs) = 0
+code (Waits n i lo hi f up ∷ rs) = 8 * n + i + 1
+code (Places n i lo hi f c up ∷ rs) = 0
+
+-- a ticket, and then those above it: what stands above a node that is opened with it
+abbrev pub path_of : List Right → List Above
+path_of [] = []
+path_of (Unopened n ∷ rs) = []
+path_of (Opened n lo hi k up ∷ rs) = []
+path_of (Waits n i lo hi f up ∷ rs) = record { node = n; number = i; lo = lo; hi = hi; forks = f } ∷ up
+path_of (Places n i lo hi f c up ∷ rs) = []
 
 -- the ticket above is for the node's range. Only the root, of the whole range, has none
 abbrev pub IsAbove : ℕ → ℕ → ℕ → List Right → Type 0
-IsAbove bins lo top above = ((above ≡ []) × (lo ≡ 0) × (top ≡ bins)) ⊎ ((n : ℕ) × (i : ℕ) × (f : ℕ) × (i < 8) × (above ≡ Waits n i lo top f ∷ []))
+IsAbove bins lo top above = ((above ≡ []) × (lo ≡ 0) × (top ≡ bins)) ⊎ ((n : ℕ) × (i : ℕ) × (f : ℕ) × (up : List Above) × (i < 8) × (above ≡ Waits n i lo top f up ∷ []))
 
 -- the node that the first right is of
 abbrev pub node_in : List Right → ℕ
 node_in [] = 0
 node_in (Unopened n ∷ rs) = n
-node_in (Opened n lo hi k ∷ rs) = n
-node_in (Waits n i lo hi f ∷ rs) = n
-node_in (Places n i lo hi f c ∷ rs) = n
+node_in (Opened n lo hi k up ∷ rs) = n
+node_in (Waits n i lo hi f up ∷ rs) = n
+node_in (Places n i lo hi f c up ∷ rs) = n
 
 -- the number of its ticket
 abbrev pub ticket_in : List Right → ℕ
 ticket_in [] = 0
 ticket_in (Unopened n ∷ rs) = 0
-ticket_in (Opened n lo hi k ∷ rs) = 0
-ticket_in (Waits n i lo hi f ∷ rs) = i
-ticket_in (Places n i lo hi f c ∷ rs) = i
+ticket_in (Opened n lo hi k up ∷ rs) = 0
+ticket_in (Waits n i lo hi f up ∷ rs) = i
+ticket_in (Places n i lo hi f c up ∷ rs) = i
 
 -- how many tickets its open node has
 abbrev pub tickets_in : List Right → ℕ
 tickets_in [] = 0
 tickets_in (Unopened n ∷ rs) = 0
-tickets_in (Opened n lo hi k ∷ rs) = k
-tickets_in (Waits n i lo hi f ∷ rs) = 0
-tickets_in (Places n i lo hi f c ∷ rs) = 0
+tickets_in (Opened n lo hi k up ∷ rs) = k
+tickets_in (Waits n i lo hi f up ∷ rs) = 0
+tickets_in (Places n i lo hi f c up ∷ rs) = 0
 
 -- how many forks its node has, which an own ticket knows
 abbrev pub forks_in : List Right → ℕ
 forks_in [] = 0
 forks_in (Unopened n ∷ rs) = 0
-forks_in (Opened n lo hi k ∷ rs) = 0
-forks_in (Waits n i lo hi f ∷ rs) = f
-forks_in (Places n i lo hi f c ∷ rs) = f
+forks_in (Opened n lo hi k up ∷ rs) = 0
+forks_in (Waits n i lo hi f up ∷ rs) = f
+forks_in (Places n i lo hi f c up ∷ rs) = f
 
 -- the code that it has read
 abbrev pub code_in : List Right → ℕ
 code_in [] = 0
 code_in (Unopened n ∷ rs) = 0
-code_in (Opened n lo hi k ∷ rs) = 0
-code_in (Waits n i lo hi f ∷ rs) = 0
-code_in (Places n i lo hi f c ∷ rs) = c
+code_in (Opened n lo hi k up ∷ rs) = 0
+code_in (Waits n i lo hi f up ∷ rs) = 0
+code_in (Places n i lo hi f c up ∷ rs) = c
+
+-- the tickets above its node
+abbrev pub up_in : List Right → List Above
+up_in [] = []
+up_in (Unopened n ∷ rs) = []
+up_in (Opened n lo hi k up ∷ rs) = up
+up_in (Waits n i lo hi f up ∷ rs) = up
+up_in (Places n i lo hi f c up ∷ rs) = up

@@ -7,7 +7,7 @@ use lib.ListN.{get_elem?}
 use Rattle.atomic_table.specs.Table.{State}
 use Rattle.completers.specs.Game.{Position, Played}
 use Rattle.completers.specs.Parts.{IsPart}
-use Rattle.completers.specs.Rights.{IsAbove, code}
+use Rattle.completers.specs.Rights.{IsAbove, code, path_of}
 use Rattle.completers.specs.declared.relation.Partial.{Partial}
 use Rattle.completers.specs.declared.rule.Right.{Right}
 use Rattle.completers.specs.declared.rule.Right.TheVariants.{Unopened, Opened, Waits, Places}
@@ -72,9 +72,9 @@ known_forks (suc i) n = 0
 
 -- the right that the ticket i of a node of n tickets stands for
 abbrev pub right_of : (Right → ℕ) → ℕ → List Right → ℕ → ℕ → ℕ → ℕ → Stage → ℕ
-right_of h m above n i lo hi held = h (Opened m lo hi n)
-right_of h m above n i lo hi waits = h (Waits m i lo hi (known_forks i n))
-right_of h m above n i lo hi places = h (Places m i lo hi (known_forks i n) (code above))
+right_of h m above n i lo hi held = h (Opened m lo hi n (path_of above))
+right_of h m above n i lo hi waits = h (Waits m i lo hi (known_forks i n) (path_of above))
+right_of h m above n i lo hi places = h (Places m i lo hi (known_forks i n) (code above) (path_of above))
 right_of h m above n i lo hi arrived = 0
 
 -- the rights that tokens have on a node

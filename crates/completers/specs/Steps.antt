@@ -3,8 +3,9 @@ use Rattle.std.specs.Prelude.{◌≡◌, ◌≢◌, ℕ, ◌+◌, ◌-◌, ◌*�
 use Rattle.atomic_table.specs.Table.{Me, rest}
 use Rattle.completers.specs.Game.{fork, own, arrive, number, Plays}
 use Rattle.completers.specs.Parts.{AreParts, present, stack, pile}
-use Rattle.completers.specs.Rights.{IsAbove, code, node_in, ticket_in, tickets_in, forks_in, code_in}
+use Rattle.completers.specs.Rights.{IsAbove, code, path_of, node_in, ticket_in, tickets_in, forks_in, code_in, up_in}
 use Rattle.completers.specs.declared.relation.Partial.{Partial}
+use Rattle.completers.specs.declared.rule.Above.{Above}
 use Rattle.completers.specs.declared.rule.Right.{Right}
 use Rattle.completers.specs.declared.rule.Right.TheVariants.{Unopened, Opened, Waits, Places}
 
@@ -12,41 +13,41 @@ use Rattle.completers.specs.declared.rule.Right.TheVariants.{Unopened, Opened, W
 abbrev pub placing : ℕ → List Right → List Right
 placing c [] = []
 placing c (Unopened n ∷ rs) = []
-placing c (Opened n lo hi k ∷ rs) = []
-placing c (Waits n i lo hi f ∷ rs) = Places n i lo hi f c ∷ []
-placing c (Places n i lo hi f d ∷ rs) = []
+placing c (Opened n lo hi k up ∷ rs) = []
+placing c (Waits n i lo hi f up ∷ rs) = Places n i lo hi f c up ∷ []
+placing c (Places n i lo hi f d up ∷ rs) = []
 
 -- the node's new ticket, and the node with the range that is left
 abbrev pub forked : ℕ → List Right → List Right
 forked mid [] = []
 forked mid (Unopened n ∷ rs) = []
-forked mid (Opened n lo hi k ∷ rs) = Waits n k mid hi 0 ∷ Opened n lo mid (k + 1) ∷ rs
-forked mid (Waits n i lo hi f ∷ rs) = []
-forked mid (Places n i lo hi f c ∷ rs) = []
+forked mid (Opened n lo hi k up ∷ rs) = Waits n k mid hi 0 up ∷ Opened n lo mid (k + 1) up ∷ rs
+forked mid (Waits n i lo hi f up ∷ rs) = []
+forked mid (Places n i lo hi f c up ∷ rs) = []
 
 -- the own ticket
 abbrev pub owned : List Right → List Right
 owned [] = []
 owned (Unopened n ∷ rs) = []
-owned (Opened n lo hi k ∷ rs) = Waits n 0 lo hi (k - 1) ∷ []
-owned (Waits n i lo hi f ∷ rs) = []
-owned (Places n i lo hi f c ∷ rs) = []
+owned (Opened n lo hi k up ∷ rs) = Waits n 0 lo hi (k - 1) up ∷ []
+owned (Waits n i lo hi f up ∷ rs) = []
+owned (Places n i lo hi f c up ∷ rs) = []
 
 -- the first node of a supply, opened for a range, with the supply that is left
-abbrev pub opened_for : ℕ → ℕ → List Right → List Right
-opened_for lo hi [] = []
-opened_for lo hi (Unopened n ∷ rs) = Opened n lo hi 1 ∷ rs
-opened_for lo hi (Opened n lo' hi' k ∷ rs) = []
-opened_for lo hi (Waits n i lo' hi' f ∷ rs) = []
-opened_for lo hi (Places n i lo' hi' f c ∷ rs) = []
+abbrev pub opened_for : ℕ → ℕ → List Above → List Right → List Right
+opened_for lo hi up [] = []
+opened_for lo hi up (Unopened n ∷ rs) = Opened n lo hi 1 up ∷ rs
+opened_for lo hi up (Opened n lo' hi' k up' ∷ rs) = []
+opened_for lo hi up (Waits n i lo' hi' f up' ∷ rs) = []
+opened_for lo hi up (Places n i lo' hi' f c up' ∷ rs) = []
 
 -- the root's range is the whole one, another node's that of the ticket in front, which goes to the node
 abbrev pub opened : ℕ → List Right → List Right
 opened bins [] = []
-opened bins (Unopened n ∷ rs) = Opened n 0 bins 1 ∷ rs
-opened bins (Opened n lo hi k ∷ rs) = []
-opened bins (Waits n i lo hi f ∷ rs) = opened_for lo hi rs
-opened bins (Places n i lo hi f c ∷ rs) = []
+opened bins (Unopened n ∷ rs) = Opened n 0 bins 1 [] ∷ rs
+opened bins (Opened n lo hi k up ∷ rs) = []
+opened bins (Waits n i lo hi f up ∷ rs) = opened_for lo hi (record { node = n; number = i; lo = lo; hi = hi; forks = f } ∷ up) rs
+opened bins (Places n i lo hi f c up ∷ rs) = []
 
 abbrev pub Knows : Type 0 → Type 0
 Knows P = Me (Option (Partial P)) (List Right)
@@ -80,6 +81,7 @@ module _ {P : Type 0} where
     pub first : (x : Partial P) × (held 0 ≡ Some x) × (x.lo ≡ lo)
     pub above : IsAbove bins lo hi m'.0
     pub coded : code m'.0 ≡ code_in m.0
+    pub path : path_of m'.0 ≡ up_in m.0
     pub inside : m'.0 ≢ [] → 8 * node_in m'.0 + 8 ≤ slots
 
   abbrev pub Arrives : (ℕ → ℕ → P → Type 0) → ℕ → ℕ → Knows P → ℕ → Knows P → Type 0

@@ -4,7 +4,7 @@ use Rattle.atomic_table.specs.Table.{Me}
 use Rattle.atomic_table.specs.Seated.{TableId}
 use Rattle.completers.specs.declared.rule.Right.{Right}
 use Rattle.completers.specs.declared.rule.Right.TheVariants.{Opened, Waits}
-use Rattle.completers.specs.Rights.{nodes, forks_in}
+use Rattle.completers.specs.Rights.{nodes, forks_in, up_in}
 
 -- a table of two words and eight places a node
 pub record IsTree (table : TableId) (nodes slots : ℕ) : Type 0 where
@@ -20,13 +20,13 @@ module _ {S : Type 0} where
     pub few : level ≤ 7
 
   pub record IsNode (table : TableId) (me : Me S (List Right)) (node lo hi forks level : ℕ) : Type 0 where
-    pub rights : me ≡ (Opened node lo hi (forks + 1) ∷ nodes (node + 1) (2 ^ level - 1), [])
+    pub rights : me ≡ (Opened node lo hi (forks + 1) (up_in me.0) ∷ nodes (node + 1) (2 ^ level - 1), [])
     pub inside : 8 * (node + 2 ^ level) ≤ table.slots
     pub few : level ≤ 7
     pub range : lo < hi
 
   pub record IsTicket (table : TableId) (me : Me S (List Right)) (node number lo hi : ℕ) : Type 0 where
-    pub rights : me ≡ (Waits node number lo hi (forks_in me.0) ∷ [], [])
+    pub rights : me ≡ (Waits node number lo hi (forks_in me.0) (up_in me.0) ∷ [], [])
     pub place : number < 8
     pub inside : 8 * node + 8 ≤ table.slots
     pub range : lo < hi

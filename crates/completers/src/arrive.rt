@@ -1,9 +1,8 @@
 //! Arrivals.
 ghost use Rattle.std.specs.Prelude.{◌≡◌, ◌≢◌, ℕ, ◌+◌, ◌*◌, ◌<◌, ◌≤◌, List, [], ◌∷◌, map, length, Contains, MatchOption, None, Some};
 ghost use Rattle.atomic_table.specs.Table.{rest, turned};
-ghost use Rattle.completers.specs.Game.{Plays, arrive, number, after};
 ghost use Rattle.completers.specs.Parts.{AreParts, pile, places_of, present};
-ghost use Rattle.completers.specs.Rights.{IsAbove, code as code_of, node_in};
+ghost use Rattle.completers.specs.Rights.{IsAbove, code as code_of, node_in, path_of};
 ghost use Rattle.completers.specs.declared.rule.Right.TheVariants.{Places as Placing};
 
 use crate::parts::{Parts, Places};
@@ -72,7 +71,7 @@ impl<B: Relation, A: Allocator> Tree<B, A> {
     ) -> Option<Ticket<B::Part>>
         requires table { seat.table_id ≡ self.now.identity }
         requires above { (lo : ℕ) × (hi : ℕ) × AreParts (B.relates self.now.relation) lo hi (present (places_of places.now)) × IsAbove self.now.bins lo hi seat.me.0 × (code_of seat.me.0 ≡ code) × (seat.me.0 ≢ [] → 8 * node_in seat.me.0 + 8 ≤ seat.table_id.slots) × ((x : _) × (places.now.own ≡ Some x) × (x.lo ≡ lo)) }
-        ensures { IsWholeNode self.now (B.relates self.now.relation) (present (places_of places.now)) result }
+        ensures { IsWholeNode self.now (B.relates self.now.relation) (path_of seat.me.0) (present (places_of places.now)) result }
     {
         if code == 0 {
             return None;
@@ -93,7 +92,7 @@ impl<B: Relation, A: Allocator> Tree<B, A> {
         requires tree { ticket.tree ≡ self.now.identity }
         ensures table { result.0.table_id ≡ self.now.identity }
         ensures inside { (8 * ticket.node + 8 ≤ result.0.table_id.slots) × (result.0.table_id.slots ≤ 1024) × (ticket.number < 8) }
-        ensures place { result.0.me ≡ (Placing ticket.node ticket.number ticket.lo ticket.hi ticket.forks result.1 ∷ [], (8 * ticket.node + ticket.number, Some partial) ∷ []) }
+        ensures place { result.0.me ≡ (Placing ticket.node ticket.number ticket.lo ticket.hi ticket.forks result.1 ticket.above ∷ [], (8 * ticket.node + ticket.number, Some partial) ∷ []) }
     {
         let Ticket {
             mut seat,
@@ -116,9 +115,7 @@ impl<B: Relation, A: Allocator> Tree<B, A> {
         requires tree { ticket.tree ≡ self.now.identity }
         requires range { (partial.lo ≡ ticket.lo) × (partial.hi ≡ ticket.hi) }
         requires part { B.relates self.now.relation partial.lo partial.hi partial.part }
-        ensures event { Plays (arrive ticket.number) (λ p. (ticket.number ≡ 0 → length p.arrived ≡ ticket.forks + 1)
-            × MatchArrival result (number (after p (arrive ticket.number)) ≢ 0) (λ _ _. number (after p (arrive ticket.number)) ≡ 0)) }
-        ensures last { MatchArrival result (Unit {0}) (λ parts above. Contains parts partial × IsWholeNode self.now (B.relates self.now.relation) parts above) }
+        ensures last { MatchArrival result (Unit {0}) (λ parts above. Contains parts partial × IsWholeNode self.now (B.relates self.now.relation) ticket.above parts above) }
         // The own ticket of a node that forked nothing.
         ensures alone { ticket.number ≡ 0 → ticket.forks ≡ 0 → IsLast result }
     {

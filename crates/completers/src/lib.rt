@@ -13,8 +13,6 @@ mod parts;
 mod relation;
 mod rule;
 mod steps;
-#[cfg(test)]
-mod tests;
 mod tokens;
 mod tree;
 mod words;

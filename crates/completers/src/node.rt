@@ -1,6 +1,5 @@
 //! Forks, and a node's own ticket.
-ghost use Rattle.std.specs.Prelude.{◌≡◌, ℕ, ◌+◌, ◌<◌, length};
-ghost use Rattle.completers.specs.Game.{Plays, fork, own};
+ghost use Rattle.std.specs.Prelude.{◌≡◌, ◌+◌, ◌<◌};
 ghost use Rattle.completers.specs.Views.{after_fork, forked_ticket, forked_supply, own_ticket};
 
 use crate::relation::Relation;
@@ -26,7 +25,6 @@ impl<P: Drop> Node<P> {
         ensures node { self.new ≡ after_fork mid self.old }
         ensures ticket { result.0 ≡ forked_ticket mid self.old }
         ensures supply { result.1 ≡ forked_supply self.old }
-        ensures event { Plays fork (λ p. length p.arrived ≡ self.old.forks + 1) }
     {
         let words = &tree.board.shared;
         count_up::<B, Brand>(words, &mut self.seat, self.node, mid);
@@ -55,7 +53,6 @@ impl<P: Drop> Node<P> {
     pub fn own<B: Relation<Part = P>, A: Allocator>(self, tree: &Tree<B, A>) -> Ticket<P>
         requires tree { self.tree ≡ tree.now.identity }
         ensures ticket { result ≡ own_ticket self }
-        ensures event { Plays own (λ p. length p.arrived ≡ self.forks + 1) }
     {
         let Node {
             mut seat,

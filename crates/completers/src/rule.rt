@@ -5,16 +5,28 @@ use std::collections::LinkedList;
 use std::marker::PhantomData;
 use std::snapshot::Snapshot;
 
+/// A ticket above a node: its own node, its number and range, and how many forks its node has, where it is that node's own ticket (else 0). No value of it is made.
+pub struct Above {
+    pub node: u64,
+    pub number: u64,
+    pub lo: u64,
+    pub hi: u64,
+    pub forks: u64,
+}
+
+/// The tickets above a node, the nearest first. The root has none.
+pub type Path = LinkedList<Above>;
+
 /// One thing that a token may do. No value of it is made.
 pub enum Right {
     /// Open a node.
     Unopened(u64),
-    /// Fork at a node, or give out its own ticket: the node, its range, and how many tickets it has.
-    Opened(u64, u64, u64, u64),
-    /// Arrive: the node, the ticket's number and range, and how many forks the node has, where the ticket is its own (else 0).
-    Waits(u64, u64, u64, u64, u64),
+    /// Fork at a node, or give out its own ticket: the node, its range, how many tickets it has, and the tickets above it.
+    Opened(u64, u64, u64, u64, Path),
+    /// Arrive: the node, the ticket's number and range, how many forks the node has, where the ticket is its own (else 0), and the tickets above the node.
+    Waits(u64, u64, u64, u64, u64, Path),
     /// The same while the ticket's place is with the token, which has read the code of the ticket above.
-    Places(u64, u64, u64, u64, u64, u64),
+    Places(u64, u64, u64, u64, u64, u64, Path),
 }
 
 /// What a token may do, in all. No value of it is made.

@@ -36,11 +36,12 @@ pub struct Node<P: Drop> {
 
 impl<P: Drop> Model for Node<P> {
     ghost use Rattle.completers.specs.Views.{NodeView};
+    ghost use Rattle.completers.specs.Rights.{up_in};
     ghost use Rattle.completers.specs.Tokens.{IsNode};
 
     ghost Value = { NodeView };
 
-    ghost view = { λ n. record { tree = n.seat.table_id; node = n.node; lo = n.lo; hi = n.hi; forks = n.forks; level = n.level } };
+    ghost view = { λ n. record { tree = n.seat.table_id; node = n.node; lo = n.lo; hi = n.hi; forks = n.forks; level = n.level; above = up_in n.seat.me.0 } };
 
     ghost invariant = { λ n. IsNode n.seat.table_id n.seat.me n.node n.lo n.hi n.forks n.level };
 }
@@ -57,12 +58,12 @@ pub struct Ticket<P: Drop> {
 
 impl<P: Drop> Model for Ticket<P> {
     ghost use Rattle.completers.specs.Views.{TicketView};
-    ghost use Rattle.completers.specs.Rights.{forks_in};
+    ghost use Rattle.completers.specs.Rights.{forks_in, up_in};
     ghost use Rattle.completers.specs.Tokens.{IsTicket};
 
     ghost Value = { TicketView };
 
-    ghost view = { λ t. record { tree = t.seat.table_id; node = t.node; number = t.number; lo = t.lo; hi = t.hi; forks = forks_in t.seat.me.0 } };
+    ghost view = { λ t. record { tree = t.seat.table_id; node = t.node; number = t.number; lo = t.lo; hi = t.hi; forks = forks_in t.seat.me.0; above = up_in t.seat.me.0 } };
 
     ghost invariant = { λ t. IsTicket t.seat.table_id t.seat.me t.node t.number t.lo t.hi };
 }

@@ -1,7 +1,7 @@
 //! A tree of nodes.
-ghost use Rattle.std.specs.Prelude.{◌≡◌, ℕ, ◌+◌, ◌^◌, ◌<◌, ◌≤◌, IfOk, MatchOption};
+ghost use Rattle.std.specs.Prelude.{◌≡◌, ℕ, ◌+◌, ◌^◌, ◌<◌, ◌≤◌, [], IfOk, MatchOption, Some};
 ghost use Rattle.completers.specs.Game.{OneLast};
-ghost use Rattle.completers.specs.Views.{new_node};
+ghost use Rattle.completers.specs.Views.{new_node, path_from};
 
 use crate::relation::Relation;
 use crate::rule::{Board, Purpose};
@@ -84,7 +84,7 @@ impl<B: Relation, A: Allocator> Tree<B, A> {
     fn open_root(&self, supply: Supply<B::Part>, bins: usize) -> Node<B::Part>
         requires supply { supply.tree ≡ self.now.identity }
         requires range { (0 < bins) × (bins ≡ self.now.bins) }
-        ensures { result ≡ new_node supply 0 bins }
+        ensures { result ≡ new_node supply [] 0 bins }
     {
         let Supply {
             mut seat,
@@ -105,7 +105,7 @@ impl<B: Relation, A: Allocator> Tree<B, A> {
     fn open_below(&self, supply: Supply<B::Part>, above: Ticket<B::Part>) -> Node<B::Part>
         requires supply { supply.tree ≡ self.now.identity }
         requires above { above.tree ≡ self.now.identity }
-        ensures { result ≡ new_node supply above.lo above.hi }
+        ensures { result ≡ new_node supply (path_from (Some above)) above.lo above.hi }
     {
         let Ticket {
             mut seat,
@@ -146,7 +146,7 @@ impl<B: Relation, A: Allocator> Tree<B, A> {
         requires range { lo < hi }
         requires above { MatchOption above ((lo ≡ 0) × (hi ≡ self.now.bins))
             (λ t. (t.tree ≡ self.now.identity) × (t.lo ≡ lo) × (t.hi ≡ hi)) }
-        ensures { result ≡ new_node supply lo hi }
+        ensures { result ≡ new_node supply (path_from above) lo hi }
     {
         match above {
             None => self.open_root(supply, hi),

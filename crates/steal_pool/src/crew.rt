@@ -16,6 +16,7 @@ pub(crate) fn members<T: Drop, S: Seats>(
     alloc: Global,
     deques: Vec<Own<T>>,
 ) -> Result<Vec<Member<T, S>>, AllocError>
+    requires few { vec_len deques ≤ 16 }
     requires deques { All IsUnshared deques.items }
     requires seats { AreSeated worker_deque S.deque deques.items }
     ensures { IfOk result (λ v. vec_len v ≡ vec_len deques) }

@@ -1,9 +1,12 @@
 //! What a test may hold back while a script runs.
+ghost use Rattle.std.specs.Prelude.{◌<◌};
 
 /// What is called before each leaf of a bulk operation.
 pub trait Gate {
     /// The worker is about to take the bins from `lo` to below `hi`.
-    fn leaf(&self, worker: usize, lo: usize, hi: usize);
+    fn leaf(&self, worker: usize, lo: usize, hi: usize)
+        requires worker { worker < 16 }
+        requires range { lo < hi };
 }
 
 /// A gate that holds nothing back.

@@ -21,6 +21,8 @@ pub(crate) struct Job<'a, B: Body, G, W: Work> {
     pub(crate) gate: &'a G,
     pub(crate) bins: usize,
     pub(crate) batch: usize,
+    // Whether deques take what is pushed.
+    pub(crate) pushes: bool,
     pub(crate) done: &'a AtomicBool,
     pub(crate) work: PhantomData<W>,
     ghost tree_is: { (tree.now.identity ≡ W.tree) × (tree.now.bins ≡ W.bins) × (tree.now.slots ≡ 8) },
@@ -30,14 +32,14 @@ pub(crate) struct Job<'a, B: Body, G, W: Work> {
 
 impl<B: Body, G: Gate, W: Work> Job<'_, B, G, W> {
     // Arrives with the part of the ticket's range, and goes on to the ticket above wherever it is the last. At the root it has the part of the whole range.
-    fn climb<Rt: Wait>(&self, rt: &Rt, ticket: Ticket<B::Part>, part: B::Part) -> Option<B::Part>
+    fn climb(&self, ticket: Ticket<B::Part>, part: B::Part) -> Option<B::Part>
         requires tree { ticket.tree ≡ W.tree }
         requires part { B.relates self.now.body.now ticket.lo ticket.hi part }
         ensures { IfSome result (B.relates self.now.body.now 0 W.bins) }
     {
         let mut ticket = ticket;
         let mut part = part;
-        for _ in rt.forever() {
+        loop {
             let (lo, hi) = (ticket.lo(), ticket.hi());
             let Arrival::Last(parts, above) = self.tree.arrive(ticket, Partial { lo, hi, part })
             else {
@@ -50,7 +52,6 @@ impl<B: Body, G: Gate, W: Work> Job<'_, B, G, W> {
             part = self.body.join(next.lo(), next.hi(), parts);
             ticket = next;
         }
-        unreachable!()
     }
 
     // Opens the node of a task.
@@ -95,7 +96,12 @@ impl<B: Body, G: Gate, W: Work> Job<'_, B, G, W> {
                 batch,
                 work: PhantomData,
             };
-            if let Err(task) = me.push(task) {
+            let pushed = if self.pushes {
+                me.push(task)
+            } else {
+                Err(task)
+            };
+            if let Err(task) = pushed {
                 let (child, batch) = self.begin(task);
                 let found = self.work(rt, me, child, batch);
                 if found.is_some() {
@@ -107,7 +113,7 @@ impl<B: Body, G: Gate, W: Work> Job<'_, B, G, W> {
         let ticket = node.own(self.tree);
         self.gate.leaf(me.number, lo, hi);
         let part = self.body.leaf(lo, hi);
-        self.climb(rt, ticket, part)
+        self.climb(ticket, part)
     }
 
     /// Takes tasks until the run is done.

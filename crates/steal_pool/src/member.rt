@@ -43,4 +43,5 @@ pub struct Member<T, S: Seats> {
     ghost deque: { S.deque number ≡ Some (worker_deque own) },
     ghost shares: { (worker_view own).shares + out ≡ 32 },
     ghost some: { out < 32 },
+    ghost few: { number < 16 },
 }

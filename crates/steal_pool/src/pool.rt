@@ -24,7 +24,8 @@ const CAPACITY: usize = 4;
 // The nodes of a tree for a batch: 2 to the number of its binary digits.
 fn nodes_for(batch: usize) -> usize
     requires { batch ≤ 64 }
-    ensures { (batch < result) × (level : ℕ) × (level ≤ 7) × (result ≡ 2 ^ level) }
+    ensures nodes { (batch < result) × (level : ℕ) × (level ≤ 7) × (result ≡ 2 ^ level) }
+    ensures tight { (batch ≡ 0 → result ≡ 1) × (0 < batch → result ≤ 2 * batch) }
 {
     match batch {
         0 => 1,
@@ -38,8 +39,36 @@ fn nodes_for(batch: usize) -> usize
     }
 }
 
-// Each other member serves in a thread of its own, up to so many threads, and the caller leads. A member whose thread can't be started serves after the others have ended, when nothing
-// is left to do.
+// Members serve, and start threads for each other by halves.
+fn help<
+    B: Body + Sync,
+    G: Gate + Sync,
+    W: Work + Send + Sync,
+    S: Seats + Send,
+    Rt: Threads + Wait + Sync,
+>(rt: &Rt, job: &Job<'_, B, G, W>, members: &mut [Member<Task<B::Part, W>, S>]) -> Option<B::Part>
+where
+    B::Part: Send,
+    ensures { IfSome result (B.relates job.now.body.now 0 W.bins) }
+{
+    if members.len() < 2 {
+        let Some(one) = members.first_mut() else {
+            return None;
+        };
+        return job.serve(rt, one);
+    }
+    let (front, back) = members.split_at_mut(members.len() / 2);
+    let theirs = move || -> Option<B::Part>
+        ensures { IfSome result (B.relates job.entry.now.body.now 0 W.bins) }
+    { help(rt, job, front) };
+    let ours = move || -> Option<B::Part>
+        ensures { IfSome result (B.relates job.entry.now.body.now 0 W.bins) }
+    { help(rt, job, back) };
+    let (theirs, ours) = join(rt, theirs, ours);
+    ours.or(theirs)
+}
+
+// The others serve in threads of their own, and the caller leads. Where no thread can be started they serve after the caller, when nothing is left to do.
 fn crew<
     B: Body + Sync,
     G: Gate + Sync,
@@ -49,7 +78,6 @@ fn crew<
 >(
     rt: &Rt,
     job: &Job<'_, B, G, W>,
-    threads: usize,
     others: &mut [Member<Task<B::Part, W>, S>],
     me: &mut Member<Task<B::Part, W>, S>,
     root: Supply<B::Part>,
@@ -60,23 +88,17 @@ where
     requires room { (job.now.batch < 2 ^ root.level) × (root.level ≤ 7) }
     ensures { IfSome result (B.relates job.now.body.now 0 W.bins) }
 {
-    let Some((first, rest)) = others.split_first_mut() else {
+    if others.is_empty() {
         return job.lead(rt, me, root);
-    };
-    if threads == 0 {
-        let ours = crew(rt, job, 0, rest, me, root);
-        let theirs = job.serve(rt, first);
-        return ours.or(theirs);
     }
-    let threads = threads - 1;
-    let front = move || -> Option<B::Part>
+    let theirs = move || -> Option<B::Part>
         ensures { IfSome result (B.relates job.entry.now.body.now 0 W.bins) }
-    { job.serve(rt, first) };
-    let back = move || -> Option<B::Part>
+    { help(rt, job, others) };
+    let ours = move || -> Option<B::Part>
         requires { (root.tree ≡ W.tree) × (job.now.batch < 2 ^ root.level) × (root.level ≤ 7) }
         ensures { IfSome result (B.relates job.entry.now.body.now 0 W.bins) }
-    { crew(rt, job, threads, rest, me, root) };
-    let (theirs, ours) = join(rt, front, back);
+    { job.lead(rt, me, root) };
+    let (theirs, ours) = join(rt, theirs, ours);
     ours.or(theirs)
 }
 
@@ -91,12 +113,21 @@ pub(crate) fn new_deques<T: Drop>(alloc: Global, workers: usize) -> Result<Vec<O
     Ok(all)
 }
 
+// What a run is made to be refused.
+#[derive(Clone, Copy, Debug, PartialEq, Eq)]
+pub(crate) enum Refused {
+    Nothing,
+    Pushes,
+    Memory,
+}
+
 // What the caller of a run asked for.
 #[derive(Drop)]
 pub(crate) struct Order<'a, B: Body, G> {
     pub(crate) workers: usize,
     // At most so many threads are started.
     pub(crate) threads: usize,
+    pub(crate) refused: Refused,
     pub(crate) gate: &'a G,
     pub(crate) body: &'a B,
     pub(crate) bins: usize,
@@ -105,6 +136,9 @@ pub(crate) struct Order<'a, B: Body, G> {
     ghost bins_are: { (0 < bins) × (bins ≤ B.limit body.now) },
     ghost batch_is: { batch ≤ 64 },
 }
+
+// The part of all bins, where somebody came to the root, and how many tasks the settlement found left.
+type Outcome<P> = (Option<P>, Option<usize>);
 
 // A run whose deques have their numbers. It ends with all members back.
 fn run_seated<
@@ -120,22 +154,23 @@ fn run_seated<
     threads: usize,
     deques: Vec<Own<Task<B::Part, W>>>,
     root: Supply<B::Part>,
-) -> Result<Option<B::Part>, AllocError>
+) -> Result<Outcome<B::Part>, AllocError>
 where
     B::Part: Send,
     requires tree { root.tree ≡ W.tree }
     requires room { (job.now.batch < 2 ^ root.level) × (root.level ≤ 7) }
+    requires few { vec_len deques ≤ 16 }
     requires deques { All IsUnshared deques.items }
     requires seats { AreSeated worker_deque S.deque deques.items }
-    ensures { IfOk result (λ found. IfSome found (B.relates job.now.body.now 0 W.bins)) }
+    ensures { IfOk result (λ out. IfSome out.0 (B.relates job.now.body.now 0 W.bins)) }
 {
     let mut members = members::<Task<B::Part, W>, S>(alloc, deques)?;
     let Some((me, others)) = members.split_last_mut() else {
-        return Ok(None);
+        return Ok((None, None));
     };
-    let found = crew(rt, job, threads, others, me, root);
-    let _left = close(members);
-    Ok(found)
+    let spare = others.len().saturating_sub(threads);
+    let found = crew(rt, job, &mut others[spare..], me, root);
+    Ok((found, close(members)))
 }
 
 // A run whose tree has a name.
@@ -145,14 +180,14 @@ fn run_tree<B: Body + Sync, G: Gate + Sync, W: Work + Send + Sync, Rt: Threads +
     order: &Order<'_, B, G>,
     tree: &Tree<B, Global>,
     root: Supply<B::Part>,
-) -> Result<Option<B::Part>, AllocError>
+) -> Result<Outcome<B::Part>, AllocError>
 where
     B::Part: Send,
     requires tree { (tree.now.identity ≡ W.tree) × (tree.now.bins ≡ W.bins) × (tree.now.slots ≡ 8) × (tree.now.relation ≡ order.now.body.now) }
     requires bins { W.bins ≡ order.now.bins }
     requires root { root.tree ≡ W.tree }
     requires room { (order.now.batch < 2 ^ root.level) × (root.level ≤ 7) }
-    ensures { IfOk result (λ found. IfSome found (B.relates order.now.body.now 0 order.now.bins)) }
+    ensures { IfOk result (λ out. IfSome out.0 (B.relates order.now.body.now 0 order.now.bins)) }
 {
     let done = AtomicBool::new(false);
     let job = Job::<B, G, W> {
@@ -161,6 +196,7 @@ where
         gate: order.gate,
         bins: order.bins,
         batch: order.batch,
+        pushes: order.refused != Refused::Pushes,
         done: &done,
         work: PhantomData,
     };
@@ -173,36 +209,42 @@ fn try_run<B: Body + Sync, G: Gate + Sync, Rt: Threads + Wait + Sync>(
     rt: &Rt,
     alloc: Global,
     order: &Order<'_, B, G>,
-) -> Result<Option<B::Part>, AllocError>
+) -> Result<Outcome<B::Part>, AllocError>
 where
     B::Part: Send,
-    ensures { IfOk result (λ found. IfSome found (B.relates order.now.body.now 0 order.now.bins)) }
+    ensures { IfOk result (λ out. IfSome out.0 (B.relates order.now.body.now 0 order.now.bins)) }
 {
+    if order.refused == Refused::Memory {
+        return Err(AllocError);
+    }
     let nodes = nodes_for(order.batch);
     let (tree, root) = Tree::new(alloc, order.body, nodes, 8, order.bins)?;
     run_tree::<B, G, Brand, Rt>(rt, alloc, order, &tree, root)
 }
 
-// A run, or one leaf over everything.
+// A run, or one leaf over everything. How many tasks the settlement found left, where there was one.
 pub(crate) fn run_order<B: Body + Sync, G: Gate + Sync, Rt: Threads + Wait + Sync>(
     rt: &Rt,
     alloc: Global,
     order: &Order<'_, B, G>,
-) -> B::Part
+) -> (B::Part, Option<usize>)
 where
     B::Part: Send,
-    ensures { B.relates order.now.body.now 0 order.now.bins result }
+    ensures { B.relates order.now.body.now 0 order.now.bins result.0 }
 {
-    match try_run(rt, alloc, order) {
-        Ok(Some(part)) => part,
-        Ok(None) | Err(_) => order.body.leaf(0, order.bins),
+    if let Ok((found, left)) = try_run(rt, alloc, order) {
+        if let Some(part) = found {
+            return (part, left);
+        }
     }
+    (order.body.leaf(0, order.bins), None)
 }
 
 /// The part of the bins from 0 up to `bins`, of which there is at least one. There are 1 to 16 `workers`, of which the caller is number 0; the others have threads of their own, which
 /// end with the call. A range is halved while its batch, at most 64 at the root, is above 0, and each half gets half of the batch, rounded down. The gate is called before each leaf.
 ///
-/// It waits for its workers. A worker that can't be started is left out. Where memory for the tree or the deques is refused, the caller does one leaf over everything, without the gate.
+/// It waits for its workers. There are no more of them than leaves, and one that can't be started is left out. Where memory for the tree or the deques is refused, the caller does one
+/// leaf over everything, without the gate.
 pub fn run<B: Body + Sync, G: Gate + Sync, Rt: Threads + Wait + Sync>(
     rt: &Rt,
     alloc: Global,
@@ -219,13 +261,18 @@ where
     requires batch { batch ≤ 64 }
     ensures { B.relates body.now 0 bins result }
 {
+    // Each node that is opened does one leaf, and there are no more than bins.
+    let leaves = nodes_for(batch).min(bins);
+    let workers = workers.min(leaves);
     let order = Order {
         workers,
         threads: workers - 1,
+        refused: Refused::Nothing,
         gate,
         body,
         bins,
         batch,
     };
-    run_order(rt, alloc, &order)
+    let (part, _left) = run_order(rt, alloc, &order);
+    part
 }

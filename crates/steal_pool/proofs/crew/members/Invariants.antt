@@ -1,4 +1,4 @@
-use Rattle.std.proofs.Common.{◌≡◌, ◌+◌, vec_len}
+use Rattle.std.proofs.Common.{◌≡◌, ◌+◌, ◌≤◌, vec_len}
 use Rattle.std.specs.Prelude.{All}
 use Rattle.crossbeam_deque.specs.Handles.{worker_deque}
 use Rattle.steal_pool.specs.Seating.{AreSeated, IsUnshared}
@@ -8,6 +8,7 @@ abbrev pub invariant-loop-own : goal.invariant-loop-own
 invariant-loop-own g l =
     record {
       count : vec_len l.all + vec_len l.deques ≡ l.workers;
+      few : vec_len l.deques ≤ 16;
       shares : All IsUnshared l.deques.items;
       seats : AreSeated worker_deque g.S.Seats.deque l.deques.items;
     }

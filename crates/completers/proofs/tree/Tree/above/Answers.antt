@@ -28,8 +28,9 @@ invariant_of-result g c =
     let hi_is : c.hi.result ≡ hi = c.hi.ensures ∙ (ap (λ z. ends z (places_of ps)) start ∙ ends_at fits lo hi (places_of ps) r.2) in
     let less : lo < hi = not_empty fits lo hi r.6.0 _ ps.own r.6.1 r.2 in
     record {
-      rights = is_ticket _ ((k - 1) / 8) ((k - 1) % 8) c.lo.result c.hi.result a.0 (e.4 ∙ (ap (λ l. (head l, [])) a.1 ∙ (λ i. (Waits ((k - 1) / 8) ((k - 1) % 8) (sym lo_is i) (sym hi_is i) a.0 ∷ [], []))));
+      rights = is_ticket _ ((k - 1) / 8) ((k - 1) % 8) c.lo.result c.hi.result a.0 a.1
+          (e.4 ∙ (ap (λ l. (head l, [])) a.2 ∙ (λ i. (Waits ((k - 1) / 8) ((k - 1) % 8) (sym lo_is i) (sym hi_is i) a.0 a.1 ∷ [], []))));
       place = (let z : (k - 1) % 8 < 8 = omega arith in z);
-      inside = subst (λ t. 8 * ((k - 1) / 8) + 8 ≤ t.slots) (sym e.3) a.2;
+      inside = subst (λ t. 8 * ((k - 1) / 8) + 8 ≤ t.slots) (sym e.3) a.3;
       range = subst (λ (z : ℕ × ℕ). z.0 < z.1) (λ i. (sym lo_is i, sym hi_is i)) less;
     }

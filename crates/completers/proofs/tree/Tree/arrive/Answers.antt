@@ -2,12 +2,13 @@ use Rattle.std.proofs.Common.{◌≡◌, ◌≢◌, ℕ, ◌+◌, ◌*◌, ◌�
 use lib.ListN.{get_elem?}
 use mathlib.Core.Option.{some}
 use Rattle.std.specs.Prelude.{false}
-use Rattle.completers.specs.Parts.{AreParts, present, stack}
-use Rattle.completers.specs.Rights.{IsAbove, node_in}
+use Rattle.completers.specs.Arrived.{IsWholeNode}
+use Rattle.completers.specs.Parts.{AreParts, present, places_of, stack}
+use Rattle.completers.specs.Rights.{IsAbove, node_in, path_of}
 use Rattle.completers.specs.Rights.{code as code_of}
 use Rattle.completers.specs.declared.rule.Right.{Right}
 use Rattle.completers.proofs.Arrivals.{arrives}
-use Rattle.completers.proofs.Ends.{not_last, last, alone, full, own_is, is_part}
+use Rattle.completers.proofs.Ends.{alone, full, own_is, is_part}
 use Rattle.completers.proofs.Parting.{among}
 use Rattle.completers.proofs.tree.Tree.arrive.Goals as goal
 
@@ -15,14 +16,11 @@ pub count_down-requires-clause-rule : goal.count_down-requires-clause-rule
 count_down-requires-clause-rule g c =
     let key = c.self.inside.board.shared.key in
     let t = c.args.ticket in
-    let part = subst (λ r. g.B.Relation.relates r c.args.partial.lo c.args.partial.hi c.args.partial.part) (ap (λ v. v.relation) (sym c.self.view_is)) c.requires.part in
-    rw (ap (λ v. v.node) c.ticket.view_is) (arrives (g.B.Relation.relates key.relation.value) key.bins _ _ _ t.node t.number t.lo t.hi t.forks _ c.args.partial c.place-seat.ensures.place
+    let part = subst (λ r. g.B.Relation.relates r c.args.partial.lo c.args.partial.hi c.args.partial.part)
+    (ap (λ v. v.relation) (sym c.self.view_is)) c.requires.part in
+    rw (ap (λ v. v.node) c.ticket.view_is) (arrives
+    (g.B.Relation.relates key.relation.value) key.bins _ _ _ t.node t.number t.lo t.hi t.forks _ t.above c.args.partial c.place-seat.ensures.place
     (is_part (g.B.Relation.relates key.relation.value) t.lo t.hi c.args.partial c.requires.range.0 c.requires.range.1 part))
-
-pub returns-then-count_down-ne1-clause-event : goal.returns-then-count_down-ne1-clause-event
-returns-then-count_down-ne1-clause-event g c =
-    let e = (rw c.place-seat.ensures.place at c.count_down.ensures.told).0 in
-    (e.0, e.1, e.2, (e.3.1, not_last e.0 c.args.ticket.number _ e.2 e.3.0 c.if-count_down-ne1.true))
 
 pub returns-then-count_down-ne1-clause-alone : goal.returns-then-count_down-ne1-clause-alone
 returns-then-count_down-ne1-clause-alone g c own none =
@@ -31,11 +29,6 @@ returns-then-count_down-ne1-clause-alone g c own none =
     let first : get_elem? e.0.arrived 0 ≡ some false = subst (λ (t : ℕ). get_elem? e.0.arrived t ≡ some false) own e.2.0 in
     absurd (c.if-count_down-ne1.true (sym e.3.0 ∙ alone e.0.arrived one first))
 
-pub returns-clause-event : goal.returns-clause-event
-returns-clause-event g c =
-    let e = (rw c.place-seat.ensures.place at c.count_down.ensures.told).0 in
-    (e.0, e.1, e.2, (e.3.1, last e.0 c.args.ticket.number _ e.2 e.3.0 c.if-count_down-ne1.false))
-
 pub above-above-requires-clause-above : goal.above-above-requires-clause-above
 above-above-requires-clause-above g c =
     let key = c.self.inside.board.shared.key in
@@ -43,11 +36,15 @@ above-above-requires-clause-above g c =
     let t = (rw c.place-seat.ensures.place at c.count_down.ensures.told).1 c.if-count_down-ne1.false in
     let is = full n t.held _ c.empty_all-places.result t.places c.empty_all-places.ensures.found in
     let rights = c.empty_all-places.ensures.rights in
-    let table = c.empty_all-places.ensures.table ∙ (c.count_down.ensures.table ∙ (c.place-seat.ensures.table ∙ ap (λ v. v.identity) (sym c.self.view_is))) in (
+    let table = c.empty_all-places.ensures.table
+    ∙ (c.count_down.ensures.table ∙ (c.place-seat.ensures.table ∙ ap (λ v. v.identity) (sym c.self.view_is))) in (
       t.lo,
       t.hi,
-      subst (λ l. AreParts (g.B.Relation.relates c.args.self.now.relation) t.lo t.hi (present l)) (sym is) (subst (λ r. AreParts (g.B.Relation.relates r) t.lo t.hi (present (t.held 0 ∷ stack t.held 7))) (ap (λ v. v.relation) c.self.view_is) t.parts),
-      subst (λ b. IsAbove b t.lo t.hi c.empty_all-places.new.seat.me.0) (ap (λ v. v.bins) c.self.view_is) (subst (IsAbove key.bins t.lo t.hi) (sym rights) t.above),
+      subst (λ l. AreParts (g.B.Relation.relates c.args.self.now.relation) t.lo t.hi (present l)) (sym is)
+          (subst (λ r. AreParts (g.B.Relation.relates r) t.lo t.hi (present (t.held 0 ∷ stack t.held 7)))
+          (ap (λ v. v.relation) c.self.view_is) t.parts),
+      subst (λ b. IsAbove b t.lo t.hi c.empty_all-places.new.seat.me.0) (ap (λ v. v.bins) c.self.view_is)
+          (subst (IsAbove key.bins t.lo t.hi) (sym rights) t.above),
       ap code_of rights ∙ t.coded,
       subst (λ (u : List Right × ℕ). (u.0 ≢ []) → 8 * node_in u.0 + 8 ≤ u.1) (λ k. (sym rights k, (sym table k).slots)) t.inside,
       (t.first.0, own_is t.held c.empty_all-places.result is ∙ t.first.1, t.first.2),
@@ -58,4 +55,10 @@ returns-clause-last g c =
     let n : ℕ = c.args.ticket.node in
     let t = (rw c.place-seat.ensures.place at c.count_down.ensures.told).1 c.if-count_down-ne1.false in
     let is = full n t.held _ c.empty_all-places.result t.places c.empty_all-places.ensures.found in
-    rw c.of.ensures (subst (λ l. Contains (present l) c.args.partial) (sym is) (among t.held c.args.ticket.number c.args.partial c.place-seat.ensures.inside.2 t.mine), c.above-above.ensures)
+    let rights = c.empty_all-places.ensures.rights in
+    rw c.of.ensures (
+      subst (λ l. Contains (present l) c.args.partial) (sym is)
+          (among t.held c.args.ticket.number c.args.partial c.place-seat.ensures.inside.2 t.mine),
+      subst (λ up. IsWholeNode c.args.self.now (g.B.Relation.relates c.args.self.now.relation) up
+          (present (places_of c.empty_all-places.result)) c.above-above.result) (ap path_of rights ∙ t.path) c.above-above.ensures,
+    )

@@ -6,4 +6,5 @@ use Rattle.completers.proofs.tree.Tree.new.Goals as goal
 pub vacant-requires : goal.vacant-requires
 vacant-requires g c =
     let few = c.level_of-level.ensures.2 in
-    starts (g.B.Relation.relates c.of.result.value) c.args.bins c.args.nodes (2 * c.args.nodes) (8 * c.args.nodes) _ (take-replicate (2 * c.args.nodes) 256 1 (omega arith)) refl refl few
+    starts (g.B.Relation.relates c.of.result.value) c.args.bins c.args.nodes (2 * c.args.nodes) (8 * c.args.nodes) _
+    (take-replicate (2 * c.args.nodes) 256 1 (omega arith)) refl refl few

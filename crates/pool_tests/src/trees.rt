@@ -1,7 +1,7 @@
 //! Trees whose parts are the numbers of bins.
 ghost use Rattle.std.specs.Prelude.{◌≡◌, ◌+◌, ◌<◌, ◌≤◌};
 
-use crate::{Arrival, Found, Node, Partial, Parts, Relation, Supply, Ticket, Tree};
+use completers::{Arrival, Found, Node, Partial, Parts, Relation, Supply, Ticket, Tree};
 use std::alloc::{AllocError, Global};
 use std::process::Abort;
 use std::sync::atomic::AtomicU64;

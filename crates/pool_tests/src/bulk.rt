@@ -1,9 +1,9 @@
 //! Bulk operations on small closed maps.
-use crate::collector::collect;
-use crate::samples::{Above, Initials, KeyQuiet, ShortGreatest, closed, new_meeting};
-use crate::searching::{Probed, Searching, search_alone};
-use crate::{BulkFault, Greatest, Plan, Sum, batch, for_each, reduce, reduce_based, search};
-use completers::Found;
+use crate::gates::{all_workers, new_meeting};
+use crate::samples::{
+    Above, CountedAction, CountedProbe, Initials, KeyQuiet, ShortGreatest, closed,
+};
+use bulk_tasks::{BulkFault, Greatest, Plan, Sum, batch, for_each, reduce, reduce_based, search};
 use hashkeys::Key;
 use std::alloc::{AllocError, Global};
 use std::process::Abort;
@@ -141,7 +141,7 @@ fn the_sum_of_1_to_64(rt: HostRuntime) -> Result<(), Fail> {
 #[test]
 fn two_tasks_at_once(rt: HostRuntime) -> Result<(), Fail> {
     let quiet = counted(&rt, rt.alloc(), 64)?;
-    let gate = new_meeting(10_000_000);
+    let gate = new_meeting(2, 10_000_000);
     let plan = Plan {
         threshold: 1,
         workers: 2,
@@ -160,7 +160,7 @@ fn two_tasks_at_once(rt: HostRuntime) -> Result<(), Fail> {
 #[test]
 fn one_worker_is_late(rt: HostRuntime) -> Result<(), Fail> {
     let quiet = counted(&rt, rt.alloc(), 64)?;
-    let gate = new_meeting(1000);
+    let gate = new_meeting(2, 1000);
     let plan = Plan {
         threshold: 1,
         workers: 1,
@@ -183,7 +183,7 @@ fn tasks<Rt: Threads + Wait + Sync + Abort>(
     quiet: &KeyQuiet,
     threshold: u64,
 ) -> u64 {
-    let gate = new_meeting(0);
+    let gate = new_meeting(0, 1);
     let plan = Plan {
         threshold,
         workers: 4,
@@ -205,24 +205,48 @@ fn tasks_by_threshold(rt: HostRuntime) -> Result<(), Fail> {
     Ok(())
 }
 
+// One worker does the tasks in their order, and the first entry is a find: no other is asked.
 #[test]
 fn a_search_gives_up_after_a_find(rt: HostRuntime) -> Result<(), Fail> {
-    let quiet = counted(&rt, rt.alloc(), 11)?;
-    let found = Found::new();
-    let searching = Searching {
-        probe: &Above(10),
-        found: &found,
-        may_give_up: true,
+    let quiet = counted(&rt, rt.alloc(), 64)?;
+    let probe = CountedProbe {
+        calls: AtomicU64::new(0),
     };
-    let Probed::Found(first) = collect(&searching, quiet.bins()) else {
-        panic!(rt; "found nothing");
+    let found = search(&rt, rt.alloc(), &quiet, &open_plan(1, 1), &probe);
+    assert!(rt; found.expect(&rt, "a search").is_some());
+    assert_eq!(rt; probe.calls.load(SeqCst), 1);
+    Ok(())
+}
+
+#[test]
+fn an_action_is_called_once_a_pair(rt: HostRuntime) -> Result<(), Fail> {
+    let quiet = counted(&rt, rt.alloc(), 64)?;
+    for workers in [1, 4, 16] {
+        let action = CountedAction {
+            calls: AtomicU64::new(0),
+        };
+        let list = for_each(&rt, rt.alloc(), &quiet, &open_plan(1, workers), &action);
+        assert_eq!(rt; list.expect(&rt, "a list").len(), 64);
+        assert_eq!(rt; action.calls.load(SeqCst), 64);
+    }
+    Ok(())
+}
+
+#[test]
+fn four_workers_reduce(rt: HostRuntime) -> Result<(), Fail> {
+    let quiet = counted(&rt, rt.alloc(), 64)?;
+    let gate = all_workers(0b1111);
+    let plan = Plan {
+        threshold: 1,
+        workers: 4,
+        gate: &gate,
     };
-    assert_eq!(rt; first, 11);
-    let Probed::GaveUp = collect(&searching, quiet.bins()) else {
-        panic!(rt; "did not give up");
-    };
-    assert_eq!(rt; search_alone(quiet.bins(), &Above(10)), Ok(Some(11)));
-    assert_eq!(rt; search_alone(quiet.bins(), &Above(11)), Ok(None));
+    assert_eq!(rt;
+        reduce(&rt, rt.alloc(), &quiet, &plan, &Sum),
+        Ok(Some(2080))
+    );
+    assert_eq!(rt; gate.late.load(SeqCst), 0);
+    assert_eq!(rt; gate.seen.load(SeqCst), 0b1111);
     Ok(())
 }
 

@@ -1,4 +1,4 @@
-use Rattle.completers.proofs.tests.+fill.Given as goal
+use Rattle.pool_tests.proofs.trees.+fill.Given as goal
 
 abbrev pub decreases-fill : goal.decreases-fill
 decreases-fill g l = l.level

@@ -1,17 +1,15 @@
-//! What the tests run: closed maps at the program's keys, reducers, a probe, an action, and gates.
+//! What bulk operations are run on: closed maps at the program's keys, a reducer, probes and actions.
 ghost use Rattle.std.specs.Prelude.{◌≡◌};
 
-use crate::{Action, Probe, Reducer};
 use bin_history::Remap;
+use bulk_tasks::{Action, Probe, Reducer};
 use chm::{Map, NotClosed, Quiet};
 use count_ledger::{Pass, retire_all};
 use hashkeys::Key;
 use std::alloc::{AllocError, Global};
-use std::hint;
 use std::sync::Wait;
 use std::sync::atomic::AtomicU64;
 use std::sync::atomic::Ordering::SeqCst;
-use steal_pool::Gate;
 
 /// A remapping function that takes a value away. No test calls it.
 #[derive(Drop)]
@@ -179,33 +177,40 @@ impl Action<Key, i64> for Initials {
     }
 }
 
-/// Holds the first task until a second has begun, for at most so many turns. It is late where none did.
+/// Finds any value, and counts how often it is asked.
 #[derive(Drop)]
-pub(crate) struct Meeting {
-    pub(crate) turns: u32,
-    pub(crate) begun: AtomicU64,
-    pub(crate) late: AtomicU64,
+pub(crate) struct CountedProbe {
+    pub(crate) calls: AtomicU64,
 }
 
-pub(crate) fn new_meeting(turns: u32) -> Meeting {
-    Meeting {
-        turns,
-        begun: AtomicU64::new(0),
-        late: AtomicU64::new(0),
+impl Probe<Key, i64> for CountedProbe {
+    ghost use Rattle.std.specs.Prelude.{true, Some};
+
+    type U = i64;
+
+    ghost probed = { λ _ _ v. Some v };
+
+    ghost never_refuses = { true };
+
+    fn probe(&self, _key: &Key, value: &i64) -> Result<Option<i64>, AllocError> {
+        self.calls.fetch_add(1, SeqCst);
+        Ok(Some(*value))
     }
 }
 
-impl Gate for Meeting {
-    fn leaf(&self, _worker: usize, _lo: usize, _hi: usize) {
-        if self.begun.fetch_add(1, SeqCst) > 0 {
-            return;
-        }
-        for _ in 0..self.turns {
-            if self.begun.load(SeqCst) > 1 {
-                return;
-            }
-            hint::spin_loop();
-        }
-        self.late.store(1, SeqCst);
+/// Answers a value, and counts how often it is asked.
+#[derive(Drop)]
+pub(crate) struct CountedAction {
+    pub(crate) calls: AtomicU64,
+}
+
+impl Action<Key, i64> for CountedAction {
+    type R = i64;
+
+    ghost acted = { λ _ _ v. v };
+
+    fn act(&self, _key: &Key, value: &i64) -> Result<i64, AllocError> {
+        self.calls.fetch_add(1, SeqCst);
+        Ok(*value)
     }
 }

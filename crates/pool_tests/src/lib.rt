@@ -1,0 +1,15 @@
+//! Tests of trees of completers, of runs of the pool, and of bulk operations, by what each has for its callers.
+#![tactic(auto)]
+
+#[cfg(test)]
+mod bulk;
+#[cfg(test)]
+mod counting;
+#[cfg(test)]
+mod gates;
+#[cfg(test)]
+mod runs;
+#[cfg(test)]
+mod samples;
+#[cfg(test)]
+mod trees;

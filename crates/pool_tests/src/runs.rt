@@ -1,0 +1,131 @@
+//! Runs over small ranges, whose gates tell what was done.
+ghost use Rattle.std.specs.Prelude.{◌<◌, ◌≤◌};
+
+use crate::counting::{new_count, no_leaves};
+use crate::gates::{Before, all_workers, new_meeting, new_watch};
+use std::alloc::Global;
+use std::process::Abort;
+use std::sync::Wait;
+use std::sync::atomic::AtomicU64;
+use std::sync::atomic::Ordering::SeqCst;
+use std::thread::Threads;
+use steal_pool::{OpenGate, run};
+
+/// The leaves of five bins with batch 2.
+const FOUR_LEAVES: [(usize, usize); 4] = [(0, 1), (1, 2), (2, 3), (3, 5)];
+
+// A run with these workers over these bins calls its gate and its body for just these leaves, the gate first, and has no more workers than leaves.
+fn assert_leaves<Rt: Threads + Wait + Sync + Abort>(
+    rt: &Rt,
+    alloc: Global,
+    workers: usize,
+    bins: usize,
+    batch: usize,
+    leaves: &[(usize, usize)],
+)
+    requires { (0 < workers) × (workers ≤ 16) × (0 < bins) × (bins ≤ 64) × (batch ≤ 64) }
+{
+    let body = new_count();
+    let gate = Before {
+        begun: &body.leaves,
+        seen: no_leaves(),
+        late: AtomicU64::new(0),
+        greatest: AtomicU64::new(0),
+    };
+    assert_eq!(rt; run(rt, alloc, workers, &gate, &body, bins, batch), bins);
+    assert!(rt; gate.seen.are(leaves));
+    assert!(rt; body.leaves.are(leaves));
+    assert_eq!(rt; gate.late.load(SeqCst), 0);
+    let greatest = gate.greatest.load(SeqCst);
+    assert!(rt; greatest < workers as u64 && greatest < leaves.len() as u64);
+}
+
+#[test]
+fn leaves_by_bins_and_batch(rt: HostRuntime) {
+    for workers in 1..=16 {
+        assert_leaves(&rt, rt.alloc(), workers, 5, 2, &FOUR_LEAVES);
+        assert_leaves(
+            &rt,
+            rt.alloc(),
+            workers,
+            7,
+            3,
+            &[(0, 1), (1, 3), (3, 5), (5, 7)],
+        );
+        assert_leaves(&rt, rt.alloc(), workers, 3, 4, &[(0, 1), (1, 2), (2, 3)]);
+        assert_leaves(&rt, rt.alloc(), workers, 1, 16, &[(0, 1)]);
+        assert_leaves(&rt, rt.alloc(), workers, 9, 0, &[(0, 9)]);
+    }
+}
+
+#[test]
+fn four_workers_do_each_leaf_once(rt: HostRuntime) {
+    for _ in 0..1000u32 {
+        assert_leaves(&rt, rt.alloc(), 4, 5, 2, &FOUR_LEAVES);
+    }
+}
+
+#[test]
+fn one_worker_takes_its_newest_task(rt: HostRuntime) {
+    let gate = new_watch(false);
+    assert_eq!(rt; run(&rt, rt.alloc(), 1, &gate, &new_count(), 5, 2), 5);
+    assert_eq!(rt; gate.seen.load(SeqCst), 01_12_23_35);
+}
+
+#[test]
+fn a_thief_takes_the_oldest_task(rt: HostRuntime) {
+    let gate = new_watch(true);
+    assert_eq!(rt; run(&rt, rt.alloc(), 2, &gate, &new_count(), 5, 2), 5);
+    assert_eq!(rt; gate.late.load(SeqCst), 0);
+    assert_eq!(rt; gate.first.load(SeqCst), 23);
+}
+
+#[test]
+fn two_leaves_at_once(rt: HostRuntime) {
+    let gate = new_meeting(2, 10_000_000);
+    assert_eq!(rt; run(&rt, rt.alloc(), 2, &gate, &new_count(), 64, 8), 64);
+    assert_eq!(rt; gate.late.load(SeqCst), 0);
+    assert_eq!(rt; gate.begun.load(SeqCst), 16);
+}
+
+#[test]
+fn four_workers_do_leaves_at_once(rt: HostRuntime) {
+    let gate = all_workers(0b1111);
+    assert_eq!(rt; run(&rt, rt.alloc(), 4, &gate, &new_count(), 64, 16), 64);
+    assert_eq!(rt; gate.late.load(SeqCst), 0);
+    assert_eq!(rt; gate.seen.load(SeqCst), 0b1111);
+}
+
+#[test]
+fn sixteen_workers_do_leaves_at_once(rt: HostRuntime) {
+    let gate = all_workers(0xffff);
+    assert_eq!(rt; run(&rt, rt.alloc(), 16, &gate, &new_count(), 64, 64), 64);
+    assert_eq!(rt; gate.late.load(SeqCst), 0);
+    assert_eq!(rt; gate.seen.load(SeqCst), 0xffff);
+}
+
+// Where bins suffice each node does one leaf.
+#[test]
+fn nodes_by_batch(rt: HostRuntime) {
+    let rows = [(0, 1), (1, 2), (6, 8), (8, 16), (16, 32), (64, 128)];
+    for (batch, nodes) in rows {
+        let body = new_count();
+        assert_eq!(rt;
+            run(&rt, rt.alloc(), 2, &OpenGate, &body, 65536, batch),
+            65536
+        );
+        assert_eq!(rt; body.leaves.calls.load(SeqCst), nodes, "for batch {batch}");
+    }
+}
+
+#[test]
+fn a_thousand_runs_over_65536_bins(rt: HostRuntime) {
+    for _ in 0..1000u32 {
+        let body = new_count();
+        assert_eq!(rt;
+            run(&rt, rt.alloc(), 16, &OpenGate, &body, 65536, 64),
+            65536
+        );
+        assert_eq!(rt; body.leaves.calls.load(SeqCst), 128);
+    }
+}
