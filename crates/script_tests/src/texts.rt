@@ -1,7 +1,7 @@
 //! Scripts by their texts, and texts that are no script.
-use crate::{Fault, Function, Kind, ParseError, Query, parse};
 use bin_history::{Call, Remap};
 use hashkeys::Key;
+use script::{Fault, Function, Kind, ParseError, Query, parse};
 use std::alloc::{AllocError, Global};
 use std::process::Abort;
 use std::test::Fail;
