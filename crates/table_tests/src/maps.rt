@@ -9,10 +9,9 @@ use bin_history::{Bin, Call, Remap};
 use count_ledger::{BinRole, Ledger, MOST_CALLS, Pass, agreement_laws, retire_all};
 use generations::Generations;
 use hashkeys::{HashKey, Key, Salt};
-use std::alloc::{AllocError, Allocator, Global};
+use std::alloc::{AllocError, Allocator};
 use std::process::Abort;
 use std::sync::Wait;
-use std::test::Fail;
 
 /// Leaves each value as it is.
 #[derive(Drop)]

@@ -1,12 +1,23 @@
 //! Requests for memory that are refused, each in turn.
-use crate::maps::{Single, leaves_of, open_quiet, open_single, put};
+use crate::maps::{KeyMap, Single, leaves_of, open_quiet, open_single, put};
 use generations::{Moved, NotLeft};
 use hashkeys::{Class, Salt};
 use refusing_alloc::Refusing;
-use std::alloc::{AllocError, Global};
+use std::alloc::{AllocError, Allocator, Global};
 use std::process::Abort;
 use std::sync::Wait;
 use std::test::Fail;
+
+/// The size of the class and the number of entries of the bin of the hash 97, as it is held and as it is read.
+fn sizes<R: Wait, A: Allocator + Clone>(rt: &R, map: &KeyMap<A>) -> [(u32, usize); 2] {
+    let held = map.hold(rt, 97);
+    let of_held = (held.bin.class().n(), held.bin.entries().len());
+    held.release();
+    let shown = map.read(rt, 97);
+    let of_shown = (shown.bin().class().n(), shown.bin().entries().len());
+    shown.release();
+    [of_held, of_shown]
+}
 
 /// Moves the one bin of a map under an allocator that refuses the request after so many. Where the move is refused the bin is there as before, and the next try moves it. Answers whether it was moved, and whether a request was refused.
 fn refused_move<R: Wait + Abort>(
@@ -21,21 +32,19 @@ fn refused_move<R: Wait + Abort>(
     } = open_single(rt, alloc, Salt(0), 1)?;
     let done = put(rt, &map, &ledger, &mut pass, b"a");
     pass.retire();
-    done?;
     alloc.refuse_after(granted);
     let moved = map.forward(rt, &ledger, Class::new(1, 0)).is_ok();
     let refused = alloc.has_refused();
     alloc.refuse_after(u64::MAX);
-    let held = map.hold(rt, 97);
-    let (n, entries) = (held.bin.class().n(), held.bin.entries().len());
-    held.release();
-    assert_eq!(rt; (n, entries), (if moved { 2 } else { 1 }, 1));
-    let again = map.forward(rt, &ledger, Class::new(1, 0))?;
-    assert_eq!(rt; again, if moved { Moved::Already } else { Moved::Yes });
-    let shown = map.read(rt, 97);
-    let (n, entries) = (shown.bin().class().n(), shown.bin().entries().len());
-    shown.release();
-    assert_eq!(rt; (n, entries), (2, 1));
+    let between = sizes(rt, &map);
+    let again = map.forward(rt, &ledger, Class::new(1, 0));
+    let after = sizes(rt, &map);
+    drop(map);
+    drop(ledger);
+    done?;
+    assert_eq!(rt; between, [(if moved { 2 } else { 1 }, 1); 2]);
+    assert_eq!(rt; again?, if moved { Moved::Already } else { Moved::Yes });
+    assert_eq!(rt; after, [(2, 1); 2]);
     Ok((moved, refused))
 }
 

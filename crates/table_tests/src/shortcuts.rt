@@ -24,15 +24,21 @@ fn noted<A: Allocator>(map: &KeyMap<A>) -> [Option<(u32, u32)>; 4] {
 #[test]
 fn the_widest_place_of_a_hash_is_noted(rt: HostRuntime) -> Result<(), Fail> {
     let (map, ledger) = open_quiet(rt.alloc(), 1)?;
-    assert_eq!(rt; noted(&map), [None; 4]);
-    assert_eq!(rt; map.forward(&rt, &ledger, Class::new(1, 0))?, Moved::Yes);
+    let before = noted(&map);
+    let first = map.forward(&rt, &ledger, Class::new(1, 0));
+    let between = noted(&map);
+    let second = map.forward(&rt, &ledger, Class::new(2, 1));
+    let after = noted(&map);
+    drop(map);
+    drop(ledger);
+    assert_eq!(rt; (first?, second?), (Moved::Yes, Moved::Yes));
+    assert_eq!(rt; before, [None; 4]);
     assert_eq!(rt;
-        noted(&map),
+        between,
         [Some((2, 0)), Some((2, 1)), Some((2, 0)), Some((2, 1))]
     );
-    assert_eq!(rt; map.forward(&rt, &ledger, Class::new(2, 1))?, Moved::Yes);
     assert_eq!(rt;
-        noted(&map),
+        after,
         [Some((2, 0)), Some((4, 1)), Some((2, 0)), Some((4, 3))]
     );
     Ok(())

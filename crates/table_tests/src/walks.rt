@@ -74,11 +74,14 @@ fn walks_of_four(
         put_all = put_all.and(put(rt, &map, &ledger, &mut pass, text));
     }
     pass.retire();
+    let before = walk(rt, alloc, &map);
+    let moved = forward_all(rt, &map, &ledger, 16);
+    let after = walk(rt, alloc, &map);
+    drop(map);
+    drop(ledger);
     put_all?;
-    let before = walk(rt, alloc, &map)?;
-    forward_all(rt, &map, &ledger, 16)?;
-    let after = walk(rt, alloc, &map)?;
-    Ok((before, after))
+    moved?;
+    Ok((before?, after?))
 }
 
 #[test]
