@@ -8,14 +8,10 @@ mod copies;
 mod effect;
 mod fold;
 mod laws;
-#[cfg(test)]
-mod plain;
 mod ready;
 mod record;
 mod room;
 mod split;
-#[cfg(test)]
-mod tests;
 
 pub use bin::{Bin, MOST_RECORDS};
 pub use call::{Call, Remap, Reply};

@@ -10,4 +10,3 @@ pub mod Clearing
 pub mod Dealing
 pub mod Reopening
 pub mod Shared
-pub mod Returned

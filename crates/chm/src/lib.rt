@@ -15,8 +15,6 @@ mod moving;
 mod quiet;
 mod reopen;
 mod size;
-#[cfg(test)]
-mod tests;
 mod under;
 mod visit;
 

@@ -11,8 +11,6 @@ mod seats;
 mod settling;
 mod steps;
 mod sums;
-#[cfg(test)]
-mod tests;
 mod tokens;
 
 pub use laws::{agreement_laws, totals_of_all, words_of_sums};

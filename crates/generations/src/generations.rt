@@ -150,6 +150,13 @@ impl<K: HashKey, V: Clone + Eq, F: Remap<K, V> + Clone, A: Allocator> Generation
         self.place_at(self.shortcuts.number_for(hash)?, hash)
     }
 
+    /// The class of the place that a look for the hash begins at, if one was noted. Where none was, the look begins at an opening place.
+    pub fn noted_class(&self, hash: u32) -> Option<Class>
+        ensures { IfSome result (λ c. covers c hash ≡ true) }
+    {
+        Some(self.noted_place(hash)?.class())
+    }
+
     /// The place of the hash that was not forwarded, as far as is known now. It goes past forwarded places without their locks.
     pub(crate) fn find(&self, hash: u32) -> Option<&Place<K, V, F, A>>
         ensures of_map { IfSome result (λ p. IsOfMap self.now p.now) }

@@ -14,8 +14,6 @@ mod place;
 mod shortcuts;
 mod shown;
 mod state;
-#[cfg(test)]
-mod tests;
 mod walk;
 
 pub use forward::Moved;

@@ -9,8 +9,6 @@ mod function;
 mod laws;
 mod number;
 mod script;
-#[cfg(test)]
-mod tests;
 mod text;
 mod words;
 

@@ -10,8 +10,6 @@ mod mover;
 mod range;
 mod steps;
 mod strides;
-#[cfg(test)]
-mod tests;
 
 pub use mover::Mover;
 pub use range::{Finish, Range, STRIDE};

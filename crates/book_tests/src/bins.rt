@@ -1,0 +1,174 @@
+//! Bins at the program's keys.
+use crate::values::{Plus, key};
+use bin_history::{Bin, Call, Record, Reply};
+use hashkeys::{Class, Key, Salt};
+use std::alloc::{AllocError, Global};
+use std::process::Abort;
+use std::test::Fail;
+
+type KeyBin = Bin<Key, u64, Plus, Global>;
+
+fn empty(alloc: Global, class: Class) -> Result<KeyBin, AllocError> {
+    Bin::new(alloc, Salt(0), class, Vec::new(alloc))
+}
+
+/// Makes a call on a bin that has its key, as the next of client 7.
+fn make(
+    rt: &impl Abort,
+    bin: &mut KeyBin,
+    call: Call<Key, u64, Plus>,
+) -> Result<Reply<u64>, AllocError> {
+    let (salt, class) = (bin.salt(), bin.class());
+    assert!(rt; class.covers(salt.hash_of(call.key())));
+    let ordinal = u32::try_from(bin.records().len()).expect(rt, "a short list");
+    let ready = bin.prepare(call)?;
+    Ok(bin.apply(ready, 7, ordinal))
+}
+
+fn assert_entries(rt: &impl Abort, entries: &[(Key, u64)], wanted: &[(&[u8], u64)]) {
+    assert_eq!(rt; entries.len(), wanted.len());
+    for ((key, value), (text, number)) in entries.iter().zip(wanted) {
+        assert_eq!(rt; key.bytes(), *text);
+        assert_eq!(rt; *value, *number);
+    }
+}
+
+#[test]
+fn each_call_replies_and_leaves_what_its_row_says(rt: HostRuntime) -> Result<(), Fail> {
+    let a = || key(&rt, b"a");
+    let b = || key(&rt, b"b");
+    let c = || key(&rt, b"c");
+    let none = || Reply::Value(None);
+    let some = |n| Reply::Value(Some(n));
+    let rows = [
+        (Call::Get(a()), none(), 0),
+        (Call::Contains(a()), Reply::Truth(false), 0),
+        (Call::Replace(a(), 9), none(), 0),
+        (Call::ComputeIfPresent(a(), Plus(Some(9))), none(), 0),
+        (Call::Put(a(), 1), none(), 1),
+        (Call::Contains(a()), Reply::Truth(true), 0),
+        (Call::Put(b(), 5), none(), 1),
+        (Call::Put(a(), 2), some(1), 0),
+        (Call::Get(a()), some(2), 0),
+        (Call::PutIfAbsent(a(), 9), some(2), 0),
+        (Call::RemoveIf(a(), 9), Reply::Truth(false), 0),
+        (Call::Replace(a(), 3), some(2), 0),
+        (Call::ReplaceIf(a(), 2, 9), Reply::Truth(false), 0),
+        (Call::ReplaceIf(a(), 3, 4), Reply::Truth(true), 0),
+        (Call::ComputeIfAbsent(a(), Plus(Some(9))), some(4), 0),
+        (Call::ComputeIfPresent(a(), Plus(Some(2))), some(6), 0),
+        (Call::Compute(a(), Plus(Some(1))), some(7), 0),
+        (Call::Merge(a(), 10, Plus(Some(1))), some(18), 0),
+        (Call::RemoveIf(a(), 18), Reply::Truth(true), -1),
+        (Call::Merge(a(), 4, Plus(None)), some(4), 1),
+        (Call::Merge(a(), 9, Plus(None)), none(), -1),
+        (Call::ComputeIfAbsent(a(), Plus(None)), none(), 0),
+        (Call::ComputeIfAbsent(a(), Plus(Some(3))), some(3), 1),
+        (Call::ComputeIfPresent(a(), Plus(None)), none(), -1),
+        (Call::Compute(a(), Plus(Some(8))), some(8), 1),
+        (Call::Compute(a(), Plus(None)), none(), -1),
+        (Call::PutIfAbsent(a(), 6), none(), 1),
+        (Call::Remove(b()), some(5), -1),
+        (Call::Remove(b()), none(), 0),
+        (Call::Put(b(), 7), none(), 1),
+        (Call::ComputeIfPresent(c(), Plus(None)), none(), 0),
+        (Call::Put(c(), 1), none(), 1),
+        (Call::RemoveIf(c(), 2), Reply::Truth(false), 0),
+        (Call::ReplaceIf(c(), 1, 1), Reply::Truth(true), 0),
+        (Call::Put(c(), u64::MAX), some(1), 0),
+        (Call::Merge(c(), 1, Plus(Some(0))), some(u64::MAX), 0),
+    ];
+    let mut bin = empty(rt.alloc(), Class::new(1, 0))?;
+    let mut line = 0u32;
+    for (call, reply, delta) in Vec::from_array(rt.alloc(), rows)? {
+        let answered = make(&rt, &mut bin, call)?;
+        assert!(rt; answered == reply, "call {line} replied {answered:?}");
+        let last = bin.records().last().expect(&rt, "a record");
+        assert_eq!(rt;
+            (last.client(), last.ordinal(), last.delta()),
+            (7, line, delta)
+        );
+        line = line.wrapping_add(1);
+    }
+    assert_entries(
+        &rt,
+        bin.entries(),
+        &[(b"a", 6), (b"b", 7), (b"c", u64::MAX)],
+    );
+    assert_eq!(rt; bin.base().len(), 0);
+    Ok(())
+}
+
+#[test]
+fn the_oldest_records_are_folded(rt: HostRuntime) -> Result<(), Fail> {
+    let mut bin = empty(rt.alloc(), Class::new(16, 1))?;
+    let _ = make(&rt, &mut bin, Call::Put(key(&rt, b"q"), 1))?;
+    let _ = make(&rt, &mut bin, Call::Put(key(&rt, b"a"), 2))?;
+    for _ in 0..1021 {
+        let _ = make(&rt, &mut bin, Call::Get(key(&rt, b"a")))?;
+    }
+    let _ = make(&rt, &mut bin, Call::Remove(key(&rt, b"q")))?;
+    let _ = make(&rt, &mut bin, Call::Put(key(&rt, b"q"), 3))?;
+    assert_eq!(rt; bin.records().len(), 513);
+    assert_entries(&rt, bin.base(), &[(b"q", 1), (b"a", 2)]);
+    assert_entries(&rt, &bin.copy_entries()?, &[(b"a", 2), (b"q", 3)]);
+    assert!(rt; bin.get(&key(&rt, b"q")) == Some(&3));
+    assert!(rt; bin.get(&key(&rt, b"A")).is_none());
+    let (low, high) = {
+        assert!(rt; bin.class().n() < 65536);
+        bin.split()?
+    };
+    assert_entries(&rt, low.base(), &[(b"a", 2)]);
+    assert_entries(&rt, low.entries(), &[(b"a", 2)]);
+    assert_eq!(rt; low.records().len(), 511);
+    assert_entries(&rt, high.base(), &[(b"q", 1)]);
+    assert_entries(&rt, high.entries(), &[(b"q", 3)]);
+    assert_eq!(rt; high.records().len(), 2);
+    Ok(())
+}
+
+#[test]
+fn a_bin_stores_few_records(rt: HostRuntime) -> Result<(), Fail> {
+    let mut bin = empty(rt.alloc(), Class::new(1, 0))?;
+    let mut calls = 0;
+    for (wanted, stored, base) in [
+        (512, 512, None),
+        (1024, 1024, None),
+        (1025, 513, Some(512)),
+        (1536, 1024, Some(512)),
+        (1537, 513, Some(1024)),
+        (2000, 976, Some(1024)),
+        (1_000_000, 576, Some(999_424)),
+    ] {
+        for _ in calls..wanted {
+            let _ = make(&rt, &mut bin, Call::Merge(key(&rt, b"a"), 1, Plus(Some(0))))?;
+        }
+        calls = wanted;
+        assert_eq!(rt; bin.records().len(), stored);
+        let folded = bin.base().first().map(|pair| pair.1);
+        assert_eq!(rt; (folded, bin.base().len() <= 1), (base, true));
+        assert_entries(&rt, bin.entries(), &[(b"a", wanted)]);
+    }
+    Ok(())
+}
+
+#[test]
+fn a_record_tells_its_call_and_both_values(rt: HostRuntime) -> Result<(), Fail> {
+    for (before, after, delta) in [
+        (None, None, 0),
+        (None, Some(1), 1),
+        (Some(1), None, -1),
+        (Some(1), Some(2), 0),
+    ] {
+        let call: Call<Key, u64, Plus> = Call::Get(key(&rt, b"a"));
+        let entry = Record::new(3, 5, call, before, after);
+        assert_eq!(rt; (entry.client(), entry.ordinal()), (3, 5));
+        assert_eq!(rt; entry.call().key().bytes(), b"a".as_slice());
+        assert_eq!(rt;
+            (entry.before().copied(), entry.after().copied()),
+            (before, after)
+        );
+        assert_eq!(rt; entry.delta(), delta);
+    }
+    Ok(())
+}

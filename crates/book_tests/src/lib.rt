@@ -1,0 +1,15 @@
+//! Tests of keys, bins, ledgers and moves, by what these crates make public.
+#![tactic(auto)]
+
+#[cfg(test)]
+mod bins;
+#[cfg(test)]
+mod keys;
+#[cfg(test)]
+mod ledgers;
+#[cfg(test)]
+mod moves;
+#[cfg(test)]
+mod plain;
+#[cfg(test)]
+mod values;

@@ -1,0 +1,162 @@
+//! A plain map, written as the table of the calls says, and a bin that answers as it does.
+ghost use Rattle.std.specs.Prelude.{◌<◌};
+
+use crate::values::{Plus, key};
+use bin_history::{Bin, Call, Reply};
+use hashkeys::{Class, Key, Salt};
+use std::alloc::{AllocError, Global};
+use std::process::Abort;
+use std::test::Fail;
+
+/// Pairs in order of insertion. A key is the place of its text among `TEXTS`.
+type Pairs = Vec<(usize, u64)>;
+
+/// Two with one code among them.
+const TEXTS: [&[u8]; 6] = [b"a", b"q", b"Aa", b"BB", b"zzzzzz", b"_"];
+
+/// A call, with what any kind takes.
+#[derive(Drop)]
+struct Plain {
+    kind: u64,
+    key: usize,
+    given: u64,
+    other: u64,
+    function: Option<u64>,
+}
+
+impl Plain {
+    /// What the function answers for this value.
+    fn computed(&self, value: u64) -> Option<u64> {
+        self.function.map(|n| value.saturating_add(n))
+    }
+
+    /// The value after the call, and the reply, by the value before it.
+    fn effect(&self, before: Option<u64>) -> (Option<u64>, Reply<u64>) {
+        let is_given = before == Some(self.given);
+        let after = match self.kind {
+            0 | 1 => before,
+            2 => Some(self.given),
+            3 => before.or(Some(self.given)),
+            4 => None,
+            5 if is_given => None,
+            5 => before,
+            6 => before.map(|_| self.given),
+            7 if is_given => Some(self.other),
+            7 => before,
+            8 => before.or(self.computed(0)),
+            9 => before.and_then(|value| self.computed(value)),
+            10 => self.computed(before.unwrap_or(0)),
+            _ => match before {
+                Some(value) => self.computed(value.saturating_add(self.given)),
+                None => Some(self.given),
+            },
+        };
+        let reply = match self.kind {
+            0 | 2 | 3 | 4 | 6 => Reply::Value(before),
+            1 => Reply::Truth(before.is_some()),
+            5 | 7 => Reply::Truth(is_given),
+            _ => Reply::Value(after),
+        };
+        (after, reply)
+    }
+
+    /// Makes the call on the pairs.
+    fn make(&self, pairs: &mut Pairs) -> Result<Reply<u64>, AllocError> {
+        let before = pairs
+            .iter()
+            .find(|pair| pair.0 == self.key)
+            .map(|pair| pair.1);
+        let (after, reply) = self.effect(before);
+        match (before, after) {
+            (Some(_), Some(value)) => {
+                for pair in pairs.iter_mut() {
+                    if pair.0 == self.key {
+                        pair.1 = value;
+                    }
+                }
+            }
+            (None, Some(value)) => pairs.push((self.key, value))?,
+            _ => pairs.retain(|pair| pair.0 != self.key),
+        }
+        Ok(reply)
+    }
+
+    /// The same call for a bin.
+    fn call(&self, rt: &impl Abort) -> Call<Key, u64, Plus> {
+        let key = text(rt, self.key);
+        let function = Plus(self.function);
+        match self.kind {
+            0 => Call::Get(key),
+            1 => Call::Contains(key),
+            2 => Call::Put(key, self.given),
+            3 => Call::PutIfAbsent(key, self.given),
+            4 => Call::Remove(key),
+            5 => Call::RemoveIf(key, self.given),
+            6 => Call::Replace(key, self.given),
+            7 => Call::ReplaceIf(key, self.given, self.other),
+            8 => Call::ComputeIfAbsent(key, function),
+            9 => Call::ComputeIfPresent(key, function),
+            10 => Call::Compute(key, function),
+            _ => Call::Merge(key, self.given, function),
+        }
+    }
+}
+
+fn text(rt: &impl Abort, place: usize) -> Key {
+    key(rt, TEXTS.get(place).expect(rt, "a text"))
+}
+
+/// Numbers that look random.
+#[derive(Drop)]
+struct Numbers(u64);
+
+impl Numbers {
+    /// The next number below `end`.
+    fn below(&mut self, end: u64) -> u64
+        requires { 0 < end }
+    {
+        self.0 = self
+            .0
+            .wrapping_mul(6_364_136_223_846_793_005)
+            .wrapping_add(1_442_695_040_888_963_407);
+        (self.0 >> 33) % end
+    }
+
+    fn call(&mut self) -> Plain {
+        let function = match self.below(3) {
+            0 => None,
+            n => Some(n),
+        };
+        Plain {
+            kind: self.below(12),
+            key: self.below(6) as usize,
+            given: self.below(4),
+            other: self.below(4),
+            function,
+        }
+    }
+}
+
+#[test]
+fn a_bin_answers_as_a_plain_map(rt: HostRuntime) -> Result<(), Fail> {
+    let alloc = rt.alloc();
+    let mut bin = Bin::new(alloc, Salt(0), Class::new(1, 0), Vec::new(alloc))?;
+    let mut pairs = Vec::new(alloc);
+    let mut numbers = Numbers(1);
+    for line in 0..10_000u32 {
+        let plain = numbers.call();
+        let call = plain.call(&rt);
+        assert!(rt; bin.class().covers(bin.salt().hash_of(call.key())));
+        let ready = bin.prepare(call)?;
+        let reply = bin.apply(ready, 0, line);
+        assert!(rt; reply == plain.make(&mut pairs)?, "call {line}");
+        assert_eq!(rt; bin.entries().len(), pairs.len(), "after call {line}");
+        for (entry, pair) in bin.entries().iter().zip(pairs.iter()) {
+            assert!(rt;
+                entry.0 == text(&rt, pair.0) && entry.1 == pair.1,
+                "after call {line}"
+            );
+        }
+    }
+    Ok(())
+}

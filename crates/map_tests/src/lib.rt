@@ -1,0 +1,21 @@
+//! Tests of the map by what it makes public: its calls, growth, loads, opening and closing, readings, refused requests and threads.
+#![tactic(auto)]
+
+#[cfg(test)]
+mod calls;
+#[cfg(test)]
+mod growth;
+#[cfg(test)]
+mod loads;
+#[cfg(test)]
+mod maps;
+#[cfg(test)]
+mod opening;
+#[cfg(test)]
+mod reading;
+#[cfg(test)]
+mod refused;
+#[cfg(test)]
+mod threads;
+#[cfg(test)]
+mod waiting;

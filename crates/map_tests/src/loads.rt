@@ -1,0 +1,106 @@
+//! Many calls of one client.
+use crate::maps::{
+    Single, assert_entries, assert_pairs, close, close_all, count_all, filled, get_often, key,
+    one_client, open, put_back, put_new, put_numbers, put_texts, records_of,
+};
+use bin_history::Reply;
+use chm::Fault;
+use hashkeys::Key;
+use std::process::Abort;
+use std::test::Fail;
+
+#[test]
+fn a_map_that_is_opened_again_counts_its_opening_entries(rt: HostRuntime) -> Result<(), Fail> {
+    let first = filled(&rt, rt.alloc(), 16, 11);
+    let Single {
+        map,
+        mut pass,
+        mut place,
+    } = one_client(&rt, first.reopen(1).expect(&rt, "a map"));
+    put_numbers(&rt, &map, &mut pass, 11, 1);
+    put_back(&rt, &map, pass, &mut place);
+    let count = count_all(&rt, &map, &mut place);
+    let live = map.mapping_count();
+    let closed = close_all(&rt, map, place);
+    assert_eq!(rt; (count, live), (12, 12));
+    assert_eq!(rt; (closed.bins().len(), closed.mapping_count()), (32, 12));
+    assert_eq!(rt; (closed.entries().count(), records_of(&closed)), (12, 1));
+    Ok(())
+}
+
+/// The key of five blocks `Aa` or `BB`, by the number's bits.
+fn twin(rt: &impl Abort, number: u32) -> Key {
+    let mut text = *b"AaAaAaAaAa";
+    for block in 0..5usize {
+        if number >> block & 1 == 1 {
+            text[2 * block] = b'B';
+            text[2 * block + 1] = b'B';
+        }
+    }
+    key(rt, &text)
+}
+
+#[test]
+fn keys_of_one_hash_stand_in_one_bin(rt: HostRuntime) -> Result<(), Fail> {
+    let Single {
+        map,
+        mut pass,
+        place,
+    } = one_client(&rt, open(&rt, rt.alloc(), 16, 1));
+    for number in 0..32u32 {
+        put_new(&rt, &map, &mut pass, twin(&rt, number), u64::from(number));
+    }
+    let closed = close(&rt, map, pass, place);
+    assert_eq!(rt; (closed.bins().len(), closed.mapping_count()), (64, 32));
+    let full = closed.bins().iter().filter(|bin| !bin.entries().is_empty());
+    assert_eq!(rt; full.count(), 1);
+    for ((key, value), number) in closed.entries().zip(0u32..) {
+        assert!(rt; *key == twin(&rt, number));
+        assert_eq!(rt; *value, u64::from(number));
+    }
+    Ok(())
+}
+
+#[test]
+fn a_full_pass_makes_no_more_calls(rt: HostRuntime) -> Result<(), Fail> {
+    let Single {
+        map,
+        mut pass,
+        place,
+    } = one_client(&rt, open(&rt, rt.alloc(), 16, 1));
+    put_texts(&rt, &map, &mut pass, &[(b"a", 1), (b"q", 2), (b"Aa", 3)]);
+    get_often(&rt, &map, &mut pass, 999_996, 1);
+    let made = pass.made();
+    let cleared = map.clear(&rt, &mut pass);
+    let got = map.get(&rt, &mut pass, key(&rt, b"a"));
+    let walked = map.walk(&rt, &mut pass).map(|visits| visits.len());
+    let end = pass.made();
+    let closed = close(&rt, map, pass, place);
+    assert_eq!(rt; (made, end), (999_999, 1_000_000));
+    assert_eq!(rt; cleared, Err(Fault::PassFull));
+    assert!(rt; got == Err(Fault::PassFull));
+    assert_eq!(rt; walked, Ok(16));
+    assert_entries(&rt, closed.entries(), &[(b"a", 1), (b"q", 2)]);
+    Ok(())
+}
+
+#[test]
+fn old_records_are_folded_into_the_base(rt: HostRuntime) -> Result<(), Fail> {
+    let Single {
+        map,
+        mut pass,
+        place,
+    } = one_client(&rt, open(&rt, rt.alloc(), 16, 1));
+    put_texts(&rt, &map, &mut pass, &[(b"q", 1), (b"a", 2)]);
+    get_often(&rt, &map, &mut pass, 1_021, 2);
+    let removed = map.remove(&rt, &mut pass, key(&rt, b"q"));
+    put_texts(&rt, &map, &mut pass, &[(b"q", 3)]);
+    let closed = close(&rt, map, pass, place);
+    assert!(rt; removed == Ok(Reply::Value(Some(1))));
+    assert_entries(&rt, closed.entries(), &[(b"a", 2), (b"q", 3)]);
+    assert_eq!(rt; records_of(&closed), 513);
+    let bin = closed.bins().get(1).expect(&rt, "a bin of slot 1");
+    assert_eq!(rt; bin.records().len(), 513);
+    assert_pairs(&rt, bin.base(), &[(b"q", 1), (b"a", 2)]);
+    Ok(())
+}

@@ -1,0 +1,325 @@
+//! Maps at the program's keys, and calls on them.
+ghost use Rattle.std.specs.Prelude.{◌≡◌, ◌∷◌, ◌++◌, [], All};
+ghost use Rattle.bin_history.specs.Copies.{IsExact};
+
+use bin_history::{Call, Remap, Reply};
+use chm::{Entries, Fault, Map, NotClosed, Opened, Quiet};
+use count_ledger::{Pass, retire_all};
+use hashkeys::Key;
+use std::alloc::{AllocError, Allocator};
+use std::process::Abort;
+use std::sync::Wait;
+
+/// Adds a number to the value, or takes the value away.
+#[derive(Drop)]
+pub(crate) struct Plus(pub(crate) Option<u64>);
+
+impl Clone for Plus {
+    ghost use Rattle.std.specs.Prelude.{◌≡◌};
+
+    ghost is_clone = { λ x y. y ≡ x };
+
+    fn clone(&self) -> Result<Plus, AllocError> {
+        Ok(Plus(self.0))
+    }
+}
+
+impl Remap<Key, u64> for Plus {
+    ghost use Rattle.std.specs.Prelude.{option_map, unwrap_or, min, ◌+◌, ◌-◌, ◌^◌};
+
+    ghost remapped = { λ f k v. option_map (λ n. min (unwrap_or v 0 + n) (2 ^ 64 - 1)) f.0 };
+
+    ghost merged = { λ f old given. option_map (λ n. min (min (old + given) (2 ^ 64 - 1) + n) (2 ^ 64 - 1)) f.0 };
+
+    fn remap(&self, _key: &Key, value: Option<&u64>) -> Result<Option<u64>, AllocError> {
+        let old = value.copied().unwrap_or(0);
+        Ok(self.0.map(|n| old.saturating_add(n)))
+    }
+
+    fn merge(&self, old: &u64, given: &u64) -> Result<Option<u64>, AllocError> {
+        let both = old.saturating_add(*given);
+        Ok(self.0.map(|n| both.saturating_add(n)))
+    }
+}
+
+pub(crate) type KeyMap<A> = Map<Key, u64, Plus, A>;
+
+pub(crate) type KeyPass = Pass<Key, u64, Plus>;
+
+pub(crate) type KeyQuiet<A> = Quiet<Key, u64, Plus, A>;
+
+pub(crate) type KeyCall = Call<Key, u64, Plus>;
+
+/// A map and the pass of its last client, with the other passes in their place.
+pub(crate) struct Single<A: Allocator> {
+    pub(crate) map: KeyMap<A>,
+    pub(crate) pass: KeyPass,
+    pub(crate) place: Vec<KeyPass, A>,
+}
+
+pub(crate) fn key(rt: &impl Abort, text: &[u8]) -> Key {
+    Key::read(text).expect(rt, "a key")
+}
+
+const DIGITS: [u8; 16] = *b"0123456789abcdef";
+
+/// The key `k` with the lowest five hexadecimal digits of a number.
+pub(crate) fn numbered(rt: &impl Abort, number: u32) -> Key {
+    let first = DIGITS[(number / 65_536 % 16) as usize];
+    let second = DIGITS[(number / 4096 % 16) as usize];
+    let third = DIGITS[(number / 256 % 16) as usize];
+    let fourth = DIGITS[(number / 16 % 16) as usize];
+    let last = DIGITS[(number % 16) as usize];
+    key(rt, &[b'k', first, second, third, fourth, last])
+}
+
+/// A new map, with the passes of its clients.
+pub(crate) fn open<V: Clone + Eq + Drop, F: Remap<Key, V> + Clone + Drop, A: Allocator + Clone>(
+    rt: &impl Abort,
+    alloc: A,
+    capacity: usize,
+    clients: u32,
+) -> Opened<Key, V, F, A>
+    requires { IsExact V.is_clone }
+    ensures { All (λ p. p.ledger ≡ result.0.ledger.id) result.1.items }
+{
+    let opened = Map::new(alloc, capacity, clients);
+    opened.expect(rt, "a map")
+}
+
+/// Takes the pass of the last client out.
+pub(crate) fn one_client<A: Allocator>(
+    rt: &impl Abort,
+    opened: Opened<Key, u64, Plus, A>,
+) -> Single<A>
+    requires { All (λ p. p.ledger ≡ opened.0.ledger.id) opened.1.items }
+    ensures pass { result.pass.ledger ≡ result.map.ledger.id }
+    ensures place { All (λ p. p.ledger ≡ result.map.ledger.id) result.place.items }
+{
+    let (map, mut place) = opened;
+    let pass = place.pop().expect(rt, "a pass");
+    Single { map, pass, place }
+}
+
+/// Closes a map, with the passes of all clients.
+pub(crate) fn close_all<
+    R: Wait + Abort,
+    V: Clone + Eq + Drop,
+    F: Remap<Key, V> + Clone + Drop,
+    A: Allocator + Clone,
+>(rt: &R, map: Map<Key, V, F, A>, passes: Vec<Pass<Key, V, F>, A>) -> Quiet<Key, V, F, A>
+    requires { All (λ p. p.ledger ≡ map.ledger.id) passes.items }
+{
+    match map.close(rt, passes) {
+        Ok(quiet) => quiet,
+        Err(
+            NotClosed {
+                fault,
+                map: _,
+                passes,
+            },
+        ) => {
+            retire_all(passes);
+            assert!(rt; false, "the map closes: {fault}");
+            unreachable!()
+        }
+    }
+}
+
+/// Puts a pass back in its place.
+pub(crate) fn put_back<A: Allocator + Clone>(
+    rt: &impl Abort,
+    map: &KeyMap<A>,
+    pass: KeyPass,
+    place: &mut Vec<KeyPass, A>,
+)
+    requires pass { pass.ledger ≡ map.now.ledger.id }
+    requires place { All (λ p. p.ledger ≡ map.now.ledger.id) place.old.items }
+    ensures { All (λ p. p.ledger ≡ map.now.ledger.id) place.new.items }
+{
+    assert!(rt; place.len() < place.capacity());
+    place.push_reserved(pass);
+}
+
+/// Closes the map of one client.
+pub(crate) fn close<R: Wait + Abort, A: Allocator + Clone>(
+    rt: &R,
+    map: KeyMap<A>,
+    pass: KeyPass,
+    mut place: Vec<KeyPass, A>,
+) -> KeyQuiet<A>
+    requires pass { pass.ledger ≡ map.ledger.id }
+    requires place { All (λ p. p.ledger ≡ map.ledger.id) place.items }
+{
+    put_back(rt, &map, pass, &mut place);
+    close_all(rt, map, place)
+}
+
+/// How many keys the passes of all clients count.
+pub(crate) fn count_all<A: Allocator + Clone>(
+    rt: &impl Abort,
+    map: &KeyMap<A>,
+    passes: &mut Vec<KeyPass, A>,
+) -> u64
+    requires { All (λ p. p.ledger ≡ map.now.ledger.id) passes.old.items }
+    ensures { passes.new.items ≡ passes.old.items }
+{
+    assert!(rt; passes.len() == map.clients() as usize);
+    map.mapping_count_all(passes)
+}
+
+/// Makes a call by its own name.
+pub(crate) fn make<R: Wait, A: Allocator + Clone>(
+    rt: &R,
+    map: &KeyMap<A>,
+    pass: &mut KeyPass,
+    call: KeyCall,
+) -> Result<Reply<u64>, Fault>
+    requires { pass.old.ledger ≡ map.now.ledger.id }
+    ensures { pass.new.ledger ≡ map.now.ledger.id }
+{
+    match call {
+        Call::Get(key) => map.get(rt, pass, key),
+        Call::Contains(key) => map.contains_key(rt, pass, key),
+        Call::Put(key, value) => map.put(rt, pass, key, value),
+        Call::PutIfAbsent(key, value) => map.put_if_absent(rt, pass, key, value),
+        Call::Remove(key) => map.remove(rt, pass, key),
+        Call::RemoveIf(key, value) => map.remove_if(rt, pass, key, value),
+        Call::Replace(key, value) => map.replace(rt, pass, key, value),
+        Call::ReplaceIf(key, old, new) => map.replace_if(rt, pass, key, old, new),
+        Call::ComputeIfAbsent(key, function) => map.compute_if_absent(rt, pass, key, function),
+        Call::ComputeIfPresent(key, function) => map.compute_if_present(rt, pass, key, function),
+        Call::Compute(key, function) => map.compute(rt, pass, key, function),
+        Call::Merge(key, value, function) => map.merge(rt, pass, key, value, function),
+    }
+}
+
+/// Puts a value at a key that has none.
+pub(crate) fn put_new<R: Wait + Abort, A: Allocator + Clone>(
+    rt: &R,
+    map: &KeyMap<A>,
+    pass: &mut KeyPass,
+    key: Key,
+    value: u64,
+)
+    requires { pass.old.ledger ≡ map.now.ledger.id }
+    ensures { pass.new.ledger ≡ map.now.ledger.id }
+{
+    assert!(rt; map.put(rt, pass, key, value) == Ok(Reply::Value(None)));
+}
+
+/// Puts new keys with their values, in this order.
+pub(crate) fn put_texts<R: Wait + Abort, A: Allocator + Clone>(
+    rt: &R,
+    map: &KeyMap<A>,
+    pass: &mut KeyPass,
+    pairs: &[(&[u8], u64)],
+)
+    requires { pass.old.ledger ≡ map.now.ledger.id }
+    ensures { pass.new.ledger ≡ map.now.ledger.id }
+{
+    for (text, value) in pairs {
+        put_new(rt, map, pass, key(rt, text), *value);
+    }
+}
+
+/// Puts so many new keys, from the one of this number on, each with its number.
+pub(crate) fn put_numbers<R: Wait + Abort, A: Allocator + Clone>(
+    rt: &R,
+    map: &KeyMap<A>,
+    pass: &mut KeyPass,
+    first: u32,
+    count: u32,
+)
+    requires { pass.old.ledger ≡ map.now.ledger.id }
+    ensures { pass.new.ledger ≡ map.now.ledger.id }
+{
+    for number in first..first.saturating_add(count) {
+        put_new(rt, map, pass, numbered(rt, number), u64::from(number));
+    }
+}
+
+/// The closed map of one client that puts so many new keys.
+pub(crate) fn filled<R: Wait + Abort, A: Allocator + Clone>(
+    rt: &R,
+    alloc: A,
+    capacity: usize,
+    count: u32,
+) -> KeyQuiet<A> {
+    let Single {
+        map,
+        mut pass,
+        place,
+    } = one_client(rt, open(rt, alloc, capacity, 1));
+    put_numbers(rt, &map, &mut pass, 0, count);
+    close(rt, map, pass, place)
+}
+
+/// These pairs in this order, among others at numbered keys.
+pub(crate) fn assert_entries<'a, A: Allocator + Clone>(
+    rt: &impl Abort,
+    entries: Entries<'a, Key, u64, Plus, A>,
+    wanted: &[(&[u8], u64)],
+) {
+    let mut left = wanted.iter();
+    for (key, value) in entries {
+        if key.bytes().starts_with(b"k") {
+            continue;
+        }
+        let (text, number) = left.next().expect(rt, "a wanted entry");
+        assert_eq!(rt; key.bytes(), *text);
+        assert_eq!(rt; value, number);
+    }
+    assert!(rt; left.next().is_none());
+}
+
+/// What making a map is refused with.
+pub(crate) fn opening_fault<A: Allocator + Clone>(
+    alloc: A,
+    capacity: usize,
+    clients: u32,
+) -> Option<Fault> {
+    let opened: Result<Opened<Key, u64, Plus, A>, Fault> = Map::new(alloc, capacity, clients);
+    match opened {
+        Ok((map, passes)) => {
+            retire_all(passes);
+            drop(map);
+            None
+        }
+        Err(fault) => Some(fault),
+    }
+}
+
+/// These pairs in this order.
+pub(crate) fn assert_pairs(rt: &impl Abort, entries: &[(Key, u64)], wanted: &[(&[u8], u64)]) {
+    assert_eq!(rt; entries.len(), wanted.len());
+    for ((key, value), (text, number)) in entries.iter().zip(wanted) {
+        assert_eq!(rt; key.bytes(), *text);
+        assert_eq!(rt; value, number);
+    }
+}
+
+/// How many records the bins have in all.
+pub(crate) fn records_of<A: Allocator + Clone>(closed: &KeyQuiet<A>) -> usize {
+    closed.bins().iter().fold(
+        0,
+        |total: usize, bin| total.saturating_add(bin.records().len()),
+    )
+}
+
+/// Gets a key so often, each time with this reply.
+pub(crate) fn get_often<R: Wait + Abort, A: Allocator + Clone>(
+    rt: &R,
+    map: &KeyMap<A>,
+    pass: &mut KeyPass,
+    times: u32,
+    wanted: u64,
+)
+    requires { pass.old.ledger ≡ map.now.ledger.id }
+    ensures { pass.new.ledger ≡ map.now.ledger.id }
+{
+    for _time in 0..times {
+        let reply = map.get(rt, pass, key(rt, b"a"));
+        assert!(rt; reply == Ok(Reply::Value(Some(wanted))));
+    }
+}

@@ -1,0 +1,224 @@
+//! Functions and copies that wait for another thread while a bin is held or read.
+ghost use Rattle.std.specs.Prelude.{◌≡◌, All};
+ghost use Rattle.bin_history.specs.Copies.{IsExact};
+
+use crate::maps::{close_all, key, open};
+use bin_history::{Remap, Reply};
+use chm::Map;
+use count_ledger::Pass;
+use crossbeam_utils::Backoff;
+use hashkeys::Key;
+use std::alloc::{AllocError, Global};
+use std::process::Abort;
+use std::sync::Wait;
+use std::sync::atomic::AtomicU64;
+use std::sync::atomic::Ordering::SeqCst;
+use std::test::Fail;
+use std::thread::{self, Threads};
+
+/// What threads wait for: how often it has been done, and how many waits for it were given up.
+#[derive(Drop)]
+struct Event {
+    done: AtomicU64,
+    given_up: AtomicU64,
+}
+
+impl Event {
+    fn new() -> Event {
+        Event {
+            done: AtomicU64::new(0),
+            given_up: AtomicU64::new(0),
+        }
+    }
+
+    /// Waits until it has been done so often, but not for ever.
+    fn wait(&self, times: u64) {
+        let backoff = Backoff::new();
+        for _turn in 0..10_000_000u32 {
+            if self.done.load(SeqCst) >= times {
+                return;
+            }
+            backoff.snooze();
+        }
+        self.given_up.fetch_add(1, SeqCst);
+    }
+
+    fn done(&self) {
+        self.done.fetch_add(1, SeqCst);
+    }
+
+    fn given_up(&self) -> u64 {
+        self.given_up.load(SeqCst)
+    }
+}
+
+/// Gives a key the value 1, once the event has been done.
+#[derive(Drop)]
+struct OneAfter<'a> {
+    event: &'a Event,
+}
+
+impl<'a> Clone for OneAfter<'a> {
+    ghost use Rattle.std.specs.Prelude.{◌≡◌};
+
+    ghost is_clone = { λ x y. y ≡ x };
+
+    fn clone(&self) -> Result<OneAfter<'a>, AllocError> {
+        Ok(OneAfter { event: self.event })
+    }
+}
+
+impl<'a> Remap<Key, u64> for OneAfter<'a> {
+    ghost use Rattle.std.specs.Prelude.{Some};
+
+    ghost remapped = { λ f k v. Some 1 };
+
+    ghost merged = { λ f old given. Some old };
+
+    fn remap(&self, _key: &Key, _value: Option<&u64>) -> Result<Option<u64>, AllocError> {
+        self.event.wait(1);
+        Ok(Some(1))
+    }
+
+    fn merge(&self, old: &u64, _given: &u64) -> Result<Option<u64>, AllocError> {
+        Ok(Some(*old))
+    }
+}
+
+/// Client 0 computes at a key with a function that waits until client 1 has put another one.
+fn compute_while_another_puts<
+    R: Threads + Wait + Abort + Sync,
+    F: Remap<Key, u64> + Clone + Drop + Send + Sync,
+>(rt: &R, alloc: Global, function: &F, event: &Event) -> u64
+    requires { IsExact F.is_clone }
+{
+    let (map, mut passes) = open::<u64, F, Global>(rt, alloc, 16, 2);
+    let work = |number: usize, pass: &mut Pass<Key, u64, F>|
+        requires functions { IsExact F.is_clone }
+        requires pass { pass.now.ledger ≡ map.ledger.id }
+        ensures { pass.exit.now.ledger ≡ map.ledger.id }
+    {
+        if number == 0 {
+            let function = function.clone().expect(rt, "memory");
+            let reply = map.compute(rt, pass, key(rt, b"a"), function);
+            assert!(rt; reply == Ok(Reply::Value(Some(1))));
+        } else {
+            let reply = map.put(rt, pass, key(rt, b"Aa"), 1);
+            event.done();
+            assert!(rt; reply == Ok(Reply::Value(None)));
+        }
+    };
+    thread::for_each_mut(rt, &mut passes, 2, &work);
+    close_all(rt, map, passes).mapping_count()
+}
+
+#[test]
+fn a_function_waits_for_a_put_on_another_bin(rt: HostRuntime) -> Result<(), Fail> {
+    let event = Event::new();
+    let function = OneAfter { event: &event };
+    let count = compute_while_another_puts(&rt, rt.alloc(), &function, &event);
+    assert_eq!(rt; (event.given_up(), count), (0, 2));
+    Ok(())
+}
+
+/// A value whose copies wait for one another, once they are told to. Any two are equal.
+#[derive(Drop)]
+struct Paired<'a> {
+    event: &'a Event,
+    told: &'a AtomicU64,
+}
+
+impl<'a> Clone for Paired<'a> {
+    ghost use Rattle.std.specs.Prelude.{◌≡◌};
+
+    ghost is_clone = { λ x y. y ≡ x };
+
+    fn clone(&self) -> Result<Paired<'a>, AllocError> {
+        if self.told.load(SeqCst) == 1 {
+            self.event.done();
+            self.event.wait(2);
+        }
+        Ok(Paired {
+            event: self.event,
+            told: self.told,
+        })
+    }
+}
+
+impl<'a> PartialEq for Paired<'a> {
+    ghost use Rattle.std.specs.Prelude.{true};
+    ghost use Rattle.std.specs.Cmp.{partial_equiv_from_equiv};
+    ghost use Rattle.std.specs.Cmp.Derive.{point_equiv};
+
+    ghost eq = { λ x y. true };
+
+    ghost laws = { partial_equiv_from_equiv point_equiv };
+
+    fn eq(&self, _other: &Paired<'a>) -> bool {
+        true
+    }
+}
+
+impl<'a> Eq for Paired<'a> {
+    ghost use Rattle.std.specs.Cmp.Derive.{point_equiv};
+
+    ghost laws = { point_equiv };
+}
+
+impl<'a> Remap<Key, Paired<'a>> for () {
+    ghost use Rattle.std.specs.Prelude.{None};
+
+    ghost remapped = { λ f k v. None };
+
+    ghost merged = { λ f old given. None };
+
+    fn remap(
+        &self,
+        _key: &Key,
+        _value: Option<&Paired<'a>>,
+    ) -> Result<Option<Paired<'a>>, AllocError> {
+        Ok(None)
+    }
+
+    fn merge(
+        &self,
+        _old: &Paired<'a>,
+        _given: &Paired<'a>,
+    ) -> Result<Option<Paired<'a>>, AllocError> {
+        Ok(None)
+    }
+}
+
+/// Gives the key `a` this value by the one pass of the map, and says whether it had none.
+fn put_a<'a, R: Wait + Abort>(
+    rt: &R,
+    map: &Map<Key, Paired<'a>, (), Global>,
+    passes: &mut Vec<Pass<Key, Paired<'a>, ()>>,
+    value: Paired<'a>,
+) -> bool
+    requires { All (λ p. p.ledger ≡ map.now.ledger.id) passes.old.items }
+    ensures { All (λ p. p.ledger ≡ map.now.ledger.id) passes.new.items }
+{
+    assert!(rt; passes.len() == 1);
+    map.put(rt, &mut passes[0], key(rt, b"a"), value) == Ok(Reply::Value(None))
+}
+
+#[test]
+fn two_glances_copy_one_value_at_once(rt: HostRuntime) -> Result<(), Fail> {
+    let event = Event::new();
+    let told = AtomicU64::new(0);
+    let (map, mut passes) = open::<Paired, (), Global>(&rt, rt.alloc(), 16, 1);
+    let value = Paired {
+        event: &event,
+        told: &told,
+    };
+    let put = put_a(&rt, &map, &mut passes, value);
+    told.store(1, SeqCst);
+    let glance = || matches!(map.glance(&rt, &key(&rt, b"a")), Ok(Some(_)));
+    let both = thread::join(&rt, glance, glance);
+    told.store(0, SeqCst);
+    let closed = close_all(&rt, map, passes);
+    assert_eq!(rt; (put, both), (true, (true, true)));
+    assert_eq!(rt; (event.given_up(), closed.mapping_count()), (0, 1));
+    Ok(())
+}

@@ -1,0 +1,226 @@
+//! Maps at the program's keys, and calls on them.
+ghost use Rattle.std.specs.Prelude.{◌≡◌, ◌<◌, ◌≤◌, true, [], All, IfOk, length};
+ghost use Rattle.hashkeys.specs.Classes.{IsTableSize, is_of};
+ghost use Rattle.bin_history.specs.Calls.{after, key_of};
+ghost use Rattle.bin_history.specs.Copies.{IsExact};
+ghost use Rattle.count_ledger.specs.Agreement.{Agree};
+
+use bin_history::{Bin, Call, Remap};
+use count_ledger::{BinRole, Ledger, MOST_CALLS, Pass, agreement_laws, retire_all};
+use generations::Generations;
+use hashkeys::{HashKey, Key, Salt};
+use std::alloc::{AllocError, Allocator};
+use std::process::Abort;
+use std::sync::Wait;
+
+/// Leaves each value as it is.
+#[derive(Drop)]
+pub(crate) struct Keep;
+
+impl Clone for Keep {
+    ghost use Rattle.std.specs.Prelude.{◌≡◌};
+
+    ghost is_clone = { λ x y. y ≡ x };
+
+    fn clone(&self) -> Result<Keep, AllocError> {
+        Ok(Keep)
+    }
+}
+
+impl Remap<Key, u64> for Keep {
+    ghost use Rattle.std.specs.Prelude.{Some};
+
+    ghost remapped = { λ f k v. v };
+
+    ghost merged = { λ f old given. Some old };
+
+    fn remap(&self, _key: &Key, value: Option<&u64>) -> Result<Option<u64>, AllocError> {
+        Ok(value.copied())
+    }
+
+    fn merge(&self, old: &u64, _given: &u64) -> Result<Option<u64>, AllocError> {
+        Ok(Some(*old))
+    }
+}
+
+pub(crate) type KeyMap<A> = Generations<Key, u64, Keep, A>;
+
+pub(crate) type KeyLedger<A> = Ledger<Key, u64, Keep, A>;
+
+pub(crate) type KeyPass = Pass<Key, u64, Keep>;
+
+pub(crate) type KeyRole = BinRole<Key, u64, Keep>;
+
+pub(crate) type KeyBin<A> = Bin<Key, u64, Keep, A>;
+
+/// A map without entries, its ledger, and the passes of its clients.
+pub(crate) struct Opened<A: Allocator> {
+    pub(crate) map: KeyMap<A>,
+    pub(crate) ledger: KeyLedger<A>,
+    pub(crate) passes: Vec<KeyPass, A>,
+}
+
+/// The same with one client.
+pub(crate) struct Single<A: Allocator> {
+    pub(crate) map: KeyMap<A>,
+    pub(crate) ledger: KeyLedger<A>,
+    pub(crate) pass: KeyPass,
+}
+
+/// So many bases without pairs.
+fn no_bases<A: Allocator + Clone>(
+    alloc: A,
+    n: u32,
+) -> Result<Vec<Vec<(Key, u64), A>, A>, AllocError>
+    ensures count { IfOk result (λ bases. length bases.items ≡ n) }
+    ensures empty { IfOk result (λ bases. All (λ base. base.items ≡ []) bases.items) }
+{
+    let mut bases = Vec::with_capacity(alloc.clone()?, n as usize)?;
+    for _index in 0..n {
+        bases.push_reserved(Vec::new(alloc.clone()?));
+    }
+    Ok(bases)
+}
+
+pub(crate) fn open<A: Allocator + Clone>(
+    alloc: A,
+    salt: Salt,
+    n: u32,
+    clients: u32,
+) -> Result<Opened<A>, AllocError>
+    requires size { IsTableSize n }
+    requires some { 0 < clients }
+    requires at_most { clients ≤ 32 }
+    ensures map { IfOk result (λ o. o.map.n ≡ n) }
+    ensures ledger { IfOk result (λ o. o.map.ledger ≡ o.ledger.id) }
+    ensures passes { IfOk result (λ o. All (λ p. p.ledger ≡ o.ledger.id) o.passes.items) }
+{
+    let bases = no_bases(alloc.clone()?, n)?;
+    let for_map = alloc.clone()?;
+    let (ledger, passes, roles) = Ledger::new(alloc, salt, clients, &bases)?;
+    match Generations::new(for_map, salt, n, bases, roles) {
+        Ok(map) => Ok(Opened {
+            map,
+            ledger,
+            passes,
+        }),
+        Err(error) => {
+            retire_all(passes);
+            Err(error)
+        }
+    }
+}
+
+pub(crate) fn open_single<A: Allocator + Clone>(
+    rt: &impl Abort,
+    alloc: A,
+    salt: Salt,
+    n: u32,
+) -> Result<Single<A>, AllocError>
+    requires { IsTableSize n }
+    ensures map { IfOk result (λ s. s.map.n ≡ n) }
+    ensures ledger { IfOk result (λ s. s.map.ledger ≡ s.ledger.id) }
+    ensures pass { IfOk result (λ s. s.pass.ledger ≡ s.ledger.id) }
+{
+    let Opened {
+        map,
+        ledger,
+        mut passes,
+    } = open(alloc, salt, n, 1)?;
+    let pass = passes.pop().expect(rt, "a pass");
+    retire_all(passes);
+    Ok(Single { map, ledger, pass })
+}
+
+/// The same without the pass.
+pub(crate) fn open_quiet<A: Allocator + Clone>(
+    alloc: A,
+    n: u32,
+) -> Result<(KeyMap<A>, KeyLedger<A>), AllocError>
+    requires { IsTableSize n }
+    ensures map { IfOk result (λ m. m.0.n ≡ n) }
+    ensures ledger { IfOk result (λ m. m.0.ledger ≡ m.1.id) }
+{
+    let Opened {
+        map,
+        ledger,
+        passes,
+    } = open(alloc, Salt(0), n, 1)?;
+    retire_all(passes);
+    Ok((map, ledger))
+}
+
+/// Makes a call on a key of the bin's class, as the next of the pass's client.
+fn make<
+    K: HashKey + Drop,
+    V: Clone + Eq + Drop,
+    F: Remap<K, V> + Clone + Drop,
+    A: Allocator + Clone,
+>(
+    ledger: &Ledger<K, V, F, A>,
+    pass: &mut Pass<K, V, F>,
+    bin: &mut Bin<K, V, F, A>,
+    role: &mut BinRole<K, V, F>,
+    call: Call<K, V, F>,
+) -> Result<(), AllocError>
+    requires keys { IsExact K.is_clone }
+    requires values { IsExact V.is_clone }
+    requires pass { pass.old.ledger ≡ ledger.now.id }
+    requires role { role.old.ledger ≡ ledger.now.id }
+    requires room { length pass.old.made < 1000000 }
+    requires key { is_of K.code bin.old.salt bin.old.class (key_of call) ≡ true }
+    requires agree { Agree K.eq (after V.eq F.remapped F.merged) bin.old role.old }
+    ensures pass { pass.new.ledger ≡ ledger.now.id }
+    ensures role { role.new.ledger ≡ ledger.now.id }
+    ensures agree { Agree K.eq (after V.eq F.remapped F.merged) bin.new role.new }
+    ensures class { bin.new.class ≡ bin.old.class }
+    ensures salt { bin.new.salt ≡ bin.old.salt }
+{
+    agreement_laws::<K, V, F>();
+    bin.lawful();
+    let ready = bin.prepare(call)?;
+    bin.apply(ready, pass.client(), pass.made() as u32);
+    let records = bin.records();
+    ledger.post(pass, role, &records[records.len() - 1]);
+    Ok(())
+}
+
+/// Puts a value at a key of the map.
+pub(crate) fn put<R: Wait + Abort, A: Allocator + Clone>(
+    rt: &R,
+    map: &KeyMap<A>,
+    ledger: &KeyLedger<A>,
+    pass: &mut KeyPass,
+    text: &[u8],
+) -> Result<(), AllocError>
+    requires ledger { map.now.ledger ≡ ledger.now.id }
+    requires pass { pass.old.ledger ≡ ledger.now.id }
+    ensures { pass.new.ledger ≡ ledger.now.id }
+{
+    let key = Key::read(text).expect(rt, "a key");
+    assert!(rt; pass.made() < MOST_CALLS);
+    let mut held = map.hold(rt, map.salt().hash_of(&key));
+    let mut bin = held.bin;
+    let mut role = held.role;
+    let result = make(ledger, pass, &mut bin, &mut role, Call::Put(key, 0));
+    held.bin = bin;
+    held.role = role;
+    held.release();
+    result
+}
+
+/// Takes the bins out, and gives how many there are and whether their classes are all of this size.
+pub(crate) fn leaves_of<R: Wait, A: Allocator + Clone>(
+    rt: &R,
+    map: KeyMap<A>,
+    n: u32,
+) -> Option<(usize, usize, bool)> {
+    match map.into_leaves(rt) {
+        Ok((bins, roles)) => Some((
+            bins.len(),
+            roles.len(),
+            bins.iter().all(|bin| bin.class().n() == n),
+        )),
+        Err(_) => None,
+    }
+}

@@ -1,0 +1,126 @@
+//! Requests for memory that are refused, each in turn.
+use crate::maps::{KeyMap, Single, leaves_of, open_quiet, open_single, put};
+use generations::{Moved, NotLeft};
+use hashkeys::{Class, Salt};
+use refusing_alloc::Refusing;
+use std::alloc::{AllocError, Allocator, Global};
+use std::process::Abort;
+use std::sync::Wait;
+use std::test::Fail;
+
+/// The size of the class and the number of entries of the bin of the hash 97, as it is held and as it is read.
+fn sizes<R: Wait, A: Allocator + Clone>(rt: &R, map: &KeyMap<A>) -> [(u32, usize); 2] {
+    let held = map.hold(rt, 97);
+    let of_held = (held.bin.class().n(), held.bin.entries().len());
+    held.release();
+    let shown = map.read(rt, 97);
+    let of_shown = (shown.bin().class().n(), shown.bin().entries().len());
+    shown.release();
+    [of_held, of_shown]
+}
+
+/// Moves the one bin of a map under an allocator that refuses the request after so many. Where the move is refused the bin is there as before, and the next try moves it. Answers whether it was moved, and whether a request was refused.
+fn refused_move<R: Wait + Abort>(
+    rt: &R,
+    alloc: &Refusing<Global>,
+    granted: u64,
+) -> Result<(bool, bool), AllocError> {
+    let Single {
+        map,
+        ledger,
+        mut pass,
+    } = open_single(rt, alloc, Salt(0), 1)?;
+    let done = put(rt, &map, &ledger, &mut pass, b"a");
+    pass.retire();
+    alloc.refuse_after(granted);
+    let moved = map.forward(rt, &ledger, Class::new(1, 0)).is_ok();
+    let refused = alloc.has_refused();
+    alloc.refuse_after(u64::MAX);
+    let between = sizes(rt, &map);
+    let again = map.forward(rt, &ledger, Class::new(1, 0));
+    let after = sizes(rt, &map);
+    drop(map);
+    drop(ledger);
+    done?;
+    assert_eq!(rt; between, [(if moved { 2 } else { 1 }, 1); 2]);
+    assert_eq!(rt; again?, if moved { Moved::Already } else { Moved::Yes });
+    assert_eq!(rt; after, [(2, 1); 2]);
+    Ok((moved, refused))
+}
+
+#[test]
+fn a_refused_move_leaves_the_bin(rt: HostRuntime) -> Result<(), Fail> {
+    let alloc = Refusing::new(rt.alloc());
+    for granted in 0..6u64 {
+        // Lists of records and of entries for the half that has the key, and a row of the arena. The fourth request is for the numbers of the new table's places:
+        // the move goes on without them.
+        let (moved, refused) = refused_move(&rt, &alloc, granted)?;
+        assert_eq!(rt; (moved, refused), (granted >= 3, granted < 4));
+    }
+    Ok(())
+}
+
+/// Takes out the bins of a map under an allocator that refuses the request after so many. Where that is refused the map comes back, and the next try takes them out. Answers whether it was refused.
+fn refused_leaves<R: Wait + Abort>(
+    rt: &R,
+    alloc: &Refusing<Global>,
+    granted: u64,
+) -> Result<bool, AllocError> {
+    let (map, ledger) = open_quiet(alloc, 4)?;
+    drop(ledger);
+    alloc.refuse_after(granted);
+    match map.into_leaves(rt) {
+        Ok((bins, roles)) => {
+            assert_eq!(rt; (bins.len(), roles.len()), (4, 4));
+            Ok(false)
+        }
+        Err(NotLeft::NoMemory(map)) => {
+            assert_eq!(rt; leaves_of(rt, map, 4), Some((4, 4, true)));
+            Ok(true)
+        }
+        Err(NotLeft::BinMissing) => {
+            assert!(rt; false);
+            Ok(false)
+        }
+    }
+}
+
+#[test]
+fn refused_leaves_give_the_map_back(rt: HostRuntime) -> Result<(), Fail> {
+    let alloc = Refusing::new(rt.alloc());
+    assert!(rt; refused_leaves(&rt, &alloc, 0)?);
+    assert!(rt; refused_leaves(&rt, &alloc, 1)?);
+    assert!(rt; !refused_leaves(&rt, &alloc, 2)?);
+    Ok(())
+}
+
+/// Makes a map under an allocator that refuses the request after so many, and answers whether it was refused.
+fn refused_map(rt: &impl Abort, alloc: &Refusing<Global>, granted: u64) -> bool {
+    alloc.refuse_after(granted);
+    match open_quiet(alloc, 2) {
+        Ok((map, ledger)) => {
+            drop(ledger);
+            drop(map);
+            assert!(rt; !alloc.has_refused());
+            false
+        }
+        Err(_) => {
+            assert!(rt; alloc.has_refused());
+            true
+        }
+    }
+}
+
+#[test]
+fn a_refused_map_is_made_at_the_next_try(rt: HostRuntime) -> Result<(), Fail> {
+    let alloc = Refusing::new(rt.alloc());
+    for granted in 0..100u64 {
+        if !refused_map(&rt, &alloc, granted) {
+            // Lists of bases, passes, roles and places, the table's two blocks, the list of lists of numbers, and the arena's list of rows.
+            assert_eq!(rt; granted, 8);
+            return Ok(());
+        }
+    }
+    assert!(rt; false, "no map was made");
+    Ok(())
+}
