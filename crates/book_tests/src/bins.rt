@@ -33,11 +33,14 @@ fn assert_entries(rt: &impl Abort, entries: &[(Key, u64)], wanted: &[(&[u8], u64
     }
 }
 
-#[test]
-fn each_call_replies_and_leaves_what_its_row_says(rt: HostRuntime) -> Result<(), Fail> {
-    let a = || key(&rt, b"a");
-    let b = || key(&rt, b"b");
-    let c = || key(&rt, b"c");
+/// A call, its reply, and how many keys more there are.
+type Row = (Call<Key, u64, Plus>, Reply<u64>, i64);
+
+/// Calls one after the other.
+fn rows(rt: &impl Abort, alloc: Global) -> Result<Vec<Row>, AllocError> {
+    let a = || key(rt, b"a");
+    let b = || key(rt, b"b");
+    let c = || key(rt, b"c");
     let none = || Reply::Value(None);
     let some = |n| Reply::Value(Some(n));
     let rows = [
@@ -78,9 +81,15 @@ fn each_call_replies_and_leaves_what_its_row_says(rt: HostRuntime) -> Result<(),
         (Call::Put(c(), u64::MAX), some(1), 0),
         (Call::Merge(c(), 1, Plus(Some(0))), some(u64::MAX), 0),
     ];
+    Ok(Vec::from_array(alloc, rows)?)
+}
+
+#[test]
+fn each_call_replies_and_leaves_what_its_row_says(rt: HostRuntime) -> Result<(), Fail> {
+    let rows = rows(&rt, rt.alloc())?;
     let mut bin = empty(rt.alloc(), Class::new(1, 0))?;
     let mut line = 0u32;
-    for (call, reply, delta) in Vec::from_array(rt.alloc(), rows)? {
+    for (call, reply, delta) in rows {
         let answered = make(&rt, &mut bin, call)?;
         assert!(rt; answered == reply, "call {line} replied {answered:?}");
         let last = bin.records().last().expect(&rt, "a record");
@@ -99,31 +108,43 @@ fn each_call_replies_and_leaves_what_its_row_says(rt: HostRuntime) -> Result<(),
     Ok(())
 }
 
+/// A bin of class (16, 1) after 1,025 calls on two keys: both are put, one is taken away and put again.
+fn folded(rt: &impl Abort, alloc: Global) -> Result<KeyBin, AllocError> {
+    let mut bin = empty(alloc, Class::new(16, 1))?;
+    let _ = make(rt, &mut bin, Call::Put(key(rt, b"q"), 1))?;
+    let _ = make(rt, &mut bin, Call::Put(key(rt, b"a"), 2))?;
+    for _ in 0..1021 {
+        let _ = make(rt, &mut bin, Call::Get(key(rt, b"a")))?;
+    }
+    let _ = make(rt, &mut bin, Call::Remove(key(rt, b"q")))?;
+    let _ = make(rt, &mut bin, Call::Put(key(rt, b"q"), 3))?;
+    Ok(bin)
+}
+
+/// Splits the folded bin into its halves.
+fn assert_halves(rt: &impl Abort, bin: &KeyBin) -> Result<(), AllocError> {
+    let (low, high) = {
+        assert!(rt; bin.class().n() < 65536);
+        bin.split()?
+    };
+    assert_entries(rt, low.base(), &[(b"a", 2)]);
+    assert_entries(rt, low.entries(), &[(b"a", 2)]);
+    assert_eq!(rt; low.records().len(), 511);
+    assert_entries(rt, high.base(), &[(b"q", 1)]);
+    assert_entries(rt, high.entries(), &[(b"q", 3)]);
+    assert_eq!(rt; high.records().len(), 2);
+    Ok(())
+}
+
 #[test]
 fn the_oldest_records_are_folded(rt: HostRuntime) -> Result<(), Fail> {
-    let mut bin = empty(rt.alloc(), Class::new(16, 1))?;
-    let _ = make(&rt, &mut bin, Call::Put(key(&rt, b"q"), 1))?;
-    let _ = make(&rt, &mut bin, Call::Put(key(&rt, b"a"), 2))?;
-    for _ in 0..1021 {
-        let _ = make(&rt, &mut bin, Call::Get(key(&rt, b"a")))?;
-    }
-    let _ = make(&rt, &mut bin, Call::Remove(key(&rt, b"q")))?;
-    let _ = make(&rt, &mut bin, Call::Put(key(&rt, b"q"), 3))?;
+    let bin = folded(&rt, rt.alloc())?;
     assert_eq!(rt; bin.records().len(), 513);
     assert_entries(&rt, bin.base(), &[(b"q", 1), (b"a", 2)]);
     assert_entries(&rt, &bin.copy_entries()?, &[(b"a", 2), (b"q", 3)]);
     assert!(rt; bin.get(&key(&rt, b"q")) == Some(&3));
     assert!(rt; bin.get(&key(&rt, b"A")).is_none());
-    let (low, high) = {
-        assert!(rt; bin.class().n() < 65536);
-        bin.split()?
-    };
-    assert_entries(&rt, low.base(), &[(b"a", 2)]);
-    assert_entries(&rt, low.entries(), &[(b"a", 2)]);
-    assert_eq!(rt; low.records().len(), 511);
-    assert_entries(&rt, high.base(), &[(b"q", 1)]);
-    assert_entries(&rt, high.entries(), &[(b"q", 3)]);
-    assert_eq!(rt; high.records().len(), 2);
+    assert_halves(&rt, &bin)?;
     Ok(())
 }
 
