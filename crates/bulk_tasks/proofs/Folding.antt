@@ -14,22 +14,26 @@ module _ {K V A : Type 0} (lift : K → V → A) (join : A → A → A) where
   fold_none (e ∷ es) fs h = absurd (none_ne_some _ h)
 
   from_both : (a : A) (es fs : List (K × V)) → fold_from lift join a (es ++ fs) ≡ fold_from lift join (fold_from lift join a es) fs
-  from_both a es fs = ap (fold join a) (map-append (λ e. lift e.0 e.1) es fs) ∙ fold-append join a (map (λ e. lift e.0 e.1) es) (map (λ e. lift e.0 e.1) fs)
+  from_both a es fs = ap (fold join a) (map-append (λ e. lift e.0 e.1) es fs)
+      ∙ fold-append join a (map (λ e. lift e.0 e.1) es) (map (λ e. lift e.0 e.1) fs)
 
   module _ (associative : IsAssociative join) where
     pub joined_from : (a b : A) (es : List (K × V)) → join a (fold_from lift join b es) ≡ fold_from lift join (join a b) es
     joined_from a b [] = refl
-    joined_from a b (e ∷ es) = joined_from a (join b (lift e.0 e.1)) es ∙ ap (λ c. fold_from lift join c es) (sym (associative a b (lift e.0 e.1)))
+    joined_from a b (e ∷ es) = joined_from a (join b (lift e.0 e.1)) es
+        ∙ ap (λ c. fold_from lift join c es) (sym (associative a b (lift e.0 e.1)))
 
     -- the fold of both is the join of the folds
-    pub fold_both : (a b : A) (es fs : List (K × V)) → Some a ≡ plain_fold lift join es → Some b ≡ plain_fold lift join fs → Some (join a b) ≡ plain_fold lift join (es ++ fs)
+    pub fold_both : (a b : A) (es fs : List (K × V)) → Some a ≡ plain_fold lift join es → Some b ≡ plain_fold lift join fs
+        → Some (join a b) ≡ plain_fold lift join (es ++ fs)
     fold_both a b [] fs h k = absurd (none_ne_some _ (sym h))
     fold_both a b (e ∷ es) [] h k = absurd (none_ne_some _ (sym k))
     fold_both a b (e ∷ es) (f ∷ fs) h k =
         let all = fold_from lift join (lift e.0 e.1) es in
         let x : a ≡ all = ap (λ o. unwrap_or o a) h in
         let y : b ≡ fold_from lift join (lift f.0 f.1) fs = ap (λ o. unwrap_or o b) k in
-        ap (λ c. Some (join c b)) x ∙ ap (λ c. Some (join all c)) y ∙ ap Some (joined_from all (lift f.0 f.1) fs ∙ sym (from_both (lift e.0 e.1) es (f ∷ fs)))
+        ap (λ c. Some (join c b)) x ∙ ap (λ c. Some (join all c)) y
+        ∙ ap Some (joined_from all (lift f.0 f.1) fs ∙ sym (from_both (lift e.0 e.1) es (f ∷ fs)))
 
     -- the fold from a basis is the basis joined with the plain fold
     pub fold_based : (basis a : A) (es : List (K × V)) → Some a ≡ plain_fold lift join es → join basis a ≡ fold_from lift join basis es

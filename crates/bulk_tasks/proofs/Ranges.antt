@@ -7,7 +7,8 @@ use Rattle.std.proofs.lemmas.Grind.{flat_map-append}
 use Rattle.bin_history.specs.Lawful.{BinView}
 use Rattle.chm.specs.Quiets.{entries_of}
 
-slices : {X : Type 0} → (xs : List X) (lo mid hi : ℕ) → lo ≤ mid → mid ≤ hi → slice_range xs lo mid ++ slice_range xs mid hi ≡ slice_range xs lo hi
+slices : {X : Type 0} → (xs : List X) (lo mid hi : ℕ) → lo ≤ mid → mid ≤ hi
+    → slice_range xs lo mid ++ slice_range xs mid hi ≡ slice_range xs lo hi
 slices xs lo mid hi p q =
     let here : lo + (mid - lo) ≡ mid = omega arith in
     let size : (mid - lo) + (hi - mid) ≡ hi - lo = omega arith in
@@ -21,10 +22,12 @@ pub entries_side_by_side : {K V F : Type 0} → (bins : List (BinView K V F)) (l
 entries_side_by_side bins lo mid hi p q =
     sym (flat_map-append (λ b. b.entries) (slice_range bins lo mid) (slice_range bins mid hi)) ∙ ap entries_of (slices bins lo mid hi p q)
 
-pub entries_rest : {K V F : Type 0} → (bins : List (BinView K V F)) (i : ℕ) → entries_of (take i bins) ++ entries_of (drop i bins) ≡ entries_of bins
+pub entries_rest : {K V F : Type 0} → (bins : List (BinView K V F)) (i : ℕ)
+    → entries_of (take i bins) ++ entries_of (drop i bins) ≡ entries_of bins
 entries_rest bins i = sym (flat_map-append (λ b. b.entries) (take i bins) (drop i bins)) ∙ ap entries_of (take-append-drop i bins)
 
-pub entries_more : {K V F : Type 0} → (bins : List (BinView K V F)) (i : ℕ) (d : BinView K V F) → i < length bins → entries_of (take i bins) ++ (get_or bins i d).entries ≡ entries_of (take (i + 1) bins)
+pub entries_more : {K V F : Type 0} → (bins : List (BinView K V F)) (i : ℕ) (d : BinView K V F) → i < length bins
+    → entries_of (take i bins) ++ (get_or bins i d).entries ≡ entries_of (take (i + 1) bins)
 entries_more bins i d h =
     ap (λ es. entries_of (take i bins) ++ es) (sym (append-nil (get_or bins i d).entries))
     ∙ sym (flat_map-append (λ b. b.entries) (take i bins) (get_or bins i d ∷ [])) ∙ ap entries_of (sym (take_more bins i d h))

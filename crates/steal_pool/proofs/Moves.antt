@@ -23,20 +23,27 @@ module _ {T : Type 0} where
   total-append f (x ∷ xs) v = omega (arith, total-append f xs v)
 
   -- the total after a change of one view
-  total_set : (f : Log T → ℕ) (views : List (Log T)) (port : ℕ) (v w : Log T) → get_elem? views port ≡ some v → total f (set views port w) + f v ≡ total f views + f w
+  total_set : (f : Log T → ℕ) (views : List (Log T)) (port : ℕ) (v w : Log T) → get_elem? views port ≡ some v
+      → total f (set views port w) + f v ≡ total f views + f w
   total_set f [] port v w at = absurd (some-ne-none v (sym at))
   total_set f (x ∷ xs) zero v w at = let s : f x ≡ f v = ap f (some-injective x v at) in omega arith
   total_set f (x ∷ xs) (suc port) v w at = omega (arith, total_set f xs port v w at)
 
-  idle_set : (views : List (Log T)) (port : ℕ) (w : Log T) → (w.shares ≡ 0 → (w.pushed ≡ []) × (w.taken ≡ [])) → IdleIsEmpty views → IdleIsEmpty (set views port w)
-  idle_set views port w mine idle j u e none = ⊎_elim (λ (x : (j ≡ port) × (w ≡ u)). subst (λ (y : Log T). (y.pushed ≡ []) × (y.taken ≡ [])) x.1 (mine (ap (λ (y : Log T). y.shares) x.1 ∙ none)))
+  idle_set : (views : List (Log T)) (port : ℕ) (w : Log T) → (w.shares ≡ 0 → (w.pushed ≡ []) × (w.taken ≡ [])) → IdleIsEmpty views
+      → IdleIsEmpty (set views port w)
+  idle_set views port w mine idle j u e none =
+      ⊎_elim (λ (x : (j ≡ port) × (w ≡ u)). subst (λ (y : Log T). (y.pushed ≡ []) × (y.taken ≡ [])) x.1
+      (mine (ap (λ (y : Log T). y.shares) x.1 ∙ none)))
       (λ (x : (j ≢ port) × (get_elem? views j ≡ some u)). idle j u x.1 none) (at_set views port j w u e)
 
-  idle_push : (views : List (Log T)) (w : Log T) → (w.shares ≡ 0 → (w.pushed ≡ []) × (w.taken ≡ [])) → IdleIsEmpty views → IdleIsEmpty (views ++ w ∷ [])
+  idle_push : (views : List (Log T)) (w : Log T) → (w.shares ≡ 0 → (w.pushed ≡ []) × (w.taken ≡ [])) → IdleIsEmpty views
+      → IdleIsEmpty (views ++ w ∷ [])
   idle_push views w mine idle j u e none = ⊎_elim (λ (x : get_elem? views j ≡ some u). idle j u x none)
-      (λ (x : w ≡ u). subst (λ (y : Log T). (y.pushed ≡ []) × (y.taken ≡ [])) x (mine (ap (λ (y : Log T). y.shares) x ∙ none))) (at_snoc views w u j e)
+      (λ (x : w ≡ u). subst (λ (y : Log T). (y.pushed ≡ []) × (y.taken ≡ [])) x (mine (ap (λ (y : Log T). y.shares) x ∙ none)))
+      (at_snoc views w u j e)
 
-  pub pushes : (port : ℕ) (v : Log T) (xs : List T) → 0 < v.shares → Pushes Balanced port v xs (λ w. w ≡ log v.shares (v.pushed ++ xs) v.taken)
+  pub pushes : (port : ℕ) (v : Log T) (xs : List T) → 0 < v.shares
+      → Pushes Balanced port v xs (λ w. w ≡ log v.shares (v.pushed ++ xs) v.taken)
   pushes port v xs share items views b at =
       let w : Log T = log v.shares (v.pushed ++ xs) v.taken in (
         w,
@@ -52,7 +59,8 @@ module _ {T : Type 0} where
         refl,
       )
 
-  pub takes : (port : ℕ) (v : Log T) (most : ℕ) → 0 < v.shares → Takes Balanced port v most (λ xs w. w ≡ log v.shares v.pushed (v.taken ++ xs))
+  pub takes : (port : ℕ) (v : Log T) (most : ℕ) → 0 < v.shares
+      → Takes Balanced port v most (λ xs w. w ≡ log v.shares v.pushed (v.taken ++ xs))
   takes port v most share xs items views _ _ b at =
       let w : Log T = log v.shares v.pushed (v.taken ++ xs) in (
         w,
@@ -100,12 +108,14 @@ module _ {T : Type 0} where
         idle_push vs r (λ none. (refl, refl)) (idle_set views port l (λ none. absurd (omega arith)) b.2),
       )
 
-  pub merges : (port : ℕ) (v : Log T) (other : ℕ) (u : Log T) → 0 < v.shares → 0 < u.shares → Merges Balanced port v other u (log (v.shares + u.shares) (v.pushed ++ u.pushed) (v.taken ++ u.taken)) (log 0 [] [])
+  pub merges : (port : ℕ) (v : Log T) (other : ℕ) (u : Log T) → 0 < v.shares → 0 < u.shares
+      → Merges Balanced port v other u (log (v.shares + u.shares) (v.pushed ++ u.pushed) (v.taken ++ u.taken)) (log 0 [] [])
   merges port v other u one two items views b at apart at' =
       let both : Log T = log (v.shares + u.shares) (v.pushed ++ u.pushed) (v.taken ++ u.taken) in
       let spent : Log T = log 0 [] [] in
       let vs : List (Log T) = set views port both in (
-        (let s = total_set (λ y. y.shares) views port v both at in let t = total_set (λ y. y.shares) vs other u spent at' in let p = b.0 in omega arith),
+        (let s = total_set (λ y. y.shares) views port v both at in let t = total_set (λ y. y.shares) vs other u spent at' in let p = b.0 in
+            omega arith),
         (λ h.
             let s = total_set (λ y. weigh h y.pushed) views port v both at in
             let s' = total_set (λ y. weigh h y.pushed) vs other u spent at' in
@@ -121,12 +131,16 @@ module _ {T : Type 0} where
   share_of (x ∷ xs) zero v at = let s : x.shares ≡ v.shares = ap (λ (y : Log T). y.shares) (some-injective x v at) in omega arith
   share_of (x ∷ xs) (suc port) v at = omega (arith, share_of xs port v at)
 
-  nothing : (f : Log T → ℕ) (views : List (Log T)) → total (λ u. u.shares) views ≡ 0 → ((j : ℕ) (u : Log T) → get_elem? views j ≡ some u → u.shares ≡ 0 → f u ≡ 0) → total f views ≡ 0
+  nothing : (f : Log T → ℕ) (views : List (Log T)) → total (λ u. u.shares) views ≡ 0
+      → ((j : ℕ) (u : Log T) → get_elem? views j ≡ some u → u.shares ≡ 0 → f u ≡ 0) → total f views ≡ 0
   nothing f [] all idle = refl
-  nothing f (x ∷ xs) all idle = let here : f x ≡ 0 = idle 0 x refl (omega arith) in let rest : total f xs ≡ 0 = nothing f xs (omega arith) (λ j u at none. idle (suc j) u at none) in omega arith
+  nothing f (x ∷ xs) all idle = let here : f x ≡ 0 = idle 0 x refl (omega arith) in
+      let rest : total f xs ≡ 0 = nothing f xs (omega arith) (λ j u at none. idle (suc j) u at none) in omega arith
 
   -- the view with all shares has all that was pushed and taken
-  alone : (f : Log T → ℕ) (views : List (Log T)) (port : ℕ) (v : Log T) → get_elem? views port ≡ some v → total (λ u. u.shares) views ≡ v.shares → ((j : ℕ) (u : Log T) → get_elem? views j ≡ some u → u.shares ≡ 0 → f u ≡ 0) → total f views ≡ f v
+  alone : (f : Log T → ℕ) (views : List (Log T)) (port : ℕ) (v : Log T) → get_elem? views port ≡ some v
+      → total (λ u. u.shares) views ≡ v.shares → ((j : ℕ) (u : Log T) → get_elem? views j ≡ some u → u.shares ≡ 0 → f u ≡ 0)
+      → total f views ≡ f v
   alone f [] port v at all idle = absurd (some-ne-none v (sym at))
   alone f (x ∷ xs) zero v at all idle =
       let s : f x ≡ f v = ap f (some-injective x v at) in
@@ -137,7 +151,8 @@ module _ {T : Type 0} where
       let here : f x ≡ 0 = idle 0 x refl (omega arith) in
       let rest : total f xs ≡ f v = alone f xs port v at (omega arith) (λ j u at none. idle (suc j) u at none) in omega arith
 
-  pub learns : (port : ℕ) (v : Log T) → v.shares ≡ 32 → Learns Balanced port v (λ items. (h : T → ℕ) → weigh h v.pushed ≡ weigh h v.taken + weigh h items)
+  pub learns : (port : ℕ) (v : Log T) → v.shares ≡ 32
+      → Learns Balanced port v (λ items. (h : T → ℕ) → weigh h v.pushed ≡ weigh h v.taken + weigh h items)
   learns port v all items views b at h =
       let p = b.0 in
       let whole : total (λ u. u.shares) views ≡ v.shares = omega arith in

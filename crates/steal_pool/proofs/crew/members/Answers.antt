@@ -10,9 +10,11 @@ use Rattle.steal_pool.proofs.crew.members.Goals as goal
 pub invariant_of-push : goal.invariant_of-push
 invariant_of-push g c =
     let all = subst (AreSeated worker_deque g.S.Seats.deque) c.in-Some.ensures.items c.loop-own.invariant.seats in
-    let whole : IsUnshared c.in-Some.own = (All-pop IsUnshared c.loop-own.deques.items c.pop.new.self.items (Some c.in-Some.own) c.in-Some.ensures.items c.loop-own.invariant.shares).1 in
+    let whole : IsUnshared c.in-Some.own = (All-pop IsUnshared c.loop-own.deques.items c.pop.new.self.items
+    (Some c.in-Some.own) c.in-Some.ensures.items c.loop-own.invariant.shares).1 in
     let count : length c.pop.new.self.items ≡ c.len.result = search rules in
-    let longer : length c.loop-own.deques.items ≡ length c.pop.new.self.items + 1 = ap length c.in-Some.ensures.items ∙ length-append c.pop.new.self.items (c.in-Some.own ∷ []) in
+    let longer : length c.loop-own.deques.items ≡ length c.pop.new.self.items + 1 = ap length c.in-Some.ensures.items
+    ∙ length-append c.pop.new.self.items (c.in-Some.own ∷ []) in
     let most : length c.loop-own.deques.items ≤ 16 = omega (arith, c.loop-own.deques.ok.0, c.loop-own.invariant.few) in
     record {
       deque = ap g.S.Seats.deque (sym count) ∙ last_seat worker_deque g.S.Seats.deque c.pop.new.self.items c.in-Some.own all;
@@ -24,11 +26,13 @@ invariant_of-push g c =
 pub loop-own-preserved : goal.loop-own-preserved
 loop-own-preserved g c =
     let all = subst (AreSeated worker_deque g.S.Seats.deque) c.in-Some.ensures.items c.loop-own.invariant.seats in
-    let longer : length c.loop-own.deques.items ≡ length c.pop.new.self.items + 1 = ap length c.in-Some.ensures.items ∙ length-append c.pop.new.self.items (c.in-Some.own ∷ []) in
+    let longer : length c.loop-own.deques.items ≡ length c.pop.new.self.items + 1 = ap length c.in-Some.ensures.items
+    ∙ length-append c.pop.new.self.items (c.in-Some.own ∷ []) in
     let most : length c.loop-own.deques.items ≤ 16 = omega (arith, c.loop-own.deques.ok.0, c.loop-own.invariant.few) in
     record {
       count = search rules;
       few = omega (arith, longer, most, c.pop.new.self.ok.0);
-      shares = (All-pop IsUnshared c.loop-own.deques.items c.pop.new.self.items (Some c.in-Some.own) c.in-Some.ensures.items c.loop-own.invariant.shares).0;
+      shares = (All-pop IsUnshared c.loop-own.deques.items c.pop.new.self.items
+          (Some c.in-Some.own) c.in-Some.ensures.items c.loop-own.invariant.shares).0;
       seats = other_seats worker_deque g.S.Seats.deque c.pop.new.self.items c.in-Some.own all;
     }

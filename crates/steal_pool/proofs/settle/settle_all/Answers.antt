@@ -13,5 +13,6 @@ loop-member-preserved g c =
       search (rules, length-append),
       λ h.
           let w = weigh_both h i.0 s.0 in
-          let l = settled (pushed_by {S = g.row.S.Denot} {g = g.S.Seats} h) (taken_by {S = g.row.S.Denot} {g = g.S.Seats} h) _ _ _ _ _ _ _ c.in-Some.ensures.items (s.2 h) (i.2 h) in omega arith,
+          let l = settled (pushed_by {S = g.row.S.Denot} {g = g.S.Seats} h)
+          (taken_by {S = g.row.S.Denot} {g = g.S.Seats} h) _ _ _ _ _ _ _ c.in-Some.ensures.items (s.2 h) (i.2 h) in omega arith,
     )

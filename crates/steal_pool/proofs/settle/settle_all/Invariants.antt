@@ -6,7 +6,8 @@ use Rattle.steal_pool.proofs.settle.settle_all.Given as goal
 abbrev pub invariant-loop-member : goal.invariant-loop-member
 invariant-loop-member g l =
     (rest : List g.row.T.Denot) × (length rest ≡ l.left)
-    × ((h : g.row.T.Denot → ℕ) → sum_by (pushed_by h) l.fn.members.items + sum_by (taken_by h) l.members.items ≡ sum_by (pushed_by h) l.members.items + sum_by (taken_by h) l.fn.members.items + weigh h rest)
+    × ((h : g.row.T.Denot → ℕ) → sum_by (pushed_by h) l.fn.members.items + sum_by (taken_by h) l.members.items ≡ sum_by
+    (pushed_by h) l.members.items + sum_by (taken_by h) l.fn.members.items + weigh h rest)
 
 abbrev pub decreases-loop-member : goal.decreases-loop-member
 decreases-loop-member g l = vec_len l.members

@@ -6,7 +6,8 @@ use Rattle.bulk_tasks.proofs.collector.CollectingBody.join.Given as goal
 
 abbrev pub invariant-loop-next : goal.invariant-loop-next
 invariant-loop-next g l = (l.lo ≤ l.whole.hi)
-    × AreParts (λ a b part. g.C.Collector.collected l.self.collector.now (entries_of (slice_range l.self.bins.now a b)) part) l.whole.hi l.hi l.parts
+    × AreParts (λ a b part. g.C.Collector.collected l.self.collector.now
+    (entries_of (slice_range l.self.bins.now a b)) part) l.whole.hi l.hi l.parts
     × g.C.Collector.collected l.self.collector.now (entries_of (slice_range l.self.bins.now l.lo l.whole.hi)) l.whole.part
 
 abbrev pub decreases-loop-next : goal.decreases-loop-next

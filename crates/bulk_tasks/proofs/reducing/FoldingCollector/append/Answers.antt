@@ -11,4 +11,5 @@ returns-in_ok-join-in-Some-right g c = λ es fs h k.
     let right = rw c.in_ok-right.was at k in
     let x : Some c.in-Some.first ≡ plain_fold lift join es = sym c.in-Some.is ∙ left in
     let y : Some c.in-Some-right.second ≡ plain_fold lift join fs = sym c.in-Some-right.is ∙ right in
-    ap Some {y = join c.in-Some.first c.in-Some-right.second} c.in_ok-join-in-Some-right.ensures.value ∙ fold_both lift join (g.met.R.Reducer.associative c.args.self.now.reducer.now) c.in-Some.first c.in-Some-right.second es fs x y
+    ap Some {y = join c.in-Some.first c.in-Some-right.second} c.in_ok-join-in-Some-right.ensures.value
+    ∙ fold_both lift join (g.met.R.Reducer.associative c.args.self.now.reducer.now) c.in-Some.first c.in-Some-right.second es fs x y

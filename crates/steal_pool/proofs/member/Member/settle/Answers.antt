@@ -9,5 +9,6 @@ returns g c =
     let b = c.settle.ensures.books in (
       b.0,
       b.1,
-      λ h. let z : stolen {S = g.row.S.Denot} {g = g.S.Seats} h c.args.self.ways.items ≡ 0 = nothing (brought_by {S = g.row.S.Denot} {g = g.S.Seats} h) c.args.self.ways.items none in let s = b.2 h in omega arith,
+      λ h. let z : stolen {S = g.row.S.Denot} {g = g.S.Seats} h c.args.self.ways.items ≡ 0 =
+          nothing (brought_by {S = g.row.S.Denot} {g = g.S.Seats} h) c.args.self.ways.items none in let s = b.2 h in omega arith,
     )
