@@ -46,15 +46,20 @@ impl Line {
     }
 }
 
+fn push_block(alloc: Global, text: &mut String, block: &[Line]) -> Result<(), AllocError> {
+    text.push_str("client\n")?;
+    for line in block {
+        text.push_str(&line.text(alloc)?)?;
+    }
+    Ok(())
+}
+
 /// The script of two blocks.
 fn script(alloc: Global, blocks: [&[Line]; 2]) -> Result<String, AllocError> {
+    let [first, second] = blocks;
     let mut text = String::new(alloc);
-    for block in blocks {
-        text.push_str("client\n")?;
-        for line in block {
-            text.push_str(&line.text(alloc)?)?;
-        }
-    }
+    push_block(alloc, &mut text, first)?;
+    push_block(alloc, &mut text, second)?;
     text.push_str("query\ncount\n")?;
     Ok(text)
 }
