@@ -1,5 +1,5 @@
 -- Two clients that each miss the other's put have no one order.
-use Rattle.std.proofs.Common.{◌≡◌, ◌≢◌, ℕ, zero, suc, ℤ, Bool, true, false, cond, ◌<◌, ◌==◌, Option, Some, None, List, [], ◌∷◌, length, map, filter, drop, All, ◌⊎◌, ⊎_elim, inl, inr, slice_index_or, refl, sym, ap, ◌∙◌, subst, arith}
+use Rattle.std.proofs.Common.{◌≡◌, ◌≢◌, ℕ, zero, suc, ℤ, Bool, true, false, cond, ◌<◌, ◌==◌, Option, Some, None, List, [], ◌∷◌, map, filter, drop, All, ◌⊎◌, ⊎_elim, inl, inr, slice_index_or, refl, sym, ap, ◌∙◌, subst, arith}
 use Rattle.std.specs.Ordering.{int_eq}
 use Rattle.std.proofs.lemmas.Bool.{eq-eqb, ne_eqb}
 use Rattle.std.proofs.lemmas.List.Elements.{All-filter, All-head, All-tail, All-weaker}

@@ -1,5 +1,5 @@
 -- What bulk operations on pairs answer, as queries ask it.
-use Rattle.std.proofs.Common.{◌≡◌, T, not, ℕ, ℤ, pos, ◌+ℤ◌, ◌≤ℤ◌, ◌<ℤ◌, Bool, true, false, cond, Option, Some, None, List, [], ◌∷◌, ◌++◌, length, get_or, map, fold, All, Contains, refl, sym, ap, subst, ◌∙◌, arith, append_assoc}
+use Rattle.std.proofs.Common.{◌≡◌, T, not, ℤ, pos, ◌+ℤ◌, ◌≤ℤ◌, ◌<ℤ◌, Bool, true, false, cond, Option, Some, None, List, [], ◌∷◌, ◌++◌, map, fold, Contains, refl, sym, ap, subst, ◌∙◌, arith, append_assoc}
 use Rattle.std.proofs.lemmas.Int.{ints}
 use Rattle.std.proofs.Math.ListN.{get_or-map}
 use Rattle.std.proofs.lemmas.List.{append-nil, length-map}
@@ -8,7 +8,7 @@ use Rattle.std.specs.Int.{int_max}
 use Rattle.std.specs.Int.Signed.{lt_z, lt_z_yes, lt_z_no}
 use Rattle.bulk_tasks.specs.Actions.{answers}
 use Rattle.bulk_tasks.specs.Folds.{fold_from, plain_fold}
-use Rattle.bulk_tasks.specs.Searches.{IsFound, IsNowhere, IsSearched}
+use Rattle.bulk_tasks.specs.Searches.{IsSearched}
 use Rattle.mapcli.specs.Above.{above}
 use Rattle.mapcli.specs.Texts.{sum_of, IsGreatest, IsAbove}
 use Rattle.mapcli.proofs.Values.{IsGreatest-push}

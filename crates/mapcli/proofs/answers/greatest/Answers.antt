@@ -1,4 +1,4 @@
-use Rattle.std.proofs.Common.{ℤ, Option, map, sym, subst}
+use Rattle.std.proofs.Common.{map, sym, subst}
 use Rattle.chm.specs.Quiets.{entries_of}
 use Rattle.mapcli.specs.Texts.{IsGreatest}
 use Rattle.mapcli.proofs.Reduced.{greatest-folded}

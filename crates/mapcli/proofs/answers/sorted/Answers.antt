@@ -1,7 +1,4 @@
-use Rattle.std.proofs.Common.{◌≡◌, false, refl, is_lt, IsPermutation, List, sym, subst, ◌∙◌}
-use Rattle.std.specs.declared.cmp.Ordering.{Ordering}
-use Rattle.std.specs.declared.cmp.Ordering.TheVariants.{Less, Equal, Greater}
-use Rattle.std.specs.Ordering.{ordering_then}
+use Rattle.std.proofs.Common.{IsPermutation, List, subst, ◌∙◌}
 use Rattle.chm.specs.Quiets.{entries_of}
 use Rattle.mapcli.proofs.Reduced.{answers-pairs}
 use Rattle.mapcli.proofs.answers.sorted.Goals as goal
