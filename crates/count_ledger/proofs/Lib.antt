@@ -13,4 +13,3 @@ pub mod Ordering
 pub mod Settlement
 pub mod Agreements
 pub mod Totals
-pub mod Crossing

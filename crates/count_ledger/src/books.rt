@@ -41,7 +41,8 @@ impl<K, V, A: Allocator> Model for Terms<K, V, A> {
     ghost view = { λ t. record { salt = t.salt; clients = t.clients; bases = lists_of t.bases.value } };
 }
 
-/// The books agree, and each client's word is the sum of its deltas.
+/// All calls stand in one list, in the order of their posts; each pass made those by its client, each role kept those on keys of its class; and each client's
+/// word is the sum of its deltas.
 pub(crate) struct LedgerRule;
 
 impl<K: HashKey, V, F, A: Allocator> TableRule<(), View<K, V, F>, Terms<K, V, A>> for LedgerRule {
