@@ -1,10 +1,15 @@
 -- A change at a key's place is a store at the key.
-use Rattle.std.proofs.Common.{◌≡◌, ℕ, zero, suc, ◌<◌, Bool, Option, Some, None, Decides, List, [], ◌∷◌, ◌++◌, length, refl, sym, ap, arith, get_or, set}
+use Rattle.std.proofs.Common.{◌≡◌, ℕ, zero, suc, ◌<◌, Bool, true, false, Option, Some, None, Decides, List, [], ◌∷◌, ◌++◌, length, refl, sym, ap, arith, get_or, set}
+use Rattle.std.proofs.lemmas.Bool.{true≢false}
 use Rattle.std.proofs.lemmas.Grind.{common_steps}
+use Rattle.std.proofs.lemmas.Option.{none-some}
 use Rattle.std.specs.List.{remove as remove_at}
 use Rattle.bin_history.specs.Entries.{lookup, put, remove, store}
 use Rattle.bin_history.specs.Births.{place}
-use Rattle.bin_history.specs.Changes.{assign_at, changed, HasPlace, IsFound, change_to, change_by, left_by}
+use Rattle.bin_history.specs.Changes.{assign_at, changed, HasPlace, IsFound, Fits, change_to, change_by, left_by}
+use Rattle.bin_history.specs.Calls.{may_add, after}
+use Rattle.bin_history.specs.declared.call.Call.{Call}
+use Rattle.bin_history.specs.declared.call.Call.TheVariants.{Get, Contains, Put, PutIfAbsent, Remove, RemoveIf, Replace, ReplaceIf, ComputeIfAbsent, ComputeIfPresent, Compute, Merge}
 use Rattle.bin_history.specs.declared.effect.Effect.{Effect}
 use Rattle.bin_history.specs.declared.effect.Effect.TheVariants.{Keep, Set, Clear}
 
@@ -71,3 +76,31 @@ module _ {K V : Type 0} (same : K → K → Bool) (tells : (x y : K) → Decides
   HasPlace-change_by es k found Keep f = tt
   HasPlace-change_by es k found (Set v) f = HasPlace-change_to es k found (Some v) f
   HasPlace-change_by es k found Clear f = HasPlace-change_to es k found None f
+
+-- a change fits where there is room for each new key that the call may add
+pub Fits-change_by : {K V : Type 0} (found : Option ℕ) (k : K) (e : Effect V) (before : Option V) (may : Bool) (room : ℕ)
+    → (found ≡ None → before ≡ None) → (may ≡ false → before ≡ None → left_by e before ≡ None) → (found ≡ None → may ≡ true → 0 < room)
+    → Fits room (change_by found k e)
+Fits-change_by (Some i) k Keep before may room absent keeps has = tt
+Fits-change_by (Some i) k (Set v) before may room absent keeps has = tt
+Fits-change_by (Some i) k Clear before may room absent keeps has = tt
+Fits-change_by None k Keep before may room absent keeps has = tt
+Fits-change_by None k Clear before may room absent keeps has = tt
+Fits-change_by None k (Set v) before true room absent keeps has = has refl refl
+Fits-change_by None k (Set v) before false room absent keeps has = absurd (none-some v (sym (keeps refl (absent refl))))
+
+-- a call that adds nothing leaves a key without a value as it is
+pub after_of_none : {K V F : Type 0} (same_value : V → V → Bool) (remapped : F → K → Option V → Option V) (merged : F → V → V → Option V) (call : Call K V F)
+    → may_add call ≡ false → after same_value remapped merged call None ≡ None
+after_of_none same_value remapped merged (Get k) e = refl
+after_of_none same_value remapped merged (Contains k) e = refl
+after_of_none same_value remapped merged (Put k v) e = absurd (true≢false e)
+after_of_none same_value remapped merged (PutIfAbsent k v) e = absurd (true≢false e)
+after_of_none same_value remapped merged (Remove k) e = refl
+after_of_none same_value remapped merged (RemoveIf k v) e = refl
+after_of_none same_value remapped merged (Replace k v) e = refl
+after_of_none same_value remapped merged (ReplaceIf k old new) e = refl
+after_of_none same_value remapped merged (ComputeIfAbsent k f) e = absurd (true≢false e)
+after_of_none same_value remapped merged (ComputeIfPresent k f) e = refl
+after_of_none same_value remapped merged (Compute k f) e = absurd (true≢false e)
+after_of_none same_value remapped merged (Merge k v f) e = absurd (true≢false e)

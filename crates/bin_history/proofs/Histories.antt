@@ -5,12 +5,15 @@ use Rattle.std.proofs.lemmas.List.Elements.{filter-append}
 use Rattle.hashkeys.specs.Classes.{is_of}
 use Rattle.bin_history.specs.BinPart.{IsPartOf}
 use Rattle.bin_history.specs.Calls.{key_of}
-use Rattle.bin_history.specs.Entries.{lookup, HasDistinctKeys, replay}
-use Rattle.bin_history.specs.Histories.{HasHistory}
-use Rattle.bin_history.specs.Lawful.{BinView}
+use Rattle.bin_history.specs.Entries.{lookup, HasDistinctKeys, store, replay}
+use Rattle.bin_history.specs.Histories.{HasHistory, GoesOn}
+use Rattle.bin_history.specs.Lawful.{BinView, StoresByForm}
 use Rattle.bin_history.specs.Part.{part_of_map, part_of_entries, part_of_records}
-use Rattle.bin_history.specs.Plain.{run, IsLegal}
+use Rattle.bin_history.specs.Plain.{run, IsLegal, IsLegalStep}
 use Rattle.bin_history.specs.Readiness.{KeepsOrFolds}
+use Rattle.bin_history.specs.Logs.{with_one_more}
+use Rattle.bin_history.specs.declared.form.Form.{Form}
+use Rattle.bin_history.specs.declared.form.Form.TheVariants.{Recorded, Lean}
 use Rattle.bin_history.specs.declared.call.Call.{Call}
 use Rattle.bin_history.specs.Records.{RecordView}
 use Rattle.bin_history.proofs.Parts.{lookup-part, replay-part, IsLegal-part, HasDistinctKeys-part}
@@ -20,19 +23,39 @@ module _ {K V F : Type 0} (same : K → K → Bool) (tells : (x y : K) → Decid
   pub HasHistory-new : (b : BinView K V F) → HasDistinctKeys same b.base → b.records ≡ [] → HasHistory same after b.base [] b
   HasHistory-new b d e = ([], record { distinct = d; kept_is = sym e; legal = tt; base_is = refl })
 
-  -- a record more
-  pub HasHistory-applied : (opening : List (K × V)) (kept : List (RecordView K V F)) (b c : BinView K V F) (r : RecordView K V F)
-      → HasHistory same after opening kept b → c.base ≡ b.base → c.records ≡ b.records ++ r ∷ []
-      → HasHistory same after opening (kept ++ r ∷ []) c
-  HasHistory-applied opening kept b c r (front, h) base records = (
-    front,
-    record {
-      distinct = h.distinct;
-      kept_is = ap (λ (ks : List (RecordView K V F)). ks ++ r ∷ []) h.kept_is ∙ append_assoc front b.records (r ∷ []) ∙ ap (λ (rs : List (RecordView K V F)). front ++ rs) (sym records);
-      legal = h.legal;
-      base_is = base ∙ h.base_is;
-    },
-  )
+  -- some of the stored and new records went into the base, and the others are stored
+  pub HasHistory-gone_on : (opening : List (K × V)) (kept : List (RecordView K V F)) (b c : BinView K V F) (more : List (RecordView K V F))
+      → HasHistory same after opening kept b → GoesOn same after b more c
+      → HasHistory same after opening (kept ++ more) c
+  HasHistory-gone_on opening kept b c more (front, h) (gone, g) =
+      let base : lookup same b.base ≡ run same (lookup same opening) front = ap (lookup same) h.base_is ∙ lookup-replay same tells opening front h.distinct in
+      let L : (K → Option V) → Type 0 = λ m. IsLegal same after m gone in (
+        front ++ gone,
+        record {
+          distinct = h.distinct;
+          kept_is = ap (λ (ks : List (RecordView K V F)). ks ++ more) h.kept_is ∙ append_assoc front b.records more ∙ ap (λ (rs : List (RecordView K V F)). front ++ rs) g.stored_is ∙ sym (append_assoc front gone c.records);
+          legal = IsLegal-append same tells after (lookup same opening) front gone h.legal (subst L base g.legal);
+          base_is = g.base_is ∙ ap (λ (es : List (K × V)). replay same es gone) h.base_is ∙ sym (replay-append same tells opening front gone);
+        },
+      )
+
+  -- a bin that was called went on by the call's record
+  pub GoesOn-called : (form : Form) (b c : BinView K V F) (r : RecordView K V F)
+      → b.form ≡ form → c.form ≡ form → StoresByForm b → StoresByForm c
+      → (form ≡ Recorded → c.base ≡ b.base) → c.records ≡ with_one_more form b.records r
+      → c.entries ≡ store same b.entries (key_of r.call) r.after → IsLegalStep same after (lookup same b.entries) r
+      → GoesOn same after b (r ∷ []) c
+  GoesOn-called Recorded b c r is is' stores stores' base records entries legal = ([], record { stored_is = sym records; legal = tt; base_is = base refl })
+  GoesOn-called Lean b c r is is' stores stores' base records entries legal =
+      let (none, base_is) = stores is in
+      let L : List (K × V) → Type 0 = λ es. IsLegalStep same after (lookup same es) r in (
+        r ∷ [],
+        record {
+          stored_is = rw (none, records) refl;
+          legal = (subst L (sym base_is) legal, tt);
+          base_is = (stores' is').1 ∙ entries ∙ ap (λ (es : List (K × V)). store same es (key_of r.call) r.after) (sym base_is);
+        },
+      )
 
   -- the oldest records folded, or not
   pub HasHistory-prepared : (opening : List (K × V)) (kept : List (RecordView K V F)) (b c : BinView K V F)

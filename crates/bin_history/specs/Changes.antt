@@ -32,6 +32,13 @@ HasPlace es (Assign i v) = i < length es
 HasPlace es (Add k v) = Unit {0}
 HasPlace es (Take i) = i < length es
 
+-- there is room for as many more entries as it needs
+abbrev pub Fits : {K V : Type 0} → ℕ → Change K V → Type 0
+Fits room Stay = Unit {0}
+Fits room (Assign i v) = Unit {0}
+Fits room (Add k v) = 0 < room
+Fits room (Take i) = Unit {0}
+
 -- what a search for a key found
 abbrev pub IsFound : {K V : Type 0} → (K → K → Bool) → List (K × V) → K → Option ℕ → Type 0
 IsFound same_key es k None = length es ≡ place same_key es k

@@ -18,3 +18,12 @@ module _ {K V F : Type 0} (same_key : K → K → Bool) (after : Call K V F → 
   -- the bin is what the kept records made of the opening map
   abbrev pub HasHistory : List (K × V) → List (RecordView K V F) → BinView K V F → Type 0
   HasHistory opening kept b = (front : List (RecordView K V F)) × FollowsFront opening kept front b
+
+  -- a bin went on by more records: of those that it stored and the new ones a front, which is legal on the base, went into the base, and the others are stored
+  pub record GoesOnPast (b : BinView K V F) (more front : List (RecordView K V F)) (c : BinView K V F) : Type 0 where
+    pub stored_is : b.records ++ more ≡ front ++ c.records
+    pub legal : IsLegal same_key after (lookup same_key b.base) front
+    pub base_is : c.base ≡ replay same_key b.base front
+
+  abbrev pub GoesOn : BinView K V F → List (RecordView K V F) → BinView K V F → Type 0
+  GoesOn b more c = (front : List (RecordView K V F)) × GoesOnPast b more front c

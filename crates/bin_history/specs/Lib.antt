@@ -7,6 +7,7 @@ pub mod Births
 pub mod Deltas
 pub mod Records
 pub mod Part
+pub mod Logs
 pub mod Lawful
 pub mod BinPart
 pub mod Histories

@@ -3,11 +3,12 @@ use Rattle.std.specs.Prelude.{◌≡◌, ℕ, ◌<◌, Bool, true, Option, List,
 use Rattle.hashkeys.specs.Classes.{is_of}
 use Rattle.bin_history.specs.Calls.{key_of, after, reply}
 use Rattle.bin_history.specs.Entries.{lookup, store, replay}
-use Rattle.bin_history.specs.Changes.{changed, HasPlace}
+use Rattle.bin_history.specs.Changes.{changed, HasPlace, Fits}
 use Rattle.bin_history.specs.Lawful.{BinView}
 use Rattle.bin_history.specs.declared.call.Call.{Call}
 use Rattle.bin_history.specs.declared.call.Reply.{Reply}
 use Rattle.bin_history.specs.Records.{RecordView}
+use Rattle.bin_history.specs.declared.form.Form.TheVariants.{Recorded}
 use Rattle.bin_history.specs.declared.change.Change.{Change}
 
 -- a call whose effects are worked out, as contracts see it
@@ -27,17 +28,17 @@ module _ {K V F : Type 0} (same_key : K → K → Bool) (same_value : V → V �
     pub has_place : HasPlace entries ready.change
     pub change_is : changed entries ready.change ≡ store same_key entries (key_of ready.call) ready.after
 
--- there is room for one more record and one more entry
-pub record HasRoom {K V F : Type 0} (b : BinView K V F) : Type 0 where
-  pub record_room : 0 < b.record_room
-  pub entry_room : 0 < b.entry_room
+-- there is room for the record of the call, where the bin stores records, and for the entry that it adds, if it adds one
+pub record HasRoom {K V F : Type 0} (ready : ReadyView K V F) (b : BinView K V F) : Type 0 where
+  pub record_room : b.form ≡ Recorded → 0 < b.record_room
+  pub entry_room : Fits b.entry_room ready.change
   pub few : length b.records < 1024
 
 module _ {K V F : Type 0} (same_key : K → K → Bool) (code : K → ℕ) (same_value : V → V → Bool) (remapped : F → K → Option V → Option V) (merged : F → V → V → Option V) where
   -- the call was prepared on this bin, and nothing was applied since
   pub record IsPrepared (ready : ReadyView K V F) (b : BinView K V F) : Type 0 where
     pub worked_out : IsWorkedOut same_key same_value remapped merged ready b.entries
-    pub room : HasRoom b
+    pub room : HasRoom ready b
     pub of_class : is_of code b.salt b.class (key_of ready.call) ≡ true
 
 -- the record of a call that is ready

@@ -4,11 +4,13 @@ ghost use Rattle.std.specs.Prelude.{◌≡◌};
 use crate::call::{Call, Remap, Reply};
 use crate::change::find;
 use crate::copies::copy_of_entries;
-use crate::fold::{FOLDED, fold_front};
+use crate::form::Form;
+use crate::log::{Log, add_to, fold_in, part_of_log, reserve_in};
 use crate::ready::{Ready, work_out};
 use crate::record::Record;
-use crate::room::make_room_in;
-use crate::split::{part_of_entries, part_of_records};
+use crate::room::make_room_for;
+use crate::split::part_of_entries;
+use crate::trace::Trace;
 use hashkeys::{Class, HashKey, Salt};
 use std::alloc::{AllocError, Allocator};
 use std::marker::Model;
@@ -17,35 +19,37 @@ use std::marker::Model;
 /// folded into the base.
 pub const MOST_RECORDS: usize = 1024;
 
-/// A bin of a map: the entries of a class in order of insertion, and the records of the calls that made
-/// them from a base. Contracts see it as a `BinView`; whatever they see is lawful (`Bin::lawful`).
+/// A bin of a map: the entries of a class in order of insertion and, in the recorded form, the records of the
+/// calls that made them from a base. Contracts see it as a `BinView`; whatever they see is lawful
+/// (`Bin::lawful`). To contracts a lean bin has no records, and its base is its entries.
 #[derive(Drop)]
 pub struct Bin<K: HashKey, V: Clone + Eq, F: Remap<K, V> + Clone, A: Allocator> {
+    entries: Vec<(K, V), A>,
     salt: Salt,
     class: Class,
-    base: Vec<(K, V), A>,
-    records: Vec<Record<K, V, F>, A>,
-    entries: Vec<(K, V), A>,
+    log: Option<Box<Log<K, V, F, A>, A>>,
 }
 
 impl<K: HashKey, V: Clone + Eq, F: Remap<K, V> + Clone, A: Allocator> Model for Bin<K, V, F, A> {
     ghost use Rattle.std.specs.Prelude.{◌-◌, vec_len, vec_capacity};
     ghost use Rattle.bin_history.specs.Lawful.{BinView, IsReplayed};
     ghost use Rattle.bin_history.specs.Calls.{after};
+    ghost use Rattle.bin_history.specs.Logs.{form_of, base_of, records_of, record_room_of};
 
     ghost Value = { BinView K V F };
 
     ghost view = { λ b. record {
+      form = form_of b.log;
       salt = b.salt;
       class = b.class;
-      base = b.base.items;
-      records = b.records.items;
+      base = base_of b.log b.entries.items;
+      records = records_of b.log;
       entries = b.entries.items;
-      record_room = vec_capacity b.records - vec_len b.records;
+      record_room = record_room_of b.log;
       entry_room = vec_capacity b.entries - vec_len b.entries;
     } };
 
-    ghost invariant = { λ b. IsReplayed K.eq K.code (after V.eq F.remapped F.merged) b.salt b.class b.base.items b.records.items b.entries.items };
+    ghost invariant = { λ b. IsReplayed K.eq K.code (after V.eq F.remapped F.merged) b.salt b.class (base_of b.log b.entries.items) (records_of b.log) b.entries.items };
 }
 
 impl<K: HashKey, V: Clone + Eq, F: Remap<K, V> + Clone, A: Allocator + Clone> Bin<K, V, F, A> {
@@ -56,9 +60,11 @@ impl<K: HashKey, V: Clone + Eq, F: Remap<K, V> + Clone, A: Allocator + Clone> Bi
     ghost use Rattle.bin_history.specs.Entries.{lookup, HasDistinctKeys, replay};
     ghost use Rattle.bin_history.specs.Lawful.{IsLawful};
 
-    /// A bin with these pairs, in their order, and no records. The pairs' keys are distinct and of the class.
+    /// A bin of the form with these pairs, in their order, and no records. The pairs' keys are distinct and of
+    /// the class. A lean bin takes no memory.
     pub fn new(
         alloc: A,
+        form: Form,
         salt: Salt,
         class: Class,
         base: Vec<(K, V), A>,
@@ -67,21 +73,41 @@ impl<K: HashKey, V: Clone + Eq, F: Remap<K, V> + Clone, A: Allocator + Clone> Bi
         requires values { IsExact V.is_clone }
         requires distinct { HasDistinctKeys K.eq base.items }
         requires of_class { All (λ e. is_of K.code salt class e.0 ≡ true) base.items }
+        ensures form { IfOk result (λ b. b.form ≡ form) }
         ensures salt { IfOk result (λ b. b.salt ≡ salt) }
         ensures class { IfOk result (λ b. b.class ≡ class) }
         ensures base { IfOk result (λ b. b.base ≡ base.items) }
         ensures records { IfOk result (λ b. b.records ≡ []) }
         ensures entries { IfOk result (λ b. b.entries ≡ base.items) }
     {
-        let entries = copy_of_entries(alloc.clone()?, &base)?;
-        let records = Vec::new(alloc);
-        Ok(Bin {
-            salt,
-            class,
-            base,
-            records,
-            entries,
-        })
+        match form {
+            Form::Recorded => {
+                let entries = copy_of_entries(alloc.clone()?, &base)?;
+                let log = Log::new(alloc, base)?;
+                Ok(Bin {
+                    entries,
+                    salt,
+                    class,
+                    log: Some(log),
+                })
+            }
+            Form::Lean => Ok(Bin {
+                entries: base,
+                salt,
+                class,
+                log: None,
+            }),
+        }
+    }
+
+    /// The form of the bin.
+    pub fn form(&self) -> Form
+        ensures { result ≡ self.now.form }
+    {
+        match &self.log {
+            Some(_) => Form::Recorded,
+            None => Form::Lean,
+        }
     }
 
     /// The class whose keys the bin holds.
@@ -98,18 +124,24 @@ impl<K: HashKey, V: Clone + Eq, F: Remap<K, V> + Clone, A: Allocator + Clone> Bi
         self.salt
     }
 
-    /// The pairs that the records begin from.
+    /// The pairs that the records begin from: in a lean bin its entries.
     pub fn base(&self) -> &[(K, V)]
         ensures { result.now ≡ self.now.base }
     {
-        self.base.as_slice()
+        match &self.log {
+            Some(log) => log.base.as_slice(),
+            None => self.entries.as_slice(),
+        }
     }
 
-    /// The records of the calls since the base, oldest first: at most 1,024.
+    /// The records of the calls since the base, oldest first: at most 1,024, and none in a lean bin.
     pub fn records(&self) -> &[Record<K, V, F>]
         ensures { result.now ≡ self.now.records }
     {
-        self.records.as_slice()
+        match &self.log {
+            Some(log) => log.records.as_slice(),
+            None => &[],
+        }
     }
 
     /// The pairs that the bin holds, in order of insertion.
@@ -148,37 +180,21 @@ impl<K: HashKey, V: Clone + Eq, F: Remap<K, V> + Clone, A: Allocator + Clone> Bi
 }
 
 impl<K: HashKey, V: Clone + Eq, F: Remap<K, V> + Clone, A: Allocator + Clone> Bin<K, V, F, A> {
-    ghost use Rattle.std.specs.Prelude.{true, ◌++◌, ◌∷◌, [], IfOk, OnOk, OnErr};
+    ghost use Rattle.std.specs.Prelude.{true, ◌<◌, ◌^◌, ◌∷◌, [], IfOk, OnOk, OnErr};
     ghost use Rattle.hashkeys.specs.Classes.{is_of};
-    ghost use Rattle.bin_history.specs.Calls.{key_of, reply};
+    ghost use Rattle.bin_history.specs.Calls.{after, key_of, reply};
     ghost use Rattle.bin_history.specs.Copies.{IsExact};
     ghost use Rattle.bin_history.specs.Entries.{store};
-    ghost use Rattle.bin_history.specs.Readiness.{IsPrepared, HasRoom, KeepsOrFolds, recorded};
+    ghost use Rattle.bin_history.specs.Histories.{GoesOn};
+    ghost use Rattle.bin_history.specs.declared.form.Form.TheVariants.{Recorded};
+    ghost use Rattle.bin_history.specs.Logs.{with_one_more};
+    ghost use Rattle.bin_history.specs.Readiness.{IsPrepared, KeepsOrFolds, recorded};
 
-    /// Makes room for one record and one entry, and folds the oldest 512 of 1,024 records into the base.
-    fn make_room(&mut self) -> Result<(), AllocError>
-        ensures room { OnOk result (HasRoom self.new) }
-        ensures ok { OnOk result (KeepsOrFolds K.eq self.old self.new) }
-        ensures records { OnErr result (self.new.records ≡ self.old.records) }
-        ensures base { OnErr result (self.new.base ≡ self.old.base) }
-        ensures entries { self.new.entries ≡ self.old.entries }
-        ensures class { self.new.class ≡ self.old.class }
-        ensures salt { self.new.salt ≡ self.old.salt }
-    {
-        self.entries.reserve(1)?;
-        if self.records.len() == MOST_RECORDS {
-            self.base.reserve(FOLDED)?;
-            fold_front(&mut self.base, &mut self.records);
-            Ok(())
-        } else {
-            make_room_in(&mut self.records)
-        }
-    }
-
-    /// Prepares a call on a key of the bin's class: makes all growths and copies, asks the call's function,
+    /// Prepares a call on a key of the bin's class: makes all growths, asks the call's function, makes all copies,
     /// and works out what the call does and replies, so that `apply` cannot fail. The entries stay; base and
     /// records stay too, but where there are 1,024 records the oldest 512 are folded into the base. For
-    /// want of memory the call is dropped, and nothing else changes.
+    /// want of memory the call is dropped, and nothing else changes. Room for an entry is made only for a call
+    /// that may add one, on a key that is not there.
     pub fn prepare(&mut self, call: Call<K, V, F>) -> Result<Ready<K, V, F>, AllocError>
         requires keys { IsExact K.is_clone }
         requires values { IsExact V.is_clone }
@@ -189,22 +205,37 @@ impl<K: HashKey, V: Clone + Eq, F: Remap<K, V> + Clone, A: Allocator + Clone> Bi
         ensures records { OnErr result (self.new.records ≡ self.old.records) }
         ensures base { OnErr result (self.new.base ≡ self.old.base) }
         ensures entries { self.new.entries ≡ self.old.entries }
+        ensures form { self.new.form ≡ self.old.form }
         ensures class { self.new.class ≡ self.old.class }
         ensures salt { self.new.salt ≡ self.old.salt }
     {
-        let ready = work_out(self.entries(), call)?;
-        self.make_room()?;
+        let found = find(&self.entries, call.key());
+        make_room_for(&mut self.entries, found, &call)?;
+        reserve_in(&mut self.log)?;
+        let ready = work_out(&self.entries, found, call)?;
+        fold_in(&mut self.log);
         Ok(ready)
     }
 
-    /// Makes a call that was prepared on this bin, since when nothing was applied, as the client's call of
-    /// this ordinal, and answers its reply.
-    pub fn apply(&mut self, ready: Ready<K, V, F>, client: u32, ordinal: u32) -> Reply<V>
-        requires { IsPrepared K.eq K.code V.eq F.remapped F.merged ready self.old }
-        ensures records { self.new.records ≡ self.old.records ++ recorded client ordinal ready ∷ [] }
-        ensures reply { result ≡ reply V.eq ready.call ready.before ready.after }
+    /// Makes a call that was prepared on this bin, since when nothing was applied, as the call of this client,
+    /// below 64, after so many others of it, fewer than 2^58. It answers the reply and what the books need. A
+    /// recorded bin keeps the record; a lean one keeps the entries alone.
+    pub fn apply(
+        &mut self,
+        ready: Ready<K, V, F>,
+        client: u32,
+        ordinal: u64,
+    ) -> (Reply<V>, Trace<K, V, F>)
+        requires prepared { IsPrepared K.eq K.code V.eq F.remapped F.merged ready self.old }
+        requires client { client < 64 }
+        requires ordinal { ordinal < 2 ^ 58 }
+        ensures reply { result.0 ≡ reply V.eq ready.call ready.before ready.after }
+        ensures trace { result.1 ≡ recorded client ordinal ready }
         ensures entries { self.new.entries ≡ store K.eq self.old.entries (key_of ready.call) ready.after }
-        ensures base { self.new.base ≡ self.old.base }
+        ensures records { self.new.records ≡ with_one_more self.old.form self.old.records (recorded client ordinal ready) }
+        ensures base { self.old.form ≡ Recorded → self.new.base ≡ self.old.base }
+        ensures history { GoesOn K.eq (after V.eq F.remapped F.merged) self.old (recorded client ordinal ready ∷ []) self.new }
+        ensures form { self.new.form ≡ self.old.form }
         ensures class { self.new.class ≡ self.old.class }
         ensures salt { self.new.salt ≡ self.old.salt }
     {
@@ -216,9 +247,10 @@ impl<K: HashKey, V: Clone + Eq, F: Remap<K, V> + Clone, A: Allocator + Clone> Bi
             change,
         } = ready;
         change.carry_out(&mut self.entries);
-        self.records
-            .push_reserved(Record::new(client, ordinal, call, before, after));
-        reply
+        let entry = Record::new(client, ordinal, call, before, after);
+        let trace = Trace::of(&entry);
+        add_to(&mut self.log, entry);
+        (reply, trace)
     }
 }
 
@@ -236,21 +268,19 @@ impl<K: HashKey, V: Clone + Eq, F: Remap<K, V> + Clone, A: Allocator + Clone> Bi
         ensures class { IfOk result (λ b. b.class ≡ half) }
         ensures part { IfOk result (λ b. IsPartOf K.code self.now b) }
     {
-        let alloc = self.base.allocator();
-        let base = part_of_entries(alloc.clone()?, self.salt, half, &self.base)?;
-        let records = part_of_records(alloc.clone()?, self.salt, half, &self.records)?;
+        let alloc = self.entries.allocator();
         let entries = part_of_entries(alloc.clone()?, self.salt, half, &self.entries)?;
+        let log = part_of_log(&self.log, self.salt, half)?;
         Ok(Bin {
+            entries,
             salt: self.salt,
             class: half,
-            base,
-            records,
-            entries,
+            log,
         })
     }
 
-    /// The bins of the low and the high half of the class, each with its part of base, records and entries,
-    /// in order. They are copies; the bin itself stays.
+    /// The bins of the low and the high half of the class, in the bin's form, each with its part of base, records
+    /// and entries, in order. They are copies; the bin itself stays.
     pub fn split(&self) -> Result<(Bin<K, V, F, A>, Bin<K, V, F, A>), AllocError>
         requires keys { IsExact K.is_clone }
         requires values { IsExact V.is_clone }

@@ -1,6 +1,6 @@
 //! Calls, and what they reply.
 ghost use Rattle.std.specs.Prelude.{◌≡◌, Option, IfOk, option_copied};
-ghost use Rattle.bin_history.specs.Calls.{key_of};
+ghost use Rattle.bin_history.specs.Calls.{key_of, may_add};
 
 use std::alloc::AllocError;
 
@@ -63,6 +63,26 @@ impl<K, V, F> Call<K, V, F> {
             Call::ComputeIfPresent(key, _) => key,
             Call::Compute(key, _) => key,
             Call::Merge(key, _, _) => key,
+        }
+    }
+
+    /// Whether the call may give a value to a key that has none.
+    pub(crate) fn may_add(&self) -> bool
+        ensures { result ≡ may_add self.now }
+    {
+        match self {
+            Call::Put(_, _)
+            | Call::PutIfAbsent(_, _)
+            | Call::ComputeIfAbsent(_, _)
+            | Call::Compute(_, _)
+            | Call::Merge(_, _, _) => true,
+            Call::Get(_)
+            | Call::Contains(_)
+            | Call::Remove(_)
+            | Call::RemoveIf(_, _)
+            | Call::Replace(_, _)
+            | Call::ReplaceIf(_, _, _)
+            | Call::ComputeIfPresent(_, _) => false,
         }
     }
 }

@@ -1,7 +1,7 @@
 //! Changes of a list of entries.
-ghost use Rattle.std.specs.Prelude.{◌≡◌, ◌<◌, ◌≤◌, ◌+◌, IfOk, vec_len, vec_capacity};
+ghost use Rattle.std.specs.Prelude.{◌≡◌, ◌<◌, ◌≤◌, ◌+◌, ◌-◌, IfOk, vec_len, vec_capacity};
 ghost use Rattle.bin_history.specs.Entries.{lookup};
-ghost use Rattle.bin_history.specs.Changes.{IsFound, change_to, change_by, changed, HasPlace};
+ghost use Rattle.bin_history.specs.Changes.{IsFound, change_to, change_by, changed, HasPlace, Fits};
 ghost use Rattle.bin_history.specs.Copies.{IsExact};
 
 use crate::copies::copy_of;
@@ -94,7 +94,7 @@ impl<K: Drop, V: Drop> Change<K, V> {
     /// Makes the change.
     pub(crate) fn carry_out<A: Allocator>(self, entries: &mut Vec<(K, V), A>)
         requires place { HasPlace entries.old.items self }
-        requires room { vec_len entries.old < vec_capacity entries.old }
+        requires room { Fits (vec_capacity entries.old - vec_len entries.old) self }
         ensures items { entries.new.items ≡ changed entries.old.items self }
         ensures len { vec_len entries.new ≤ vec_len entries.old + 1 }
         ensures capacity { vec_capacity entries.old ≤ vec_capacity entries.new }

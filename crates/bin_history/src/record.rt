@@ -1,5 +1,5 @@
 //! Records of calls.
-ghost use Rattle.std.specs.Prelude.{◌≡◌, IfOk, option_copied};
+ghost use Rattle.std.specs.Prelude.{◌≡◌, ◌<◌, ◌^◌, IfOk, option_copied};
 ghost use Rattle.bin_history.specs.Copies.{IsExact};
 ghost use Rattle.bin_history.specs.Deltas.{delta};
 ghost use Rattle.bin_history.specs.Records.{before_of, after_of};
@@ -18,25 +18,29 @@ pub enum Values<V> {
     Both(V, V),
 }
 
+/// Clients are numbered below this.
+const CLIENTS: u64 = 64;
+
 /// A call that was made: the client's number, the call's place among the client's calls, and the value at
-/// its key just before it and just after it. Contracts see a `RecordView`. A bin keeps one for each call, so
-/// the two values share one tag.
+/// its key just before it and just after it. Contracts see a `RecordView`. A recorded bin keeps one for each
+/// call, so the two numbers share a word, and the two values one tag.
 #[derive(Drop)]
 pub struct Record<K, V, F> {
-    client: u32,
-    ordinal: u32,
+    /// The ordinal times 64, and the client.
+    stamp: u64,
     call: Call<K, V, F>,
     values: Values<V>,
 }
 
 impl<K, V, F> Model for Record<K, V, F> {
+    ghost use Rattle.std.specs.Prelude.{◌%◌, ◌/◌};
     ghost use Rattle.bin_history.specs.Records.{RecordView, before_of, after_of};
 
     ghost Value = { RecordView K V F };
 
     ghost view = { λ r. record {
-      client = r.client;
-      ordinal = r.ordinal;
+      client = r.stamp % 64;
+      ordinal = r.stamp / 64;
       call = r.call;
       before = before_of r.values;
       after = after_of r.values;
@@ -62,19 +66,20 @@ impl<V> Values<V> {
 }
 
 impl<K, V, F> Record<K, V, F> {
-    /// The record of a call of this client, which made so many before.
+    /// The record of a call of this client, below 64, which made so many before: fewer than 2^58.
     pub fn new(
         client: u32,
-        ordinal: u32,
+        ordinal: u64,
         call: Call<K, V, F>,
         before: Option<V>,
         after: Option<V>,
     ) -> Record<K, V, F>
+        requires client { client < 64 }
+        requires ordinal { ordinal < 2 ^ 58 }
         ensures { result ≡ record { client = client; ordinal = ordinal; call = call; before = before; after = after } }
     {
         Record {
-            client,
-            ordinal,
+            stamp: ordinal * CLIENTS + client as u64,
             call,
             values: Values::of(before, after),
         }
@@ -84,14 +89,14 @@ impl<K, V, F> Record<K, V, F> {
     pub fn client(&self) -> u32
         ensures { result ≡ self.now.client }
     {
-        self.client
+        (self.stamp % CLIENTS) as u32
     }
 
     /// How many calls the client had made before.
-    pub fn ordinal(&self) -> u32
+    pub fn ordinal(&self) -> u64
         ensures { result ≡ self.now.ordinal }
     {
-        self.ordinal
+        self.stamp / CLIENTS
     }
 
     /// The call, with its arguments.
@@ -140,8 +145,7 @@ impl<K: Drop, V: Drop, F: Drop> Record<K, V, F> {
         ensures after { result.1 ≡ self.after }
     {
         let Record {
-            client: _,
-            ordinal: _,
+            stamp: _,
             call,
             values,
         } = self;
@@ -176,8 +180,7 @@ pub(crate) fn copy_of_record<K: Clone, V: Clone, F: Clone>(
     ensures { IfOk result (λ copy. copy ≡ entry.now) }
 {
     Ok(Record {
-        client: entry.client,
-        ordinal: entry.ordinal,
+        stamp: entry.stamp,
         call: copy_of_call(&entry.call)?,
         values: copy_of_values(&entry.values)?,
     })

@@ -1,6 +1,8 @@
-//! Room in lists of records.
-ghost use Rattle.std.specs.Prelude.{◌≡◌, ◌<◌, ◌≤◌, OnOk, vec_len, vec_capacity};
+//! Room in lists of records and of entries.
+ghost use Rattle.std.specs.Prelude.{◌≡◌, ◌<◌, ◌≤◌, None, true, OnOk, vec_len, vec_capacity};
+ghost use Rattle.bin_history.specs.Calls.{may_add};
 
+use crate::call::Call;
 use std::alloc::{AllocError, Allocator};
 
 /// A list begins with room for so many.
@@ -24,4 +26,20 @@ pub(crate) fn make_room_in<T: Drop, A: Allocator + Clone>(
     wider.append(list)?;
     *list = wider;
     Ok(())
+}
+
+/// Makes room for the entry that a call may add, where its key was not found.
+pub(crate) fn make_room_for<K: Drop, V: Drop, F, A: Allocator>(
+    entries: &mut Vec<(K, V), A>,
+    found: Option<usize>,
+    call: &Call<K, V, F>,
+) -> Result<(), AllocError>
+    ensures items { entries.new.items ≡ entries.old.items }
+    ensures room { OnOk result (found ≡ None → may_add call.now ≡ true → vec_len entries.new < vec_capacity entries.new) }
+{
+    if found.is_none() && call.may_add() {
+        entries.reserve(1)
+    } else {
+        Ok(())
+    }
 }
