@@ -4,7 +4,7 @@ use Rattle.hashkeys.specs.Classes.{ClassView, is_of}
 use Rattle.bin_history.specs.BinPart.{IsPartOf}
 use Rattle.bin_history.specs.Deltas.{sum_of_deltas}
 use Rattle.bin_history.specs.Entries.{lookup, HasDistinctKeys, replay}
-use Rattle.bin_history.specs.Histories.{HasHistory}
+use Rattle.bin_history.specs.Histories.{HasHistory, GoesOn}
 use Rattle.bin_history.specs.Lawful.{BinView, IsLawful}
 use Rattle.bin_history.specs.Part.{part_of_entries, part_of_records}
 use Rattle.bin_history.specs.Plain.{IsLegal}
@@ -12,7 +12,7 @@ use Rattle.bin_history.specs.Readiness.{KeepsOrFolds}
 use Rattle.bin_history.specs.declared.call.Call.{Call}
 use Rattle.bin_history.specs.Records.{RecordView}
 use Rattle.bin_history.proofs.Counts.{length-replay}
-use Rattle.bin_history.proofs.Histories.{HasHistory-new, HasHistory-applied, HasHistory-prepared, HasHistory-part, HasHistory-replay}
+use Rattle.bin_history.proofs.Histories.{HasHistory-new, HasHistory-gone_on, HasHistory-prepared, HasHistory-part, HasHistory-replay}
 use Rattle.count_ledger.specs.Agreement.{Agree, part_of_role}
 use Rattle.count_ledger.specs.Views.{RoleView}
 
@@ -24,12 +24,13 @@ module _ {K V F : Type 0} (same : K → K → Bool) (tells : (x y : K) → Decid
     history = rw (kept, ← base) (HasHistory-new same tells code after b distinct records);
   }
 
-  pub Agree-posted : (b c : BinView K V F) (r s : RoleView K V F) (x : RecordView K V F) → Agree same after b r → c.class ≡ b.class → c.salt ≡ b.salt → c.base ≡ b.base → c.records ≡ b.records ++ x ∷ [] → s ≡ record r { kept = r.kept ++ x ∷ [] } → Agree same after c s
-  Agree-posted b c r s x a class salt base records is =
+  pub Agree-gone_on : (b c : BinView K V F) (r s : RoleView K V F) (more : List (RecordView K V F))
+      → Agree same after b r → c.class ≡ b.class → c.salt ≡ b.salt → GoesOn same after b more c → s ≡ record r { kept = r.kept ++ more } → Agree same after c s
+  Agree-gone_on b c r s more a class salt on is =
       rw is (record {
         class = class ∙ a.class;
         salt = salt ∙ a.salt;
-        history = HasHistory-applied same tells code after r.opening r.kept b c x a.history base records;
+        history = HasHistory-gone_on same tells code after r.opening r.kept b c more a.history on;
       })
 
   pub Agree-prepared : (b c : BinView K V F) (r : RoleView K V F) → Agree same after b r → IsLawful same code after b → c.class ≡ b.class → c.salt ≡ b.salt → KeepsOrFolds same b c → Agree same after c r

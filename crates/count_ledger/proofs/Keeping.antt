@@ -1,7 +1,8 @@
 -- The steps of a ledger keep its rule.
-use Rattle.std.proofs.Common.{◌≡◌, ℕ, ◌+◌, ◌*◌, ◌%◌, ◌^◌, ◌<◌, ◌&&◌, ◌||◌, Bool, true, false, List, [], ◌∷◌, ◌++◌, length, set, sym, refl, ap, subst, ◌∙◌}
-use Rattle.std.specs.Prelude.{Some}
+use Rattle.std.proofs.Common.{◌≡◌, ℕ, ◌+◌, ◌*◌, ◌%◌, ◌^◌, ◌<◌, ◌&&◌, ◌||◌, Bool, true, false, List, [], ◌∷◌, ◌++◌, length, set, sym, refl, ap, subst, ◌∙◌, arith}
+use Rattle.std.specs.Prelude.{Some, slice_index}
 use Rattle.std.proofs.lemmas.List.{length-set, set-get_or}
+use Rattle.std.proofs.Math.Nat.{mod-eq_of_lt}
 use mathlib.Core.Option.{some, none}
 use Rattle.atomic_table.specs.Table.{keeps, Me, step, Allows, Splits, Joins}
 use Rattle.atomic_table.proofs.Lists.{set_again}
@@ -12,6 +13,7 @@ use Rattle.bin_history.specs.Deltas.{delta}
 use Rattle.bin_history.specs.Records.{RecordView}
 use Rattle.count_ledger.specs.declared.books.Book.{Book}
 use Rattle.count_ledger.specs.declared.books.Book.TheVariants.{Pass, Role}
+use Rattle.count_ledger.specs.Limits.{most_calls}
 use Rattle.count_ledger.specs.Terms.{TermsView}
 use Rattle.count_ledger.specs.Words.{word_of}
 use Rattle.count_ledger.specs.Rule.{IsSound, AreTogether, Holds}
@@ -54,14 +56,14 @@ module _ {K V F : Type 0} (code : K → ℕ) where
 
     -- a look changes nothing
     pub Keeps-looked : (word : ℕ) (v : List (Book K V F)) → Keeps (Holds code t) id v word (λ n. n) v
-    Keeps-looked word v s h at =
+    Keeps-looked word v s h at fits =
         subst (λ (ws : List ℕ). Holds code t record { words = ws; homes = s.homes; views = set s.views id v }) (sym (set-get_or s.words word 0))
         (subst (λ (vs : List (List (Book K V F))). Holds code t record { words = s.words; homes = s.homes; views = vs }) (sym (set_again s.views id v at)) h)
 
     pub Keeps-divided : (word : ℕ) (salt : Salt) (class : ClassView) (pairs : List (K × V)) (kept : List (RecordView K V F))
         → ((h : ℕ) → covers class h ≡ (covers (low_half class) h || covers (high_half class) h)) → AreApart (low_half class) (high_half class)
         → Keeps (Holds code t) id (Role salt class pairs kept ∷ []) word (λ n. n) (divided code (Role salt class pairs kept ∷ []))
-    Keeps-divided word salt class pairs kept one apart s h at =
+    Keeps-divided word salt class pairs kept one apart s h at fits =
         let v : List (Book K V F) = Role salt class pairs kept ∷ [] in
         subst (λ (ws : List ℕ). Holds code t record { words = ws; homes = s.homes; views = set s.views id (divided code v) }) (sym (set-get_or s.words word 0))
         (record {
@@ -73,9 +75,9 @@ module _ {K V F : Type 0} (code : K → ℕ) where
         })
 
     pub Keeps-posted : (c : ℕ) (made : List (RecordView K V F)) (salt : Salt) (class : ClassView) (pairs : List (K × V)) (kept : List (RecordView K V F)) (r : RecordView K V F)
-        → r.client ≡ c → r.ordinal ≡ length made → length made < 1000000 → is_of code salt class (key_of r.call) ≡ true
+        → r.client ≡ c → r.ordinal ≡ length made → length made < most_calls t.form → is_of code salt class (key_of r.call) ≡ true
         → Keeps (Holds code t) id (Pass c made ∷ Role salt class pairs kept ∷ []) (8 * (c + 1)) (λ n. (n + word_of (delta r)) % 2 ^ 64) (posted r (Pass c made ∷ Role salt class pairs kept ∷ []))
-    Keeps-posted c made salt class pairs kept r by next room on s h at =
+    Keeps-posted c made salt class pairs kept r by next room on s h at fits =
         let v : List (Book K V F) = Pass c made ∷ Role salt class pairs kept ∷ [] in
         let ws = words_after code t s.words h.calls h.sized c made salt class pairs kept r by next room on in
         let fit = h.books.within id v at in
@@ -87,10 +89,17 @@ module _ {K V F : Type 0} (code : K → ℕ) where
               (posted_others code t s.words h.calls h.sized c made salt class pairs kept r by next room on fit);
         }
 
+    -- a delta of 0 leaves the word as it is
+    pub Keeps-idle : (v w : List (Book K V F)) (word n : ℕ) → n ≡ 0 → Keeps (Holds code t) id v word (λ m. (m + n) % 2 ^ 64) w → Keeps (Holds code t) id v word (λ m. m) w
+    Keeps-idle v w word n is k s h at fits =
+        let m = slice_index s.words word in
+        let same : (m + n) % 2 ^ 64 ≡ m = rw is (mod-eq_of_lt (omega arith) ∙ omega arith) in
+        subst (λ (x : ℕ). Holds code t record { words = set s.words word x; homes = s.homes; views = set s.views id w }) same (k s h at fits)
+
     -- a step that keeps the rule tells what the rule says of the seat's books
     pub Allows-told : (change : List (Book K V F) → List (Book K V F)) (slots word : ℕ) (me : Me (Unit {0}) (List (Book K V F))) (f : ℕ → ℕ) → Keeps (Holds code t) id me.0 word f (change me.0)
         → Allows (Holds code t) slots id me word f (Tells code (Some t) change (step slots word 0 0 none) me)
-    Allows-told change slots word me f k s h len at fits = (change me.0, keeps, tt, k s h at, (refl, (s.words, h.calls, refl, h.books.within id me.0 at)))
+    Allows-told change slots word me f k s h len at fits = (change me.0, keeps, tt, k s h at fits, (refl, (s.words, h.calls, refl, h.books.within id me.0 at)))
 
 -- the books of a pass's seat after a role's badge was joined to it
 pub both_books : {B : Type 0} (me joined : Me (Unit {0}) (List B)) (views : List (List B)) (x y : B) → me ≡ (x ∷ [], []) → views ≡ (y ∷ []) ∷ [] → joined ≡ (me.0 ++ view_of views, me.1) → joined.0 ≡ x ∷ y ∷ []

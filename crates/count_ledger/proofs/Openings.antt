@@ -109,8 +109,8 @@ module _ {K V : Type 0} (F : Type 0) (code : K → ℕ) (t : TermsView K V) (wor
   Holds-first homes sized = record { sized = sized; calls = []; books = AmongSeats-one (IsSound {F = F} code t words []) (AreTogether code) (first_books t) first_fit }
 
 -- a new pass
-pub IsPass-new : {K V F : Type 0} (words client : ℕ) (me : Me (Unit {0}) (List (Book K V F))) → me ≡ (Pass client [] ∷ [], []) → 8 * (client + 1) < words → IsPass words client 0 me
-IsPass-new words client me is lt = subst (IsPass words client 0) (sym is) (record { word = lt; book = refl; counted = refl; at_most = omega arith })
+pub IsPass-new : {K V F : Type 0} (words client : ℕ) (me : Me (Unit {0}) (List (Book K V F))) → me ≡ (Pass client [] ∷ [], []) → 8 * (client + 1) < words → client < 32 → IsPass words client 0 me
+IsPass-new words client me is lt few = subst (IsPass words client 0) (sym is) (record { word = lt; book = refl; counted = refl; at_most = omega arith; few = few })
 
 -- the words of a new ledger: the first of some zeros
 pub zeros-index : (n m i : ℕ) → slice_index (take n (replicate m 0)) i ≡ 0

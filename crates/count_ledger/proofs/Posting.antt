@@ -13,6 +13,7 @@ use Rattle.bin_history.specs.Deltas.{delta, sum_of_deltas}
 use Rattle.bin_history.specs.Records.{RecordView}
 use Rattle.count_ledger.specs.declared.books.Book.{Book}
 use Rattle.count_ledger.specs.declared.books.Book.TheVariants.{Pass, Role}
+use Rattle.count_ledger.specs.Limits.{most_calls}
 use Rattle.count_ledger.specs.Terms.{TermsView}
 use Rattle.count_ledger.specs.Words.{word_of}
 use Rattle.count_ledger.specs.Books.{AreNumbered}
@@ -31,7 +32,7 @@ other_of false b e t = absurd cc
 
 module _ {K V F : Type 0} (code : K → ℕ) (t : TermsView K V) (words : List ℕ) (calls : List (RecordView K V F)) (sized : length words ≡ 8 * (t.clients + 1))
     (c : ℕ) (made : List (RecordView K V F)) (salt : Salt) (class : ClassView) (pairs : List (K × V)) (kept : List (RecordView K V F)) (r : RecordView K V F)
-    (by : r.client ≡ c) (next : r.ordinal ≡ length made) (room : length made < 1000000) (on : is_of code salt class (key_of r.call) ≡ true) where
+    (by : r.client ≡ c) (next : r.ordinal ≡ length made) (room : length made < most_calls t.form) (on : is_of code salt class (key_of r.call) ≡ true) where
   abbrev pub words_after : List ℕ
   words_after = set words (8 * (c + 1)) ((slice_index words (8 * (c + 1)) + word_of (delta r)) % 2 ^ 64)
 

@@ -1,5 +1,5 @@
 -- Sums of deltas, and sums of words modulo 2^64.
-use Rattle.std.proofs.Common.{◌≡◌, ℕ, suc, ◌+◌, ◌-◌, ◌*◌, ◌%◌, ◌^◌, ◌<◌, ℤ, pos, negsuc, ◌+ℤ◌, ◌≤ℤ◌, neg_ℤ, Option, Some, None, List, [], ◌∷◌, ◌++◌, length, get_or, take, refl, sym, ap, ◌∙◌, arith, All}
+use Rattle.std.proofs.Common.{◌≡◌, ℕ, suc, ◌+◌, ◌-◌, ◌*◌, ◌%◌, ◌^◌, ◌<◌, ◌≤◌, ℤ, pos, negsuc, ◌+ℤ◌, ◌≤ℤ◌, neg_ℤ, Option, Some, None, List, [], ◌∷◌, ◌++◌, length, get_or, take, refl, sym, ap, ◌∙◌, arith, All}
 use Rattle.std.specs.Prelude.{unsigned_abs, FitsSigned}
 use Rattle.std.specs.Int.{cast_signed, cast_unsigned, w64}
 use Rattle.std.proofs.lemmas.Int.{ints, int_rem_euclid_is, to_z-of_z}
@@ -8,7 +8,10 @@ use Rattle.std.proofs.lemmas.List.Elements.{All-head, All-tail}
 use Rattle.std.proofs.Math.Nat.{mod-add-mod, add-mod-mod, mod-eq_of_lt}
 use Rattle.bin_history.specs.Deltas.{change_of_count, delta, sum_of_deltas}
 use Rattle.bin_history.specs.Records.{RecordView}
+use Rattle.bin_history.specs.declared.form.Form.{Form}
+use Rattle.bin_history.specs.declared.form.Form.TheVariants.{Recorded, Lean}
 use Rattle.count_ledger.specs.Books.{IsPassOf}
+use Rattle.count_ledger.specs.Limits.{most_calls}
 use Rattle.count_ledger.specs.Views.{LedgerView, PassView}
 use Rattle.count_ledger.specs.Words.{word_of, total_of, total_made}
 
@@ -63,6 +66,10 @@ total_of-push f (y ∷ ys) x = ap (λ z. f y +ℤ z) (total_of-push f ys x) ∙ 
 pub total_of_more : {X : Type 0} (f : X → ℤ) (xs : List X) (i : ℕ) (d : X) → i < length xs → total_of f (take (i + 1) xs) ≡ total_of f (take i xs) +ℤ f (get_or xs i d)
 total_of_more f xs i d l = ap (total_of f) (take_more xs i d l) ∙ total_of-push f (take i xs) (get_or xs i d)
 
+pub most_calls-le : (form : Form) → most_calls form ≤ 144115188075855872
+most_calls-le Recorded = omega arith
+most_calls-le Lean = omega arith
+
 change_bounds : {V : Type 0} (before after : Option V) → (negsuc 0 ≤ℤ change_of_count before after) × (change_of_count before after ≤ℤ pos 1)
 change_bounds None None = (omega (arith, ints), omega (arith, ints))
 change_bounds None (Some y) = (omega (arith, ints), omega (arith, ints))
@@ -76,10 +83,11 @@ sum_of_deltas_bounds (r ∷ rs) =
     let ih = sum_of_deltas_bounds rs in
     (omega (arith, ints, d.0, ih.0), omega (arith, ints, d.1, ih.1))
 
-pub total_made_bounds : {K V F : Type 0} (ledger : LedgerView K V) (passes : List (PassView K V F)) → All (IsPassOf ledger) passes → (neg_ℤ (pos (1000000 * length passes)) ≤ℤ total_made passes) × (total_made passes ≤ℤ pos (1000000 * length passes))
+pub total_made_bounds : {K V F : Type 0} (ledger : LedgerView K V) (passes : List (PassView K V F)) → All (IsPassOf ledger) passes → (neg_ℤ (pos (144115188075855872 * length passes)) ≤ℤ total_made passes) × (total_made passes ≤ℤ pos (144115188075855872 * length passes))
 total_made_bounds ledger [] a = (omega (arith, ints), omega (arith, ints))
 total_made_bounds ledger (p ∷ ps) a =
     let one = sum_of_deltas_bounds p.made in
     let ih = total_made_bounds ledger ps (All-tail (IsPassOf ledger) p ps a) in
     let few = (All-head (IsPassOf ledger) p ps a).at_most in
+    let most = most_calls-le ledger.form in
     (omega (arith, ints, one.0, ih.0), omega (arith, ints, one.1, ih.1))

@@ -5,6 +5,7 @@ use Rattle.bin_history.specs.Calls.{key_of}
 use Rattle.bin_history.specs.Clients.{by_client}
 use Rattle.bin_history.specs.Part.{part_of_entries, part_of_records}
 use Rattle.bin_history.specs.Records.{RecordView}
+use Rattle.count_ledger.specs.Limits.{most_calls}
 use Rattle.count_ledger.specs.Views.{LedgerView, PassView, RoleView}
 
 module _ {K V F : Type 0} where
@@ -25,7 +26,7 @@ module _ {K V F : Type 0} where
   pub record IsPassOf (ledger : LedgerView K V) (p : PassView K V F) : Type 0 where
     pub client : p.client < ledger.clients
     pub numbered : AreNumbered p.client 0 p.made
-    pub at_most : length p.made ≤ 1000000
+    pub at_most : length p.made ≤ most_calls ledger.form
 
   -- what a ledger's rule says of a role by itself: its opening pairs are those of its class, and it kept calls on keys of its class alone
   pub record IsRoleOf (code : K → ℕ) (ledger : LedgerView K V) (r : RoleView K V F) : Type 0 where

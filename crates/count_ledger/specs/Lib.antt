@@ -1,5 +1,6 @@
 pub mod Views
 pub mod Names
+pub mod Limits
 pub mod Terms
 pub mod Words
 pub mod Books

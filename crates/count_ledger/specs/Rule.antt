@@ -11,6 +11,8 @@ use Rattle.bin_history.specs.Part.{part_of_entries, part_of_records}
 use Rattle.bin_history.specs.Records.{RecordView}
 use Rattle.count_ledger.specs.declared.books.Book.{Book}
 use Rattle.count_ledger.specs.declared.books.Book.TheVariants.{Pass, Role}
+use Rattle.bin_history.specs.declared.form.Form.{Form}
+use Rattle.count_ledger.specs.Limits.{most_calls}
 use Rattle.count_ledger.specs.Terms.{TermsView, opening_of}
 use Rattle.count_ledger.specs.Views.{LedgerId, LedgerView}
 use Rattle.count_ledger.specs.Words.{word_of}
@@ -36,7 +38,7 @@ module _ {K V F : Type 0} where
   module _ (code : K → ℕ) where
     -- of one book, where the count words are these and all calls were made in this order: a pass made those by its client, and a role kept those on keys of its class
     abbrev pub IsSound : TermsView K V → List ℕ → List (RecordView K V F) → Book K V F → Type 0
-    IsSound t words calls (Pass c made) = (c < t.clients) × AreNumbered c 0 made × (length made ≤ 1000000) × (slice_index words (8 * (c + 1)) ≡ word_of (sum_of_deltas made)) × (by_client c calls ≡ made)
+    IsSound t words calls (Pass c made) = (c < t.clients) × AreNumbered c 0 made × (length made ≤ most_calls t.form) × (slice_index words (8 * (c + 1)) ≡ word_of (sum_of_deltas made)) × (by_client c calls ≡ made)
     IsSound t words calls (Role salt class pairs kept) = (salt ≡ t.salt) × (pairs ≡ part_of_entries (is_of code salt class) (opening_of t)) × All (λ r. r.client < t.clients) kept × (part_of_records (is_of code salt class) calls ≡ kept)
 
     -- of two books: two passes have two clients, and two roles have no hash in common
@@ -63,10 +65,11 @@ module _ {K V F : Type 0} where
 
 -- a ledger, by its table's identity and what it was told
 abbrev pub ledger_of : {K V : Type 0} → LedgerId → TermsView K V → LedgerView K V
-ledger_of id t = record { id = id; salt = t.salt; clients = t.clients; opening = opening_of t }
+ledger_of id t = record { id = id; form = t.form; salt = t.salt; clients = t.clients; opening = opening_of t }
 
 -- what each ledger keeps
-pub record IsLedger {K V : Type 0} (id : LedgerId) (t : TermsView K V) (clients : ℕ) : Type 0 where
+pub record IsLedger {K V : Type 0} (id : LedgerId) (t : TermsView K V) (form : Form) (clients : ℕ) : Type 0 where
+  pub form_is : t.form ≡ form
   pub words : id.words ≡ 8 * (clients + 1)
   pub clients_are : t.clients ≡ clients
   pub some : 0 < clients

@@ -1,5 +1,5 @@
 -- How the steps of a ledger change what a seat knows, and what they tell.
-use Rattle.std.specs.Prelude.{◌≡◌, ℕ, Option, Some, None, List, [], ◌∷◌, ◌++◌, map, slice_index, slice_set}
+use Rattle.std.specs.Prelude.{◌≡◌, ℕ, ◌<◌, Option, Some, None, List, [], ◌∷◌, ◌++◌, map, slice_index, slice_set}
 use mathlib.Core.Option.{some}
 use lib.ListN.{get_elem?}
 use Rattle.atomic_table.specs.Table.{State, Step, Me}
@@ -54,7 +54,7 @@ module _ {K V F : Type 0} where
     abbrev pub Tells : Option (TermsView K V) → (List (Book K V F) → List (Book K V F)) → Step (Unit {0}) → Me (Unit {0}) (List (Book K V F)) → ℕ → Me (Unit {0}) (List (Book K V F)) → Type 0
     Tells terms change s m found m' = (m' ≡ (change m.0, m.1)) × IsFound terms s.word found m.0
 
-  -- whatever the table is, the word may become f of what it was while the seat's books become others
+  -- whatever the table is, its words of 64 bits, the word may become f of what it was while the seat's books become others
   abbrev pub Keeps : (State (Unit {0}) (List (Book K V F)) → Type 0) → ℕ → List (Book K V F) → ℕ → (ℕ → ℕ) → List (Book K V F) → Type 0
-  Keeps holds id books word f others = (s : State (Unit {0}) (List (Book K V F))) → holds s → get_elem? s.views id ≡ some books
+  Keeps holds id books word f others = (s : State (Unit {0}) (List (Book K V F))) → holds s → get_elem? s.views id ≡ some books → slice_index s.words word < 18446744073709551616
       → holds record { words = slice_set s.words word (f (slice_index s.words word)); homes = s.homes; views = slice_set s.views id others }

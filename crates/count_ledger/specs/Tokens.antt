@@ -32,7 +32,8 @@ module _ {K V F : Type 0} where
     pub word : 8 * (client + 1) < words
     pub book : me ≡ (Pass client (made_in me.0) ∷ [], [])
     pub counted : calls ≡ length (made_in me.0)
-    pub at_most : calls ≤ 1000000
+    pub at_most : calls ≤ 144115188075855872
+    pub few : client < 32
 
   -- a badge with the book of a role of this class
   abbrev pub IsRole : ClassView → List (List (Book K V F)) → Type 0

@@ -1,6 +1,6 @@
 //! What the seats of a ledger's table know, and the rule over all of it.
 use atomic_table::{Shared, TableRule};
-use bin_history::Record;
+use bin_history::{Form, Record};
 use hashkeys::{Class, HashKey, Salt};
 use std::alloc::Allocator;
 use std::collections::LinkedList;
@@ -27,6 +27,7 @@ pub(crate) type View<K, V, F> = LinkedList<Book<K, V, F>>;
 /// What a ledger is told once, when it is made. Contracts see it as a `TermsView`.
 #[derive(Drop)]
 pub(crate) struct Terms<K, V, A: Allocator> {
+    pub(crate) form: Form,
     pub(crate) salt: Salt,
     pub(crate) clients: u32,
     pub(crate) bases: Snapshot<Vec<Vec<(K, V), A>, A>>,
@@ -38,7 +39,7 @@ impl<K, V, A: Allocator> Model for Terms<K, V, A> {
 
     ghost Value = { TermsView K V };
 
-    ghost view = { λ t. record { salt = t.salt; clients = t.clients; bases = lists_of t.bases.value } };
+    ghost view = { λ t. record { form = t.form; salt = t.salt; clients = t.clients; bases = lists_of t.bases.value } };
 }
 
 /// All calls stand in one list, in the order of their posts; each pass made those by its client, each role kept those on keys of its class; and each client's

@@ -11,6 +11,7 @@ use crate::ledger::{Ledger, MOST_CLIENTS, WORDS_PER_LINE, word_at};
 use crate::seats::part;
 use crate::tokens::{BinRole, Pass};
 use atomic_table::{Badge, Seat, Table};
+use bin_history::Form;
 use hashkeys::{Class, HashKey, Salt};
 use std::alloc::{AllocError, Allocator};
 use std::mem;
@@ -62,6 +63,7 @@ fn deal_passes<K: HashKey, V, F, A: Allocator>(
     requires table { all.old.table_id ≡ shared.now.table_id }
     requires words { shared.now.table_id.words ≡ 8 * (clients + 1) }
     requires clients { shared.now.key.clients ≡ clients }
+    requires few { clients ≤ 32 }
     requires empty { passes.old.items ≡ [] }
     requires room { clients ≤ vec_capacity passes.old }
     requires view { all.old.views ≡ first_books shared.now.key ∷ [] }
@@ -75,6 +77,7 @@ fn deal_passes<K: HashKey, V, F, A: Allocator>(
             client,
             made: 0,
             seat,
+            apart: [0; 14],
         });
     }
 }
@@ -104,11 +107,12 @@ fn deal_roles<K: HashKey, V, F, A: Allocator>(
 }
 
 impl<K: HashKey, V, F, A: Allocator + Clone> Ledger<K, V, F, A> {
-    /// A ledger over the pairs of the bases, a pass for each client, and a role for each class of as many as
+    /// A ledger of bins of the form over the pairs of the bases, a pass for each client, and a role for each class of as many as
     /// there are bases. The bases are 1 to 65,536, a power of two, and the keys of each are of the class at its place.
     /// The passes made nothing; the roles keep nothing, each over the base at its place.
     pub fn new(
         alloc: A,
+        form: Form,
         salt: Salt,
         clients: u32,
         bases: &Vec<Vec<(K, V), A>, A>,
@@ -124,6 +128,7 @@ impl<K: HashKey, V, F, A: Allocator + Clone> Ledger<K, V, F, A> {
         requires at_most { clients ≤ 32 }
         requires size { IsTableSize (length bases.now.items) }
         requires keys { AreOfTheirClasses K.code salt (lists_of bases.now) }
+        ensures form { IfOk result (λ r. r.0.form ≡ form) }
         ensures salt { IfOk result (λ r. r.0.salt ≡ salt) }
         ensures clients { IfOk result (λ r. r.0.clients ≡ clients) }
         ensures opening { IfOk result (λ r. r.0.opening ≡ flat_map (λ base. base) (lists_of bases.now)) }
@@ -132,6 +137,7 @@ impl<K: HashKey, V, F, A: Allocator + Clone> Ledger<K, V, F, A> {
     {
         let n = bases.len() as u32;
         let terms = Terms {
+            form,
             salt,
             clients,
             bases: Snapshot::of(bases),
@@ -142,6 +148,14 @@ impl<K: HashKey, V, F, A: Allocator + Clone> Ledger<K, V, F, A> {
         let mut all = seat.into_badge();
         deal_passes(&table.shared, &mut all, &mut passes, clients);
         deal_roles(&table.shared, &mut all, &mut roles, n);
-        Ok((Ledger { table, clients }, passes, roles))
+        Ok((
+            Ledger {
+                table,
+                form,
+                clients,
+            },
+            passes,
+            roles,
+        ))
     }
 }

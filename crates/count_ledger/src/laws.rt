@@ -6,6 +6,7 @@ ghost use Rattle.bin_history.specs.BinPart.{IsPartOf};
 ghost use Rattle.bin_history.specs.Calls.{after};
 ghost use Rattle.bin_history.specs.Deltas.{sum_of_deltas};
 ghost use Rattle.bin_history.specs.Entries.{lookup, HasDistinctKeys, replay};
+ghost use Rattle.bin_history.specs.Histories.{GoesOn};
 ghost use Rattle.bin_history.specs.Lawful.{BinView, IsLawful};
 ghost use Rattle.bin_history.specs.Plain.{IsLegal};
 ghost use Rattle.bin_history.specs.Readiness.{KeepsOrFolds};
@@ -19,17 +20,17 @@ ghost use Rattle.count_ledger.specs.Words.{word_of, total_of, total_made, total_
 use bin_history::Remap;
 use hashkeys::HashKey;
 
-/// A bin and its role agree when both are new, and go on agreeing when both get a record, when the bin's
-/// records are folded, and when bin and role divide. What the role kept is then legal on its opening pairs, the
+/// A bin and its role agree when both are new, and go on agreeing when both go on by the same records, when the
+/// bin's records are folded, and when bin and role divide. What the role kept is then legal on its opening pairs, the
 /// bin's entries are their replay, and there are as many as opening pairs and deltas say.
 pub fn agreement_laws<K: HashKey, V: Eq, F: Remap<K, V>>()
     ensures new { (b : BinView K V F) (r : RoleView K V F)
         → b.class ≡ r.class → b.salt ≡ r.salt → HasDistinctKeys K.eq b.base → b.base ≡ r.opening → b.records ≡ [] → r.kept ≡ []
         → Agree K.eq (after V.eq F.remapped F.merged) b r }
-    ensures posted { (b c : BinView K V F) (r s : RoleView K V F) (x : RecordView K V F)
+    ensures gone_on { (b c : BinView K V F) (r s : RoleView K V F) (more : List (RecordView K V F))
         → Agree K.eq (after V.eq F.remapped F.merged) b r
-        → c.class ≡ b.class → c.salt ≡ b.salt → c.base ≡ b.base → c.records ≡ b.records ++ x ∷ []
-        → s ≡ record r { kept = r.kept ++ x ∷ [] }
+        → c.class ≡ b.class → c.salt ≡ b.salt → GoesOn K.eq (after V.eq F.remapped F.merged) b more c
+        → s ≡ record r { kept = r.kept ++ more }
         → Agree K.eq (after V.eq F.remapped F.merged) c s }
     ensures prepared { (b c : BinView K V F) (r : RoleView K V F)
         → Agree K.eq (after V.eq F.remapped F.merged) b r
@@ -64,12 +65,12 @@ pub fn totals_of_all<K: HashKey, V, F>()
 {}
 
 /// Words of sums add modulo 2^64, and a signed number of 64 bits can be read back from its word. What at
-/// most 32 clients made changes the number of keys by at most 32,000,000.
+/// most 32 clients made changes the number of keys by at most 2^62.
 pub fn words_of_sums<K: HashKey, V, F>()
     ensures add { (a b : ℤ) → word_of (a +ℤ b) ≡ (word_of a + word_of b) % 2 ^ 64 }
     ensures natural { (n : ℕ) → n < 2 ^ 64 → word_of (pos n) ≡ n }
     ensures signed { (z : ℤ) → FitsSigned w64 z → cast_signed w64 (word_of z) ≡ z }
     ensures bounds { (ledger : LedgerView K V) (passes : List (PassView K V F))
         → All (IsPassOf ledger) passes → length passes ≤ 32
-        → (neg_ℤ (pos 32000000) ≤ℤ total_made passes) × (total_made passes ≤ℤ pos 32000000) }
+        → (neg_ℤ (pos 4611686018427387904) ≤ℤ total_made passes) × (total_made passes ≤ℤ pos 4611686018427387904) }
 {}

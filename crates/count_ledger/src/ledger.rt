@@ -5,19 +5,24 @@ ghost use Rattle.bin_history.specs.Calls.{key_of};
 ghost use Rattle.bin_history.specs.Deltas.{sum_of_deltas};
 ghost use Rattle.count_ledger.specs.Agreement.{part_of_role};
 ghost use Rattle.count_ledger.specs.Books.{BooksAgree, IsPassOf, IsRoleOf};
+ghost use Rattle.count_ledger.specs.Limits.{most_calls};
 ghost use Rattle.count_ledger.specs.Words.{word_of};
 
 use crate::books::{LedgerRule, Terms, View};
 use crate::seats::{add_delta, join, look, part};
 use crate::tokens::{BinRole, Pass};
 use atomic_table::{Badge, Table};
-use bin_history::Record;
+use bin_history::{Form, Record, Trace};
 use hashkeys::HashKey;
 use std::alloc::Allocator;
 use std::marker::{Brand, Model};
 
-/// A pass makes no more calls than this.
+/// A pass of a recorded map makes no more calls than this.
 pub const MOST_CALLS: u64 = 1_000_000;
+
+/// A pass of a lean map makes no more calls than this: 2^57, so that the deltas of 32 clients add up to less
+/// than 2^63.
+pub const MOST_LEAN_CALLS: u64 = 1 << 57;
 
 /// A ledger has no more clients than this.
 pub const MOST_CLIENTS: u32 = 32;
@@ -40,6 +45,7 @@ pub(crate) fn word_at(client: u32) -> usize
 #[derive(Drop)]
 pub struct Ledger<K: HashKey, V, F, A: Allocator> {
     pub(crate) table: Table<(), View<K, V, F>, Terms<K, V, A>, LedgerRule, A>,
+    pub(crate) form: Form,
     pub(crate) clients: u32,
 }
 
@@ -51,7 +57,7 @@ impl<K: HashKey, V, F, A: Allocator> Model for Ledger<K, V, F, A> {
 
     ghost view = { λ l. ledger_of l.table.shared.table_id l.table.shared.key };
 
-    ghost invariant = { λ l. IsLedger l.table.shared.table_id l.table.shared.key l.clients };
+    ghost invariant = { λ l. IsLedger l.table.shared.table_id l.table.shared.key l.form l.clients };
 }
 
 impl<K: HashKey, V, F, A: Allocator> Ledger<K, V, F, A> {
@@ -64,8 +70,24 @@ impl<K: HashKey, V, F, A: Allocator> Ledger<K, V, F, A> {
         self.clients
     }
 
-    /// Adds the record of a call to what the pass made and to what the role keeps, and its delta to the
-    /// client's word, by one atomic step. It tells what `meet` tells of the books just before that.
+    /// The form of the bins whose books these are.
+    pub fn form(&self) -> Form
+        ensures { result ≡ self.now.form }
+    {
+        self.form
+    }
+
+    /// How many calls a pass makes at most, by the form: 1,000,000 or 2^57.
+    pub fn most_calls(&self) -> u64
+        ensures { result ≡ most_calls self.now.form }
+    {
+        match self.form {
+            Form::Recorded => MOST_CALLS,
+            Form::Lean => MOST_LEAN_CALLS,
+        }
+    }
+
+    /// The same as `post_trace`, with the record itself.
     pub fn post(
         &self,
         pass: &mut Pass<K, V, F>,
@@ -74,7 +96,30 @@ impl<K: HashKey, V, F, A: Allocator> Ledger<K, V, F, A> {
     )
         requires pass { pass.old.ledger ≡ self.now.id }
         requires role { role.old.ledger ≡ self.now.id }
-        requires room { length pass.old.made < 1000000 }
+        requires room { length pass.old.made < most_calls self.now.form }
+        requires client { entry.now.client ≡ pass.old.client }
+        requires ordinal { entry.now.ordinal ≡ length pass.old.made }
+        requires class { is_of K.code role.old.salt role.old.class (key_of entry.now.call) ≡ true }
+        ensures pass { pass.new ≡ record pass.old { made = pass.old.made ++ entry.now ∷ [] } }
+        ensures role { role.new ≡ record role.old { kept = role.old.kept ++ entry.now ∷ [] } }
+        ensures agree { BooksAgree K.code pass.old role.old }
+        ensures of_pass { IsPassOf self.now pass.old }
+        ensures of_role { IsRoleOf K.code self.now role.old }
+    {
+        self.post_trace(pass, role, &Trace::of(entry));
+    }
+
+    /// Adds the record of a call to what the pass made and to what the role keeps, and its delta to the
+    /// client's word, by one atomic step, which only reads the word where the delta is 0. It tells what `meet` tells of the books just before that.
+    pub fn post_trace(
+        &self,
+        pass: &mut Pass<K, V, F>,
+        role: &mut BinRole<K, V, F>,
+        entry: &Trace<K, V, F>,
+    )
+        requires pass { pass.old.ledger ≡ self.now.id }
+        requires role { role.old.ledger ≡ self.now.id }
+        requires room { length pass.old.made < most_calls self.now.form }
         requires client { entry.now.client ≡ pass.old.client }
         requires ordinal { entry.now.ordinal ≡ length pass.old.made }
         requires class { is_of K.code role.old.salt role.old.class (key_of entry.now.call) ≡ true }

@@ -14,7 +14,7 @@ mod sums;
 mod tokens;
 
 pub use laws::{agreement_laws, totals_of_all, words_of_sums};
-pub use ledger::{Ledger, MOST_CALLS, MOST_CLIENTS};
+pub use ledger::{Ledger, MOST_CALLS, MOST_CLIENTS, MOST_LEAN_CALLS};
 pub use name::LedgerName;
 pub use settling::Unsettled;
 pub use tokens::{BinRole, Pass, retire_all};

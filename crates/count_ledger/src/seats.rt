@@ -9,7 +9,7 @@ ghost use Rattle.bin_history.specs.Records.{RecordView};
 use crate::books::{Books, View};
 use crate::steps::{KeepFirst, Tells, Together, Told};
 use atomic_table::{Badge, Seat};
-use bin_history::Record;
+use bin_history::Trace;
 use hashkeys::HashKey;
 use std::alloc::Allocator;
 use std::mem;
@@ -31,13 +31,13 @@ pub(crate) fn look<K: HashKey, V, F, A: Allocator, T: Told<K, V, F>>(
     shared.load::<Tells<T>>(seat, word)
 }
 
-/// Adds the delta of a call to a word while the seat's books get its record, and tells what the rule said of
+/// Adds the delta of a call to a word, which is only read where the delta is 0, while the seat's books get its record, and tells what the rule said of
 /// them before.
 pub(crate) fn add_delta<K: HashKey, V, F, A: Allocator, T: Told<K, V, F>>(
     shared: &Books<K, V, F, A>,
     seat: &mut Seat<(), View<K, V, F>>,
     word: usize,
-    entry: &Record<K, V, F>,
+    entry: &Trace<K, V, F>,
 )
     requires terms { T.terms ≡ Some shared.now.key }
     requires change { T.change ≡ posted entry.now }
@@ -48,7 +48,12 @@ pub(crate) fn add_delta<K: HashKey, V, F, A: Allocator, T: Told<K, V, F>>(
     ensures books { seat.new.me ≡ (posted entry.now seat.old.me.0, seat.old.me.1) }
     ensures told { (words : List ℕ) × (calls : List (RecordView K V F)) × Among (IsSound K.code shared.now.key words calls) (AreTogether K.code) seat.old.me.0 }
 {
-    shared.fetch_add::<Tells<T>>(seat, word, entry.delta().cast_unsigned());
+    let delta = entry.delta();
+    if delta == 0 {
+        look::<K, V, F, A, T>(shared, seat, word);
+    } else {
+        shared.fetch_add::<Tells<T>>(seat, word, delta.cast_unsigned());
+    }
 }
 
 /// Puts the badge's books behind the seat's, and leaves the badge blank.

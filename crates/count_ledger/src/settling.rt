@@ -144,7 +144,11 @@ impl<K: HashKey, V, F, A: Allocator> Ledger<K, V, F, A> {
             });
         }
         let total = self.add_shares(passes.as_mut_slice());
-        let Ledger { table, clients: _ } = self;
+        let Ledger {
+            table,
+            form: _,
+            clients: _,
+        } = self;
         gather_all(&table.shared, passes, roles);
         drop(table);
         Ok(total)

@@ -1,5 +1,5 @@
 //! Passes and roles.
-ghost use Rattle.std.specs.Prelude.{◌≡◌, ◌≤◌, [], ◌∷◌, length};
+ghost use Rattle.std.specs.Prelude.{◌≡◌, ◌<◌, ◌≤◌, [], ◌∷◌, length};
 
 use crate::books::View;
 use atomic_table::{Badge, Seat};
@@ -13,7 +13,12 @@ pub struct Pass<K, V, F> {
     pub(crate) client: u32,
     pub(crate) made: u64,
     pub(crate) seat: Seat<(), View<K, V, F>>,
+    /// Keeps the passes of two clients off one another's cache lines.
+    pub(crate) apart: Apart,
 }
+
+/// Two cache lines, less what a pass has before them.
+pub(crate) type Apart = [u64; 14];
 
 impl<K, V, F> Model for Pass<K, V, F> {
     ghost use Rattle.count_ledger.specs.Views.{PassView};
@@ -48,17 +53,18 @@ impl<K, V, F> Model for BinRole<K, V, F> {
 impl<K, V, F> Pass<K, V, F> {
     ghost use Rattle.count_ledger.specs.Tokens.{pass_book};
 
-    /// The client's number.
+    /// The client's number: 0 to 31.
     pub fn client(&self) -> u32
-        ensures { result ≡ self.now.client }
+        ensures value { result ≡ self.now.client }
+        ensures few { result < 32 }
     {
         self.client
     }
 
-    /// How many calls the client made: at most 1,000,000.
+    /// How many calls the client made: at most 1,000,000 in a recorded map, and 2^57 in a lean one.
     pub fn made(&self) -> u64
         ensures value { result ≡ length self.now.made }
-        ensures at_most { result ≤ 1000000 }
+        ensures at_most { result ≤ 144115188075855872 }
     {
         self.made
     }
@@ -76,6 +82,7 @@ impl<K, V, F> Pass<K, V, F> {
             client: _,
             made: _,
             seat,
+            apart: _,
         } = self;
         seat
     }

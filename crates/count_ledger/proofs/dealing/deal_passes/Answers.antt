@@ -9,6 +9,7 @@ invariant_of-push_reserved g c =
     let view = rw (range_next c.loop-client.client c.args.clients c.loop-client-test.true) at c.loop-client.invariant.view in
     let me = rw view at c.take_first-seat.ensures.first in
     IsPass-new _ c.loop-client.client c.take_first-seat.result.me me (rw (c.take_first-seat.ensures.seat, c.loop-client.invariant.table, c.requires.table, c.requires.words) (let lt = c.loop-client-test.true in omega arith))
+    (let lt = c.loop-client-test.true in let few = c.requires.few in omega arith)
 
 pub loop-client-preserved : goal.loop-client-preserved
 loop-client-preserved g c =

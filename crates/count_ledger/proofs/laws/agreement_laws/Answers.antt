@@ -1,12 +1,12 @@
 use Rattle.bin_history.proofs.Keys.{key_tells}
-use Rattle.count_ledger.proofs.Agreements.{Agree-new, Agree-posted, Agree-prepared, Agree-divided, Agree-replay, Agree-count}
+use Rattle.count_ledger.proofs.Agreements.{Agree-new, Agree-gone_on, Agree-prepared, Agree-divided, Agree-replay, Agree-count}
 use Rattle.count_ledger.proofs.laws.agreement_laws.Goals as goal
 
 pub returns-clause-new : goal.returns-clause-new
 returns-clause-new g c = Agree-new g.K.PartialEq.eq (key_tells g.met.K.Eq.laws g.met.K.HashKey.equal_is_same) g.K.HashKey.code _
 
-pub returns-clause-posted : goal.returns-clause-posted
-returns-clause-posted g c = Agree-posted g.K.PartialEq.eq (key_tells g.met.K.Eq.laws g.met.K.HashKey.equal_is_same) g.K.HashKey.code _
+pub returns-clause-gone_on : goal.returns-clause-gone_on
+returns-clause-gone_on g c = Agree-gone_on g.K.PartialEq.eq (key_tells g.met.K.Eq.laws g.met.K.HashKey.equal_is_same) g.K.HashKey.code _
 
 pub returns-clause-prepared : goal.returns-clause-prepared
 returns-clause-prepared g c = Agree-prepared g.K.PartialEq.eq (key_tells g.met.K.Eq.laws g.met.K.HashKey.equal_is_same) g.K.HashKey.code _
