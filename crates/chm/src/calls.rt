@@ -1,9 +1,10 @@
 //! The twelve calls.
-ghost use Rattle.std.specs.Prelude.{◌≡◌, ◌<◌, ◌↔◌, ◌++◌, ◌∷◌, [], true, length, IfOk, IfErr, IsErrOf, OnErr};
+ghost use Rattle.std.specs.Prelude.{◌≡◌, ◌<◌, ◌≤◌, ◌↔◌, ◌++◌, ◌∷◌, [], true, length, IfOk, IfErr, IsErrOf, OnErr};
 ghost use Rattle.hashkeys.specs.Classes.{is_of};
 ghost use Rattle.bin_history.specs.Calls.{key_of};
 ghost use Rattle.bin_history.specs.Copies.{IsExact};
 ghost use Rattle.bin_history.specs.declared.call.Call.TheVariants.{Get, Contains, Put, PutIfAbsent, Remove, RemoveIf, Replace, ReplaceIf, ComputeIfAbsent, ComputeIfPresent, Compute, Merge};
+ghost use Rattle.count_ledger.specs.Limits.{most_calls};
 ghost use Rattle.chm.specs.Called.{IsCalled};
 ghost use Rattle.chm.specs.Refusals.{IsOfCall};
 
@@ -11,7 +12,7 @@ use crate::fault::Fault;
 use crate::map::Map;
 use crate::moving::Landed;
 use bin_history::{Call, Remap, Reply};
-use count_ledger::{MOST_CALLS, Pass};
+use count_ledger::Pass;
 use hashkeys::HashKey;
 use std::alloc::{AllocError, Allocator};
 use std::sync::Wait;
@@ -32,7 +33,7 @@ impl<
         requires keys { IsExact K.is_clone }
         requires values { IsExact V.is_clone }
         requires pass { pass.old.ledger ≡ self.now.ledger.id }
-        requires room { length pass.old.made < 1000000 }
+        requires room { length pass.old.made < most_calls self.now.ledger.form }
         ensures called { IfOk result (λ r. IsCalled K.eq K.code V.eq F.remapped F.merged self.now.ledger call pass.old pass.new r.0) }
         ensures refused { OnErr result (pass.new ≡ pass.old) }
     {
@@ -54,7 +55,8 @@ impl<
         Ok((reply, landed))
     }
 
-    /// Makes a call, whichever of the twelve it is. It posts the call, and then does the call's part for the table.
+    /// Makes a call, whichever of the twelve it is. It posts the call, and then does the call's part for the table. The pass is full after 1,000,000
+    /// calls in a recorded map, and after 2^57 in a lean one.
     pub fn call<R: Wait>(
         &self,
         rt: &R,
@@ -67,10 +69,10 @@ impl<
         requires pass { pass.old.ledger ≡ self.now.ledger.id }
         ensures called { IfOk result (λ reply. IsCalled K.eq K.code V.eq F.remapped F.merged self.now.ledger call pass.old pass.new reply) }
         ensures refused { OnErr result (pass.new ≡ pass.old) }
-        ensures full { IsErrOf result Fault.PassFull ↔ (length pass.old.made ≡ 1000000) }
+        ensures full { IsErrOf result Fault.PassFull ↔ (most_calls self.now.ledger.form ≤ length pass.old.made) }
         ensures faults { IfErr result IsOfCall }
     {
-        if pass.made() == MOST_CALLS {
+        if pass.made() >= self.ledger.most_calls() {
             return Err(Fault::PassFull);
         }
         let (reply, landed) = self.make(rt, pass, call)?;
@@ -86,7 +88,7 @@ impl<
         requires pass { pass.old.ledger ≡ self.now.ledger.id }
         ensures called { IfOk result (λ reply. IsCalled K.eq K.code V.eq F.remapped F.merged self.now.ledger (Get key) pass.old pass.new reply) }
         ensures refused { OnErr result (pass.new ≡ pass.old) }
-        ensures full { IsErrOf result Fault.PassFull ↔ (length pass.old.made ≡ 1000000) }
+        ensures full { IsErrOf result Fault.PassFull ↔ (most_calls self.now.ledger.form ≤ length pass.old.made) }
         ensures faults { IfErr result IsOfCall }
     {
         self.call(rt, pass, Call::Get(key))
@@ -105,7 +107,7 @@ impl<
         requires pass { pass.old.ledger ≡ self.now.ledger.id }
         ensures called { IfOk result (λ reply. IsCalled K.eq K.code V.eq F.remapped F.merged self.now.ledger (Contains key) pass.old pass.new reply) }
         ensures refused { OnErr result (pass.new ≡ pass.old) }
-        ensures full { IsErrOf result Fault.PassFull ↔ (length pass.old.made ≡ 1000000) }
+        ensures full { IsErrOf result Fault.PassFull ↔ (most_calls self.now.ledger.form ≤ length pass.old.made) }
         ensures faults { IfErr result IsOfCall }
     {
         self.call(rt, pass, Call::Contains(key))
@@ -125,7 +127,7 @@ impl<
         requires pass { pass.old.ledger ≡ self.now.ledger.id }
         ensures called { IfOk result (λ reply. IsCalled K.eq K.code V.eq F.remapped F.merged self.now.ledger (Put key value) pass.old pass.new reply) }
         ensures refused { OnErr result (pass.new ≡ pass.old) }
-        ensures full { IsErrOf result Fault.PassFull ↔ (length pass.old.made ≡ 1000000) }
+        ensures full { IsErrOf result Fault.PassFull ↔ (most_calls self.now.ledger.form ≤ length pass.old.made) }
         ensures faults { IfErr result IsOfCall }
     {
         self.call(rt, pass, Call::Put(key, value))
@@ -145,7 +147,7 @@ impl<
         requires pass { pass.old.ledger ≡ self.now.ledger.id }
         ensures called { IfOk result (λ reply. IsCalled K.eq K.code V.eq F.remapped F.merged self.now.ledger (PutIfAbsent key value) pass.old pass.new reply) }
         ensures refused { OnErr result (pass.new ≡ pass.old) }
-        ensures full { IsErrOf result Fault.PassFull ↔ (length pass.old.made ≡ 1000000) }
+        ensures full { IsErrOf result Fault.PassFull ↔ (most_calls self.now.ledger.form ≤ length pass.old.made) }
         ensures faults { IfErr result IsOfCall }
     {
         self.call(rt, pass, Call::PutIfAbsent(key, value))
@@ -164,7 +166,7 @@ impl<
         requires pass { pass.old.ledger ≡ self.now.ledger.id }
         ensures called { IfOk result (λ reply. IsCalled K.eq K.code V.eq F.remapped F.merged self.now.ledger (Remove key) pass.old pass.new reply) }
         ensures refused { OnErr result (pass.new ≡ pass.old) }
-        ensures full { IsErrOf result Fault.PassFull ↔ (length pass.old.made ≡ 1000000) }
+        ensures full { IsErrOf result Fault.PassFull ↔ (most_calls self.now.ledger.form ≤ length pass.old.made) }
         ensures faults { IfErr result IsOfCall }
     {
         self.call(rt, pass, Call::Remove(key))
@@ -184,7 +186,7 @@ impl<
         requires pass { pass.old.ledger ≡ self.now.ledger.id }
         ensures called { IfOk result (λ reply. IsCalled K.eq K.code V.eq F.remapped F.merged self.now.ledger (RemoveIf key value) pass.old pass.new reply) }
         ensures refused { OnErr result (pass.new ≡ pass.old) }
-        ensures full { IsErrOf result Fault.PassFull ↔ (length pass.old.made ≡ 1000000) }
+        ensures full { IsErrOf result Fault.PassFull ↔ (most_calls self.now.ledger.form ≤ length pass.old.made) }
         ensures faults { IfErr result IsOfCall }
     {
         self.call(rt, pass, Call::RemoveIf(key, value))
@@ -204,7 +206,7 @@ impl<
         requires pass { pass.old.ledger ≡ self.now.ledger.id }
         ensures called { IfOk result (λ reply. IsCalled K.eq K.code V.eq F.remapped F.merged self.now.ledger (Replace key value) pass.old pass.new reply) }
         ensures refused { OnErr result (pass.new ≡ pass.old) }
-        ensures full { IsErrOf result Fault.PassFull ↔ (length pass.old.made ≡ 1000000) }
+        ensures full { IsErrOf result Fault.PassFull ↔ (most_calls self.now.ledger.form ≤ length pass.old.made) }
         ensures faults { IfErr result IsOfCall }
     {
         self.call(rt, pass, Call::Replace(key, value))
@@ -225,7 +227,7 @@ impl<
         requires pass { pass.old.ledger ≡ self.now.ledger.id }
         ensures called { IfOk result (λ reply. IsCalled K.eq K.code V.eq F.remapped F.merged self.now.ledger (ReplaceIf key old new) pass.old pass.new reply) }
         ensures refused { OnErr result (pass.new ≡ pass.old) }
-        ensures full { IsErrOf result Fault.PassFull ↔ (length pass.old.made ≡ 1000000) }
+        ensures full { IsErrOf result Fault.PassFull ↔ (most_calls self.now.ledger.form ≤ length pass.old.made) }
         ensures faults { IfErr result IsOfCall }
     {
         self.call(rt, pass, Call::ReplaceIf(key, old, new))
@@ -245,7 +247,7 @@ impl<
         requires pass { pass.old.ledger ≡ self.now.ledger.id }
         ensures called { IfOk result (λ reply. IsCalled K.eq K.code V.eq F.remapped F.merged self.now.ledger (ComputeIfAbsent key function) pass.old pass.new reply) }
         ensures refused { OnErr result (pass.new ≡ pass.old) }
-        ensures full { IsErrOf result Fault.PassFull ↔ (length pass.old.made ≡ 1000000) }
+        ensures full { IsErrOf result Fault.PassFull ↔ (most_calls self.now.ledger.form ≤ length pass.old.made) }
         ensures faults { IfErr result IsOfCall }
     {
         self.call(rt, pass, Call::ComputeIfAbsent(key, function))
@@ -265,7 +267,7 @@ impl<
         requires pass { pass.old.ledger ≡ self.now.ledger.id }
         ensures called { IfOk result (λ reply. IsCalled K.eq K.code V.eq F.remapped F.merged self.now.ledger (ComputeIfPresent key function) pass.old pass.new reply) }
         ensures refused { OnErr result (pass.new ≡ pass.old) }
-        ensures full { IsErrOf result Fault.PassFull ↔ (length pass.old.made ≡ 1000000) }
+        ensures full { IsErrOf result Fault.PassFull ↔ (most_calls self.now.ledger.form ≤ length pass.old.made) }
         ensures faults { IfErr result IsOfCall }
     {
         self.call(rt, pass, Call::ComputeIfPresent(key, function))
@@ -285,7 +287,7 @@ impl<
         requires pass { pass.old.ledger ≡ self.now.ledger.id }
         ensures called { IfOk result (λ reply. IsCalled K.eq K.code V.eq F.remapped F.merged self.now.ledger (Compute key function) pass.old pass.new reply) }
         ensures refused { OnErr result (pass.new ≡ pass.old) }
-        ensures full { IsErrOf result Fault.PassFull ↔ (length pass.old.made ≡ 1000000) }
+        ensures full { IsErrOf result Fault.PassFull ↔ (most_calls self.now.ledger.form ≤ length pass.old.made) }
         ensures faults { IfErr result IsOfCall }
     {
         self.call(rt, pass, Call::Compute(key, function))
@@ -306,7 +308,7 @@ impl<
         requires pass { pass.old.ledger ≡ self.now.ledger.id }
         ensures called { IfOk result (λ reply. IsCalled K.eq K.code V.eq F.remapped F.merged self.now.ledger (Merge key value function) pass.old pass.new reply) }
         ensures refused { OnErr result (pass.new ≡ pass.old) }
-        ensures full { IsErrOf result Fault.PassFull ↔ (length pass.old.made ≡ 1000000) }
+        ensures full { IsErrOf result Fault.PassFull ↔ (most_calls self.now.ledger.form ≤ length pass.old.made) }
         ensures faults { IfErr result IsOfCall }
     {
         self.call(rt, pass, Call::Merge(key, value, function))

@@ -1,8 +1,9 @@
 //! Emptying a map, bin by bin in walk order.
-ghost use Rattle.std.specs.Prelude.{◌≡◌, ◌≢◌, ◌<◌, ◌↔◌, [], length, IfOk, IfErr, IsErrOf, OnOk, OnErr};
+ghost use Rattle.std.specs.Prelude.{◌≡◌, ◌≢◌, ◌<◌, ◌≤◌, ◌↔◌, [], length, IfOk, IfErr, IsErrOf, OnOk, OnErr};
 ghost use Rattle.bin_history.specs.Calls.{after};
 ghost use Rattle.bin_history.specs.Copies.{IsExact};
 ghost use Rattle.count_ledger.specs.Agreement.{Agree};
+ghost use Rattle.count_ledger.specs.Limits.{most_calls};
 ghost use Rattle.chm.specs.Cleared.{HasRemoved, HasRemovedIn, IsCleared, IsEmptied};
 ghost use Rattle.chm.specs.Refusals.{IsOfCall};
 ghost use Rattle.chm.specs.Visits.{IsFirstOf, IsVisit};
@@ -10,7 +11,7 @@ ghost use Rattle.chm.specs.Visits.{IsFirstOf, IsVisit};
 use crate::fault::Fault;
 use crate::map::Map;
 use bin_history::{Bin, Call, Remap};
-use count_ledger::{BinRole, MOST_CALLS, Pass};
+use count_ledger::{BinRole, Pass};
 use generations::{next_in_walk, walk_laws};
 use hashkeys::{Class, HashKey};
 use std::alloc::Allocator;
@@ -41,10 +42,10 @@ impl<
         ensures salt { bin.new.salt ≡ bin.old.salt }
         ensures ledger { role.new.ledger ≡ role.old.ledger }
         ensures agree { Agree K.eq (after V.eq F.remapped F.merged) bin.new role.new }
-        ensures full { IsErrOf result Fault.PassFull → length pass.new.made ≡ 1000000 }
+        ensures full { IsErrOf result Fault.PassFull → most_calls self.now.ledger.form ≤ length pass.new.made }
         ensures faults { IfErr result IsOfCall }
     {
-        if pass.made() == MOST_CALLS {
+        if pass.made() >= self.ledger.most_calls() {
             return Err(Fault::PassFull);
         }
         bin.lawful();
@@ -71,7 +72,7 @@ impl<
         ensures salt { bin.new.salt ≡ bin.old.salt }
         ensures ledger { role.new.ledger ≡ role.old.ledger }
         ensures agree { Agree K.eq (after V.eq F.remapped F.merged) bin.new role.new }
-        ensures full { IsErrOf result Fault.PassFull → length pass.new.made ≡ 1000000 }
+        ensures full { IsErrOf result Fault.PassFull → most_calls self.now.ledger.form ≤ length pass.new.made }
         ensures faults { IfErr result IsOfCall }
     {
         while !bin.entries().is_empty() {
@@ -94,7 +95,7 @@ impl<
         ensures there { IfOk result (λ its. HasRemovedIn K.code self.now.ledger.salt its pass.old pass.new) }
         ensures first { IfOk result (λ its. IsFirstOf class its) }
         ensures visit { IfOk result (λ its. IsVisit K.eq K.code (after V.eq F.remapped F.merged) self.now.ledger pass.new (record { class = its; entries = [] })) }
-        ensures full { IsErrOf result Fault.PassFull → length pass.new.made ≡ 1000000 }
+        ensures full { IsErrOf result Fault.PassFull → most_calls self.now.ledger.form ≤ length pass.new.made }
         ensures faults { IfErr result IsOfCall }
     {
         let mut held = self.hold_first(rt, class);
@@ -119,7 +120,7 @@ impl<
         ensures cleared { OnOk result (IsCleared K.eq K.code (after V.eq F.remapped F.merged) self.now.n self.now.ledger pass.new) }
         ensures emptied { self.now.ledger.clients ≡ 1 → OnOk result (IsEmptied K.eq K.code self.now.n self.now.ledger pass.new) }
         ensures removed { HasRemoved pass.old pass.new }
-        ensures full { IsErrOf result Fault.PassFull → length pass.new.made ≡ 1000000 }
+        ensures full { IsErrOf result Fault.PassFull → most_calls self.now.ledger.form ≤ length pass.new.made }
         ensures faults { IfErr result IsOfCall }
     {
         walk_laws();

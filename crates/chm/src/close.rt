@@ -74,7 +74,7 @@ impl<
             growth,
             opened,
         } = self;
-        let (n, salt) = (bins.n(), bins.salt());
+        let (n, salt, form) = (bins.n(), bins.salt(), ledger.form());
         match bins.into_leaves(rt) {
             Ok((bins, roles)) => {
                 replayed(&bins);
@@ -88,6 +88,7 @@ impl<
                         bins,
                         n,
                         salt,
+                        form,
                         count: opened.wrapping_add(total),
                         ledger: books.0,
                         roles: books.1,

@@ -6,13 +6,14 @@ ghost use Rattle.bin_history.specs.Copies.{IsExact};
 ghost use Rattle.bin_history.specs.Entries.{HasDistinctKeys};
 ghost use Rattle.count_ledger.specs.Opening.{AreOfTheirClasses, lists_of, new_passes};
 ghost use Rattle.count_ledger.specs.Words.{total_made};
+ghost use Rattle.bin_history.specs.declared.form.Form.TheVariants.{Recorded, Lean};
 ghost use Rattle.chm.specs.Sizes.{IsSizeFor};
 ghost use Rattle.chm.specs.Refusals.{AreClients, IsCapacity, IsMaking};
 
 use crate::fault::Fault;
 use crate::growth::Growth;
 use crate::size::size_for;
-use bin_history::Remap;
+use bin_history::{Form, Remap};
 use count_ledger::{Ledger, Pass, retire_all};
 use generations::Generations;
 use hashkeys::{HashKey, Salt};
@@ -66,11 +67,13 @@ impl<
     pub const DEFAULT_CAPACITY: usize = 16;
 
     /// A map without entries, and a pass for each client. Its table begins with the least power of two of bins that is at
-    /// least the capacity, which is 1 to 4,096; there are 1 to 32 clients. The salt of its hashes is 0.
+    /// least the capacity, which is 1 to 4,096; there are 1 to 32 clients. The salt of its hashes is 0. Its bins store the records of calls, and a pass
+    /// makes 1,000,000 calls; `lean` opens a map without either.
     pub fn new(alloc: A, capacity: usize, clients: u32) -> Result<Opened<K, V, F, A>, Fault>
         requires keys { IsExact K.is_clone }
         requires values { IsExact V.is_clone }
         ensures ok { IsOk result → IsCapacity capacity × AreClients clients }
+        ensures form { IfOk result (λ r. r.0.ledger.form ≡ Recorded) }
         ensures salt { IfOk result (λ r. r.0.ledger.salt ≡ record { 0 = 0 }) }
         ensures clients { IfOk result (λ r. r.0.ledger.clients ≡ clients) }
         ensures opening { IfOk result (λ r. r.0.ledger.opening ≡ []) }
@@ -93,6 +96,55 @@ impl<
         requires keys { IsExact K.is_clone }
         requires values { IsExact V.is_clone }
         ensures ok { IsOk result → IsCapacity capacity × AreClients clients }
+        ensures form { IfOk result (λ r. r.0.ledger.form ≡ Recorded) }
+        ensures salt { IfOk result (λ r. r.0.ledger.salt ≡ salt) }
+        ensures clients { IfOk result (λ r. r.0.ledger.clients ≡ clients) }
+        ensures opening { IfOk result (λ r. r.0.ledger.opening ≡ []) }
+        ensures size { IfOk result (λ r. IsSizeFor capacity r.0.n) }
+        ensures passes { IfOk result (λ r. r.1.items ≡ new_passes r.0.ledger.id clients) }
+        ensures capacity { IsErrOf result Fault.BadCapacity ↔ (¬ IsCapacity capacity) }
+        ensures some { IsErrOf result Fault.BadClients ↔ (IsCapacity capacity × (¬ AreClients clients)) }
+        ensures faults { IfErr result IsMaking }
+    {
+        Map::with_form(alloc, Form::Recorded, capacity, clients, salt)
+    }
+
+    /// The same as `with_salt`, but the map is lean: its bins store no records of calls, and a pass makes 2^57 calls. What is
+    /// proved of its calls is the same.
+    pub fn lean(
+        alloc: A,
+        capacity: usize,
+        clients: u32,
+        salt: Salt,
+    ) -> Result<Opened<K, V, F, A>, Fault>
+        requires keys { IsExact K.is_clone }
+        requires values { IsExact V.is_clone }
+        ensures ok { IsOk result → IsCapacity capacity × AreClients clients }
+        ensures form { IfOk result (λ r. r.0.ledger.form ≡ Lean) }
+        ensures salt { IfOk result (λ r. r.0.ledger.salt ≡ salt) }
+        ensures clients { IfOk result (λ r. r.0.ledger.clients ≡ clients) }
+        ensures opening { IfOk result (λ r. r.0.ledger.opening ≡ []) }
+        ensures size { IfOk result (λ r. IsSizeFor capacity r.0.n) }
+        ensures passes { IfOk result (λ r. r.1.items ≡ new_passes r.0.ledger.id clients) }
+        ensures capacity { IsErrOf result Fault.BadCapacity ↔ (¬ IsCapacity capacity) }
+        ensures some { IsErrOf result Fault.BadClients ↔ (IsCapacity capacity × (¬ AreClients clients)) }
+        ensures faults { IfErr result IsMaking }
+    {
+        Map::with_form(alloc, Form::Lean, capacity, clients, salt)
+    }
+
+    /// A map of the form without entries.
+    fn with_form(
+        alloc: A,
+        form: Form,
+        capacity: usize,
+        clients: u32,
+        salt: Salt,
+    ) -> Result<Opened<K, V, F, A>, Fault>
+        requires keys { IsExact K.is_clone }
+        requires values { IsExact V.is_clone }
+        ensures ok { IsOk result → IsCapacity capacity × AreClients clients }
+        ensures form { IfOk result (λ r. r.0.ledger.form ≡ form) }
         ensures salt { IfOk result (λ r. r.0.ledger.salt ≡ salt) }
         ensures clients { IfOk result (λ r. r.0.ledger.clients ≡ clients) }
         ensures opening { IfOk result (λ r. r.0.ledger.opening ≡ []) }
@@ -109,12 +161,13 @@ impl<
             return Err(Fault::BadClients);
         }
         let bases = no_bases(alloc.clone()?, size_for(capacity as u32))?;
-        Ok(Map::open(alloc, salt, clients, bases, 0)?)
+        Ok(Map::open(alloc, form, salt, clients, bases, 0)?)
     }
 
     /// A map whose opening bins are made of these bases, of `opened` pairs in all.
     pub(crate) fn open(
         alloc: A,
+        form: Form,
         salt: Salt,
         clients: u32,
         bases: Vec<Vec<(K, V), A>, A>,
@@ -128,6 +181,7 @@ impl<
         requires of_class { AreOfTheirClasses K.code salt (lists_of bases) }
         requires opened { opened ≡ length (flat_map (λ base. base) (lists_of bases)) }
         requires few { opened ≤ 4294967295 }
+        ensures form { IfOk result (λ r. r.0.ledger.form ≡ form) }
         ensures salt { IfOk result (λ r. r.0.ledger.salt ≡ salt) }
         ensures clients { IfOk result (λ r. r.0.ledger.clients ≡ clients) }
         ensures opening { IfOk result (λ r. r.0.ledger.opening ≡ flat_map (λ base. base) (lists_of bases)) }
@@ -137,8 +191,8 @@ impl<
         let n = bases.len() as u32;
         let growth = Growth::new(alloc.clone()?, n)?;
         let for_bins = alloc.clone()?;
-        let (ledger, passes, roles) = Ledger::new(alloc, salt, clients, &bases)?;
-        match Generations::new(for_bins, salt, n, bases, roles) {
+        let (ledger, passes, roles) = Ledger::new(alloc, form, salt, clients, &bases)?;
+        match Generations::new(for_bins, form, salt, n, bases, roles) {
             Ok(bins) => {
                 let map = Map {
                     ledger,
@@ -189,6 +243,13 @@ impl<K: HashKey, V: Clone + Eq, F: Remap<K, V> + Clone, A: Allocator> Map<K, V, 
         ensures range { AreClients result }
     {
         self.ledger.clients()
+    }
+
+    /// The form of the map: whether its bins store records.
+    pub fn form(&self) -> Form
+        ensures { result ≡ self.now.ledger.form }
+    {
+        self.ledger.form()
     }
 
     /// The salt of the hashes of keys.

@@ -6,7 +6,7 @@ ghost use Rattle.bin_history.specs.Records.{RecordView};
 ghost use Rattle.chm.specs.Orders.{IsHistoryOfKey, IsOneOrder};
 ghost use Rattle.chm.specs.Quiets.{entries_of, IsQuiet};
 
-use bin_history::{Bin, Remap};
+use bin_history::{Bin, Form, Remap};
 use count_ledger::{BinRole, Ledger, Pass};
 use hashkeys::{HashKey, Salt};
 use std::alloc::Allocator;
@@ -19,6 +19,7 @@ pub struct Quiet<K: HashKey, V: Clone + Eq, F: Remap<K, V> + Clone, A: Allocator
     pub(crate) bins: Vec<Bin<K, V, F, A>, A>,
     pub(crate) n: u32,
     pub(crate) salt: Salt,
+    pub(crate) form: Form,
     pub(crate) count: u64,
     pub(crate) ledger: Snapshot<Ledger<K, V, F, A>>,
     pub(crate) roles: Snapshot<Vec<BinRole<K, V, F>, A>>,
@@ -37,6 +38,7 @@ impl<K: HashKey, V: Clone + Eq, F: Remap<K, V> + Clone, A: Allocator> Model for 
     ghost invariant = { λ q.
         IsQuiet K.eq K.code (after V.eq F.remapped F.merged) (record { ledger = q.ledger.value; n = q.n; bins = q.bins.items; roles = q.roles.value.items; passes = q.passes.value.items })
         × (q.salt ≡ q.ledger.value.salt)
+        × (q.form ≡ q.ledger.value.form)
         × (q.count ≡ length (entries_of q.bins.items)) };
 }
 
@@ -70,6 +72,13 @@ impl<K: HashKey, V: Clone + Eq, F: Remap<K, V> + Clone, A: Allocator> Quiet<K, V
         ensures { result ≡ self.now.ledger.salt }
     {
         self.salt
+    }
+
+    /// The form that the map had, which a map opened again has too.
+    pub fn form(&self) -> Form
+        ensures { result ≡ self.now.ledger.form }
+    {
+        self.form
     }
 
     /// What holds of each closed map. It does nothing when it runs.

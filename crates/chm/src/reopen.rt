@@ -48,12 +48,13 @@ impl<
     F: Remap<K, V> + Clone + Drop,
     A: Allocator + Clone,
 > Quiet<K, V, F, A> {
-    /// Opens a map with copies of the pairs, which go into their bins in walk order, and with passes that made nothing for 1 to 32 clients. Its table
+    /// Opens a map with copies of the pairs, which go into their bins in walk order, and with passes that made nothing for 1 to 32 clients. It has this map's form, and its table
     /// is the least from this map's opening one on that has room for them. The closed map stays as it is.
     pub fn reopen(&self, clients: u32) -> Result<Opened<K, V, F, A>, Fault>
         requires keys { IsExact K.is_clone }
         requires values { IsExact V.is_clone }
         ensures ok { IsOk result → (length (entries_of self.now.bins) ≤ 4294967295) × AreClients clients }
+        ensures form { IfOk result (λ r. r.0.ledger.form ≡ self.now.ledger.form) }
         ensures salt { IfOk result (λ r. r.0.ledger.salt ≡ self.now.ledger.salt) }
         ensures clients { IfOk result (λ r. r.0.ledger.clients ≡ clients) }
         ensures opening { IfOk result (λ r. r.0.ledger.opening ≡ in_classes K.code self.now.ledger.salt r.0.n (entries_of self.now.bins)) }
@@ -72,6 +73,7 @@ impl<
         requires keys { IsExact K.is_clone }
         requires values { IsExact V.is_clone }
         ensures ok { IsOk result → (length (entries_of self.now.bins) ≤ 4294967295) × AreClients clients }
+        ensures form { IfOk result (λ r. r.0.ledger.form ≡ self.now.ledger.form) }
         ensures salt { IfOk result (λ r. r.0.ledger.salt ≡ salt) }
         ensures clients { IfOk result (λ r. r.0.ledger.clients ≡ clients) }
         ensures opening { IfOk result (λ r. r.0.ledger.opening ≡ in_classes K.code salt r.0.n (entries_of self.now.bins)) }
@@ -93,6 +95,6 @@ impl<
         let alloc = self.bins.allocator();
         let n = size_from(self.n, count);
         let bases = deal(alloc.clone()?, salt, n, self.entries())?;
-        Ok(Map::open(alloc.clone()?, salt, clients, bases, count)?)
+        Ok(Map::open(alloc.clone()?, self.form, salt, clients, bases, count)?)
     }
 }

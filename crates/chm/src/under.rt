@@ -4,6 +4,7 @@ ghost use Rattle.hashkeys.specs.Classes.{is_of};
 ghost use Rattle.bin_history.specs.Calls.{after, key_of};
 ghost use Rattle.bin_history.specs.Copies.{IsExact};
 ghost use Rattle.count_ledger.specs.Agreement.{Agree};
+ghost use Rattle.count_ledger.specs.Limits.{most_calls};
 ghost use Rattle.chm.specs.Called.{IsCalledOn};
 ghost use Rattle.chm.specs.Met.{IsMet};
 
@@ -32,7 +33,7 @@ impl<
         requires values { IsExact V.is_clone }
         requires pass { pass.old.ledger ≡ self.now.ledger.id }
         requires role { role.old.ledger ≡ self.now.ledger.id }
-        requires room { length pass.old.made < 1000000 }
+        requires room { length pass.old.made < most_calls self.now.ledger.form }
         requires agree { Agree K.eq (after V.eq F.remapped F.merged) bin.old role.old }
         requires of_class { is_of K.code bin.old.salt bin.old.class (key_of call) ≡ true }
         ensures called { IfOk result (λ r. IsCalledOn K.eq K.code V.eq F.remapped F.merged bin.old.entries bin.new.entries call pass.old pass.new r.0) }
@@ -46,11 +47,9 @@ impl<
     {
         bin.lawful();
         let ready = bin.prepare(call)?;
-        let reply = bin.apply(ready, pass.client(), pass.made() as u32);
-        let records = bin.records();
-        let entry = &records[records.len() - 1];
-        self.ledger.post(pass, role, entry);
-        Ok((reply, entry.delta() == 1))
+        let (reply, trace) = bin.apply(ready, pass.client(), pass.made());
+        self.ledger.post_trace(pass, role, &trace);
+        Ok((reply, trace.delta() == 1))
     }
 
     /// Lets the pass and the role of a bin that is held tell what the bin's entries are. It changes nothing.

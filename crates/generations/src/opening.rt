@@ -11,7 +11,7 @@ ghost use Rattle.count_ledger.specs.Views.{LedgerId};
 use crate::generations::Generations;
 use crate::place::Place;
 use crate::state::{PlaceTag, State};
-use bin_history::{Bin, Remap};
+use bin_history::{Bin, Form, Remap};
 use count_ledger::{BinRole, LedgerName};
 use hashkeys::{Class, HashKey, Salt};
 use std::alloc::{AllocError, Allocator};
@@ -19,6 +19,7 @@ use std::alloc::{AllocError, Allocator};
 /// The place of a bin of these pairs, with its role.
 fn opening_place<K: HashKey, V: Clone + Eq, F: Remap<K, V> + Clone, A: Allocator + Clone>(
     alloc: A,
+    form: Form,
     salt: Salt,
     class: Class,
     base: Vec<(K, V), A>,
@@ -36,7 +37,7 @@ fn opening_place<K: HashKey, V: Clone + Eq, F: Remap<K, V> + Clone, A: Allocator
         salt,
         ledger: LedgerName::of(&role),
     };
-    let bin = Bin::new(alloc, salt, class, base)?;
+    let bin = Bin::new(alloc, form, salt, class, base)?;
     Ok(Place::new(&tag, State::Live(bin, role)))
 }
 
@@ -48,6 +49,7 @@ fn opening_places<
     A: Allocator + Clone,
 >(
     alloc: A,
+    form: Form,
     salt: Salt,
     n: u32,
     bases: Vec<Vec<(K, V), A>, A>,
@@ -75,7 +77,7 @@ fn opening_places<
             unreachable!()
         };
         let class = Class::new(n, index);
-        let place = opening_place(alloc.clone()?, salt, class, base, role)?;
+        let place = opening_place(alloc.clone()?, form, salt, class, base, role)?;
         places.push_reserved(place);
     }
     Ok(places)
@@ -87,9 +89,10 @@ impl<
     F: Remap<K, V> + Clone + Drop,
     A: Allocator + Clone,
 > Generations<K, V, F, A> {
-    /// The map of `n` opening bins, the bin at each place made of the base and the role at that place, which are as `Ledger::new` made the roles of these bases.
+    /// The map of `n` opening bins of the form, the bin at each place made of the base and the role at that place, which are as `Ledger::new` made the roles of these bases.
     pub fn new(
         alloc: A,
+        form: Form,
         salt: Salt,
         n: u32,
         bases: Vec<Vec<(K, V), A>, A>,
@@ -107,7 +110,7 @@ impl<
         ensures ledger { IfOk result (λ g. (ledger : LedgerId) → roles.items ≡ new_roles ledger salt (lists_of bases) → g.ledger ≡ ledger) }
     {
         let ledger = LedgerName::of(&roles[0]);
-        let places = opening_places(alloc.clone()?, salt, n, bases, roles)?;
+        let places = opening_places(alloc.clone()?, form, salt, n, bases, roles)?;
         Generations::around(alloc, salt, ledger, places)
     }
 }
