@@ -1,7 +1,5 @@
 -- What the books of a pass and of the role of a bin tell of the bin.
-use Rattle.std.proofs.Common.{◌≡◌, ℕ, Bool, true, Option, Decides, List, [], ◌∷◌, ◌++◌, length, ◌-◌, slice_index_or, All, sym, ap, subst, ◌∙◌, arith}
-use Rattle.std.proofs.Math.Seq.{get_or-append_seam}
-use Rattle.std.proofs.lemmas.List.{length-append}
+use Rattle.std.proofs.Common.{◌≡◌, ℕ, Bool, true, Option, Decides, List, [], ◌∷◌, ◌++◌, length, All, sym, ap, subst, ◌∙◌}
 use Rattle.hashkeys.specs.Classes.{ClassView, IsClass, is_of}
 use Rattle.hashkeys.specs.declared.hashing.Salt.{Salt}
 use Rattle.bin_history.specs.Calls.{key_of, after, reply}
@@ -21,11 +19,6 @@ use Rattle.count_ledger.proofs.Agreements.{Agree-replay}
 use Rattle.chm.specs.Called.{IsCalled, IsCalledOn}
 use Rattle.chm.specs.Views.{opening_in}
 use Rattle.chm.specs.Met.{IsMet}
-
-pub last-snoc : {A : Type 0} (xs : List A) (x d : A) → slice_index_or (xs ++ x ∷ []) (length (xs ++ x ∷ []) - 1) d ≡ x
-last-snoc xs x d =
-    let at : length (xs ++ x ∷ []) - 1 ≡ length xs = (let e = length-append xs (x ∷ []) in omega arith) in
-    ap (λ i. slice_index_or (xs ++ x ∷ []) i d) at ∙ get_or-append_seam xs x [] d
 
 module _ {K V F : Type 0} (same : K → K → Bool) (tells : (x y : K) → Decides (same x y) (x ≡ y)) (code : K → ℕ) (after : Call K V F → Option V → Option V) where
   module _ (ledger : LedgerView K V) (pass : PassView K V F) (b : BinView K V F) (r : RoleView K V F) (agree : Agree same after b r) (role : IsRoleOf code ledger r) where
@@ -57,10 +50,6 @@ module _ {K V F : Type 0} (same : K → K → Bool) (tells : (x y : K) → Decid
           entries = is;
           same_map = λ k. ap (λ (m : K → Option V). m k) run_is;
         }
-
--- the last of a list
-pub last-of : {A : Type 0} (xs l : List A) (x d : A) → l ≡ xs ++ x ∷ [] → slice_index_or l (length l - 1) d ≡ x
-last-of xs l x d is = ap (λ (m : List _). slice_index_or m (length m - 1) d) is ∙ last-snoc xs x d
 
 module _ {K V F : Type 0} (same : K → K → Bool) (code : K → ℕ) (same_value : V → V → Bool) (remapped : F → K → Option V → Option V) (merged : F → V → V → Option V) where
   -- a call that was worked out on a bin's entries and applied was made on them

@@ -38,8 +38,8 @@ impl<K: HashKey, V: Clone + Eq, F: Remap<K, V> + Clone, A: Allocator> Model for 
     ghost invariant = { λ q.
         IsQuiet K.eq K.code (after V.eq F.remapped F.merged) (record { ledger = q.ledger.value; n = q.n; bins = q.bins.items; roles = q.roles.value.items; passes = q.passes.value.items })
         × (q.salt ≡ q.ledger.value.salt)
-        × (q.form ≡ q.ledger.value.form)
-        × (q.count ≡ length (entries_of q.bins.items)) };
+        × (q.count ≡ length (entries_of q.bins.items))
+        × (q.form ≡ q.ledger.value.form) };
 }
 
 impl<K: HashKey, V: Clone + Eq, F: Remap<K, V> + Clone, A: Allocator> Quiet<K, V, F, A> {

@@ -44,7 +44,7 @@ invariant_of-result g c =
     c.of-in-Ok.result.value.items c.in-Ok.roles.items c.of-in-Ok-2.result.value.items c.args.passes.items c.of.ensures (ap (λ (v : Vec _ _). v.items) c.of-in-Ok.ensures) (ap (λ (v : Vec _ _). v.items) c.of-in-Ok-2.ensures) c.n-n.ensures.value home c.n-n.ensures.size c.in-Ok.ensures.walk c.in-Ok.ensures.leaves all in
     let count = word_of_count g.K.HashKey.code c.self.inside.ledger c.args.passes.items c.in-Ok.roles.items all c.self.inside.opened c.in-Ok-settle.total (length (entries_of c.in-Ok.bins.items))
     c.self.invariant.clients c.self.invariant.opened_is c.self.invariant.few c.in-Ok-settle.ensures.sum counted in
-    (quiet, c.salt-salt.ensures ∙ c.self.invariant.salt ∙ ap (λ (l : LedgerView _ _). l.salt) (sym c.of.ensures), count)
+    (quiet, c.salt-salt.ensures ∙ c.self.invariant.salt ∙ ap (λ (l : LedgerView _ _). l.salt) (sym c.of.ensures), count, c.form-form.ensures ∙ ap (λ (l : LedgerView _ _). l.form) (sym c.of.ensures))
 
 pub unreachable-requires : goal.unreachable-requires
 unreachable-requires g c =

@@ -2,7 +2,7 @@ use Rattle.std.proofs.Common.{List, length, flat_map, ap, sym, subst, ◌∙◌}
 use Rattle.hashkeys.specs.Classes.{IsTableSize}
 use Rattle.chm.specs.Sizes.{IsSizeFor}
 use Rattle.chm.proofs.Empty.{flat_map-empty, length-empty, distinct-empty}
-use Rattle.chm.proofs.map.Map.with_salt.Goals as goal
+use Rattle.chm.proofs.map.Map.with_form.Goals as goal
 
 pub open-requires-clause-size : goal.open-requires-clause-size
 open-requires-clause-size g c = subst IsTableSize (sym (length-empty c.in_ok-bases.bases.items c.size_for.result c.in_ok-bases.ensures)) c.size_for.ensures.size
