@@ -1,12 +1,15 @@
 //! One run of the workload.
-ghost use Rattle.std.specs.Prelude.{◌≡◌, ◌<◌, All, length};
+ghost use Rattle.std.specs.Prelude.{◌≡◌, ◌<◌, All, IfOk, length};
 
+use crate::name::Name;
 use crate::settings::Settings;
+use crate::sum::Sum;
 use crate::work::{BenchMap, BenchPass, fill, names, work_together};
 use anyhow::{Result, anyhow, bail};
-use chm::{Map, NotClosed};
+use bin_history::Form;
+use chm::{Map, NotClosed, Opened};
 use count_ledger::retire_all;
-use hashkeys::Key;
+use hashkeys::{Key, Salt};
 use std::alloc::Global;
 use std::sync::Wait;
 use std::thread::Threads;
@@ -32,7 +35,7 @@ fn time_calls<R: Threads + Wait + Clock + Sync>(
     work_together(rt, map, names, settings, callers);
     let taken = start.elapsed(rt)?;
     for pass in callers.iter() {
-        if pass.made() != u64::from(settings.calls) {
+        if pass.made() != settings.posts() {
             bail!("a call was refused");
         }
     }
@@ -61,6 +64,17 @@ fn time_passes<R: Threads + Wait + Clock + Sync>(
     }
 }
 
+/// A map of the form that is measured, with a pass for each client.
+fn open(alloc: Global, settings: &Settings, clients: u32) -> Result<Opened<Name, i64, Sum, Global>>
+    ensures { IfOk result (λ r. All (λ p. p.ledger ≡ r.0.ledger.id) r.1.items) }
+{
+    let capacity = usize::from(settings.capacity);
+    match settings.form {
+        Form::Recorded => Ok(Map::new(alloc, capacity, clients)?),
+        Form::Lean => Ok(Map::lean(alloc, capacity, clients, Salt(0))?),
+    }
+}
+
 /// Says how long the threads took to make their calls of a new map, which is closed afterwards: so no call was lost.
 pub(crate) fn measure<R: Threads + Wait + Clock + Sync>(
     rt: &R,
@@ -72,7 +86,7 @@ pub(crate) fn measure<R: Threads + Wait + Clock + Sync>(
         bail!("no keys");
     }
     let clients = u32::from(settings.threads) + 1;
-    let (map, mut passes) = Map::new(alloc, usize::from(settings.capacity), clients)?;
+    let (map, mut passes) = open(alloc, settings, clients)?;
     let taken = time_passes(rt, &map, &names, settings, &mut passes);
     match map.close(rt, passes) {
         Ok(_) => taken,

@@ -1,4 +1,5 @@
 //! What a run of the benchmark is told.
+use bin_history::Form;
 use clap::{Arg, ArgAction, ArgMatches, Command};
 use std::alloc::{AllocError, Global};
 
@@ -11,6 +12,8 @@ pub(crate) enum Mode {
     Get,
     /// Merges that add 1.
     Merge,
+    /// Glances, which are no calls: nothing is posted.
+    Glance,
 }
 
 impl Mode {
@@ -20,6 +23,7 @@ impl Mode {
             Mode::Mix => "mix",
             Mode::Get => "get",
             Mode::Merge => "merge",
+            Mode::Glance => "glance",
         }
     }
 
@@ -27,6 +31,7 @@ impl Mode {
         match name {
             "get" => Mode::Get,
             "merge" => Mode::Merge,
+            "glance" => Mode::Glance,
             _ => Mode::Mix,
         }
     }
@@ -40,6 +45,7 @@ pub(crate) struct Settings {
     pub(crate) keys: u32,
     pub(crate) capacity: u16,
     pub(crate) mode: Mode,
+    pub(crate) form: Form,
 }
 
 /// The run that is made without words.
@@ -49,6 +55,7 @@ pub(crate) const SMALL: Settings = Settings {
     keys: 500,
     capacity: 1,
     mode: Mode::Mix,
+    form: Form::Lean,
 };
 
 impl Settings {
@@ -60,6 +67,18 @@ impl Settings {
             keys: matches.get_one::<u32>("keys").unwrap_or(20_000),
             capacity: matches.get_one::<u16>("capacity").unwrap_or(16),
             mode: Mode::named(matches.get_str("mode").unwrap_or("mix")),
+            form: match matches.get_str("form").unwrap_or("lean") {
+                "recorded" => Form::Recorded,
+                _ => Form::Lean,
+            },
+        }
+    }
+
+    /// How many calls each pass posts.
+    pub(crate) fn posts(&self) -> u64 {
+        match self.mode {
+            Mode::Glance => 0,
+            _ => u64::from(self.calls),
         }
     }
 
@@ -90,12 +109,12 @@ pub(crate) fn command<'a>(alloc: Global) -> Result<Command<'a>, AllocError> {
     let calls = number(
         alloc,
         "calls",
-        "How many calls each makes, 1 to 1000000",
+        "How many calls each makes, 1 to 100000000; of a recorded map 1000000",
         "1000000",
     )
-    .value_parser(clap::value_parser!(u32).range(1..=1_000_000));
-    let keys = number(alloc, "keys", "On how many keys, 1 to 1000000", "20000").value_parser(
-        clap::value_parser!(u32).range(1..=1_000_000),
+    .value_parser(clap::value_parser!(u32).range(1..=100_000_000));
+    let keys = number(alloc, "keys", "On how many keys, 1 to 10000000", "20000").value_parser(
+        clap::value_parser!(u32).range(1..=10_000_000),
     );
     let capacity = number(
         alloc,
@@ -107,15 +126,23 @@ pub(crate) fn command<'a>(alloc: Global) -> Result<Command<'a>, AllocError> {
     let mode = Arg::new(alloc, "mode")
         .long("mode")
         .value_name("MODE")
-        .help("mix: 80 gets, 15 puts and 5 removes of a hundred; get; merge")
+        .help("mix: 80 gets, 15 puts and 5 removes of a hundred; get; merge; glance")
         .action(ArgAction::Set)
-        .value_parser(["mix", "get", "merge"].as_slice())
+        .value_parser(["mix", "get", "merge", "glance"].as_slice())
         .default_value("mix");
+    let form = Arg::new(alloc, "form")
+        .long("form")
+        .value_name("FORM")
+        .help("lean, or recorded: a map that stores a record of each call")
+        .action(ArgAction::Set)
+        .value_parser(["lean", "recorded"].as_slice())
+        .default_value("lean");
     Command::new(alloc, "map_bench")
         .about("Measures how many million calls a second threads make of one map")
         .arg(threads)?
         .arg(calls)?
         .arg(keys)?
         .arg(capacity)?
-        .arg(mode)
+        .arg(mode)?
+        .arg(form)
 }

@@ -61,7 +61,7 @@ fn draw(random: &mut Random, names: &'static [Key], mode: Mode, value: i64) -> C
     let key = Name(&names[(drawn >> 16) as usize % names.len()]);
     match mode {
         Mode::Merge => Call::Merge(key, 1, Sum),
-        Mode::Get => Call::Get(key),
+        Mode::Get | Mode::Glance => Call::Get(key),
         Mode::Mix => match drawn % 100 {
             0..80 => Call::Get(key),
             80..95 => Call::Put(key, value),
@@ -86,7 +86,11 @@ fn work<R: Wait>(
     let mut random = Random::new((number as u64).wrapping_add(1));
     for i in 0..settings.calls {
         let call = draw(&mut random, names, settings.mode, i64::from(i));
-        if map.call(rt, pass, call).is_err() {
+        let refused = match settings.mode {
+            Mode::Glance => map.glance(rt, call.key()).is_err(),
+            _ => map.call(rt, pass, call).is_err(),
+        };
+        if refused {
             return;
         }
     }
