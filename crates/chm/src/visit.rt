@@ -1,8 +1,9 @@
-//! Reading a map that others write, and emptying it, bin by bin in walk order.
+//! Reading a map that others write: walks, bin by bin in walk order, looks and glances.
 ghost use Rattle.std.specs.Prelude.{◌≡◌, All, IfOk, IfErr, option_copied};
 ghost use Rattle.bin_history.specs.Calls.{after};
 ghost use Rattle.bin_history.specs.Copies.{IsExact};
 ghost use Rattle.generations.specs.Places.{AreAt};
+ghost use Rattle.chm.specs.Called.{IsFound};
 ghost use Rattle.chm.specs.Visits.{AreVisits, IsFirstOf, IsOwn, IsShown, IsVisit};
 
 use crate::fault::Fault;
@@ -114,7 +115,31 @@ impl<
         unreachable!()
     }
 
-    /// A copy of the value at a key, read beside others that read the bin. It is no call: nothing is posted.
+    /// A copy of the value at a key, which is the one that a call of the pass's client would find now. It waits for the key's bin as a call does, but it is no
+    /// call: nothing is posted, the pass stays as it was, and a full pass may look as well. For want of memory nothing is told.
+    pub fn look_up<R: Wait>(
+        &self,
+        rt: &R,
+        pass: &mut Pass<K, V, F>,
+        key: &K,
+    ) -> Result<Option<V>, Fault>
+        requires values { IsExact V.is_clone }
+        requires pass { pass.old.ledger ≡ self.now.ledger.id }
+        ensures found { IfOk result (IsFound K.eq K.code (after V.eq F.remapped F.merged) self.now.ledger pass.old key.now) }
+        ensures same { pass.new ≡ pass.old }
+        ensures faults { IfErr result (λ fault. fault ≡ Fault.NoMemory) }
+    {
+        let mut held = self.bins.hold(rt, self.salt().hash_of(key));
+        let _ = held.bin.class().n();
+        let value = copied(held.bin.get(key));
+        let mut role = held.role;
+        self.meet_under(pass, &held.bin, &mut role);
+        held.role = role;
+        held.release();
+        Ok(value?)
+    }
+
+    /// A copy of the value at a key, read beside others that read the bin. It is no call: nothing is posted, and which moment it shows is not said.
     pub fn glance<R: Wait>(&self, rt: &R, key: &K) -> Result<Option<V>, Fault>
         requires values { IsExact V.is_clone }
         ensures shown { IfOk result (IsShown K.eq K.code (after V.eq F.remapped F.merged) self.now key.now) }
