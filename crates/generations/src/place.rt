@@ -30,8 +30,8 @@ pub(crate) struct Halves {
 #[derive(Drop)]
 pub struct Place<K: HashKey, V: Clone + Eq, F: Remap<K, V> + Clone, A: Allocator> {
     class: Class,
-    lock: Counted<State<K, V, F, A>>,
     halves: OnceLock<Halves>,
+    lock: Counted<State<K, V, F, A>>,
 }
 
 impl<K: HashKey, V: Clone + Eq, F: Remap<K, V> + Clone, A: Allocator> Model for Place<K, V, F, A> {
@@ -58,8 +58,8 @@ impl<K: HashKey, V: Clone + Eq, F: Remap<K, V> + Clone, A: Allocator> Place<K, V
     {
         Place {
             class: tag.class,
-            lock: Counted::new(state, tag),
             halves: OnceLock::new(),
+            lock: Counted::new(state, tag),
         }
     }
 
