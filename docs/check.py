@@ -3,7 +3,7 @@
 usage: python3 docs/check.py
 
 It proves nothing. It looks whether
-  a line of a page has at most 120 characters;
+  a line of a page has at most 120 characters (a row of a table in the top README may have more);
   what stands in a block `antt` stands so, but for line breaks, in the file that the last comment with a path names;
   a file that is named is there;
   a function that a page names with its file, or with its clauses, is there and has them;
@@ -36,7 +36,7 @@ def is_within(part, whole):
 
 def wide_lines(page, text):
     for number, line in enumerate(text.splitlines(), 1):
-        if len(line) > COLUMNS:
+        if len(line) > COLUMNS and not (page == "README.md" and line.startswith("|")):
             yield f"{page}:{number}: {len(line)} characters"
 
 
