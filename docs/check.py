@@ -8,7 +8,8 @@ It proves nothing. It looks whether
   a file that is named is there;
   a function that a page names with its file, or with its clauses, is there and has them;
   a definition that a page names with its file is there;
-  each crate of crates.txt has a README and a line in ARCHITECTURE.md, and each stored edit a line in TRIED.md.
+  each crate of crates.txt has a README and a line in ARCHITECTURE.md, and each stored edit a line in TRIED.md;
+  each test that TRIED.md names is there.
 It prints a line for each fault, and ends with status 1 where there is one."""
 import glob
 import os
@@ -18,6 +19,7 @@ import sys
 TOP = os.path.dirname(os.path.dirname(os.path.realpath(__file__)))
 COLUMNS = 120
 PATH = r"[a-z_]+/(?:src|specs)/\w+\.(?:rt|antt)"
+TRIED = "docs/TRIED.md"
 
 
 def text_of(path):
@@ -71,17 +73,23 @@ def lost_functions(page, flat):
                 yield f"{page}: crates/{path} has no function {name}"
 
 
-def lost_clauses(page, flat):
-    """Functions that stand with clauses, as `chm::Map::call` (`called`, `refused`)."""
-    for name, clauses in re.findall(r"`([a-z_]+::[A-Za-z_:]+)` \(((?:`[a-z_]+`(?:, )?)+)\)", flat):
-        crate, function = name.split("::")[0], name.split("::")[-1]
-        sources = "\n".join(text_of(os.path.relpath(it, TOP)) for it in sorted(glob.glob(f"{TOP}/crates/{crate}/src/*.rt")))
-        heads = head_of(function, sources)
+def sources_of(crate):
+    return "\n".join(text_of(os.path.relpath(it, TOP)) for it in sorted(glob.glob(f"{TOP}/crates/{crate}/src/*.rt")))
+
+
+def lost_clauses(page, flat, home="", kinds="ensures"):
+    """Functions that stand with clauses, as `chm::Map::call` (`called`, `refused`); without its crate where the page is about one."""
+    for name, clauses in re.findall(r"`([A-Za-z_:]+)` \(((?:`[a-z_]+`(?:, )?)+)\)", flat):
+        parts = name.split("::")
+        crate = parts[0] if len(parts) > 1 and parts[0][0].islower() else home
+        if not crate:
+            continue
+        heads = head_of(parts[-1], sources_of(crate))
         if not heads:
-            yield f"{page}: {crate} has no function {function}"
+            yield f"{page}: {crate} has no function {parts[-1]}"
             continue
         for clause in re.findall(r"`([a-z_]+)`", clauses):
-            if not any(re.search(rf"\bensures {clause} \{{", it) for it in heads):
+            if not any(re.search(rf"\b(?:{kinds}) {clause} \{{", it) for it in heads):
                 yield f"{page}: {name} has no clause {clause}"
 
 
@@ -112,16 +120,22 @@ def lost_crates():
 
 
 def lost_edits():
-    tried = text_of("docs/TRIED.md") if os.path.isfile(f"{TOP}/docs/TRIED.md") else ""
+    """Edits, and what refuses them: clauses in the sections of crates, tests in the section after them."""
+    tried, _, after = text_of(TRIED).partition("## What a test refuses")
     told = {}
     for part in re.split(r"(?m)^### ", tried)[1:]:
         crate = part.split("`")[1]
         told[crate] = re.findall(r"(?m)^- `(\w+)`:", part)
+        yield from lost_clauses(TRIED, " ".join(part.split()), crate, "ensures|requires")
     for crate in crates():
         stored = [os.path.basename(it)[: -len(".edit")] for it in glob.glob(f"{TOP}/crates/{crate}/must-fail/*.edit")]
         for name in sorted({*stored} ^ {*told.get(crate, [])}):
-            where = "is not in docs/TRIED.md" if name in stored else "is not stored"
-            yield f"{crate}: the edit {name} {where}"
+            where = "is not told of" if name in stored else "is not stored"
+            yield f"{TRIED}: of {crate} the edit {name} {where}"
+    tests = "".join(sources_of(it) for it in crates())
+    for name in re.findall(r"`([a-z]\w*_\w+)`", after.partition("\n## ")[0]):
+        if name not in crates() and f"fn {name}(rt" not in tests:
+            yield f"{TRIED}: there is no test {name}"
 
 
 def main():
@@ -132,8 +146,10 @@ def main():
         flat = " ".join(text.split())
         for look in (wide_lines, wrong_quotes, lost_files):
             faults += look(page, text)
-        for look in (lost_functions, lost_clauses, lost_definitions):
+        for look in (lost_functions, lost_definitions):
             faults += look(page, flat)
+        if page != TRIED:
+            faults += lost_clauses(page, flat)
     faults += lost_crates()
     faults += lost_edits()
     for fault in faults:
