@@ -27,7 +27,7 @@ pub trait Collector<K, V> {
     fn append(&self, left: Self::Part, right: Self::Part) -> Self::Part
         ensures { (es fs : List (K × V)) → collected self.now es left → collected self.now fs right → collected self.now (es ++ fs) result };
 
-    /// The part before the next pairs, where a collector may give up.
+    /// The same part, or one that says that the collector gives up. It is asked for before each bin.
     fn look_again(&self, part: Self::Part) -> Self::Part
         ensures { (es : List (K × V)) → collected self.now es part → collected self.now es result };
 

@@ -84,7 +84,7 @@ fn any_order<K, V, R: Reducer<K, V>>(reducer: &R)
     let _ = reducer;
 }
 
-// The fold from a basis, of the plain fold.
+// The fold from a basis, made of the plain fold: the basis joined to it, or alone where there were no pairs.
 fn join_onto<K, V, R: Reducer<K, V>>(
     reducer: &R,
     basis: R::A,

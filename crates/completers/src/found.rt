@@ -4,7 +4,7 @@ ghost use Rattle.std.specs.Prelude.{◌<◌, ◌≤◌, IfSome};
 use std::sync::atomic::Ordering::SeqCst;
 use std::sync::atomic::{AtomicIn, Rule};
 
-// 0 for none, and else 1 more than the bin.
+// 0 for none, and else 1 more than the index.
 struct Numbered;
 
 impl Rule for Numbered {

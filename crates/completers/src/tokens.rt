@@ -4,7 +4,7 @@ ghost use Rattle.std.specs.Prelude.{◌≡◌, ◌<◌};
 use crate::rule::Place;
 use std::marker::Model;
 
-/// A node of a tree, which is not opened, with as many others as make the number a power of two.
+/// Nodes of a tree that nobody has opened: 2 to the level of them, side by side.
 #[derive(Drop)]
 pub struct Supply<P: Drop> {
     pub(crate) seat: Place<P>,

@@ -21,7 +21,8 @@ pub fn spread(code: u32) -> u32
     (code ^ (code >> 16)) & 0x7fff_ffff
 }
 
-/// What a map's codes are mixed with, so that its hashes differ from those of a map with another salt.
+/// What a map's codes are mixed with, by exclusive-or. The hash of a key is that of its code exclusive-or that of the
+/// salt: so a salt gives bins other numbers, and never parts two keys that share a hash.
 #[derive(Clone, Copy, PartialEq, Eq, Debug)]
 pub struct Salt(pub u32);
 

@@ -59,6 +59,7 @@ impl<'a> Words<'a> {
         }
     }
 
+    /// The next word, which is to be a key.
     pub(crate) fn key(&mut self) -> Result<Key, Kind>
         ensures ok { IfOk result (λ k. (is_key k ≡ true) × (self.old ≡ k ∷ self.new)) }
         ensures err { IfErr result (FailsAt a_key self.old) }
@@ -66,6 +67,7 @@ impl<'a> Words<'a> {
         Key::read(self.word()?).ok_or(Kind::Key)
     }
 
+    /// The next word, which is to be a number.
     pub(crate) fn number(&mut self) -> Result<i64, Kind>
         ensures ok { IfOk result (λ n. (w : Word) × IsNumber w n × (self.old ≡ w ∷ self.new)) }
         ensures err { IfErr result (FailsAt a_number self.old) }
@@ -73,6 +75,7 @@ impl<'a> Words<'a> {
         read_number(self.word()?).ok_or(Kind::Number)
     }
 
+    /// The next word, which is to be a threshold.
     pub(crate) fn threshold(&mut self) -> Result<u64, Kind>
         ensures ok { IfOk result (λ n. (w : Word) × IsThreshold w n × (self.old ≡ w ∷ self.new)) }
         ensures err { IfErr result (FailsAt a_threshold self.old) }

@@ -1,4 +1,4 @@
-//! What a test may hold back while a script runs.
+//! What is called before each leaf of a run.
 ghost use Rattle.std.specs.Prelude.{◌<◌};
 
 /// What is called before each leaf of a bulk operation.

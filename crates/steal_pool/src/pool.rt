@@ -113,7 +113,7 @@ pub(crate) fn new_deques<T: Drop>(alloc: Global, workers: usize) -> Result<Vec<O
     Ok(all)
 }
 
-// What a run is made to be refused.
+// What is refused to a run, so that a test can see what it then does.
 #[derive(Clone, Copy, Debug, PartialEq, Eq)]
 pub(crate) enum Refused {
     Nothing,
@@ -140,7 +140,7 @@ pub(crate) struct Order<'a, B: Body, G> {
 // The part of all bins, where somebody came to the root, and how many tasks the settlement found left.
 type Outcome<P> = (Option<P>, Option<usize>);
 
-// A run whose deques have their numbers. It ends with all members back.
+// A run whose deques have numbers in contracts. When it ends all members are back.
 fn run_seated<
     B: Body + Sync,
     G: Gate + Sync,
@@ -173,7 +173,7 @@ where
     Ok((found, close(members)))
 }
 
-// A run whose tree has a name.
+// A run whose tree contracts can name.
 fn run_tree<B: Body + Sync, G: Gate + Sync, W: Work + Send + Sync, Rt: Threads + Wait + Sync>(
     rt: &Rt,
     alloc: Global,

@@ -47,7 +47,7 @@ impl<T: Drop, S: Seats> Member<T, S> {
     }
 }
 
-// Gives each way of the member at a place back to the member whose deque it leads into. None: there was none.
+// Gives each way of the member at a place back to the member whose deque it leads into. None: one led to nobody.
 fn give_back<T: Drop, S: Seats>(members: &mut Vec<Member<T, S>>, place: usize) -> Option<()>
     requires { place < vec_len members.old }
     ensures len { IfSome result (λ _. vec_len members.new ≡ vec_len members.old) }

@@ -1,0 +1,162 @@
+"""Compares what the pages say of the code with the code.
+
+usage: python3 docs/check.py
+
+It proves nothing. It looks whether
+  a line of a page has at most 120 characters (a row of a table in the top README may have more);
+  what stands in a block `antt` stands so, but for line breaks, in the file that the last comment with a path names;
+  a file that is named is there;
+  a function that a page names with its file, or with its clauses, is there and has them;
+  a definition that a page names with its file is there;
+  each crate of crates.txt has a README and a line in ARCHITECTURE.md, and each stored edit a line in TRIED.md;
+  each test that TRIED.md names is there.
+It prints a line for each fault, and ends with status 1 where there is one."""
+import glob
+import os
+import re
+import sys
+
+TOP = os.path.dirname(os.path.dirname(os.path.realpath(__file__)))
+COLUMNS = 120
+PATH = r"[a-z_]+/(?:src|specs)/\w+\.(?:rt|antt)"
+TRIED = "docs/TRIED.md"
+
+
+def text_of(path):
+    with open(f"{TOP}/{path}", encoding="utf-8") as it:
+        return it.read()
+
+
+def words_of(text):
+    """Returns the words of a text without the dashes that begin a comment, so that a comment may be broken into more lines."""
+    return [it for it in text.split() if it != "--"]
+
+
+def is_within(part, whole):
+    return f" {' '.join(words_of(part))} " in f" {' '.join(words_of(whole))} "
+
+
+def wide_lines(page, text):
+    for number, line in enumerate(text.splitlines(), 1):
+        if len(line) > COLUMNS and not (page == "README.md" and line.startswith("|")):
+            yield f"{page}:{number}: {len(line)} characters"
+
+
+def wrong_quotes(page, text):
+    for found in re.finditer(r"(?ms)^ *```antt\n(.*?)^ *```$", text):
+        path, whole = "", ""
+        for part in re.split(r"\n\s*\n", found[1].rstrip()):
+            named = re.match(rf"-- ({PATH})\n", part + "\n")
+            if named:
+                path, part = named[1], part[named.end() :]
+                whole = text_of(f"crates/{path}") if os.path.isfile(f"{TOP}/crates/{path}") else ""
+            if part.strip() and not is_within(part, whole):
+                yield f"{page}: crates/{path} has not: {' '.join(part.split())[:90]}"
+
+
+def lost_files(page, text):
+    for path in sorted(set(re.findall(rf"`({PATH})`", text))):
+        if not os.path.isfile(f"{TOP}/crates/{path}"):
+            yield f"{page}: there is no file crates/{path}"
+
+
+def head_of(function, text):
+    """Returns the heads of the functions of this name, from `fn` up to the brace of the body."""
+    return re.findall(rf"(?ms)\bfn {re.escape(function)}\b(?:.*?)(?:^\s*\{{\s*$|\{{\}}|;$)", text)
+
+
+def lost_functions(page, flat):
+    """Functions that stand with their file, as `Map::call` (`chm/src/calls.rt`)."""
+    for name, path in re.findall(rf"`([A-Za-z_:]+)` \(`([a-z_]+/src/\w+\.rt)`\)", flat):
+        if os.path.isfile(f"{TOP}/crates/{path}"):
+            if not re.search(rf"\bfn {re.escape(name.split('::')[-1])}\b", text_of(f"crates/{path}")):
+                yield f"{page}: crates/{path} has no function {name}"
+
+
+def sources_of(crate):
+    return "\n".join(text_of(os.path.relpath(it, TOP)) for it in sorted(glob.glob(f"{TOP}/crates/{crate}/src/*.rt")))
+
+
+def lost_clauses(page, flat, home="", kinds="ensures"):
+    """Functions that stand with clauses, as `chm::Map::call` (`called`, `refused`); without its crate where the page is about one."""
+    for name, clauses in re.findall(r"`([A-Za-z_:]+)` \(((?:`[a-z_]+`(?:, )?)+)\)", flat):
+        parts = name.split("::")
+        crate = parts[0] if len(parts) > 1 and parts[0][0].islower() else home
+        if not crate:
+            continue
+        heads = head_of(parts[-1], sources_of(crate))
+        if not heads:
+            yield f"{page}: {crate} has no function {parts[-1]}"
+            continue
+        for clause in re.findall(r"`([a-z_]+)`", clauses):
+            if not any(re.search(rf"\b(?:{kinds}) {clause} \{{", it) for it in heads):
+                yield f"{page}: {name} has no clause {clause}"
+
+
+def lost_definitions(page, flat):
+    """Definitions that stand with their file, as (`covers`, `is_of`: `hashkeys/specs/Classes.antt`)."""
+    for names, path in re.findall(rf"\(((?:`[^`]+`(?:, )?)+): `({PATH})`", flat):
+        if not os.path.isfile(f"{TOP}/crates/{path}"):
+            continue
+        text = text_of(f"crates/{path}")
+        for name in re.findall(r"`([^`]+)`", names):
+            kinds = r"(?:(?:abbrev|pub|record|data|trait|struct|enum|fn|ghost|use) )+" if path.endswith(".rt") else r"(?:(?:abbrev|pub|record|data) )*"
+            if not re.search(rf"(?m)^\s*{kinds}{re.escape(name)}(?![\w-])", text):
+                yield f"{page}: crates/{path} defines no {name}"
+
+
+def crates():
+    lines = [it.partition("#")[0] for it in text_of("crates.txt").splitlines()]
+    return [it.split(":")[0].split()[0] for it in lines if ":" in it]
+
+
+def lost_crates():
+    overview = text_of("docs/ARCHITECTURE.md")
+    for crate in crates():
+        if not os.path.isfile(f"{TOP}/crates/{crate}/README.md"):
+            yield f"crates/{crate} has no README.md"
+        if f"`{crate}`" not in overview:
+            yield f"docs/ARCHITECTURE.md: nothing of {crate}"
+
+
+def lost_edits():
+    """Edits, and what refuses them: clauses in the sections of crates, tests in the section after them."""
+    tried, _, after = text_of(TRIED).partition("## What a test refuses")
+    told = {}
+    for part in re.split(r"(?m)^### ", tried)[1:]:
+        crate = part.split("`")[1]
+        told[crate] = re.findall(r"(?m)^- `(\w+)`:", part)
+        yield from lost_clauses(TRIED, " ".join(part.split()), crate, "ensures|requires")
+    for crate in crates():
+        stored = [os.path.basename(it)[: -len(".edit")] for it in glob.glob(f"{TOP}/crates/{crate}/must-fail/*.edit")]
+        for name in sorted({*stored} ^ {*told.get(crate, [])}):
+            where = "is not told of" if name in stored else "is not stored"
+            yield f"{TRIED}: of {crate} the edit {name} {where}"
+    tests = "".join(sources_of(it) for it in crates())
+    for name in re.findall(r"`([a-z]\w*_\w+)`", after.partition("\n## ")[0]):
+        if name not in crates() and f"fn {name}(rt" not in tests:
+            yield f"{TRIED}: there is no test {name}"
+
+
+def main():
+    pages = ["README.md", *sorted(os.path.relpath(it, TOP) for it in glob.glob(f"{TOP}/docs/*.md") + glob.glob(f"{TOP}/crates/*/README.md"))]
+    faults = []
+    for page in pages:
+        text = text_of(page)
+        flat = " ".join(text.split())
+        for look in (wide_lines, wrong_quotes, lost_files):
+            faults += look(page, text)
+        for look in (lost_functions, lost_definitions):
+            faults += look(page, flat)
+        if page != TRIED:
+            faults += lost_clauses(page, flat)
+    faults += lost_crates()
+    faults += lost_edits()
+    for fault in faults:
+        print(fault)
+    print(f"{len(pages)} pages, {len(faults)} faults")
+    return 1 if faults else 0
+
+
+if __name__ == "__main__":
+    sys.exit(main())
