@@ -16,7 +16,7 @@ DEBIAN_CRATES = "/usr/share/cargo/registry"
 SECONDS = 900
 
 # The forms of this repository's own map: the name of a form, and the words that map_bench takes for it.
-OWN_FORMS = [("facingberyl", [])]
+OWN_FORMS = [("facingberyl", ["--form", "lean"]), ("facingberyl, recorded", ["--form", "recorded"])]
 # This repository's map lends each caller one of at most 32 passes, and one caller fills it.
 OWN_THREADS = 31
 

@@ -31,7 +31,7 @@ impl<K: HashKey, V: Clone + Eq, F: Remap<K, V> + Clone, A: Allocator> Model
     ghost view = { λ e. record { fault = e.fault; map = e.map; passes = e.passes.items } };
 }
 
-/// The entries of each of these bins are the replay of its records over its base. It does nothing when it runs.
+/// The entries of each of these bins are the replay of its records over its base. It changes nothing.
 fn replayed<K: HashKey, V: Clone + Eq, F: Remap<K, V> + Clone, A: Allocator + Clone>(
     bins: &[Bin<K, V, F, A>],
 )

@@ -85,7 +85,8 @@ impl<
     }
 
     /// Shows the entries of each bin in walk order, one bin after the other, each as it was while it was held. Calls of others may come
-    /// between two bins; calls of the pass's own client do not, so with one client the walk shows the map. For want of memory nothing is shown.
+    /// between two bins; calls of the pass's own client do not, so with one client the walk shows the map. A walk does not promise that other
+    /// clients really made the calls it shows; `close` does. For want of memory nothing is shown.
     pub fn walk<R: Wait>(
         &self,
         rt: &R,

@@ -46,7 +46,7 @@ module _ {K V F : Type 0} where
   abbrev pub role_book : RoleView K V F → Book K V F
   role_book r = Role r.salt r.class r.opening r.kept
 
--- of 65,536 hashes side by side the classes have as many, each by itself
+-- disjoint classes of these sizes cover every hash: of 65,536 side by side they have as many together
 pub record AreWide (classes : List ClassView) : Type 0 where
   pub lawful : All IsClass classes
   pub wide : 65536 ≤ sum_by (λ c. 65536 / c.n) classes

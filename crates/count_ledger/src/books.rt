@@ -54,5 +54,5 @@ impl<K: HashKey, V, F, A: Allocator> TableRule<(), View<K, V, F>, Terms<K, V, A>
     ghost first = { first_books };
 }
 
-/// The table, as its users share it. Of each eight words the first is used: word 0 where seats are joined and split, and word 8(c + 1) by client c.
+/// The table, as its users share it. Word 0 is only read: joining a pass and a role loads it; client c counts in word 8(c + 1).
 pub(crate) type Books<K, V, F, A> = Shared<(), View<K, V, F>, Terms<K, V, A>, LedgerRule>;

@@ -30,7 +30,7 @@ pub const MOST_CLIENTS: u32 = 32;
 /// How many words fill a cache line.
 pub(crate) const WORDS_PER_LINE: usize = 8;
 
-/// The place of a client's count word, which has a cache line of its own. So has word 0, which is only read: there seats are joined and split.
+/// Client c counts in word 8(c + 1), on a cache line of its own. Word 0 is only read: joining a pass and a role loads it, and so does parting them.
 pub(crate) fn word_at(client: u32) -> usize
     ensures { result ≡ 8 * (client + 1) }
 {

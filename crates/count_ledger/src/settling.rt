@@ -17,10 +17,10 @@ use hashkeys::HashKey;
 use std::alloc::Allocator;
 use std::marker::Brand;
 
-/// How many hashes stand side by side before each class meets its first one again.
+/// Of so many hashes side by side a class of size n has this many divided by n.
 const ROUND: u32 = 65536;
 
-/// Whether the classes are so wide that, having no hash in common, they leave none out.
+/// Whether disjoint classes of these sizes cover every hash.
 fn are_wide<K, V, F>(roles: &[BinRole<K, V, F>]) -> bool
     ensures { MatchBool result (AreWide (classes_of roles.now)) (CoverAll (classes_of roles.now) → ⊥) }
 {

@@ -5,7 +5,7 @@ ghost use Rattle.generations.specs.Walks.{IsFirstAfter, IsLast, IsWalk, IsWalkTo
 
 use hashkeys::Class;
 
-/// The class, as wide as may be, whose bins stand next in walk order after the bin of this class, or none after the last. `n` is the number of opening bins.
+/// The widest class that begins where this one ends in walk order; none after the last. `n` is the number of opening bins.
 ///
 /// A walk begins at the class `(n, 0)`. At each class it goes to the bin of the class's index: where that bin is no wider than the class, it is the first of the
 /// class's bins, and the walk goes on after it.
