@@ -14,9 +14,10 @@ pub record MapView (K V : Type 0) : Type 0 where
 abbrev pub opening_in : {K V : Type 0} → (K → ℕ) → LedgerView K V → ClassView → List (K × V)
 opening_in code ledger class = part_of_entries (is_of code ledger.salt class) ledger.opening
 
--- what a map keeps: its bins are under its books, and it counted its opening pairs
+-- what a map keeps: its bins are under its books and of their form, and it counted its opening pairs
 pub record IsMap {K V : Type 0} (ledger : LedgerView K V) (bins : GenerationsView) (opened : ℕ) : Type 0 where
   pub id : bins.ledger ≡ ledger.id
+  pub form : bins.form ≡ ledger.form
   pub salt : bins.salt ≡ ledger.salt
   pub opened_is : opened ≡ length ledger.opening
   pub few : opened ≤ 4294967295
@@ -24,4 +25,4 @@ pub record IsMap {K V : Type 0} (ledger : LedgerView K V) (bins : GenerationsVie
 
 -- the map's bins, as its layer of bins names them
 abbrev pub bins_of : {K V : Type 0} → MapView K V → GenerationsView
-bins_of m = record { ledger = m.ledger.id; salt = m.ledger.salt; n = m.n }
+bins_of m = record { ledger = m.ledger.id; form = m.ledger.form; salt = m.ledger.salt; n = m.n }

@@ -38,6 +38,7 @@ impl<
         requires some { bin.old.entries ≢ [] }
         ensures removed { HasRemovedIn K.code bin.old.salt bin.old.class pass.old pass.new }
         ensures fewer { OnOk result (length bin.new.entries < length bin.old.entries) }
+        ensures form { bin.new.form ≡ bin.old.form }
         ensures class { bin.new.class ≡ bin.old.class }
         ensures salt { bin.new.salt ≡ bin.old.salt }
         ensures ledger { role.new.ledger ≡ role.old.ledger }
@@ -68,6 +69,7 @@ impl<
         requires agree { Agree K.eq (after V.eq F.remapped F.merged) bin.old role.old }
         ensures removed { HasRemovedIn K.code bin.old.salt bin.old.class pass.old pass.new }
         ensures empty { OnOk result (bin.new.entries ≡ []) }
+        ensures form { bin.new.form ≡ bin.old.form }
         ensures class { bin.new.class ≡ bin.old.class }
         ensures salt { bin.new.salt ≡ bin.old.salt }
         ensures ledger { role.new.ledger ≡ role.old.ledger }

@@ -40,6 +40,7 @@ impl<
         ensures met { OnOk result (IsMet K.eq K.code (after V.eq F.remapped F.merged) self.now.ledger pass.old bin.old role.old) }
         ensures refused { OnErr result (pass.new ≡ pass.old) }
         ensures stayed { OnErr result (bin.new.entries ≡ bin.old.entries) }
+        ensures form { bin.new.form ≡ bin.old.form }
         ensures class { bin.new.class ≡ bin.old.class }
         ensures salt { bin.new.salt ≡ bin.old.salt }
         ensures ledger { role.new.ledger ≡ role.old.ledger }

@@ -27,6 +27,7 @@ module _ {K V F : Type 0} (same : K → K → Bool) (after : Call K V F → Opti
 
   pub IsLeaf-at : (code : K → ℕ) (map : GenerationsView) (p : PlaceTag) (b : BinView K V F) (r : RoleView K V F) → AreAt same after p b r → IsOfMap map p → IsLawful same code after b → IsLeaf same code after map b r
   IsLeaf-at code map p b r at of_map lawful = record {
+    form = at.form ∙ of_map.form;
     salt = at.salt ∙ of_map.salt;
     ledger = at.ledger ∙ of_map.ledger;
     agree = at.agree;
@@ -38,6 +39,7 @@ module _ {K V F : Type 0} (same : K → K → Bool) (after : Call K V F → Opti
       → AreAt same after p b r → IsOfMap map p → c.class ≡ half b.class → IsPartOf code b c → s ≡ part_of_role code (half r.class) r → q ≡ place_of map (half b.class) → AreAt same after q c s
   AreAt-half tells code map p q b c r s half at of_map class part is place = record {
     class = class ∙ sym (ap (λ (x : PlaceTag). x.class) place);
+    form = part.form ∙ at.form ∙ of_map.form ∙ sym (ap (λ (x : PlaceTag). x.form) place);
     salt = part.salt ∙ at.salt ∙ of_map.salt ∙ sym (ap (λ (x : PlaceTag). x.salt) place);
     ledger = ap (λ (x : RoleView K V F). x.ledger) is ∙ at.ledger ∙ of_map.ledger ∙ sym (ap (λ (x : PlaceTag). x.ledger) place);
     agree = Agree-divided same tells code after b c r s half at.agree class part is;

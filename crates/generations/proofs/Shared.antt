@@ -133,10 +133,10 @@ module _ (K V F A : RattleType) (hash : HashKey.Ghosts K.Denot) (key_eq : Eq.Gho
   shortcuts_fields_sync = (search (sendable, atomic.the_sync) depth 20, (search (sendable, crosses, atomic.the_send, atomic.the_sync, once.the_sync) depth 30, tt))
 
   map_fields_send : AllSend (shape (GensInside.the_type K V F A hash key_eq key_same key_clone value_clone value_eq value_same remap function_clone alloc)).fields
-  map_fields_send = (search (sendable, crosses, place_send) depth 20, (search (sendable, arena_send, place_send, place_sync) depth 20, (search (sendable, shortcuts_fields_send) depth 20, (search sendable depth 20, (search (sendable, tag.the_send) depth 20, tt)))))
+  map_fields_send = (search (sendable, crosses, place_send) depth 20, (search (sendable, arena_send, place_send, place_sync) depth 20, (search (sendable, shortcuts_fields_send) depth 20, (search sendable depth 20, (search sendable depth 20, (search (sendable, tag.the_send) depth 20, tt))))))
 
   map_fields_sync : AllSync (shape (GensInside.the_type K V F A hash key_eq key_same key_clone value_clone value_eq value_same remap function_clone alloc)).fields
-  map_fields_sync = (search (sendable, crosses, place_sync) depth 20, (search (sendable, arena_sync, place_send, place_sync) depth 20, (search (sendable, shortcuts_fields_sync) depth 20, (search sendable depth 20, (search (sendable, tag.the_sync) depth 20, tt)))))
+  map_fields_sync = (search (sendable, crosses, place_sync) depth 20, (search (sendable, arena_sync, place_send, place_sync) depth 20, (search (sendable, shortcuts_fields_sync) depth 20, (search sendable depth 20, (search sendable depth 20, (search (sendable, tag.the_sync) depth 20, tt))))))
 
   pub map_send : IsSend (Gens.the_row K V F A hash key_eq key_same key_clone value_clone value_eq value_same remap function_clone alloc)
   map_send = search (sendable, map_fields_send) depth 30

@@ -12,8 +12,9 @@ abbrev pub classes_of_bins : {K V F : Type 0} → List (BinView K V F) → List 
 classes_of_bins bins = map (λ b. b.class) bins
 
 module _ {K V F : Type 0} (same_key : K → K → Bool) (code : K → ℕ) (after : Call K V F → Option V → Option V) (g : GenerationsView) where
-  -- a lawful bin of the map's salt, and a role of its ledger that agrees with it
+  -- a lawful bin of the map's form and salt, and a role of its ledger that agrees with it
   pub record IsLeaf (b : BinView K V F) (r : RoleView K V F) : Type 0 where
+    pub form : b.form ≡ g.form
     pub salt : b.salt ≡ g.salt
     pub ledger : r.ledger ≡ g.ledger
     pub agree : Agree same_key after b r

@@ -7,7 +7,7 @@ ghost use Rattle.generations.specs.Views.{IsOfMap, place_of};
 use crate::place::{Halves, Place};
 use crate::shortcuts::{SIZES, Shortcuts};
 use crate::state::PlaceTag;
-use bin_history::Remap;
+use bin_history::{Form, Remap};
 use boxcar::Keeps;
 use boxcar::tag::{Names, Tag};
 use count_ledger::LedgerName;
@@ -29,6 +29,7 @@ impl<K: HashKey, V: Clone + Eq, F: Remap<K, V> + Clone, A: Allocator> Keeps<Plac
 /// What the tag of an arena says.
 struct MapName {
     n: u32,
+    form: Form,
     salt: Salt,
     ledger: Tag,
 }
@@ -37,21 +38,24 @@ struct OfName;
 
 impl Names<MapName> for OfName {
     ghost use Rattle.std.specs.Prelude.{◌∷◌};
+    ghost use Rattle.generations.specs.Inside.{form_number};
 
-    ghost numbers = { λ m. m.n ∷ m.salt.0 ∷ m.ledger.numbers };
+    ghost numbers = { λ m. m.n ∷ form_number m.form ∷ m.salt.0 ∷ m.ledger.numbers };
 }
 
-fn tag_of(n: u32, salt: Salt, ledger: &LedgerName) -> Tag
-    ensures { map_named result.numbers ≡ record { ledger = ledger.now; salt = salt; n = n } }
+fn tag_of(n: u32, form: Form, salt: Salt, ledger: &LedgerName) -> Tag
+    ensures { map_named result.numbers ≡ record { ledger = ledger.now; form = form; salt = salt; n = n } }
 {
     let name = MapName {
         n,
+        form,
         salt,
         ledger: ledger.to_tag(),
     };
     let tag = Tag::of::<MapName, OfName>(&name);
     let MapName {
         n: _,
+        form: _,
         salt: _,
         ledger,
     } = name;
@@ -59,12 +63,13 @@ fn tag_of(n: u32, salt: Salt, ledger: &LedgerName) -> Tag
     tag
 }
 
-/// The locked bins of one map. Contracts see the map's ledger, its salt and the number of its opening bins.
+/// The locked bins of one map. Contracts see the map's ledger, its form, its salt and the number of its opening bins.
 #[derive(Drop)]
 pub struct Generations<K: HashKey, V: Clone + Eq, F: Remap<K, V> + Clone, A: Allocator> {
     opening: Vec<Place<K, V, F, A>, A>,
     pub(crate) arena: boxcar::Vec<Place<K, V, F, A>, A, OfMap>,
     pub(crate) shortcuts: Shortcuts<A>,
+    pub(crate) form: Form,
     pub(crate) salt: Salt,
     pub(crate) ledger: LedgerName,
 }
@@ -77,9 +82,9 @@ impl<K: HashKey, V: Clone + Eq, F: Remap<K, V> + Clone, A: Allocator> Model
 
     ghost use Rattle.generations.specs.Inside.{view_of, IsMap};
 
-    ghost view = { λ g. view_of g.ledger g.salt g.opening.items };
+    ghost view = { λ g. view_of g.ledger g.form g.salt g.opening.items };
 
-    ghost invariant = { λ g. IsMap g.ledger g.salt g.opening.items g.arena.tag };
+    ghost invariant = { λ g. IsMap g.ledger g.form g.salt g.opening.items g.arena.tag };
 }
 
 impl<K: HashKey, V: Clone + Eq, F: Remap<K, V> + Clone, A: Allocator> Generations<K, V, F, A> {
@@ -108,6 +113,7 @@ impl<K: HashKey, V: Clone + Eq, F: Remap<K, V> + Clone, A: Allocator> Generation
     {
         PlaceTag {
             class,
+            form: self.form,
             salt: self.salt,
             ledger: self.ledger.again(),
         }
@@ -185,20 +191,25 @@ impl<
     /// The map with these opening places and an empty arena.
     pub(crate) fn around(
         alloc: A,
+        form: Form,
         salt: Salt,
         ledger: LedgerName,
         opening: Vec<Place<K, V, F, A>, A>,
     ) -> Result<Generations<K, V, F, A>, AllocError>
         requires size { IsTableSize (length opening.items) }
-        requires places { AreOpening (record { ledger = ledger; salt = salt; n = length opening.items }) opening.items }
-        ensures { IfOk result (λ g. g ≡ record { ledger = ledger; salt = salt; n = length opening.items }) }
+        requires places { AreOpening (record { ledger = ledger; form = form; salt = salt; n = length opening.items }) opening.items }
+        ensures { IfOk result (λ g. g ≡ record { ledger = ledger; form = form; salt = salt; n = length opening.items }) }
     {
         let shortcuts = Shortcuts::new(alloc.clone()?)?;
-        let arena = boxcar::Vec::with_rule(alloc, tag_of(opening.len() as u32, salt, &ledger))?;
+        let arena = boxcar::Vec::with_rule(
+            alloc,
+            tag_of(opening.len() as u32, form, salt, &ledger),
+        )?;
         Ok(Generations {
             opening,
             arena,
             shortcuts,
+            form,
             salt,
             ledger,
         })

@@ -30,10 +30,11 @@ fn opening_place<K: HashKey, V: Clone + Eq, F: Remap<K, V> + Clone, A: Allocator
     requires distinct { HasDistinctKeys K.eq base.items }
     requires of_class { All (λ e. is_of K.code salt class e.0 ≡ true) base.items }
     requires role { role ≡ record { ledger = role.ledger; salt = salt; class = class; opening = base.items; kept = [] } }
-    ensures { IfOk result (λ p. p ≡ record { class = class; salt = salt; ledger = role.ledger }) }
+    ensures { IfOk result (λ p. p ≡ record { class = class; form = form; salt = salt; ledger = role.ledger }) }
 {
     let tag = PlaceTag {
         class,
+        form,
         salt,
         ledger: LedgerName::of(&role),
     };
@@ -64,7 +65,7 @@ fn opening_places<
     requires roles { (ledger : LedgerId) × (roles.items ≡ new_roles ledger salt (lists_of bases)) }
     ensures count { IfOk result (λ places. length places.items ≡ n) }
     ensures places { IfOk result (λ places. (ledger : LedgerId) → roles.items ≡ new_roles ledger salt (lists_of bases)
-        → AreOpening (record { ledger = ledger; salt = salt; n = n }) places.items) }
+        → AreOpening (record { ledger = ledger; form = form; salt = salt; n = n }) places.items) }
 {
     let mut places = Vec::with_capacity(alloc.clone()?, n as usize)?;
     let mut bases = bases.into_iter();
@@ -106,11 +107,12 @@ impl<
         requires of_class { AreOfTheirClasses K.code salt (lists_of bases) }
         requires roles { (ledger : LedgerId) × (roles.items ≡ new_roles ledger salt (lists_of bases)) }
         ensures n { IfOk result (λ g. g.n ≡ n) }
+        ensures form { IfOk result (λ g. g.form ≡ form) }
         ensures salt { IfOk result (λ g. g.salt ≡ salt) }
         ensures ledger { IfOk result (λ g. (ledger : LedgerId) → roles.items ≡ new_roles ledger salt (lists_of bases) → g.ledger ≡ ledger) }
     {
         let ledger = LedgerName::of(&roles[0]);
         let places = opening_places(alloc.clone()?, form, salt, n, bases, roles)?;
-        Generations::around(alloc, salt, ledger, places)
+        Generations::around(alloc, form, salt, ledger, places)
     }
 }

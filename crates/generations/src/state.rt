@@ -2,7 +2,7 @@
 ghost use Rattle.std.specs.Prelude.{◌≡◌, MatchResult};
 ghost use Rattle.generations.specs.declared.state.State.TheVariants.{Live};
 
-use bin_history::{Bin, Remap};
+use bin_history::{Bin, Form, Remap};
 use count_ledger::{BinRole, LedgerName};
 use counted_slot::Fits;
 use hashkeys::{Class, HashKey, Salt};
@@ -16,10 +16,11 @@ pub(crate) enum State<K: HashKey, V: Clone + Eq, F: Remap<K, V> + Clone, A: Allo
     Taken,
 }
 
-/// What is fixed when a place is made: the class of its bin, the map's salt, and the map's ledger in contracts alone.
+/// What is fixed when a place is made: the class of its bin, the map's form and salt, and the map's ledger in contracts alone.
 #[derive(Drop)]
 pub struct PlaceTag {
     pub class: Class,
+    pub form: Form,
     pub salt: Salt,
     pub ledger: LedgerName,
 }

@@ -61,8 +61,8 @@ loop-index-preserved g c =
       bases_left = omega (arith, kept.bases_left, c.in-Some.ensures.len, c.loop-index-test.true);
       places = λ ledger e.
           let role = first_of_range (new_role ledger c.args.salt (lists_of c.args.bases)) c.loop-index.index c.args.n c.in-Some-next.role (into_iter_items c.next-in-loop-index.new.self) (into_iter_items c.loop-index.roles) c.loop-index-test.true (kept.roles ledger e) c.in-Some-next.ensures.items in
-          let place : c.in_ok-place.place ≡ opening_tag ledger c.args.salt c.args.n c.loop-index.index = c.in_ok-place.ensures ∙ (λ x. record { class = c.new-class.ensures x; salt = c.args.salt; ledger = ap (λ r. r.ledger) role.0 x }) in
-          c.push_reserved.ensures.items ∙ (λ x. kept.places ledger e x ++ place x ∷ []) ∙ sym (map-range_with_len_more (opening_tag ledger c.args.salt c.args.n) 0 c.loop-index.index c.loop-index.index (omega arith));
+          let place : c.in_ok-place.place ≡ opening_tag ledger c.args.form c.args.salt c.args.n c.loop-index.index = c.in_ok-place.ensures ∙ (λ x. record { class = c.new-class.ensures x; form = c.args.form; salt = c.args.salt; ledger = ap (λ r. r.ledger) role.0 x }) in
+          c.push_reserved.ensures.items ∙ (λ x. kept.places ledger e x ++ place x ∷ []) ∙ sym (map-range_with_len_more (opening_tag ledger c.args.form c.args.salt c.args.n) 0 c.loop-index.index c.loop-index.index (omega arith));
       len = omega (arith, c.push_reserved.ensures.len, kept.len);
       room = omega (arith, c.push_reserved.ensures.capacity, kept.room);
     }
@@ -71,5 +71,5 @@ pub returns-clause-places : goal.returns-clause-places
 returns-clause-places g c = λ ledger e.
     let kept = c.loop-index.invariant in
     let all : c.loop-index.index ≡ c.args.n = omega (arith, c.loop-index-test.false, c.loop-index.auto.index-end) in
-    AreOpening-all ledger c.args.salt c.args.n c.loop-index.places.items (omega (arith, c.loop-index.places.ok.0, kept.len))
-    (kept.places ledger e ∙ ap (λ m. map (opening_tag ledger c.args.salt c.args.n) (range_with_len 0 m)) all)
+    AreOpening-all ledger c.args.form c.args.salt c.args.n c.loop-index.places.items (omega (arith, c.loop-index.places.ok.0, kept.len))
+    (kept.places ledger e ∙ ap (λ m. map (opening_tag ledger c.args.form c.args.salt c.args.n) (range_with_len 0 m)) all)

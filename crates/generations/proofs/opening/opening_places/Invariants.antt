@@ -13,7 +13,7 @@ invariant-loop-index g l =
       roles_left : into_iter_len l.roles ≡ l.n - l.index;
       bases : into_iter_items l.bases ≡ drop l.index l.fn.bases.items;
       bases_left : into_iter_len l.bases ≡ l.n - l.index;
-      places : (ledger : LedgerId) → l.fn.roles.items ≡ new_roles ledger l.salt (lists_of l.fn.bases) → l.places.items ≡ map (opening_tag ledger l.salt l.n) (range_with_len 0 l.index);
+      places : (ledger : LedgerId) → l.fn.roles.items ≡ new_roles ledger l.salt (lists_of l.fn.bases) → l.places.items ≡ map (opening_tag ledger l.form l.salt l.n) (range_with_len 0 l.index);
       len : vec_len l.places ≡ l.index;
       room : l.n ≤ vec_capacity l.places;
     }

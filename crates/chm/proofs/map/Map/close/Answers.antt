@@ -39,7 +39,7 @@ invariant_of-result g c =
     let Replayed : List (BinView _ _ _) → Type 0 = λ bins. All (λ (b : BinView _ _ _). b.entries ≡ replay g.K.PartialEq.eq b.base b.records) bins in
     let replayed_all : Replayed c.in-Ok.bins.items = subst Replayed c.deref.ensures.value c.replayed.ensures in
     let counted = count_of_leaves g.K.PartialEq.eq tells g.K.HashKey.code calls c.self.inside.bins c.in-Ok.bins.items c.in-Ok.roles.items c.in-Ok.ensures.leaves replayed_all in
-    let home : c.self.inside.bins ≡ bins_of (record { ledger = c.self.inside.ledger; n = c.self.inside.bins.n }) = (λ i. record { ledger = c.self.invariant.id i; salt = c.self.invariant.salt i; n = c.self.inside.bins.n }) in
+    let home : c.self.inside.bins ≡ bins_of (record { ledger = c.self.inside.ledger; n = c.self.inside.bins.n }) = (λ i. record { ledger = c.self.invariant.id i; form = c.self.invariant.form i; salt = c.self.invariant.salt i; n = c.self.inside.bins.n }) in
     let quiet = IsQuiet-closed g.K.PartialEq.eq tells g.K.HashKey.code calls c.self.inside.bins c.n-n.result c.of.result.value c.self.inside.ledger c.in-Ok.bins.items
     c.of-in-Ok.result.value.items c.in-Ok.roles.items c.of-in-Ok-2.result.value.items c.args.passes.items c.of.ensures (ap (λ (v : Vec _ _). v.items) c.of-in-Ok.ensures) (ap (λ (v : Vec _ _). v.items) c.of-in-Ok-2.ensures) c.n-n.ensures.value home c.n-n.ensures.size c.in-Ok.ensures.walk c.in-Ok.ensures.leaves all in
     let count = word_of_count g.K.HashKey.code c.self.inside.ledger c.args.passes.items c.in-Ok.roles.items all c.self.inside.opened c.in-Ok-settle.total (length (entries_of c.in-Ok.bins.items))

@@ -10,6 +10,7 @@ loop-pass-init g c =
     record {
       removed = unchanged_in g.K.HashKey.code c.args.bin.now.salt c.args.bin.now.class c.args.pass.now c.args.pass.now refl;
       class = refl;
+      form = refl;
       salt = refl;
       ledger = refl;
       agree = c.requires.agree;
@@ -23,6 +24,7 @@ loop-pass-preserved g c =
     record {
       removed = removed_in-more g.K.HashKey.code c.args.bin.now.salt c.args.bin.now.class c.args.pass.now c.loop-pass.pass c.remove_first.new.pass inv.removed more;
       class = c.remove_first.ensures.class ∙ inv.class;
+      form = c.remove_first.ensures.form ∙ inv.form;
       salt = c.remove_first.ensures.salt ∙ inv.salt;
       ledger = c.remove_first.ensures.ledger ∙ inv.ledger;
       agree = c.remove_first.ensures.agree;

@@ -9,6 +9,7 @@ invariant-loop-pass g l =
     record {
       removed : HasRemovedIn g.K.HashKey.code l.initial.bin.salt l.initial.bin.class l.initial.pass l.pass;
       class : l.bin.class ≡ l.initial.bin.class;
+      form : l.bin.form ≡ l.initial.bin.form;
       salt : l.bin.salt ≡ l.initial.bin.salt;
       ledger : l.role.ledger ≡ l.initial.role.ledger;
       agree : Agree g.K.PartialEq.eq (after g.V.PartialEq.eq g.F.Remap.remapped g.F.Remap.merged) l.bin l.role;

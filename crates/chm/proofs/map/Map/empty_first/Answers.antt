@@ -14,6 +14,7 @@ release-requires g c =
     let same = c.meet_under.ensures.same_role in
     record {
       class = c.empty-done.ensures.class ∙ at.class;
+      form = c.empty-done.ensures.form ∙ at.form;
       salt = c.empty-done.ensures.salt ∙ at.salt;
       ledger = ap (λ (r : RoleView _ _ _). r.ledger) same ∙ c.empty-done.ensures.ledger ∙ at.ledger;
       agree = subst (λ (r : RoleView _ _ _). Agree g.K.PartialEq.eq (after g.V.PartialEq.eq g.F.Remap.remapped g.F.Remap.merged) c.empty-done.new.bin r) (sym same) c.empty-done.ensures.agree;

@@ -4,6 +4,7 @@ use Rattle.chm.proofs.map.Map.open.Goals as goal
 pub invariant_of-map : goal.invariant_of-map
 invariant_of-map g c = record {
   id = c.in-Ok.ensures.ledger c.in_ok-ledger.ledger.id c.in_ok-ledger.ensures.roles;
+  form = c.in-Ok.ensures.form ∙ sym c.in_ok-ledger.ensures.form;
   salt = c.in-Ok.ensures.salt ∙ sym c.in_ok-ledger.ensures.salt;
   opened_is = c.requires.opened ∙ ap (λ (l : List _). length l) (sym c.in_ok-ledger.ensures.opening);
   few = c.requires.few;

@@ -9,5 +9,5 @@ invariant_of-result g c =
     record {
       size = c.requires.size;
       opening_is = c.requires.places;
-      arena_is = ap map_named c.in_ok-arena.ensures ∙ c.tag_of.ensures ∙ ap (λ (n : ℕ). record { ledger = c.args.ledger; salt = c.args.salt; n = n }) many;
+      arena_is = ap map_named c.in_ok-arena.ensures ∙ c.tag_of.ensures ∙ ap (λ (n : ℕ). record { ledger = c.args.ledger; form = c.args.form; salt = c.args.salt; n = n }) many;
     }

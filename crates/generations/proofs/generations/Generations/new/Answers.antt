@@ -17,10 +17,13 @@ around-requires-clause-places g c = λ i d lt.
     let (id, made) = c.requires.roles in
     let some : 0 < length c.args.bases.items = omega (arith, c.requires.count, is, pow_pos e) in
     let name : c.of-ledger.result ≡ id = c.of-ledger.ensures ∙ first_ledger id c.args.salt c.args.bases c.args.roles.items c.index.result.now made some c.index.ensures in
-    c.in_ok-places.ensures.places id made i d lt ∙ ap (λ (x : LedgerId). place_of (record { ledger = x; salt = c.args.salt; n = c.args.n }) (record { n = length c.in_ok-places.places.items; index = i })) (sym name)
+    c.in_ok-places.ensures.places id made i d lt ∙ ap (λ (x : LedgerId). place_of (record { ledger = x; form = c.args.form; salt = c.args.salt; n = c.args.n }) (record { n = length c.in_ok-places.places.items; index = i })) (sym name)
 
 pub returns-clause-n : goal.returns-clause-n
 returns-clause-n g c = if_ok_then c.around.result (λ (m : GenerationsView) made. ap (λ (x : GenerationsView). x.n) made ∙ c.in_ok-places.ensures.count) c.around.ensures
+
+pub returns-clause-form : goal.returns-clause-form
+returns-clause-form g c = if_ok_then c.around.result (λ (m : GenerationsView) made. ap (λ (x : GenerationsView). x.form) made) c.around.ensures
 
 pub returns-clause-salt : goal.returns-clause-salt
 returns-clause-salt g c = if_ok_then c.around.result (λ (m : GenerationsView) made. ap (λ (x : GenerationsView). x.salt) made) c.around.ensures
