@@ -1,6 +1,6 @@
 //! Bins at the program's keys.
 use crate::values::{Plus, key};
-use bin_history::{Bin, Call, Record, Reply};
+use bin_history::{Bin, Call, Form, Record, Reply};
 use hashkeys::{Class, Key, Salt};
 use std::alloc::{AllocError, Global};
 use std::process::Abort;
@@ -9,7 +9,7 @@ use std::test::Fail;
 type KeyBin = Bin<Key, u64, Plus, Global>;
 
 fn empty(alloc: Global, class: Class) -> Result<KeyBin, AllocError> {
-    Bin::new(alloc, Salt(0), class, Vec::new(alloc))
+    Bin::new(alloc, Form::Recorded, Salt(0), class, Vec::new(alloc))
 }
 
 /// Makes a call on a bin that has its key, as the next of client 7.
@@ -20,9 +20,10 @@ fn make(
 ) -> Result<Reply<u64>, AllocError> {
     let (salt, class) = (bin.salt(), bin.class());
     assert!(rt; class.covers(salt.hash_of(call.key())));
-    let ordinal = u32::try_from(bin.records().len()).expect(rt, "a short list");
+    let ordinal = bin.records().len() as u64;
+    assert!(rt; ordinal <= 1024);
     let ready = bin.prepare(call)?;
-    Ok(bin.apply(ready, 7, ordinal))
+    Ok(bin.apply(ready, 7, ordinal).0)
 }
 
 fn assert_entries(rt: &impl Abort, entries: &[(Key, u64)], wanted: &[(&[u8], u64)]) {
@@ -88,7 +89,7 @@ fn rows(rt: &impl Abort, alloc: Global) -> Result<Vec<Row>, AllocError> {
 fn each_call_replies_and_leaves_what_its_row_says(rt: HostRuntime) -> Result<(), Fail> {
     let rows = rows(&rt, rt.alloc())?;
     let mut bin = empty(rt.alloc(), Class::new(1, 0))?;
-    let mut line = 0u32;
+    let mut line = 0u64;
     for (call, reply, delta) in rows {
         let answered = make(&rt, &mut bin, call)?;
         assert!(rt; answered == reply, "call {line} replied {answered:?}");

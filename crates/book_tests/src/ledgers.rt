@@ -4,7 +4,7 @@ ghost use Rattle.hashkeys.specs.Classes.{IsTableSize};
 ghost use Rattle.count_ledger.specs.Opening.{new_passes, new_roles, lists_of};
 
 use crate::values::key;
-use bin_history::{Call, Record};
+use bin_history::{Call, Form, Record};
 use count_ledger::{BinRole, Ledger, LedgerName, MOST_CALLS, Pass, Unsettled, retire_all};
 use hashkeys::{Key, Salt};
 use std::alloc::{AllocError, Global};
@@ -50,14 +50,13 @@ fn make(rt: &impl Abort, ledger: &KeyLedger, pass: &mut KeyPass, role: &mut KeyR
     ensures salt { role.new.salt ≡ record { 0 = 0 } }
 {
     let key = key(rt, row.key);
-    assert!(rt; pass.made() < MOST_CALLS);
+    assert!(rt; pass.made() < ledger.most_calls());
     assert!(rt; role.class().covers(Salt(0).hash_of(&key)));
     let call = match row.after {
         Some(value) => Call::Put(key, value),
         None => Call::Remove(key),
     };
-    let ordinal = pass.made() as u32;
-    let entry = Record::new(pass.client(), ordinal, call, row.before, row.after);
+    let entry = Record::new(pass.client(), pass.made(), call, row.before, row.after);
     ledger.post(pass, role, &entry);
 }
 
@@ -102,7 +101,7 @@ fn open(alloc: Global, clients: u32) -> Result<(KeyLedger, Vec<KeyPass>, Vec<Key
     ensures roles { IfOk result (λ r. vec_len r.2 ≡ 2) }
 {
     let bases = Vec::from_array(alloc, [Vec::new(alloc), Vec::new(alloc)])?;
-    Ledger::new(alloc, Salt(0), clients, &bases)
+    Ledger::new(alloc, Form::Recorded, Salt(0), clients, &bases)
 }
 
 /// Settles, or hands back passes and roles of the ledger.
@@ -368,7 +367,7 @@ fn open_largest(alloc: Global) -> Result<(KeyLedger, Vec<KeyPass>, Vec<KeyRole>)
     ensures roles { IfOk result (λ r. All (λ x. x.ledger ≡ r.0.id) r.2.items) }
 {
     let bases = empty_bases(alloc, 65536)?;
-    Ledger::new(alloc, Salt(0), 32, &bases)
+    Ledger::new(alloc, Form::Recorded, Salt(0), 32, &bases)
 }
 
 #[test]

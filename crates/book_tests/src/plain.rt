@@ -2,7 +2,7 @@
 ghost use Rattle.std.specs.Prelude.{◌<◌};
 
 use crate::values::{Plus, key};
-use bin_history::{Bin, Call, Reply};
+use bin_history::{Bin, Call, Form, Reply};
 use hashkeys::{Class, Key, Salt};
 use std::alloc::{AllocError, Global};
 use std::process::Abort;
@@ -140,15 +140,21 @@ impl Numbers {
 #[test]
 fn a_bin_answers_as_a_plain_map(rt: HostRuntime) -> Result<(), Fail> {
     let alloc = rt.alloc();
-    let mut bin = Bin::new(alloc, Salt(0), Class::new(1, 0), Vec::new(alloc))?;
+    let mut bin = Bin::new(
+        alloc,
+        Form::Recorded,
+        Salt(0),
+        Class::new(1, 0),
+        Vec::new(alloc),
+    )?;
     let mut pairs = Vec::new(alloc);
     let mut numbers = Numbers(1);
-    for line in 0..10_000u32 {
+    for line in 0..10_000u64 {
         let plain = numbers.call();
         let call = plain.call(&rt);
         assert!(rt; bin.class().covers(bin.salt().hash_of(call.key())));
         let ready = bin.prepare(call)?;
-        let reply = bin.apply(ready, 0, line);
+        let (reply, _) = bin.apply(ready, 0, line);
         assert!(rt; reply == plain.make(&mut pairs)?, "call {line}");
         assert_eq!(rt; bin.entries().len(), pairs.len(), "after call {line}");
         for (entry, pair) in bin.entries().iter().zip(pairs.iter()) {

@@ -1,6 +1,6 @@
 //! A bin, each request of a call refused in turn.
 use crate::values::{Alloc, Answer, Number};
-use bin_history::{Bin, Call, Reply};
+use bin_history::{Bin, Call, Form, Reply};
 use hashkeys::{Class, Key, Salt};
 use refusing_alloc::Refusing;
 use std::alloc::{AllocError, Global};
@@ -30,8 +30,8 @@ fn assert_pairs(rt: &impl Abort, found: &[Pair<'_>], wanted: &[(&[u8], u64)]) {
 }
 
 /// The bin of class (16, 1) without entries.
-fn empty(alloc: Alloc<'_>) -> Result<NumberBin<'_>, AllocError> {
-    Bin::new(alloc, Salt(0), Class::new(16, 1), Vec::new(alloc))
+fn empty(alloc: Alloc<'_>, form: Form) -> Result<NumberBin<'_>, AllocError> {
+    Bin::new(alloc, form, Salt(0), Class::new(16, 1), Vec::new(alloc))
 }
 
 /// Prepares a call on a key of the bin, and applies it.
@@ -43,7 +43,7 @@ fn make<'a>(
     let (salt, class) = (bin.salt(), bin.class());
     assert!(rt; class.covers(salt.hash_of(call.key())));
     let ready = bin.prepare(call)?;
-    Ok(bin.apply(ready, 0, 0))
+    Ok(bin.apply(ready, 0, 0).0)
 }
 
 fn put<'a>(
@@ -58,25 +58,38 @@ fn put<'a>(
     Ok(())
 }
 
+/// Makes a bin of one pair with the request after so many refused, and answers whether there was one.
+fn refuse_new(
+    rt: &impl Abort,
+    alloc: Alloc<'_>,
+    form: Form,
+    granted: u64,
+) -> Result<bool, AllocError> {
+    let base = Vec::from_array(alloc, [pair(rt, alloc, b"q", 1)])?;
+    let (key, _) = &base[0];
+    assert!(rt; Class::new(16, 1).covers(Salt(0).hash_of(key)));
+    alloc.refuse_after(granted);
+    let made: Result<NumberBin<'_>, _> = Bin::new(alloc, form, Salt(0), Class::new(16, 1), base);
+    let refused = alloc.has_refused();
+    alloc.refuse_after(u64::MAX);
+    if refused {
+        assert!(rt; made.is_err());
+    } else {
+        assert_pairs(rt, made?.entries(), &[(b"q", 1)]);
+    }
+    Ok(refused)
+}
+
 #[test]
 fn a_new_bin_copies_its_base(rt: HostRuntime) -> Result<(), Fail> {
     let alloc = Refusing::new(rt.alloc());
-    let mut refusals = 0u64;
-    for granted in 0..MANY {
-        let base = Vec::from_array(&alloc, [pair(&rt, &alloc, b"q", 1)])?;
-        let (key, _) = &base[0];
-        assert!(rt; Class::new(16, 1).covers(Salt(0).hash_of(key)));
-        alloc.refuse_after(granted);
-        let made: Result<NumberBin<'_>, _> = Bin::new(&alloc, Salt(0), Class::new(16, 1), base);
-        if !alloc.has_refused() {
-            assert_pairs(&rt, made?.entries(), &[(b"q", 1)]);
-            break;
+    // Of a recorded bin a list, a copy and the log. A lean one keeps the base itself.
+    for (form, requests) in [(Form::Recorded, 3), (Form::Lean, 0)] {
+        for granted in 0..5 {
+            let refused = refuse_new(&rt, &alloc, form, granted)?;
+            assert_eq!(rt; refused, granted < requests);
         }
-        assert!(rt; made.is_err());
-        refusals = refusals.wrapping_add(1);
     }
-    // A list and a copy.
-    assert_eq!(rt; refusals, 2);
     Ok(())
 }
 
@@ -106,98 +119,146 @@ fn call_of_kind<'a>(rt: &impl Abort, alloc: Alloc<'a>, kind: usize) -> NumberCal
 fn bin_of<'a>(
     rt: &impl Abort,
     alloc: Alloc<'a>,
+    form: Form,
     value: Option<u64>,
 ) -> Result<NumberBin<'a>, AllocError> {
-    let mut bin = empty(alloc)?;
+    let mut bin = empty(alloc, form)?;
     if let Some(number) = value {
         put(rt, alloc, &mut bin, b"a", number)?;
     }
     Ok(bin)
 }
 
-fn assert_value(rt: &impl Abort, bin: &NumberBin<'_>, value: Option<u64>) {
+/// Asserts that `a` has this value, if any, after so many calls: a recorded bin has a record of each over no base, a lean
+/// one none over its entries.
+fn assert_value(rt: &impl Abort, bin: &NumberBin<'_>, value: Option<u64>, calls: usize) {
     match value {
         Some(number) => assert_pairs(rt, bin.entries(), &[(b"a", number)]),
         None => assert!(rt; bin.entries().is_empty()),
     }
+    let stored = match bin.form() {
+        Form::Recorded => (calls, 0),
+        Form::Lean => (0, bin.entries().len()),
+    };
+    assert_eq!(rt; (bin.records().len(), bin.base().len()), stored);
 }
 
-/// What a call replies, and the value that it leaves.
-type Outcome = (Reply<u64>, Option<u64>);
+/// What a call replies, the value that it leaves, and how often it asks for memory in a lean bin.
+#[derive(Drop)]
+struct Outcome {
+    reply: Reply<u64>,
+    value: Option<u64>,
+    requests: u64,
+}
 
-fn assert_outcome(
-    rt: &impl Abort,
-    bin: &NumberBin<'_>,
-    reply: Reply<Number<'_>>,
-    wanted: &Outcome,
-) {
-    let found = match reply {
+fn replies(reply: Reply<u64>, value: Option<u64>, requests: u64) -> Outcome {
+    Outcome {
+        reply,
+        value,
+        requests,
+    }
+}
+
+fn number_of(reply: Reply<Number<'_>>) -> Reply<u64> {
+    match reply {
         Reply::Value(value) => Reply::Value(value.map(|n| n.number)),
         Reply::Truth(truth) => Reply::Truth(truth),
-    };
-    assert!(rt; found == wanted.0);
-    assert_value(rt, bin, wanted.1);
+    }
 }
 
 /// Makes a call on a bin in which `a` has this value, with each request refused in turn and the call then
-/// made again.
+/// made again. Answers how many requests there were.
 fn refuse_call(
     rt: &impl Abort,
     memory: Global,
+    form: Form,
     kind: usize,
     value: Option<u64>,
     wanted: &Outcome,
-) -> Result<(), AllocError> {
+) -> Result<u64, AllocError> {
     let alloc = Refusing::new(memory);
+    let made = if value.is_some() { 1 } else { 0 };
     for granted in 0..MANY {
-        let mut bin = bin_of(rt, &alloc, value)?;
-        let made = bin.records().len();
+        let mut bin = bin_of(rt, &alloc, form, value)?;
         alloc.refuse_after(granted);
-        let outcome = make(rt, &mut bin, call_of_kind(rt, &alloc, kind));
-        if !alloc.has_refused() {
-            assert!(rt; granted > 0, "kind {kind} asks for memory");
-            assert_outcome(rt, &bin, outcome?, wanted);
-            return Ok(());
+        let mut reply = make(rt, &mut bin, call_of_kind(rt, &alloc, kind));
+        let refused = alloc.has_refused();
+        alloc.refuse_after(u64::MAX);
+        if refused {
+            assert!(rt; reply.is_err(), "kind {kind}, request {granted}");
+            assert_value(rt, &bin, value, made);
+            reply = make(rt, &mut bin, call_of_kind(rt, &alloc, kind));
         }
-        assert!(rt; outcome.is_err(), "kind {kind}, request {granted}");
-        assert_value(rt, &bin, value);
-        assert_eq!(rt; bin.records().len(), made);
-        let reply = make(rt, &mut bin, call_of_kind(rt, &alloc, kind))?;
-        assert_outcome(rt, &bin, reply, wanted);
+        assert!(rt; number_of(reply?) == wanted.reply, "kind {kind}");
+        assert_value(rt, &bin, wanted.value, made + 1);
+        if !refused {
+            return Ok(granted);
+        }
     }
     assert!(rt; false, "kind {kind} asks for ever");
+    Ok(MANY)
+}
+
+/// Of each kind of call what it does where `a` has the value 1, and where it has none.
+///
+/// The requests are those of a lean bin, in this order. Where `a` has none and the call may give it one: room for the entry. A copy of the value before, if there is
+/// one. What the call's row says of the value after: a copy of the argument, or a request of the function. A copy for the entry, where the value changes; of
+/// the value before, where it does not. A copy for the reply, where that is a value.
+fn rows() -> [(Outcome, Outcome); 12] {
+    let some = |n| Reply::Value(Some(n));
+    let none = || Reply::Value(None);
+    let truth = |t| Reply::Truth(t);
+    [
+        (replies(some(1), Some(1), 3), replies(none(), None, 0)),
+        (
+            replies(truth(true), Some(1), 2),
+            replies(truth(false), None, 0),
+        ),
+        (replies(some(1), Some(5), 4), replies(none(), Some(5), 3)),
+        (replies(some(1), Some(1), 3), replies(none(), Some(5), 3)),
+        (replies(some(1), None, 2), replies(none(), None, 0)),
+        (
+            replies(truth(true), None, 1),
+            replies(truth(false), None, 0),
+        ),
+        (replies(some(1), Some(5), 4), replies(none(), None, 0)),
+        (
+            replies(truth(true), Some(5), 3),
+            replies(truth(false), None, 0),
+        ),
+        (replies(some(1), Some(1), 3), replies(some(7), Some(7), 4)),
+        (replies(some(7), Some(7), 4), replies(none(), None, 0)),
+        (replies(some(7), Some(7), 4), replies(some(7), Some(7), 4)),
+        (replies(some(7), Some(7), 4), replies(some(5), Some(5), 4)),
+    ]
+}
+
+/// Refuses each request of each kind of call. A first call asks for so many requests more than in a lean bin.
+fn refuse_calls(rt: &impl Abort, memory: Global, form: Form, first: u64) -> Result<(), AllocError> {
+    for (kind, (present, absent)) in rows().iter().enumerate() {
+        let requests = refuse_call(rt, memory, form, kind, Some(1), present)?;
+        assert_eq!(rt; requests, present.requests, "kind {kind}, present");
+        let requests = refuse_call(rt, memory, form, kind, None, absent)?;
+        assert_eq!(rt;
+            requests,
+            absent.requests.wrapping_add(first),
+            "kind {kind}, absent"
+        );
+    }
     Ok(())
 }
 
 #[test]
 fn a_refused_call_leaves_the_bin(rt: HostRuntime) -> Result<(), Fail> {
-    let some = |n| Reply::Value(Some(n));
-    let none = || Reply::Value(None);
-    // Of each kind where `a` has the value 1, and where it has none.
-    let rows = [
-        ((some(1), Some(1)), (none(), None)),
-        ((Reply::Truth(true), Some(1)), (Reply::Truth(false), None)),
-        ((some(1), Some(5)), (none(), Some(5))),
-        ((some(1), Some(1)), (none(), Some(5))),
-        ((some(1), None), (none(), None)),
-        ((Reply::Truth(true), None), (Reply::Truth(false), None)),
-        ((some(1), Some(5)), (none(), None)),
-        ((Reply::Truth(true), Some(5)), (Reply::Truth(false), None)),
-        ((some(1), Some(1)), (some(7), Some(7))),
-        ((some(7), Some(7)), (none(), None)),
-        ((some(7), Some(7)), (some(7), Some(7))),
-        ((some(7), Some(7)), (some(5), Some(5))),
-    ];
-    for (kind, (present, absent)) in rows.iter().enumerate() {
-        refuse_call(&rt, rt.alloc(), kind, Some(1), present)?;
-        refuse_call(&rt, rt.alloc(), kind, None, absent)?;
-    }
+    // The first record's list, which has room for the second.
+    refuse_calls(&rt, rt.alloc(), Form::Recorded, 1)?;
+    refuse_calls(&rt, rt.alloc(), Form::Lean, 0)?;
     Ok(())
 }
 
 /// A bin with 1,024 records: `put q 1`, `put a 2`, 1,021 times `get a`, `remove q`.
 fn full<'a>(rt: &impl Abort, alloc: Alloc<'a>) -> Result<NumberBin<'a>, AllocError> {
-    let mut bin = empty(alloc)?;
+    let mut bin = empty(alloc, Form::Recorded)?;
     put(rt, alloc, &mut bin, b"q", 1)?;
     put(rt, alloc, &mut bin, b"a", 2)?;
     for _ in 0..1021 {
@@ -231,36 +292,51 @@ fn a_refused_fold_leaves_the_base(rt: HostRuntime) -> Result<(), Fail> {
             break;
         }
     }
-    // Two copies of the value, and room in the base: a list that is folded has room for the record.
+    // Room in the base, and two copies of the value: the entries had two keys, and a list that is folded has room for the
+    // record.
     assert_eq!(rt; refusals, 3);
     Ok(())
+}
+
+/// Splits a bin with the request after so many refused, and answers whether there was one. The bin stays as it is.
+fn refuse_split(
+    rt: &impl Abort,
+    alloc: Alloc<'_>,
+    bin: &NumberBin<'_>,
+    granted: u64,
+    records: (usize, usize),
+) -> Result<bool, AllocError> {
+    assert!(rt; bin.class().n() < 65536);
+    alloc.refuse_after(granted);
+    let halves = bin.split();
+    let refused = alloc.has_refused();
+    alloc.refuse_after(u64::MAX);
+    if refused {
+        assert!(rt; halves.is_err());
+    } else {
+        let (low, high) = halves?;
+        assert_pairs(rt, low.entries(), &[(b"a", 2)]);
+        assert_pairs(rt, high.entries(), &[(b"q", 3)]);
+        assert_eq!(rt; (low.records().len(), high.records().len()), records);
+    }
+    assert_pairs(rt, bin.entries(), &[(b"q", 3), (b"a", 2)]);
+    assert_eq!(rt; bin.records().len(), records.0.wrapping_add(records.1));
+    Ok(refused)
 }
 
 #[test]
 fn a_refused_split_leaves_the_bin(rt: HostRuntime) -> Result<(), Fail> {
     let alloc = Refusing::new(rt.alloc());
-    let mut bin = empty(&alloc)?;
-    put(&rt, &alloc, &mut bin, b"q", 1)?;
-    put(&rt, &alloc, &mut bin, b"a", 2)?;
-    put(&rt, &alloc, &mut bin, b"q", 3)?;
-    assert!(rt; bin.class().n() < 65536);
-    let mut refusals = 0u64;
-    for granted in 0..MANY {
-        alloc.refuse_after(granted);
-        let halves = bin.split();
-        assert_pairs(&rt, bin.entries(), &[(b"q", 3), (b"a", 2)]);
-        assert_eq!(rt; bin.records().len(), 3);
-        if !alloc.has_refused() {
-            let (low, high) = halves?;
-            assert_pairs(&rt, low.entries(), &[(b"a", 2)]);
-            assert_pairs(&rt, high.entries(), &[(b"q", 3)]);
-            assert_eq!(rt; (low.records().len(), high.records().len()), (1, 2));
-            break;
+    // Of entries two lists and two copies; in a recorded bin of records two lists and seven copies, and two logs.
+    for (form, records, requests) in [(Form::Recorded, (1, 2), 15), (Form::Lean, (0, 0), 4)] {
+        let mut bin = empty(&alloc, form)?;
+        put(&rt, &alloc, &mut bin, b"q", 1)?;
+        put(&rt, &alloc, &mut bin, b"a", 2)?;
+        put(&rt, &alloc, &mut bin, b"q", 3)?;
+        for granted in 0..17 {
+            let refused = refuse_split(&rt, &alloc, &bin, granted, records)?;
+            assert_eq!(rt; refused, granted < requests);
         }
-        assert!(rt; halves.is_err());
-        refusals = refusals.wrapping_add(1);
     }
-    // Of records two lists and seven copies, of entries two lists and two copies.
-    assert_eq!(rt; refusals, 13);
     Ok(())
 }

@@ -2,6 +2,7 @@
 ghost use Rattle.std.specs.Prelude.{◌≡◌, All, IfOk};
 
 use crate::values::Alloc;
+use bin_history::Form;
 use count_ledger::{BinRole, Ledger, Pass, Unsettled, retire_all};
 use hashkeys::{Key, Salt};
 use refusing_alloc::Refusing;
@@ -51,7 +52,7 @@ fn make(alloc: Alloc<'_>) -> Result<Made<'_>, AllocError>
     ensures roles { IfOk result (λ made. All (λ r. r.ledger ≡ made.0.id) made.2.items) }
 {
     let bases = Vec::from_array(alloc, [Vec::new(alloc), Vec::new(alloc)])?;
-    Ledger::new(alloc, Salt(0), 2, &bases)
+    Ledger::new(alloc, Form::Recorded, Salt(0), 2, &bases)
 }
 
 #[test]

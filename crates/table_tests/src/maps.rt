@@ -4,9 +4,10 @@ ghost use Rattle.hashkeys.specs.Classes.{IsTableSize, is_of};
 ghost use Rattle.bin_history.specs.Calls.{after, key_of};
 ghost use Rattle.bin_history.specs.Copies.{IsExact};
 ghost use Rattle.count_ledger.specs.Agreement.{Agree};
+ghost use Rattle.count_ledger.specs.Limits.{most_calls};
 
-use bin_history::{Bin, Call, Remap};
-use count_ledger::{BinRole, Ledger, MOST_CALLS, Pass, agreement_laws, retire_all};
+use bin_history::{Bin, Call, Form, Remap};
+use count_ledger::{BinRole, Ledger, Pass, retire_all};
 use generations::Generations;
 use hashkeys::{HashKey, Key, Salt};
 use std::alloc::{AllocError, Allocator};
@@ -84,6 +85,7 @@ fn no_bases<A: Allocator + Clone>(
 
 pub(crate) fn open<A: Allocator + Clone>(
     alloc: A,
+    form: Form,
     salt: Salt,
     n: u32,
     clients: u32,
@@ -97,8 +99,8 @@ pub(crate) fn open<A: Allocator + Clone>(
 {
     let bases = no_bases(alloc.clone()?, n)?;
     let for_map = alloc.clone()?;
-    let (ledger, passes, roles) = Ledger::new(alloc, salt, clients, &bases)?;
-    match Generations::new(for_map, salt, n, bases, roles) {
+    let (ledger, passes, roles) = Ledger::new(alloc, form, salt, clients, &bases)?;
+    match Generations::new(for_map, form, salt, n, bases, roles) {
         Ok(map) => Ok(Opened {
             map,
             ledger,
@@ -114,6 +116,7 @@ pub(crate) fn open<A: Allocator + Clone>(
 pub(crate) fn open_single<A: Allocator + Clone>(
     rt: &impl Abort,
     alloc: A,
+    form: Form,
     salt: Salt,
     n: u32,
 ) -> Result<Single<A>, AllocError>
@@ -126,7 +129,7 @@ pub(crate) fn open_single<A: Allocator + Clone>(
         map,
         ledger,
         mut passes,
-    } = open(alloc, salt, n, 1)?;
+    } = open(alloc, form, salt, n, 1)?;
     let pass = passes.pop().expect(rt, "a pass");
     retire_all(passes);
     Ok(Single { map, ledger, pass })
@@ -135,6 +138,7 @@ pub(crate) fn open_single<A: Allocator + Clone>(
 /// The same without the pass.
 pub(crate) fn open_quiet<A: Allocator + Clone>(
     alloc: A,
+    form: Form,
     n: u32,
 ) -> Result<(KeyMap<A>, KeyLedger<A>), AllocError>
     requires { IsTableSize n }
@@ -145,7 +149,7 @@ pub(crate) fn open_quiet<A: Allocator + Clone>(
         map,
         ledger,
         passes,
-    } = open(alloc, Salt(0), n, 1)?;
+    } = open(alloc, form, Salt(0), n, 1)?;
     retire_all(passes);
     Ok((map, ledger))
 }
@@ -167,7 +171,7 @@ fn make<
     requires values { IsExact V.is_clone }
     requires pass { pass.old.ledger ≡ ledger.now.id }
     requires role { role.old.ledger ≡ ledger.now.id }
-    requires room { length pass.old.made < 1000000 }
+    requires room { length pass.old.made < most_calls ledger.now.form }
     requires key { is_of K.code bin.old.salt bin.old.class (key_of call) ≡ true }
     requires agree { Agree K.eq (after V.eq F.remapped F.merged) bin.old role.old }
     ensures pass { pass.new.ledger ≡ ledger.now.id }
@@ -176,12 +180,10 @@ fn make<
     ensures class { bin.new.class ≡ bin.old.class }
     ensures salt { bin.new.salt ≡ bin.old.salt }
 {
-    agreement_laws::<K, V, F>();
     bin.lawful();
     let ready = bin.prepare(call)?;
-    bin.apply(ready, pass.client(), pass.made() as u32);
-    let records = bin.records();
-    ledger.post(pass, role, &records[records.len() - 1]);
+    let (_, trace) = bin.apply(ready, pass.client(), pass.made());
+    ledger.post_trace(pass, role, &trace);
     Ok(())
 }
 
@@ -198,7 +200,7 @@ pub(crate) fn put<R: Wait + Abort, A: Allocator + Clone>(
     ensures { pass.new.ledger ≡ ledger.now.id }
 {
     let key = Key::read(text).expect(rt, "a key");
-    assert!(rt; pass.made() < MOST_CALLS);
+    assert!(rt; pass.made() < ledger.most_calls());
     let mut held = map.hold(rt, map.salt().hash_of(&key));
     let mut bin = held.bin;
     let mut role = held.role;

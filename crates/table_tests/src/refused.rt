@@ -1,5 +1,6 @@
 //! Requests for memory that are refused, each in turn.
 use crate::maps::{KeyMap, Single, leaves_of, open_quiet, open_single, put};
+use bin_history::Form;
 use generations::{Moved, NotLeft};
 use hashkeys::{Class, Salt};
 use refusing_alloc::Refusing;
@@ -23,13 +24,14 @@ fn sizes<R: Wait, A: Allocator + Clone>(rt: &R, map: &KeyMap<A>) -> [(u32, usize
 fn refused_move<R: Wait + Abort>(
     rt: &R,
     alloc: &Refusing<Global>,
+    form: Form,
     granted: u64,
 ) -> Result<(bool, bool), AllocError> {
     let Single {
         map,
         ledger,
         mut pass,
-    } = open_single(rt, alloc, Salt(0), 1)?;
+    } = open_single(rt, alloc, form, Salt(0), 1)?;
     let done = put(rt, &map, &ledger, &mut pass, b"a");
     pass.retire();
     alloc.refuse_after(granted);
@@ -51,11 +53,13 @@ fn refused_move<R: Wait + Abort>(
 #[test]
 fn a_refused_move_leaves_the_bin(rt: HostRuntime) -> Result<(), Fail> {
     let alloc = Refusing::new(rt.alloc());
-    for granted in 0..6u64 {
-        // Lists of records and of entries for the half that has the key, and a row of the arena. The fourth request is for the numbers of the new table's places:
-        // the move goes on without them.
-        let (moved, refused) = refused_move(&rt, &alloc, granted)?;
-        assert_eq!(rt; (moved, refused), (granted >= 3, granted < 4));
+    // The list of entries of the half that has the key, and a row of the arena; of a recorded bin the list of records of that half too, and a log for each half. One
+    // request more is for the numbers of the new table's places: the move goes on without them.
+    for (form, needed) in [(Form::Recorded, 5), (Form::Lean, 2)] {
+        for granted in 0..7u64 {
+            let (moved, refused) = refused_move(&rt, &alloc, form, granted)?;
+            assert_eq!(rt; (moved, refused), (granted >= needed, granted <= needed));
+        }
     }
     Ok(())
 }
@@ -66,7 +70,7 @@ fn refused_leaves<R: Wait + Abort>(
     alloc: &Refusing<Global>,
     granted: u64,
 ) -> Result<bool, AllocError> {
-    let (map, ledger) = open_quiet(alloc, 4)?;
+    let (map, ledger) = open_quiet(alloc, Form::Recorded, 4)?;
     drop(ledger);
     alloc.refuse_after(granted);
     match map.into_leaves(rt) {
@@ -95,9 +99,9 @@ fn refused_leaves_give_the_map_back(rt: HostRuntime) -> Result<(), Fail> {
 }
 
 /// Makes a map under an allocator that refuses the request after so many, and answers whether it was refused.
-fn refused_map(rt: &impl Abort, alloc: &Refusing<Global>, granted: u64) -> bool {
+fn refused_map(rt: &impl Abort, alloc: &Refusing<Global>, form: Form, granted: u64) -> bool {
     alloc.refuse_after(granted);
-    match open_quiet(alloc, 2) {
+    match open_quiet(alloc, form, 2) {
         Ok((map, ledger)) => {
             drop(ledger);
             drop(map);
@@ -114,13 +118,13 @@ fn refused_map(rt: &impl Abort, alloc: &Refusing<Global>, granted: u64) -> bool 
 #[test]
 fn a_refused_map_is_made_at_the_next_try(rt: HostRuntime) -> Result<(), Fail> {
     let alloc = Refusing::new(rt.alloc());
-    for granted in 0..100u64 {
-        if !refused_map(&rt, &alloc, granted) {
-            // Lists of bases, passes, roles and places, the table's two blocks, the list of lists of numbers, and the arena's list of rows.
-            assert_eq!(rt; granted, 8);
-            return Ok(());
+    // Lists of bases, passes, roles and places, the table's two blocks, the list of lists of numbers, and the arena's list of rows; of each of two recorded bins
+    // a log.
+    for (form, needed) in [(Form::Recorded, 10), (Form::Lean, 8)] {
+        for granted in 0..12u64 {
+            let refused = refused_map(&rt, &alloc, form, granted);
+            assert_eq!(rt; refused, granted < needed);
         }
     }
-    assert!(rt; false, "no map was made");
     Ok(())
 }

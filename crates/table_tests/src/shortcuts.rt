@@ -1,5 +1,6 @@
 //! Ways past forwarded places.
 use crate::maps::{KeyMap, open_quiet};
+use bin_history::Form;
 use generations::Moved;
 use hashkeys::Class;
 use std::alloc::Allocator;
@@ -23,7 +24,7 @@ fn noted<A: Allocator>(map: &KeyMap<A>) -> [Option<(u32, u32)>; 4] {
 
 #[test]
 fn the_widest_place_of_a_hash_is_noted(rt: HostRuntime) -> Result<(), Fail> {
-    let (map, ledger) = open_quiet(rt.alloc(), 1)?;
+    let (map, ledger) = open_quiet(rt.alloc(), Form::Recorded, 1)?;
     let before = noted(&map);
     let first = map.forward(&rt, &ledger, Class::new(1, 0));
     let between = noted(&map);

@@ -2,6 +2,7 @@
 ghost use Rattle.std.specs.Prelude.{◌≡◌, All, IfOk};
 
 use crate::maps::{KeyLedger, KeyMap, KeyPass, KeyRole, Opened, open, open_quiet, put};
+use bin_history::Form;
 use count_ledger::{Unsettled, retire_all};
 use generations::Moved;
 use hashkeys::{Class, Salt};
@@ -13,7 +14,7 @@ use std::thread::{self, Threads};
 
 #[test]
 fn two_threads_forward_one_class_once(rt: HostRuntime) -> Result<(), Fail> {
-    let (map, ledger) = open_quiet(rt.alloc(), 16)?;
+    let (map, ledger) = open_quiet(rt.alloc(), Form::Lean, 16)?;
     let forward = ||
         requires ledger { map.ledger ≡ ledger.id }
         requires n { map.n ≡ 16 }
@@ -37,7 +38,7 @@ fn hold_often<R: Wait, A: Allocator + Clone>(rt: &R, map: &KeyMap<A>, hashes: u3
 
 #[test]
 fn many_threads_hold_few_bins(rt: HostRuntime) -> Result<(), Fail> {
-    let (map, ledger) = open_quiet(rt.alloc(), 4)?;
+    let (map, ledger) = open_quiet(rt.alloc(), Form::Recorded, 4)?;
     let hold = |_: usize| hold_often(&rt, &map, 4, 20_000);
     thread::map_indices(&rt, rt.alloc(), 32, &hold)?;
     drop(ledger);
@@ -137,7 +138,7 @@ fn eight_threads_post_to_eight_bins(rt: HostRuntime) -> Result<(), Fail> {
         map,
         ledger,
         mut passes,
-    } = open(rt.alloc(), Salt(0), 8, 8)?;
+    } = open(rt.alloc(), Form::Lean, Salt(0), 8, 8)?;
     put_from_threads(&rt, &map, &ledger, &mut passes);
     let (roles, counts) = roles_of(&rt, rt.alloc(), map);
     assert_eq!(rt; counts.as_slice(), [1usize; 8].as_slice());

@@ -3,6 +3,7 @@ ghost use Rattle.std.specs.Prelude.{◌≡◌, ◌<◌, ◌≤◌};
 ghost use Rattle.hashkeys.specs.Classes.{IsTableSize};
 
 use crate::maps::{KeyBin, KeyLedger, KeyMap, Single, leaves_of, open_quiet, open_single, put};
+use bin_history::Form;
 use generations::{Moved, next_in_walk};
 use hashkeys::{Class, Key, Salt};
 use std::alloc::{AllocError, Allocator, Global};
@@ -62,13 +63,14 @@ fn forward_all<R: Wait + Abort, A: Allocator + Clone>(
 fn walks_of_four(
     rt: &(impl Wait + Abort),
     alloc: Global,
+    form: Form,
     salt: Salt,
 ) -> Result<(Vec<u8>, Vec<u8>), AllocError> {
     let Single {
         map,
         ledger,
         mut pass,
-    } = open_single(rt, alloc, salt, 16)?;
+    } = open_single(rt, alloc, form, salt, 16)?;
     let mut put_all = Ok(());
     for text in [b"q".as_slice(), b"a", b"Aa", b"zzzzzz"] {
         put_all = put_all.and(put(rt, &map, &ledger, &mut pass, text));
@@ -86,10 +88,10 @@ fn walks_of_four(
 
 #[test]
 fn four_keys_stand_in_walk_order(rt: HostRuntime) -> Result<(), Fail> {
-    let (before, after) = walks_of_four(&rt, rt.alloc(), Salt(0))?;
+    let (before, after) = walks_of_four(&rt, rt.alloc(), Form::Recorded, Salt(0))?;
     assert_eq!(rt; before.as_slice(), b"Aa q a zzzzzz ".as_slice());
     assert_eq!(rt; after.as_slice(), b"Aa a q zzzzzz ".as_slice());
-    let (before, after) = walks_of_four(&rt, rt.alloc(), Salt(1))?;
+    let (before, after) = walks_of_four(&rt, rt.alloc(), Form::Lean, Salt(1))?;
     assert_eq!(rt; before.as_slice(), b"q a Aa zzzzzz ".as_slice());
     assert_eq!(rt; after.as_slice(), b"a q Aa zzzzzz ".as_slice());
     Ok(())
@@ -97,7 +99,7 @@ fn four_keys_stand_in_walk_order(rt: HostRuntime) -> Result<(), Fail> {
 
 #[test]
 fn a_class_under_a_wider_bin_stays(rt: HostRuntime) -> Result<(), Fail> {
-    let (map, ledger) = open_quiet(rt.alloc(), 16)?;
+    let (map, ledger) = open_quiet(rt.alloc(), Form::Recorded, 16)?;
     assert_eq!(rt;
         map.forward(&rt, &ledger, Class::new(32, 17))?,
         Moved::Wider
@@ -115,7 +117,7 @@ fn two_readers_are_shown_one_bin_at_once(rt: HostRuntime) -> Result<(), Fail> {
         map,
         ledger,
         mut pass,
-    } = open_single(&rt, rt.alloc(), Salt(0), 1)?;
+    } = open_single(&rt, rt.alloc(), Form::Lean, Salt(0), 1)?;
     let done = put(&rt, &map, &ledger, &mut pass, b"a");
     pass.retire();
     done?;
@@ -135,7 +137,7 @@ fn two_readers_are_shown_one_bin_at_once(rt: HostRuntime) -> Result<(), Fail> {
 
 #[test]
 fn all_bins_are_there_after_moves(rt: HostRuntime) -> Result<(), Fail> {
-    let (map, ledger) = open_quiet(rt.alloc(), 4)?;
+    let (map, ledger) = open_quiet(rt.alloc(), Form::Lean, 4)?;
     forward_all(&rt, &map, &ledger, 4)?;
     forward_all(&rt, &map, &ledger, 8)?;
     for hash in 0..64u32 {

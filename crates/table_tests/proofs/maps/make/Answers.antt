@@ -1,19 +1,16 @@
-use Rattle.std.proofs.Common.{◌≡◌, ℕ, ◌-◌, List, [], ◌∷◌, ◌++◌, length, get_or, ap, sym, ◌∙◌, arith}
-use Rattle.std.proofs.Math.Seq.{get_or-append_seam}
-use Rattle.std.proofs.lemmas.List.{length_push}
+use Rattle.std.proofs.Common.{◌≡◌, [], ◌∷◌, sym, subst}
+use Rattle.bin_history.specs.Calls.{after}
+use Rattle.bin_history.specs.Histories.{GoesOn}
 use Rattle.bin_history.specs.Records.{RecordView}
+use Rattle.bin_history.proofs.Keys.{key_tells}
+use Rattle.count_ledger.proofs.Agreements.{Agree-prepared, Agree-gone_on}
 use Rattle.table_tests.proofs.maps.make.Goals as goal
-
--- the last of a list that got one more
-last_is : {X : Type 0} (xs ys zs : List X) (x y : X) → ys ≡ xs ++ x ∷ [] → zs ≡ ys → y ≡ get_or zs (length zs - 1) y → y ≡ x
-last_is {X} xs ys zs x y is same at =
-    let whole : zs ≡ xs ++ x ∷ [] = same ∙ is in
-    let len : length (xs ++ x ∷ []) - 1 ≡ length xs = omega (arith, length_push xs x) in
-    at ∙ ap (λ (l : List X). get_or l (length l - 1) y) whole ∙ ap (λ (i : ℕ). get_or (xs ++ x ∷ []) i y) len ∙ get_or-append_seam xs x [] y
 
 pub returns-clause-agree : goal.returns-clause-agree
 returns-clause-agree g c =
-    let entry = last_is c.prepare.new.self.records c.apply.new.self.records c.records-records.result.now _ c.index-records-records.result c.apply.ensures.records c.records-records.ensures c.index-records-records.is in
-    let prepared = c.agreement_laws.ensures.prepared c.args.bin.now c.prepare.new.self c.args.role.now c.requires.agree c.lawful.ensures.lawful c.in_ok-ready.ensures.class c.in_ok-ready.ensures.salt c.in_ok-ready.ensures.ok in
-    c.agreement_laws.ensures.posted c.prepare.new.self c.apply.new.self c.args.role.now c.post.new.role c.index-records-records.result prepared c.apply.ensures.class c.apply.ensures.salt c.apply.ensures.base
-    (c.apply.ensures.records ∙ ap (λ (r : RecordView _ _ _). c.prepare.new.self.records ++ r ∷ []) (sym entry)) c.post.ensures.role
+    let tells = key_tells g.met.K.Eq.laws g.met.K.HashKey.equal_is_same in
+    let prepared = Agree-prepared g.K.PartialEq.eq tells g.K.HashKey.code _ c.args.bin.now c.prepare.new.self c.args.role.now
+    c.requires.agree c.lawful.ensures.lawful c.prepare.ensures.class c.prepare.ensures.salt c.in_ok-ready.ensures.ok in
+    let On : RecordView _ _ _ → Type 0 = λ r. GoesOn g.K.PartialEq.eq (after g.V.PartialEq.eq g.F.Remap.remapped g.F.Remap.merged) c.prepare.new.self (r ∷ []) c.apply-trace.new.self in
+    Agree-gone_on g.K.PartialEq.eq tells g.K.HashKey.code _ c.prepare.new.self c.apply-trace.new.self c.args.role.now c.post_trace.new.role (c.apply-trace.result.1 ∷ []) prepared
+    c.apply-trace.ensures.class c.apply-trace.ensures.salt (subst On (sym c.apply-trace.ensures.trace) c.apply-trace.ensures.history) c.post_trace.ensures.role

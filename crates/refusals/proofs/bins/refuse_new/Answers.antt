@@ -1,5 +1,5 @@
 use Rattle.std.proofs.Common.{refl, arith}
-use Rattle.refusals.proofs.bins.a_new_bin_copies_its_base.Goals as goal
+use Rattle.refusals.proofs.bins.refuse_new.Goals as goal
 
 pub new-requires : goal.new-requires
 new-requires g c = ((4, omega arith, refl), omega arith)

@@ -1,0 +1,126 @@
+//! How often a call asks its function.
+use crate::values::Alloc;
+use bin_history::{Bin, Call, Form, Remap};
+use hashkeys::{Class, Key, Salt};
+use refusing_alloc::Refusing;
+use std::alloc::{AllocError, Global};
+use std::process::Abort;
+use std::sync::atomic::AtomicU64;
+use std::sync::atomic::Ordering::SeqCst;
+use std::test::Fail;
+
+/// The function whose result is 7. It counts how often it is asked.
+#[derive(Drop)]
+struct Counted<'a> {
+    asked: &'a AtomicU64,
+}
+
+impl<'a> Clone for Counted<'a> {
+    ghost use Rattle.std.specs.Prelude.{◌≡◌};
+
+    ghost is_clone = { λ x y. y ≡ x };
+
+    fn clone(&self) -> Result<Counted<'a>, AllocError> {
+        Ok(Counted { asked: self.asked })
+    }
+}
+
+impl<'a> Remap<Key, u64> for Counted<'a> {
+    ghost use Rattle.std.specs.Prelude.{Some};
+
+    ghost remapped = { λ f k v. Some 7 };
+
+    ghost merged = { λ f old given. Some 7 };
+
+    fn remap(&self, _key: &Key, _value: Option<&u64>) -> Result<Option<u64>, AllocError> {
+        self.asked.fetch_add(1, SeqCst);
+        Ok(Some(7))
+    }
+
+    fn merge(&self, _old: &u64, _given: &u64) -> Result<Option<u64>, AllocError> {
+        self.asked.fetch_add(1, SeqCst);
+        Ok(Some(7))
+    }
+}
+
+type CountedCall<'a> = Call<Key, u64, Counted<'a>>;
+
+type CountedBin<'a> = Bin<Key, u64, Counted<'a>, Alloc<'a>>;
+
+/// A call on `a` that takes a function.
+fn call_of_kind<'a>(rt: &impl Abort, asked: &'a AtomicU64, kind: usize) -> CountedCall<'a> {
+    let key = Key::read(b"a").expect(rt, "a key");
+    let function = Counted { asked };
+    match kind {
+        0 => Call::ComputeIfAbsent(key, function),
+        1 => Call::ComputeIfPresent(key, function),
+        2 => Call::Compute(key, function),
+        _ => Call::Merge(key, 5, function),
+    }
+}
+
+/// Makes a call, and says whether it was made.
+fn is_made<'a>(rt: &impl Abort, bin: &mut CountedBin<'a>, call: CountedCall<'a>) -> bool {
+    let (salt, class) = (bin.salt(), bin.class());
+    assert!(rt; class.covers(salt.hash_of(call.key())));
+    match bin.prepare(call) {
+        Ok(ready) => {
+            drop(bin.apply(ready, 0, 0));
+            true
+        }
+        Err(_) => false,
+    }
+}
+
+/// Makes the call of a kind on a new bin of all keys, in which `a` has the value 1 or none, with the request after so many
+/// refused. Answers whether the call was made, and how often its function was asked.
+fn ask(
+    rt: &impl Abort,
+    memory: Global,
+    form: Form,
+    (kind, present): (usize, bool),
+    granted: u64,
+) -> Result<(bool, u64), AllocError> {
+    let alloc = Refusing::new(memory);
+    let asked = AtomicU64::new(0);
+    let mut bin = Bin::new(&alloc, form, Salt(0), Class::new(1, 0), Vec::new(&alloc))?;
+    if present {
+        let key = Key::read(b"a").expect(rt, "a key");
+        assert!(rt; is_made(rt, &mut bin, Call::Put(key, 1)));
+    }
+    alloc.refuse_after(granted);
+    let made = is_made(rt, &mut bin, call_of_kind(rt, &asked, kind));
+    alloc.refuse_after(u64::MAX);
+    Ok((made, asked.load(SeqCst)))
+}
+
+#[test]
+fn a_function_is_asked_once_where_its_answer_is_used(rt: HostRuntime) -> Result<(), Fail> {
+    // How often each kind of call asks its function, where `a` has none and where it has a value.
+    let rows = [(1, 0), (0, 1), (1, 1), (0, 1)];
+    for form in [Form::Recorded, Form::Lean] {
+        for (kind, (absent, present)) in rows.iter().enumerate() {
+            let of_absent = ask(&rt, rt.alloc(), form, (kind, false), u64::MAX)?;
+            let of_present = ask(&rt, rt.alloc(), form, (kind, true), u64::MAX)?;
+            assert_eq!(rt; of_absent, (true, *absent), "kind {kind}");
+            assert_eq!(rt; of_present, (true, *present), "kind {kind}");
+        }
+    }
+    Ok(())
+}
+
+#[test]
+fn a_function_is_not_asked_where_room_is_refused(rt: HostRuntime) -> Result<(), Fail> {
+    // Room for the entry, and in a recorded bin for the record.
+    for (form, requests) in [(Form::Recorded, 2), (Form::Lean, 1)] {
+        for kind in [0, 2] {
+            for granted in 0..requests {
+                let refused = ask(&rt, rt.alloc(), form, (kind, false), granted)?;
+                assert_eq!(rt; refused, (false, 0), "kind {kind}, request {granted}");
+            }
+            let made = ask(&rt, rt.alloc(), form, (kind, false), requests)?;
+            assert_eq!(rt; made, (true, 1), "kind {kind}");
+        }
+    }
+    Ok(())
+}
