@@ -6,7 +6,7 @@ ghost use Rattle.count_ledger.specs.Views.{PassView};
 ghost use Rattle.chm.specs.Refusals.{AreClients, IsCapacity, IsMaking};
 ghost use Rattle.chm.specs.Sizes.{IsSizeFor};
 
-use crate::work::Work;
+use crate::work::{Work, work_as};
 use bin_history::Remap;
 use chm::{Fault, Map, NotClosed, Opened, Quiet};
 use count_ledger::{Pass, retire_all};
@@ -107,7 +107,7 @@ impl<
             requires { pass.now.ledger ≡ map.now.ledger.id }
             ensures ledger { pass.exit.now.ledger ≡ pass.entry.now.ledger }
             ensures done { W.does work.entry.now pass.entry.now pass.exit.now }
-        { work.work(rt, map, pass) };
+        { work_as(rt, map, pass, work) };
         thread::for_each_mut(rt, &mut self.passes, MOST_THREADS, &lend);
     }
 
@@ -151,6 +151,13 @@ impl<K: HashKey, V: Clone + Eq, F: Remap<K, V> + Clone, A: Allocator> Team<K, V,
         ensures { result.now ≡ self.now.map }
     {
         &self.map
+    }
+
+    /// The passes of the clients, client 0's first.
+    pub fn passes(&self) -> &[Pass<K, V, F>]
+        ensures { result.now ≡ self.now.passes }
+    {
+        &self.passes
     }
 
     /// The map and the passes of its clients, client 0's first.
