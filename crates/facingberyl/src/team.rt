@@ -1,10 +1,13 @@
 //! A map with the passes of all its clients.
-ghost use Rattle.std.specs.Prelude.{◌≡◌, ◌<◌, ◌⊎◌, ℕ, [], length, All, IfOk, IfErr, IsOk, IsErrOf, ◌↔◌, slice_index_or};
+ghost use Rattle.std.specs.Prelude.{◌≡◌, ◌≤◌, ◌<◌, ◌⊎◌, ℕ, [], length, All, IfOk, IfErr, IsOk, IsErrOf, ◌↔◌, slice_index_or};
 ghost use Rattle.bin_history.specs.Copies.{IsExact};
 ghost use Rattle.count_ledger.specs.Opening.{new_passes};
 ghost use Rattle.count_ledger.specs.Views.{PassView};
+ghost use Rattle.bin_history.specs.Entries.{lookup};
+ghost use Rattle.chm.specs.Quiets.{entries_of};
+ghost use Rattle.chm.specs.Reopened.{in_classes};
 ghost use Rattle.chm.specs.Refusals.{AreClients, IsCapacity, IsMaking};
-ghost use Rattle.chm.specs.Sizes.{IsSizeFor};
+ghost use Rattle.chm.specs.Sizes.{IsSizeFor, IsSizeFrom};
 
 use crate::work::{Work, work_as};
 use bin_history::Remap;
@@ -87,6 +90,26 @@ impl<
         ensures faults { IfErr result IsMaking }
     {
         let (map, passes) = Map::with_salt(alloc, capacity, clients, salt)?;
+        Ok(Team { map, passes })
+    }
+
+    /// A closed map's pairs in a new map, and its team of 1 to 32 clients, as `Quiet::reopen` opens it. The closed map
+    /// stays as it is.
+    pub fn reopen(closed: &Quiet<K, V, F, A>, clients: u32) -> Result<Team<K, V, F, A>, Fault>
+        requires keys { IsExact K.is_clone }
+        requires values { IsExact V.is_clone }
+        ensures ok { IsOk result → (length (entries_of closed.now.bins) ≤ 4294967295) × AreClients clients }
+        ensures salt { IfOk result (λ t. t.map.ledger.salt ≡ closed.now.ledger.salt) }
+        ensures clients { IfOk result (λ t. t.map.ledger.clients ≡ clients) }
+        ensures opening { IfOk result (λ t. t.map.ledger.opening ≡ in_classes K.code closed.now.ledger.salt t.map.n (entries_of closed.now.bins)) }
+        ensures same_map { IfOk result (λ t. (k : K) → lookup K.eq t.map.ledger.opening k ≡ lookup K.eq (entries_of closed.now.bins) k) }
+        ensures size { IfOk result (λ t. IsSizeFrom closed.now.n (length (entries_of closed.now.bins)) t.map.n) }
+        ensures passes { IfOk result (λ t. t.passes ≡ new_passes t.map.ledger.id clients) }
+        ensures capacity { IsErrOf result Fault.BadCapacity ↔ (4294967295 < length (entries_of closed.now.bins)) }
+        ensures some { IsErrOf result Fault.BadClients ↔ ((length (entries_of closed.now.bins) ≤ 4294967295) × (¬ AreClients clients)) }
+        ensures faults { IfErr result IsMaking }
+    {
+        let (map, passes) = closed.reopen(clients)?;
         Ok(Team { map, passes })
     }
 
