@@ -3,3 +3,4 @@ pub mod Searches
 pub mod Actions
 pub mod Batches
 pub mod Plans
+pub mod Sums

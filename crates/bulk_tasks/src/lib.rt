@@ -12,6 +12,7 @@ mod reducers;
 mod reducing;
 mod searching;
 mod traits;
+mod unsigned;
 
 pub use acting::for_each;
 pub use batches::batch;
@@ -20,4 +21,5 @@ pub use plan::Plan;
 pub use reducers::{Greatest, Sum};
 pub use reducing::{reduce, reduce_based};
 pub use searching::search;
+pub use steal_pool::{Gate, OpenGate};
 pub use traits::{Action, BasedReducer, Probe, Reducer};

@@ -2,6 +2,7 @@
 ghost use Rattle.std.specs.Prelude.{◌≡◌, IfErr};
 
 use crate::fault::BulkFault;
+use steal_pool::OpenGate;
 
 /// How a bulk operation is shared out. The threshold is the least number of entries worth a task of their own (`batch` has the whole rule); there are 1 to 16 workers, the caller among
 /// them; and the gate is called before each task.
@@ -10,6 +11,20 @@ pub struct Plan<'a, G> {
     pub threshold: u64,
     pub workers: usize,
     pub gate: &'a G,
+}
+
+impl Plan<'static, OpenGate> {
+    /// A plan with a gate that holds nothing back.
+    pub fn new(threshold: u64, workers: usize) -> Plan<'static, OpenGate>
+        ensures threshold { result.threshold ≡ threshold }
+        ensures workers { result.workers ≡ workers }
+    {
+        Plan {
+            threshold,
+            workers,
+            gate: &OpenGate,
+        }
+    }
 }
 
 impl<G> Plan<'_, G> {

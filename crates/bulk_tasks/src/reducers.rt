@@ -1,8 +1,8 @@
-//! Reducers of signed numbers.
+//! Reducers of numbers: what they are, and how they reduce signed ones.
 use crate::traits::{BasedReducer, Reducer};
 use std::alloc::AllocError;
 
-/// The sum of the values, as a number of 128 bits, in which it wraps. It is never refused.
+/// The sum of the values, signed or unsigned, as a number of 128 bits, in which it wraps. It is never refused.
 #[derive(Clone, Copy, Debug)]
 pub struct Sum;
 

@@ -1,3 +1,4 @@
 pub mod Hashing
 pub mod Classes
 pub mod Text
+pub mod Numbers

@@ -2,6 +2,7 @@
 ghost use Rattle.std.specs.Prelude.{◌≡◌, true, false, MatchOption};
 ghost use Rattle.hashkeys.specs.Text.{is_key, is_word_byte, are_word_bytes, code_of};
 
+use crate::bytes::bytes_code;
 use crate::hashing::HashKey;
 use std::alloc::AllocError;
 use std::cmp::Ordering;
@@ -110,11 +111,7 @@ impl HashKey for Key {
     ghost code = { code_of };
 
     fn hash_code(&self) -> u32 {
-        let mut code = 0u32;
-        for byte in self.bytes() {
-            code = code.wrapping_mul(31).wrapping_add(u32::from(*byte));
-        }
-        code
+        bytes_code(self.bytes())
     }
 
     ghost equal_is_same = { λ x y e. (bytes_decides x y).0 e };

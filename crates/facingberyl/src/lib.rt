@@ -1,0 +1,19 @@
+//! A concurrent hash map, in one import: the map and what its calls name, keys and functions ready to use, a team of
+//! clients that work on one map in threads, and bulk operations on a closed one.
+#![tactic(auto)]
+
+mod client;
+mod team;
+mod typed;
+mod work;
+
+/// Bulk operations on a closed map.
+pub use bulk_tasks as bulk;
+pub use chm::{
+    ByteString, Bytes, Call, Class, Entries, Fault, HashKey, Key, MOST_BINS, MOST_CALLS,
+    MOST_CLIENTS, Map, NotClosed, Opened, Pass, Quiet, Remap, Reply, Salt, Visit, retire_all,
+};
+pub use client::{Client, Seat};
+pub use functions::{Add, Greatest, NoFunction, Set};
+pub use team::Team;
+pub use work::Work;

@@ -1,0 +1,196 @@
+//! A map with the passes of all its clients.
+ghost use Rattle.std.specs.Prelude.{◌≡◌, ◌≤◌, ◌<◌, ◌⊎◌, ℕ, [], length, All, IfOk, IfErr, IsOk, IsErrOf, ◌↔◌, slice_index_or};
+ghost use Rattle.bin_history.specs.Copies.{IsExact};
+ghost use Rattle.count_ledger.specs.Opening.{new_passes};
+ghost use Rattle.count_ledger.specs.Views.{PassView};
+ghost use Rattle.bin_history.specs.Entries.{lookup};
+ghost use Rattle.chm.specs.Quiets.{entries_of};
+ghost use Rattle.chm.specs.Reopened.{in_classes};
+ghost use Rattle.chm.specs.Refusals.{AreClients, IsCapacity, IsMaking};
+ghost use Rattle.chm.specs.Sizes.{IsSizeFor, IsSizeFrom};
+
+use crate::work::{Work, work_as};
+use bin_history::Remap;
+use chm::{Fault, Map, NotClosed, Opened, Quiet};
+use count_ledger::{Pass, retire_all};
+use hashkeys::{HashKey, Salt};
+use std::alloc::Allocator;
+use std::marker::Model;
+use std::sync::Wait;
+use std::thread;
+use std::thread::Threads;
+
+/// How many threads work at once at most: as many as a map has clients.
+const MOST_THREADS: usize = 32;
+
+/// A map with the passes of all its clients, which it lends to threads. Dropped, it ends the passes with the map.
+pub struct Team<K: HashKey, V: Clone + Eq, F: Remap<K, V> + Clone, A: Allocator> {
+    map: Map<K, V, F, A>,
+    passes: Vec<Pass<K, V, F>, A>,
+}
+
+impl<K: HashKey, V: Clone + Eq, F: Remap<K, V> + Clone, A: Allocator> Model for Team<K, V, F, A> {
+    ghost use Rattle.facingberyl.specs.Teams.{TeamView, IsTeam};
+
+    ghost Value = { TeamView K V F };
+
+    ghost view = { λ t. record { map = t.map; passes = t.passes.items } };
+
+    ghost invariant = { λ t. IsTeam t.map t.passes.items };
+}
+
+impl<K: HashKey, V: Clone + Eq, F: Remap<K, V> + Clone, A: Allocator> Drop for Team<K, V, F, A> {
+    fn drop(self) {
+        let Team { map: _, passes } = self;
+        retire_all(passes);
+    }
+}
+
+impl<
+    K: HashKey + Drop,
+    V: Clone + Eq + Drop,
+    F: Remap<K, V> + Clone + Drop,
+    A: Allocator + Clone,
+> Team<K, V, F, A> {
+    /// A map without entries and its team of 1 to 32 clients. The map's table begins with the least power of two of bins
+    /// that is at least the capacity, which is 1 to 4,096. The salt of its hashes is 0.
+    pub fn new(alloc: A, capacity: usize, clients: u32) -> Result<Team<K, V, F, A>, Fault>
+        requires keys { IsExact K.is_clone }
+        requires values { IsExact V.is_clone }
+        ensures ok { IsOk result → IsCapacity capacity × AreClients clients }
+        ensures salt { IfOk result (λ t. t.map.ledger.salt ≡ record { 0 = 0 }) }
+        ensures clients { IfOk result (λ t. t.map.ledger.clients ≡ clients) }
+        ensures opening { IfOk result (λ t. t.map.ledger.opening ≡ []) }
+        ensures size { IfOk result (λ t. IsSizeFor capacity t.map.n) }
+        ensures passes { IfOk result (λ t. t.passes ≡ new_passes t.map.ledger.id clients) }
+        ensures capacity { IsErrOf result Fault.BadCapacity ↔ (¬ IsCapacity capacity) }
+        ensures some { IsErrOf result Fault.BadClients ↔ (IsCapacity capacity × (¬ AreClients clients)) }
+        ensures faults { IfErr result IsMaking }
+    {
+        Team::with_salt(alloc, capacity, clients, Salt(0))
+    }
+
+    /// The same with a salt, with which the codes of keys are mixed.
+    pub fn with_salt(
+        alloc: A,
+        capacity: usize,
+        clients: u32,
+        salt: Salt,
+    ) -> Result<Team<K, V, F, A>, Fault>
+        requires keys { IsExact K.is_clone }
+        requires values { IsExact V.is_clone }
+        ensures ok { IsOk result → IsCapacity capacity × AreClients clients }
+        ensures salt { IfOk result (λ t. t.map.ledger.salt ≡ salt) }
+        ensures clients { IfOk result (λ t. t.map.ledger.clients ≡ clients) }
+        ensures opening { IfOk result (λ t. t.map.ledger.opening ≡ []) }
+        ensures size { IfOk result (λ t. IsSizeFor capacity t.map.n) }
+        ensures passes { IfOk result (λ t. t.passes ≡ new_passes t.map.ledger.id clients) }
+        ensures capacity { IsErrOf result Fault.BadCapacity ↔ (¬ IsCapacity capacity) }
+        ensures some { IsErrOf result Fault.BadClients ↔ (IsCapacity capacity × (¬ AreClients clients)) }
+        ensures faults { IfErr result IsMaking }
+    {
+        let (map, passes) = Map::with_salt(alloc, capacity, clients, salt)?;
+        Ok(Team { map, passes })
+    }
+
+    /// A closed map's pairs in a new map, and its team of 1 to 32 clients, as `Quiet::reopen` opens it. The closed map
+    /// stays as it is.
+    pub fn reopen(closed: &Quiet<K, V, F, A>, clients: u32) -> Result<Team<K, V, F, A>, Fault>
+        requires keys { IsExact K.is_clone }
+        requires values { IsExact V.is_clone }
+        ensures ok { IsOk result → (length (entries_of closed.now.bins) ≤ 4294967295) × AreClients clients }
+        ensures salt { IfOk result (λ t. t.map.ledger.salt ≡ closed.now.ledger.salt) }
+        ensures clients { IfOk result (λ t. t.map.ledger.clients ≡ clients) }
+        ensures opening { IfOk result (λ t. t.map.ledger.opening ≡ in_classes K.code closed.now.ledger.salt t.map.n (entries_of closed.now.bins)) }
+        ensures same_map { IfOk result (λ t. (k : K) → lookup K.eq t.map.ledger.opening k ≡ lookup K.eq (entries_of closed.now.bins) k) }
+        ensures size { IfOk result (λ t. IsSizeFrom closed.now.n (length (entries_of closed.now.bins)) t.map.n) }
+        ensures passes { IfOk result (λ t. t.passes ≡ new_passes t.map.ledger.id clients) }
+        ensures capacity { IsErrOf result Fault.BadCapacity ↔ (4294967295 < length (entries_of closed.now.bins)) }
+        ensures some { IsErrOf result Fault.BadClients ↔ ((length (entries_of closed.now.bins) ≤ 4294967295) × (¬ AreClients clients)) }
+        ensures faults { IfErr result IsMaking }
+    {
+        let (map, passes) = closed.reopen(clients)?;
+        Ok(Team { map, passes })
+    }
+
+    /// All clients work at the same time, each in a thread of its own; one whose thread cannot be started works in a
+    /// thread that there is, after others. All have ended when this returns.
+    pub fn work<R: Threads + Wait + Sync, W: Work<K, V, F, A> + Sync>(&mut self, rt: &R, work: &W)
+    where
+        K: Send + Sync,
+        V: Send + Sync,
+        F: Send + Sync,
+        A: Send + Sync,
+        ensures map { self.new.map ≡ self.old.map }
+        ensures len { length self.new.passes ≡ length self.old.passes }
+        ensures done { (i : ℕ) (d : PassView K V F) → i < length self.old.passes → W.does work.now (slice_index_or self.old.passes i d) (slice_index_or self.new.passes i d) }
+    {
+        let map = &self.map;
+        let lend = |_number: usize, pass: &mut Pass<K, V, F>|
+            requires { pass.now.ledger ≡ map.now.ledger.id }
+            ensures ledger { pass.exit.now.ledger ≡ pass.entry.now.ledger }
+            ensures done { W.does work.entry.now pass.entry.now pass.exit.now }
+        { work_as(rt, map, pass, work) };
+        thread::for_each_mut(rt, &mut self.passes, MOST_THREADS, &lend);
+    }
+
+    /// Closes the map, as `Map::close` does. Where it is refused the passes end, and the map with them: to try again
+    /// take the team apart and close the map itself.
+    pub fn close<R: Wait>(self, rt: &R) -> Result<Quiet<K, V, F, A>, Fault>
+        ensures ledger { IfOk result (λ q. q.ledger ≡ self.map.ledger) }
+        ensures n { IfOk result (λ q. q.n ≡ self.map.n) }
+        ensures passes { IfOk result (λ q. q.passes ≡ self.passes) }
+        ensures faults { IfErr result (λ fault. (fault ≡ Fault.NoMemory) ⊎ (fault ≡ Fault.BinMissing)) }
+    {
+        let Team { map, passes } = self;
+        match map.close(rt, passes) {
+            Ok(quiet) => Ok(quiet),
+            Err(not_closed) => {
+                let NotClosed {
+                    fault,
+                    map: _,
+                    passes,
+                } = not_closed;
+                retire_all(passes);
+                Err(fault)
+            }
+        }
+    }
+}
+
+impl<K: HashKey, V: Clone + Eq, F: Remap<K, V> + Clone, A: Allocator> Team<K, V, F, A> {
+    /// The team of a map, of the passes of all its clients.
+    pub fn of(map: Map<K, V, F, A>, passes: Vec<Pass<K, V, F>, A>) -> Team<K, V, F, A>
+        requires own { All (λ p. p.ledger ≡ map.ledger.id) passes.items }
+        requires all { length passes.items ≡ map.ledger.clients }
+        ensures map { result.map ≡ map }
+        ensures passes { result.passes ≡ passes.items }
+    {
+        Team { map, passes }
+    }
+
+    /// The map, which shows what needs no pass.
+    pub fn map(&self) -> &Map<K, V, F, A>
+        ensures { result.now ≡ self.now.map }
+    {
+        &self.map
+    }
+
+    /// The passes of the clients, client 0's first.
+    pub fn passes(&self) -> &[Pass<K, V, F>]
+        ensures { result.now ≡ self.now.passes }
+    {
+        &self.passes
+    }
+
+    /// The map and the passes of its clients, client 0's first.
+    pub fn into_parts(self) -> Opened<K, V, F, A>
+        ensures map { result.0 ≡ self.map }
+        ensures passes { result.1.items ≡ self.passes }
+        ensures own { All (λ p. p.ledger ≡ self.map.ledger.id) self.passes }
+        ensures all { length self.passes ≡ self.map.ledger.clients }
+    {
+        let Team { map, passes } = self;
+        (map, passes)
+    }
+}

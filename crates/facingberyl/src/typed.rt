@@ -1,0 +1,241 @@
+//! The twelve calls of a client, each with an answer of its own type.
+ghost use Rattle.std.specs.Prelude.{◌≡◌, ◌↔◌, Bool, Option, length, IfOk, IfErr, IsErrOf, OnErr};
+ghost use Rattle.bin_history.specs.Copies.{IsExact};
+ghost use Rattle.bin_history.specs.declared.call.Call.TheVariants.{Get, Contains, Put, PutIfAbsent, Remove, RemoveIf, Replace, ReplaceIf, ComputeIfAbsent, ComputeIfPresent, Compute, Merge};
+ghost use Rattle.bin_history.specs.declared.call.Reply.TheVariants.{Value, Truth};
+ghost use Rattle.chm.specs.Called.{IsCalled};
+ghost use Rattle.chm.specs.Refusals.{IsOfCall};
+
+use crate::client::{Client, Seat};
+use bin_history::{Remap, Reply};
+use chm::Fault;
+use hashkeys::HashKey;
+use std::alloc::Allocator;
+use std::sync::Wait;
+
+/// The value of a reply that is one.
+fn value_in<V: Drop>(reply: Reply<V>) -> Option<V>
+    requires { (value : Option V) × (reply ≡ Value value) }
+    ensures { reply ≡ Value result }
+{
+    match reply {
+        Reply::Value(value) => value,
+        Reply::Truth(_) => unreachable!(),
+    }
+}
+
+/// The truth of a reply that is one.
+fn truth_in<V: Drop>(reply: Reply<V>) -> bool
+    requires { (truth : Bool) × (reply ≡ Truth truth) }
+    ensures { reply ≡ Truth result }
+{
+    match reply {
+        Reply::Value(_) => unreachable!(),
+        Reply::Truth(truth) => truth,
+    }
+}
+
+impl<
+    S: Seat,
+    K: HashKey + Drop,
+    V: Clone + Eq + Drop,
+    F: Remap<K, V> + Clone + Drop,
+    A: Allocator + Clone,
+> Client<'_, S, K, V, F, A> {
+    /// The value at the key.
+    pub fn get<R: Wait>(&mut self, rt: &R, key: K) -> Result<Option<V>, Fault>
+        requires keys { IsExact K.is_clone }
+        requires values { IsExact V.is_clone }
+        requires functions { IsExact F.is_clone }
+        ensures called { IfOk result (λ answer. IsCalled K.eq K.code V.eq F.remapped F.merged self.old.map.now.ledger (Get key) self.old.pass.now self.new.pass.now (Value answer)) }
+        ensures refused { OnErr result (self.new.pass.now ≡ self.old.pass.now) }
+        ensures full { IsErrOf result Fault.PassFull ↔ (length self.old.pass.now.made ≡ 1000000) }
+        ensures faults { IfErr result IsOfCall }
+        ensures map { self.new.map.now ≡ self.old.map.now }
+    {
+        let reply = self.map.get(rt, self.pass, key)?;
+        Ok(value_in(reply))
+    }
+
+    /// Whether the key has a value.
+    pub fn contains_key<R: Wait>(&mut self, rt: &R, key: K) -> Result<bool, Fault>
+        requires keys { IsExact K.is_clone }
+        requires values { IsExact V.is_clone }
+        requires functions { IsExact F.is_clone }
+        ensures called { IfOk result (λ answer. IsCalled K.eq K.code V.eq F.remapped F.merged self.old.map.now.ledger (Contains key) self.old.pass.now self.new.pass.now (Truth answer)) }
+        ensures refused { OnErr result (self.new.pass.now ≡ self.old.pass.now) }
+        ensures full { IsErrOf result Fault.PassFull ↔ (length self.old.pass.now.made ≡ 1000000) }
+        ensures faults { IfErr result IsOfCall }
+        ensures map { self.new.map.now ≡ self.old.map.now }
+    {
+        let reply = self.map.contains_key(rt, self.pass, key)?;
+        Ok(truth_in(reply))
+    }
+
+    /// Gives the key this value. It answers the value before.
+    pub fn put<R: Wait>(&mut self, rt: &R, key: K, value: V) -> Result<Option<V>, Fault>
+        requires keys { IsExact K.is_clone }
+        requires values { IsExact V.is_clone }
+        requires functions { IsExact F.is_clone }
+        ensures called { IfOk result (λ answer. IsCalled K.eq K.code V.eq F.remapped F.merged self.old.map.now.ledger (Put key value) self.old.pass.now self.new.pass.now (Value answer)) }
+        ensures refused { OnErr result (self.new.pass.now ≡ self.old.pass.now) }
+        ensures full { IsErrOf result Fault.PassFull ↔ (length self.old.pass.now.made ≡ 1000000) }
+        ensures faults { IfErr result IsOfCall }
+        ensures map { self.new.map.now ≡ self.old.map.now }
+    {
+        let reply = self.map.put(rt, self.pass, key, value)?;
+        Ok(value_in(reply))
+    }
+
+    /// Gives the key this value where it has none. It answers the value before.
+    pub fn put_if_absent<R: Wait>(&mut self, rt: &R, key: K, value: V) -> Result<Option<V>, Fault>
+        requires keys { IsExact K.is_clone }
+        requires values { IsExact V.is_clone }
+        requires functions { IsExact F.is_clone }
+        ensures called { IfOk result (λ answer. IsCalled K.eq K.code V.eq F.remapped F.merged self.old.map.now.ledger (PutIfAbsent key value) self.old.pass.now self.new.pass.now (Value answer)) }
+        ensures refused { OnErr result (self.new.pass.now ≡ self.old.pass.now) }
+        ensures full { IsErrOf result Fault.PassFull ↔ (length self.old.pass.now.made ≡ 1000000) }
+        ensures faults { IfErr result IsOfCall }
+        ensures map { self.new.map.now ≡ self.old.map.now }
+    {
+        let reply = self.map.put_if_absent(rt, self.pass, key, value)?;
+        Ok(value_in(reply))
+    }
+
+    /// Takes the key away. It answers the value before.
+    pub fn remove<R: Wait>(&mut self, rt: &R, key: K) -> Result<Option<V>, Fault>
+        requires keys { IsExact K.is_clone }
+        requires values { IsExact V.is_clone }
+        requires functions { IsExact F.is_clone }
+        ensures called { IfOk result (λ answer. IsCalled K.eq K.code V.eq F.remapped F.merged self.old.map.now.ledger (Remove key) self.old.pass.now self.new.pass.now (Value answer)) }
+        ensures refused { OnErr result (self.new.pass.now ≡ self.old.pass.now) }
+        ensures full { IsErrOf result Fault.PassFull ↔ (length self.old.pass.now.made ≡ 1000000) }
+        ensures faults { IfErr result IsOfCall }
+        ensures map { self.new.map.now ≡ self.old.map.now }
+    {
+        let reply = self.map.remove(rt, self.pass, key)?;
+        Ok(value_in(reply))
+    }
+
+    /// Takes the key away where it has this value. It answers whether it had.
+    pub fn remove_if<R: Wait>(&mut self, rt: &R, key: K, value: V) -> Result<bool, Fault>
+        requires keys { IsExact K.is_clone }
+        requires values { IsExact V.is_clone }
+        requires functions { IsExact F.is_clone }
+        ensures called { IfOk result (λ answer. IsCalled K.eq K.code V.eq F.remapped F.merged self.old.map.now.ledger (RemoveIf key value) self.old.pass.now self.new.pass.now (Truth answer)) }
+        ensures refused { OnErr result (self.new.pass.now ≡ self.old.pass.now) }
+        ensures full { IsErrOf result Fault.PassFull ↔ (length self.old.pass.now.made ≡ 1000000) }
+        ensures faults { IfErr result IsOfCall }
+        ensures map { self.new.map.now ≡ self.old.map.now }
+    {
+        let reply = self.map.remove_if(rt, self.pass, key, value)?;
+        Ok(truth_in(reply))
+    }
+
+    /// Gives the key this value where it has one. It answers the value before.
+    pub fn replace<R: Wait>(&mut self, rt: &R, key: K, value: V) -> Result<Option<V>, Fault>
+        requires keys { IsExact K.is_clone }
+        requires values { IsExact V.is_clone }
+        requires functions { IsExact F.is_clone }
+        ensures called { IfOk result (λ answer. IsCalled K.eq K.code V.eq F.remapped F.merged self.old.map.now.ledger (Replace key value) self.old.pass.now self.new.pass.now (Value answer)) }
+        ensures refused { OnErr result (self.new.pass.now ≡ self.old.pass.now) }
+        ensures full { IsErrOf result Fault.PassFull ↔ (length self.old.pass.now.made ≡ 1000000) }
+        ensures faults { IfErr result IsOfCall }
+        ensures map { self.new.map.now ≡ self.old.map.now }
+    {
+        let reply = self.map.replace(rt, self.pass, key, value)?;
+        Ok(value_in(reply))
+    }
+
+    /// Gives the key the new value where it has the old one. It answers whether it had.
+    pub fn replace_if<R: Wait>(&mut self, rt: &R, key: K, old: V, new: V) -> Result<bool, Fault>
+        requires keys { IsExact K.is_clone }
+        requires values { IsExact V.is_clone }
+        requires functions { IsExact F.is_clone }
+        ensures called { IfOk result (λ answer. IsCalled K.eq K.code V.eq F.remapped F.merged self.old.map.now.ledger (ReplaceIf key old new) self.old.pass.now self.new.pass.now (Truth answer)) }
+        ensures refused { OnErr result (self.new.pass.now ≡ self.old.pass.now) }
+        ensures full { IsErrOf result Fault.PassFull ↔ (length self.old.pass.now.made ≡ 1000000) }
+        ensures faults { IfErr result IsOfCall }
+        ensures map { self.new.map.now ≡ self.old.map.now }
+    {
+        let reply = self.map.replace_if(rt, self.pass, key, old, new)?;
+        Ok(truth_in(reply))
+    }
+
+    /// Gives a key without a value what the function makes of none. It answers the value after.
+    pub fn compute_if_absent<R: Wait>(
+        &mut self,
+        rt: &R,
+        key: K,
+        function: F,
+    ) -> Result<Option<V>, Fault>
+        requires keys { IsExact K.is_clone }
+        requires values { IsExact V.is_clone }
+        requires functions { IsExact F.is_clone }
+        ensures called { IfOk result (λ answer. IsCalled K.eq K.code V.eq F.remapped F.merged self.old.map.now.ledger (ComputeIfAbsent key function) self.old.pass.now self.new.pass.now (Value answer)) }
+        ensures refused { OnErr result (self.new.pass.now ≡ self.old.pass.now) }
+        ensures full { IsErrOf result Fault.PassFull ↔ (length self.old.pass.now.made ≡ 1000000) }
+        ensures faults { IfErr result IsOfCall }
+        ensures map { self.new.map.now ≡ self.old.map.now }
+    {
+        let reply = self.map.compute_if_absent(rt, self.pass, key, function)?;
+        Ok(value_in(reply))
+    }
+
+    /// Gives a key with a value what the function makes of it. It answers the value after.
+    pub fn compute_if_present<R: Wait>(
+        &mut self,
+        rt: &R,
+        key: K,
+        function: F,
+    ) -> Result<Option<V>, Fault>
+        requires keys { IsExact K.is_clone }
+        requires values { IsExact V.is_clone }
+        requires functions { IsExact F.is_clone }
+        ensures called { IfOk result (λ answer. IsCalled K.eq K.code V.eq F.remapped F.merged self.old.map.now.ledger (ComputeIfPresent key function) self.old.pass.now self.new.pass.now (Value answer)) }
+        ensures refused { OnErr result (self.new.pass.now ≡ self.old.pass.now) }
+        ensures full { IsErrOf result Fault.PassFull ↔ (length self.old.pass.now.made ≡ 1000000) }
+        ensures faults { IfErr result IsOfCall }
+        ensures map { self.new.map.now ≡ self.old.map.now }
+    {
+        let reply = self.map.compute_if_present(rt, self.pass, key, function)?;
+        Ok(value_in(reply))
+    }
+
+    /// Gives the key what the function makes of its value, or of none. It answers the value after.
+    pub fn compute<R: Wait>(&mut self, rt: &R, key: K, function: F) -> Result<Option<V>, Fault>
+        requires keys { IsExact K.is_clone }
+        requires values { IsExact V.is_clone }
+        requires functions { IsExact F.is_clone }
+        ensures called { IfOk result (λ answer. IsCalled K.eq K.code V.eq F.remapped F.merged self.old.map.now.ledger (Compute key function) self.old.pass.now self.new.pass.now (Value answer)) }
+        ensures refused { OnErr result (self.new.pass.now ≡ self.old.pass.now) }
+        ensures full { IsErrOf result Fault.PassFull ↔ (length self.old.pass.now.made ≡ 1000000) }
+        ensures faults { IfErr result IsOfCall }
+        ensures map { self.new.map.now ≡ self.old.map.now }
+    {
+        let reply = self.map.compute(rt, self.pass, key, function)?;
+        Ok(value_in(reply))
+    }
+
+    /// Gives a key without a value this one, and a key with a value what the function makes of both. It answers the value
+    /// after.
+    pub fn merge<R: Wait>(
+        &mut self,
+        rt: &R,
+        key: K,
+        value: V,
+        function: F,
+    ) -> Result<Option<V>, Fault>
+        requires keys { IsExact K.is_clone }
+        requires values { IsExact V.is_clone }
+        requires functions { IsExact F.is_clone }
+        ensures called { IfOk result (λ answer. IsCalled K.eq K.code V.eq F.remapped F.merged self.old.map.now.ledger (Merge key value function) self.old.pass.now self.new.pass.now (Value answer)) }
+        ensures refused { OnErr result (self.new.pass.now ≡ self.old.pass.now) }
+        ensures full { IsErrOf result Fault.PassFull ↔ (length self.old.pass.now.made ≡ 1000000) }
+        ensures faults { IfErr result IsOfCall }
+        ensures map { self.new.map.now ≡ self.old.map.now }
+    {
+        let reply = self.map.merge(rt, self.pass, key, value, function)?;
+        Ok(value_in(reply))
+    }
+}

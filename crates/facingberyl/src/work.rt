@@ -1,0 +1,71 @@
+//! What a client does with a map.
+ghost use Rattle.std.specs.Prelude.{◌≡◌};
+
+use crate::client::{Client, Seat};
+use bin_history::Remap;
+use chm::Map;
+use count_ledger::Pass;
+use hashkeys::HashKey;
+use std::alloc::Allocator;
+use std::marker::{Brand, PhantomData};
+use std::sync::Wait;
+
+/// What each client of a team does, in a thread of its own, by calls with the pass that it is lent.
+pub trait Work<K: HashKey, V: Clone + Eq, F: Remap<K, V> + Clone, A: Allocator> {
+    ghost use Rattle.count_ledger.specs.Views.{PassView};
+
+    // What the work may leave of a pass.
+    ghost does: { Self → PassView K V F → PassView K V F → Type 0 } = { λ _ _ _. Unit {0} };
+
+    /// The work of a client: `client.number()` is 0 for the first, and so on.
+    fn work<S: Seat, R: Wait>(&self, rt: &R, client: &mut Client<'_, S, K, V, F, A>)
+        ensures { does self.now client.old.pass.now client.new.pass.now };
+}
+
+/// Lets a client work whose seat is known, and gives the pass back.
+fn work_seated<
+    'a,
+    S: Seat,
+    K: HashKey,
+    V: Clone + Eq,
+    F: Remap<K, V> + Clone,
+    A: Allocator,
+    W: Work<K, V, F, A>,
+    R: Wait,
+>(rt: &R, map: &'a Map<K, V, F, A>, pass: &'a mut Pass<K, V, F>, work: &W) -> &'a mut Pass<K, V, F>
+    requires map { map.now.ledger.id ≡ S.ledger }
+    requires pass { pass.old.ledger ≡ S.ledger }
+    requires lent { pass.ghost_name ≡ S.lent }
+    ensures lent { result.ghost_name ≡ pass.entry.ghost_name }
+    ensures ledger { result.now.ledger ≡ S.ledger }
+    ensures done { W.does work.now pass.old result.now }
+{
+    let mut client: Client<'a, S, K, V, F, A> = Client {
+        map,
+        pass,
+        seat: PhantomData,
+    };
+    work.work(rt, &mut client);
+    let Client {
+        map: _,
+        pass,
+        seat: _,
+    } = client;
+    pass
+}
+
+/// Lets a client work on its map.
+pub(crate) fn work_as<
+    K: HashKey,
+    V: Clone + Eq,
+    F: Remap<K, V> + Clone,
+    A: Allocator,
+    W: Work<K, V, F, A>,
+    R: Wait,
+>(rt: &R, map: &Map<K, V, F, A>, pass: &mut Pass<K, V, F>, work: &W)
+    requires { pass.old.ledger ≡ map.now.ledger.id }
+    ensures ledger { pass.new.ledger ≡ pass.old.ledger }
+    ensures done { W.does work.now pass.old pass.new }
+{
+    let _pass = work_seated::<Brand, K, V, F, A, W, R>(rt, map, pass, work);
+}

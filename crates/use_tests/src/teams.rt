@@ -1,0 +1,72 @@
+//! A team of one client, and refused teams.
+use facingberyl::bulk::{Greatest, Plan, reduce};
+use facingberyl::{Add, Client, Fault, NoFunction, Seat, Team, Work};
+use std::alloc::Global;
+use std::sync::Wait;
+use std::sync::atomic::AtomicU64;
+use std::sync::atomic::Ordering::SeqCst;
+use std::test::Fail;
+
+/// Makes each of the twelve calls, and counts the answers that are right.
+#[derive(Clone, Copy)]
+struct EachCall<'a> {
+    right: &'a AtomicU64,
+}
+
+impl EachCall<'_> {
+    fn note(&self, is_right: bool) {
+        if is_right {
+            self.right.fetch_add(1, SeqCst);
+        }
+    }
+}
+
+impl Work<u64, u64, Add, Global> for EachCall<'_> {
+    fn work<S: Seat, R: Wait>(&self, rt: &R, client: &mut Client<'_, S, u64, u64, Add, Global>) {
+        self.note(client.contains_key(rt, 1) == Ok(false));
+        self.note(client.replace(rt, 1, 9) == Ok(None));
+        self.note(client.put(rt, 1, 5) == Ok(None));
+        self.note(client.put_if_absent(rt, 1, 9) == Ok(Some(5)));
+        self.note(client.remove_if(rt, 1, 9) == Ok(false));
+        self.note(client.replace_if(rt, 1, 5, 6) == Ok(true));
+        self.note(client.merge(rt, 1, 4, Add) == Ok(Some(10)));
+        self.note(client.compute(rt, 1, Add) == Ok(Some(10)));
+        self.note(client.compute_if_absent(rt, 2, Add) == Ok(None));
+        self.note(client.compute_if_present(rt, 1, Add) == Ok(Some(10)));
+        self.note(client.put(rt, 3, 7) == Ok(None));
+        self.note(client.remove(rt, 1) == Ok(Some(10)));
+        self.note(client.get(rt, 3) == Ok(Some(7)));
+    }
+}
+
+#[test]
+fn each_typed_call_answers(rt: HostRuntime) -> Result<(), Fail> {
+    let right = AtomicU64::new(0);
+    let mut team = Team::new(rt.alloc(), 1, 1)?;
+    team.work(&rt, &EachCall { right: &right });
+    let made = team.passes().first().map(|pass| pass.made());
+    let closed = team.close(&rt)?;
+    let greatest = reduce(&rt, rt.alloc(), &closed, &Plan::new(0, 2), &Greatest)?;
+    let count = closed.mapping_count();
+    drop(closed);
+    assert_eq!(rt; right.load(SeqCst), 13);
+    assert_eq!(rt; made, Some(13));
+    assert_eq!(rt; greatest, Some(7));
+    assert_eq!(rt; count, 1);
+    Ok(())
+}
+
+#[test]
+fn a_team_is_refused(rt: HostRuntime) -> Result<(), Fail> {
+    let none = Team::<u64, u64, NoFunction, Global>::new(rt.alloc(), 0, 1).err();
+    let crowd = Team::<u64, u64, NoFunction, Global>::new(rt.alloc(), 4096, 33).err();
+    let taken_apart = Team::<u64, u64, NoFunction, Global>::new(rt.alloc(), 16, 3)?.into_parts();
+    let (map, passes) = taken_apart;
+    let team = Team::of(map, passes);
+    let clients = team.map().clients();
+    drop(team);
+    assert_eq!(rt; none, Some(Fault::BadCapacity));
+    assert_eq!(rt; crowd, Some(Fault::BadClients));
+    assert_eq!(rt; clients, 3);
+    Ok(())
+}
