@@ -3,4 +3,5 @@ mod Saying
 mod Readings
 mod Parts
 mod Functions
+mod Written
 mod Steps

@@ -2,11 +2,11 @@
 use Rattle.std.proofs.Common.{◌≡◌, ◌≢◌, ℕ, ◌+◌, ◌≤◌, ◌==◌, true, false, inl, inr, Option, Some, None, MatchOption, Bor, List, [], ◌∷◌, ◌++◌, length, Vec, map, All, refl, sym, ap, ◌∙◌, subst, arith, length-append}
 use Rattle.std.proofs.lemmas.Bool.Decides.{nat_tests}
 use Rattle.std.proofs.lemmas.List.{map-append}
-use Rattle.script.specs.Lines.{Word, BeginsWith, words, IsPrintable, IsSpaced}
+use Rattle.script.specs.Lines.{Word, BeginsWith, words}
 use Rattle.script.specs.Grammar.{ScriptCall, Line, Reads}
 use Rattle.script.specs.Reading.{Place, start, calls, queries, forms_at, Leads, IsLine, IsBad, Verdict, whole, faulty, IsRead, good, bad, cut, ended, missing}
 use Rattle.script.specs.Verdicts.{HasVerdict, IsJust, IsTold}
-use Rattle.script.specs.Drafts.{place_of, HasBadBytes, IsRefused, IsRefusedAtLimit, error_at}
+use Rattle.script.specs.Drafts.{place_of, HasBadBytes, IsRefused, IsMisread, IsRefusedAtLimit, error_at}
 use Rattle.script.specs.declared.draft.Draft.{Draft}
 use Rattle.script.specs.declared.draft.Draft.TheVariants as drafts
 use Rattle.script.specs.declared.script.Query.{Query}
@@ -15,21 +15,23 @@ use Rattle.script.specs.declared.fault.Kind.TheVariants as kinds
 use Rattle.script.specs.declared.fault.LineError.{LineError}
 use Rattle.script.specs.declared.fault.LineError.TheVariants.{NoMemory, Bad}
 use Rattle.script.proofs.Readings.{IsRead-same}
+use Rattle.script.proofs.Written.{Reads-printable, Reads-spaced}
 
 pub IsBad-from_bytes : (p : Place) (l : List ℕ) (kind : Kind) → HasBadBytes l kind → IsBad p l kind
 IsBad-from_bytes p l kind (inl h) = inl h
 IsBad-from_bytes p l kind (inr h) = inr (h.0, inl h.1)
 
-module _ (p : Place) (l : List ℕ) (ws : List Word) (printable : IsPrintable l) (spaced : IsSpaced l) (words_are : words l ≡ ws) where
-  pub IsLine-from_words : (line : Line) → Reads (forms_at p) ws line → IsLine p l line
-  IsLine-from_words line reads =
-      record { printable = printable; spaced = spaced; reads = subst (λ (vs : List Word). Reads (forms_at p) vs line) (sym words_are) reads }
+-- the words of a line that were read
+module _ (p : Place) (l : List ℕ) (ws : List Word) (words_are : words l ≡ ws) where
+  pub Reads-words : (line : Line) → Reads (forms_at p) ws line → Reads (forms_at p) (words l) line
+  Reads-words line reads = subst (λ (vs : List Word). Reads (forms_at p) vs line) (sym words_are) reads
 
-  pub IsRefused-at_limit : (line : Line) (e : LineError) → Reads (forms_at p) ws line → IsRefusedAtLimit p line e → IsRefused p l e
-  IsRefused-at_limit line NoMemory reads h = tt
-  IsRefused-at_limit line (Bad kind) reads h =
-      let here = subst (λ (vs : List Word). Reads (forms_at p) vs line) (sym words_are) reads in
-      inr (printable, inr (spaced, inr (line, here, h.0, h.1)))
+  pub IsMisread-at_limit : (line : Line) (e : LineError) → Reads (forms_at p) ws line → IsRefusedAtLimit p line e → IsMisread p l e
+  IsMisread-at_limit line NoMemory reads h = tt
+  IsMisread-at_limit line (Bad kind) reads h = inr (line, Reads-words line reads, h.0, h.1)
+
+pub IsLine-from_reads : (p : Place) (l : List ℕ) (line : Line) → Reads (forms_at p) (words l) line → IsLine p l line
+IsLine-from_reads p l line reads = record { printable = Reads-printable p l line reads; spaced = Reads-spaced p l line reads; reads = reads }
 
 -- one more block
 pub blocks_pushed : {X A : Type 0} (old new : List (Vec X A)) (b : Vec X A) → new ≡ old ++ b ∷ [] → map (λ v. v.items) new ≡ map (λ v. v.items) old ++ b.items ∷ []
@@ -94,7 +96,10 @@ module _ {A : Type 0} (text : List ℕ) (d : Draft A) (n : ℕ) (rest : List ℕ
       let there = subst (λ (p : Place). IsRead p n rest (whole blocks asked)) (sym at) here in
       IsJust-from text (whole blocks asked) (so_far (whole blocks asked) there)
 
-pub not_queries : {A : Type 0} (d : Draft A) → ((blocks : _) (asked : _) → d ≢ drafts.Queries blocks asked) → (blocks : List (List ScriptCall)) (asked : List Query) → place_of d ≢ queries blocks asked
-not_queries drafts.Start none blocks asked e = cc
-not_queries (drafts.Calls bs b) none blocks asked e = cc
-not_queries (drafts.Queries bs qs) none blocks asked e = none bs qs refl
+-- places that are not among the queries
+module _ {A : Type 0} (d : Draft A) where
+  pub not_queries-start : d ≡ drafts.Start → (blocks : List (List ScriptCall)) (asked : List Query) → place_of d ≢ queries blocks asked
+  not_queries-start e blocks asked at = cc
+
+  pub not_queries-calls : (bs : _) (b : _) → d ≡ drafts.Calls bs b → (blocks : List (List ScriptCall)) (asked : List Query) → place_of d ≢ queries blocks asked
+  not_queries-calls bs b e blocks asked at = cc

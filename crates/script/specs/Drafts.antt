@@ -1,8 +1,10 @@
 -- Where a draft of a script is, and what an attempt at its next line comes to.
-use Rattle.std.specs.Prelude.{◌≡◌, ℕ, List, map}
-use Rattle.script.specs.Lines.{IsPrintable, IsSpaced}
-use Rattle.script.specs.Grammar.{Line, client, query, call}
-use Rattle.script.specs.Reading.{Place, start, calls, queries, IsTooMany, FirstFails, IsBad}
+use Rattle.std.specs.Prelude.{◌≡◌, ℕ, ◌⊎◌, List, map}
+use Rattle.std.specs.declared.vec.Vec.{Vec}
+use Rattle.script.specs.Lines.{words, IsPrintable, IsSpaced}
+use Rattle.script.specs.Grammar.{ScriptCall, Line, client, query, call}
+use Rattle.script.specs.Faults.{AreWrong}
+use Rattle.script.specs.Reading.{Place, start, calls, queries, forms_at, IsTooMany, FirstFails, IsBeyond, IsBad}
 use Rattle.script.specs.declared.draft.Draft.{Draft}
 use Rattle.script.specs.declared.draft.Draft.TheVariants as drafts
 use Rattle.script.specs.declared.fault.LineError.{LineError}
@@ -14,9 +16,13 @@ use Rattle.script.specs.declared.fault.Kind.TheVariants as kinds
 use Rattle.script.specs.declared.forms.BlockLine.{BlockLine}
 use Rattle.script.specs.declared.forms.BlockLine.TheVariants as blocks
 
+-- in a block of these calls, after these blocks
+abbrev pub in_block : {A : Type 0} → List (Vec ScriptCall A) → List ScriptCall → Place
+in_block blocks block = calls (map (λ b. b.items) blocks) block
+
 abbrev pub place_of : {A : Type 0} → Draft A → Place
 place_of drafts.Start = start
-place_of (drafts.Calls blocks block) = calls (map (λ b. b.items) blocks.items) block.items
+place_of (drafts.Calls blocks block) = in_block blocks.items block.items
 place_of (drafts.Queries blocks asked) = queries (map (λ b. b.items) blocks.items) asked.items
 
 abbrev pub line_of : BlockLine → Line
@@ -32,6 +38,11 @@ HasBadBytes l kind = FirstFails (IsPrintable l) kinds.Bytes (λ k. (¬ IsSpaced 
 abbrev pub IsRefused : Place → List ℕ → LineError → Type 0
 IsRefused p l NoMemory = Unit {0}
 IsRefused p l (Bad kind) = IsBad p l kind
+
+-- a refusal of a line's words that is not for want of memory says which is wrong, or that the line is one too many
+abbrev pub IsMisread : Place → List ℕ → LineError → Type 0
+IsMisread p l NoMemory = Unit {0}
+IsMisread p l (Bad kind) = AreWrong (forms_at p) (words l) kind ⊎ IsBeyond p l kind
 
 -- or that it is one too many
 abbrev pub IsRefusedAtLimit : Place → Line → LineError → Type 0

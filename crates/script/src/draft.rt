@@ -1,15 +1,16 @@
 //! Scripts as far as they were read.
-ghost use Rattle.std.specs.Prelude.{map, OnOk, IfOk, IfErr};
-ghost use Rattle.script.specs.Lines.{IsPrintable, IsSpaced};
-ghost use Rattle.script.specs.Grammar.{Line};
-ghost use Rattle.script.specs.Reading.{calls, IsLine, Leads};
-ghost use Rattle.script.specs.Drafts.{place_of, line_of, HasBadBytes, IsRefused, IsRefusedAtLimit};
+ghost use Rattle.std.specs.Prelude.{List, OnOk, IfErr};
+ghost use Rattle.script.specs.Lines.{words, IsPrintable, IsSpaced};
+ghost use Rattle.script.specs.Grammar.{ScriptCall as CallView, Line, Reads, client, call as call_line};
+ghost use Rattle.script.specs.Reading.{calls, forms_at, IsLine, Leads};
+ghost use Rattle.script.specs.Drafts.{in_block, place_of, HasBadBytes, IsRefused, IsMisread, IsRefusedAtLimit};
 
 use crate::fault::{Kind, LineError};
 use crate::forms::{BlockLine, read_in_block, read_query, read_start};
 use crate::script::{Query, ScriptCall};
 use crate::words::first_word;
 use std::alloc::Allocator;
+use std::mem;
 
 /// The most blocks that a script may have.
 const MOST_BLOCKS: usize = 32;
@@ -50,73 +51,87 @@ fn check_bytes(line: &[u8]) -> Result<(), Kind>
 }
 
 impl<A: Allocator + Clone> Draft<A> {
-    /// The draft after one more line, of these bytes.
-    pub(crate) fn after(self, alloc: A, line: &[u8]) -> Result<Draft<A>, LineError>
-        ensures ok { IfOk result (λ next. (said : Line) × IsLine (place_of self) line.now said
-            × Leads (place_of self) said (place_of next)) }
-        ensures err { IfErr result (IsRefused (place_of self) line.now) }
+    /// Takes one more line, of these bytes. Where all words are right, so are the bytes: they are looked at only where
+    /// one is wrong.
+    pub(crate) fn take(&mut self, alloc: A, line: &[u8]) -> Result<(), LineError>
+        ensures ok { OnOk result ((said : Line) × IsLine (place_of self.old) line.now said
+            × Leads (place_of self.old) said (place_of self.new)) }
+        ensures err { IfErr result (IsRefused (place_of self.old) line.now) }
     {
-        check_bytes(line)?;
+        match self.take_words(alloc, line) {
+            Ok(()) => Ok(()),
+            Err(LineError::NoMemory) => Err(LineError::NoMemory),
+            Err(LineError::Bad(kind)) => {
+                check_bytes(line)?;
+                Err(LineError::Bad(kind))
+            }
+        }
+    }
+
+    /// Takes what the words of one more line say.
+    fn take_words(&mut self, alloc: A, line: &[u8]) -> Result<(), LineError>
+        ensures ok { OnOk result ((said : Line) × Reads (forms_at (place_of self.old)) (words line.now) said
+            × Leads (place_of self.old) said (place_of self.new)) }
+        ensures err { IfErr result (IsMisread (place_of self.old) line.now) }
+    {
         let (first, rest) = first_word(line);
         match self {
             Draft::Start => {
                 read_start(first, rest)?;
-                Ok(Draft::Calls {
+                *self = Draft::Calls {
                     blocks: Vec::new(alloc.clone()?),
                     block: Vec::new(alloc),
-                })
+                };
+                Ok(())
             }
-            Draft::Calls { blocks, block } => {
-                let line = read_in_block(first, rest)?;
-                after_in_block(alloc, blocks, block, line)
-            }
-            Draft::Queries {
-                blocks,
-                mut queries,
-            } => {
+            Draft::Calls { blocks, block } => match read_in_block(first, rest)? {
+                BlockLine::Client => push_block(alloc, blocks, block),
+                BlockLine::Query => {
+                    blocks.push(mem::replace(block, Vec::new(alloc.clone()?)))?;
+                    *self = Draft::Queries {
+                        blocks: mem::replace(blocks, Vec::new(alloc.clone()?)),
+                        queries: Vec::new(alloc),
+                    };
+                    Ok(())
+                }
+                BlockLine::Call(call) => push_call(block, call),
+            },
+            Draft::Queries { blocks: _, queries } => {
                 let query = read_query(first, rest)?;
                 queries.push(query)?;
-                Ok(Draft::Queries { blocks, queries })
+                Ok(())
             }
         }
     }
 }
 
-/// The draft after a line in a client's block.
-fn after_in_block<A: Allocator>(
+/// Ends a block, and begins the next.
+fn push_block<A: Allocator>(
     alloc: A,
-    mut blocks: Vec<Vec<ScriptCall, A>, A>,
-    mut block: Vec<ScriptCall, A>,
-    line: BlockLine,
-) -> Result<Draft<A>, LineError>
-    ensures ok { IfOk result (λ next. Leads (calls (map (λ b. b.items) blocks.items) block.items) (line_of line)
-        (place_of next)) }
-    ensures err { IfErr result (IsRefusedAtLimit (calls (map (λ b. b.items) blocks.items) block.items) (line_of line)) }
+    blocks: &mut Vec<Vec<ScriptCall, A>, A>,
+    block: &mut Vec<ScriptCall, A>,
+) -> Result<(), LineError>
+    ensures ok { OnOk result (Leads (in_block blocks.old.items block.old.items) client (in_block blocks.new.items block.new.items)) }
+    ensures err { IfErr result (IsRefusedAtLimit (in_block blocks.old.items block.old.items) client) }
 {
-    match line {
-        BlockLine::Client => {
-            if blocks.len() >= MOST_BLOCKS - 1 {
-                return Err(LineError::Bad(Kind::Limit));
-            }
-            blocks.push(block)?;
-            Ok(Draft::Calls {
-                blocks,
-                block: Vec::new(alloc),
-            })
-        }
-        BlockLine::Query => {
-            blocks.push(block)?;
-            Ok(Draft::Queries {
-                blocks,
-                queries: Vec::new(alloc),
-            })
-        }
-        BlockLine::Call(call) => {
-            if block.len() >= MOST_CALLS {
-                return Err(LineError::Bad(Kind::Limit));
-            }
-            block.push(call)?;
-            Ok(Draft::Calls { blocks, block })
-        }
+    if blocks.len() >= MOST_BLOCKS - 1 {
+        return Err(LineError::Bad(Kind::Limit));
     }
+    blocks.push(mem::replace(block, Vec::new(alloc)))?;
+    Ok(())
+}
+
+/// Puts a call at the end of a block.
+fn push_call<A: Allocator>(
+    block: &mut Vec<ScriptCall, A>,
+    call: ScriptCall,
+) -> Result<(), LineError>
+    ensures ok { OnOk result ((blocks : List (List CallView)) → Leads (calls blocks block.old.items) (call_line call) (calls blocks block.new.items)) }
+    ensures err { IfErr result (λ e. (blocks : List (List CallView)) → IsRefusedAtLimit (calls blocks block.old.items) (call_line call) e) }
+{
+    if block.len() >= MOST_CALLS {
+        return Err(LineError::Bad(Kind::Limit));
+    }
+    block.push(call)?;
+    Ok(())
 }

@@ -28,7 +28,7 @@ pub(crate) enum BlockLine {
 fn is(name: &[u8], first: &[u8]) -> bool
     ensures { result ≡ pointwise nat_eq name.now first.now }
 {
-    name == first
+    name.len() == first.len() && name == first
 }
 
 /// Reads the first line of a script, which opens the first block.

@@ -1,5 +1,6 @@
 //! The text of a script, read line by line.
-ghost use Rattle.std.specs.Prelude.{IfOk, IfErr};
+ghost use Rattle.std.specs.Prelude.{◌≡◌, IfOk, IfErr};
+ghost use Rattle.script.specs.declared.fault.ParseError.TheVariants as errors;
 ghost use Rattle.script.specs.Verdicts.{blocks_of, IsText, IsTold, IsWithinLimits};
 
 use crate::bytes::split_at_byte;
@@ -29,18 +30,29 @@ pub fn parse<A: Allocator + Clone>(alloc: A, text: &[u8]) -> Result<Script<A>, P
                 kind: Kind::Cut,
             }));
         };
-        draft = match draft.after(alloc.clone()?, line) {
-            Ok(next) => next,
+        match draft.take(alloc.clone()?, line) {
+            Ok(()) => {}
             Err(error) => return Err(error.at(number)),
-        };
+        }
         rest = more;
         number += 1;
     }
     match draft {
         Draft::Queries { blocks, queries } => Ok(Script { blocks, queries }),
-        _ => Err(ParseError::Fault(Fault {
-            line: number,
-            kind: Kind::Missing,
-        })),
+        Draft::Start => Err(missing_at(number)),
+        Draft::Calls {
+            blocks: _blocks,
+            block: _block,
+        } => Err(missing_at(number)),
     }
+}
+
+/// The error of a text that ends too early, before the line of this number.
+fn missing_at(line: u64) -> ParseError
+    ensures { result ≡ errors.Fault (record { line = line; kind = Kind.Missing }) }
+{
+    ParseError::Fault(Fault {
+        line,
+        kind: Kind::Missing,
+    })
 }

@@ -2,7 +2,7 @@ use Rattle.std.proofs.Common.{sym, ap, ◌∙◌, arith}
 use Rattle.script.specs.Reading.{start}
 use Rattle.script.specs.Drafts.{place_of}
 use Rattle.script.proofs.Readings.{IsRead-within}
-use Rattle.script.proofs.Steps.{BeginsWith-split, BeginsWith-shorter, no_line_feed-split, some_left, none_left, so_far-more, told-bad, told-cut, told-missing, told-whole, not_queries}
+use Rattle.script.proofs.Steps.{BeginsWith-split, BeginsWith-shorter, no_line_feed-split, some_left, none_left, so_far-more, told-bad, told-cut, told-missing, told-whole, not_queries-start, not_queries-calls}
 use Rattle.script.proofs.text.parse.Goals as goal
 
 pub returns-in_default-clause-fault : goal.returns-in_default-clause-fault
@@ -22,7 +22,7 @@ lines-preserved g c =
     let (said, is, leads) = c.in-Ok.ensures.ok in
     let shorter = BeginsWith-shorter _ _ _ begins in
     record {
-      so_far = so_far-more c.args.text.now c.lines.draft c.lines.number _ c.lines.invariant.so_far c.in-Ok.next _ _ said begins is leads;
+      so_far = so_far-more c.args.text.now c.lines.draft c.lines.number _ c.lines.invariant.so_far _ _ _ said begins is leads;
       counted = omega (arith, shorter, c.lines.invariant.counted);
     }
 
@@ -37,7 +37,12 @@ returns-in-Queries-clause-limits g c =
     let just = told-whole c.args.text.now c.lines.draft c.lines.number _ c.lines.invariant.so_far _ _ ended (ap place_of c.in-Queries.is) in
     IsRead-within start 1 c.args.text.now _ just.holds tt
 
-pub returns : goal.returns
-returns g c =
+pub returns-in-Start-clause-fault : goal.returns-in-Start-clause-fault
+returns-in-Start-clause-fault g c =
     let ended = none_left c.lines.rest.now (sym c.is_empty.ensures ∙ c.lines-test.false) in
-    record { script = tt; fault = told-missing c.args.text.now c.lines.draft c.lines.number _ c.lines.invariant.so_far ended (not_queries c.lines.draft c.in_default-draft.not-Queries); limits = tt }
+    rw c.missing_at.ensures (told-missing c.args.text.now c.lines.draft c.lines.number _ c.lines.invariant.so_far ended (not_queries-start c.lines.draft c.in-Start.is))
+
+pub returns-clause-fault : goal.returns-clause-fault
+returns-clause-fault g c =
+    let ended = none_left c.lines.rest.now (sym c.is_empty.ensures ∙ c.lines-test.false) in
+    rw c.missing_at-in-Calls.ensures (told-missing c.args.text.now c.lines.draft c.lines.number _ c.lines.invariant.so_far ended (not_queries-calls c.lines.draft _ _ c.in-Calls.is))
