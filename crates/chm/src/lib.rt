@@ -18,9 +18,9 @@ mod size;
 mod under;
 mod visit;
 
-pub use bin_history::{Call, Remap, Reply};
+pub use bin_history::{Call, Form, Remap, Reply};
 pub use close::NotClosed;
-pub use count_ledger::{MOST_CALLS, MOST_CLIENTS, Pass, retire_all};
+pub use count_ledger::{MOST_CALLS, MOST_CLIENTS, MOST_LEAN_CALLS, Pass, retire_all};
 pub use fault::Fault;
 pub use hashkeys::{ByteString, Bytes, Class, HashKey, Key, Salt};
 pub use map::{Map, Opened};

@@ -10,8 +10,9 @@ mod work;
 /// Bulk operations on a closed map.
 pub use bulk_tasks as bulk;
 pub use chm::{
-    ByteString, Bytes, Call, Class, Entries, Fault, HashKey, Key, MOST_BINS, MOST_CALLS,
-    MOST_CLIENTS, Map, NotClosed, Opened, Pass, Quiet, Remap, Reply, Salt, Visit, retire_all,
+    ByteString, Bytes, Call, Class, Entries, Fault, Form, HashKey, Key, MOST_BINS, MOST_CALLS,
+    MOST_CLIENTS, MOST_LEAN_CALLS, Map, NotClosed, Opened, Pass, Quiet, Remap, Reply, Salt, Visit,
+    retire_all,
 };
 pub use client::{Client, Seat};
 pub use functions::{Add, Greatest, NoFunction, Set};

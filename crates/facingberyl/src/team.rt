@@ -4,6 +4,7 @@ ghost use Rattle.bin_history.specs.Copies.{IsExact};
 ghost use Rattle.count_ledger.specs.Opening.{new_passes};
 ghost use Rattle.count_ledger.specs.Views.{PassView};
 ghost use Rattle.bin_history.specs.Entries.{lookup};
+ghost use Rattle.bin_history.specs.declared.form.Form.TheVariants.{Lean};
 ghost use Rattle.chm.specs.Quiets.{entries_of};
 ghost use Rattle.chm.specs.Reopened.{in_classes};
 ghost use Rattle.chm.specs.Refusals.{AreClients, IsCapacity, IsMaking};
@@ -53,11 +54,13 @@ impl<
     A: Allocator + Clone,
 > Team<K, V, F, A> {
     /// A map without entries and its team of 1 to 32 clients. The map's table begins with the least power of two of bins
-    /// that is at least the capacity, which is 1 to 4,096. The salt of its hashes is 0.
+    /// that is at least the capacity, which is 1 to 4,096. The salt of its hashes is 0. The map is lean: it stores no records
+    /// of calls, and a client makes 2^57 of them. `Team::of` takes a map of the other form.
     pub fn new(alloc: A, capacity: usize, clients: u32) -> Result<Team<K, V, F, A>, Fault>
         requires keys { IsExact K.is_clone }
         requires values { IsExact V.is_clone }
         ensures ok { IsOk result → IsCapacity capacity × AreClients clients }
+        ensures form { IfOk result (λ t. t.map.ledger.form ≡ Lean) }
         ensures salt { IfOk result (λ t. t.map.ledger.salt ≡ record { 0 = 0 }) }
         ensures clients { IfOk result (λ t. t.map.ledger.clients ≡ clients) }
         ensures opening { IfOk result (λ t. t.map.ledger.opening ≡ []) }
@@ -80,6 +83,7 @@ impl<
         requires keys { IsExact K.is_clone }
         requires values { IsExact V.is_clone }
         ensures ok { IsOk result → IsCapacity capacity × AreClients clients }
+        ensures form { IfOk result (λ t. t.map.ledger.form ≡ Lean) }
         ensures salt { IfOk result (λ t. t.map.ledger.salt ≡ salt) }
         ensures clients { IfOk result (λ t. t.map.ledger.clients ≡ clients) }
         ensures opening { IfOk result (λ t. t.map.ledger.opening ≡ []) }
@@ -89,7 +93,7 @@ impl<
         ensures some { IsErrOf result Fault.BadClients ↔ (IsCapacity capacity × (¬ AreClients clients)) }
         ensures faults { IfErr result IsMaking }
     {
-        let (map, passes) = Map::with_salt(alloc, capacity, clients, salt)?;
+        let (map, passes) = Map::lean(alloc, capacity, clients, salt)?;
         Ok(Team { map, passes })
     }
 
@@ -99,6 +103,7 @@ impl<
         requires keys { IsExact K.is_clone }
         requires values { IsExact V.is_clone }
         ensures ok { IsOk result → (length (entries_of closed.now.bins) ≤ 4294967295) × AreClients clients }
+        ensures form { IfOk result (λ t. t.map.ledger.form ≡ closed.now.ledger.form) }
         ensures salt { IfOk result (λ t. t.map.ledger.salt ≡ closed.now.ledger.salt) }
         ensures clients { IfOk result (λ t. t.map.ledger.clients ≡ clients) }
         ensures opening { IfOk result (λ t. t.map.ledger.opening ≡ in_classes K.code closed.now.ledger.salt t.map.n (entries_of closed.now.bins)) }

@@ -1,9 +1,11 @@
 //! The twelve calls of a client, each with an answer of its own type.
-ghost use Rattle.std.specs.Prelude.{◌≡◌, ◌↔◌, Bool, Option, length, IfOk, IfErr, IsErrOf, OnErr};
+ghost use Rattle.std.specs.Prelude.{◌≡◌, ◌≤◌, ◌↔◌, Bool, Option, length, IfOk, IfErr, IsErrOf, OnErr};
+ghost use Rattle.bin_history.specs.Calls.{after};
 ghost use Rattle.bin_history.specs.Copies.{IsExact};
 ghost use Rattle.bin_history.specs.declared.call.Call.TheVariants.{Get, Contains, Put, PutIfAbsent, Remove, RemoveIf, Replace, ReplaceIf, ComputeIfAbsent, ComputeIfPresent, Compute, Merge};
 ghost use Rattle.bin_history.specs.declared.call.Reply.TheVariants.{Value, Truth};
-ghost use Rattle.chm.specs.Called.{IsCalled};
+ghost use Rattle.count_ledger.specs.Limits.{most_calls};
+ghost use Rattle.chm.specs.Called.{IsCalled, IsFound};
 ghost use Rattle.chm.specs.Refusals.{IsOfCall};
 
 use crate::client::{Client, Seat};
@@ -49,12 +51,24 @@ impl<
         requires functions { IsExact F.is_clone }
         ensures called { IfOk result (λ answer. IsCalled K.eq K.code V.eq F.remapped F.merged self.old.map.now.ledger (Get key) self.old.pass.now self.new.pass.now (Value answer)) }
         ensures refused { OnErr result (self.new.pass.now ≡ self.old.pass.now) }
-        ensures full { IsErrOf result Fault.PassFull ↔ (length self.old.pass.now.made ≡ 1000000) }
+        ensures full { IsErrOf result Fault.PassFull ↔ (most_calls self.old.map.now.ledger.form ≤ length self.old.pass.now.made) }
         ensures faults { IfErr result IsOfCall }
         ensures map { self.new.map.now ≡ self.old.map.now }
     {
         let reply = self.map.get(rt, self.pass, key)?;
         Ok(value_in(reply))
+    }
+
+    /// A copy of the value at the key, which a `get` would answer now. It is no call: it borrows the key, nothing is
+    /// posted, and a full pass may look too.
+    pub fn look_up<R: Wait>(&mut self, rt: &R, key: &K) -> Result<Option<V>, Fault>
+        requires values { IsExact V.is_clone }
+        ensures found { IfOk result (IsFound K.eq K.code (after V.eq F.remapped F.merged) self.old.map.now.ledger self.old.pass.now key.now) }
+        ensures same { self.new.pass.now ≡ self.old.pass.now }
+        ensures faults { IfErr result (λ fault. fault ≡ Fault.NoMemory) }
+        ensures map { self.new.map.now ≡ self.old.map.now }
+    {
+        self.map.look_up(rt, self.pass, key)
     }
 
     /// Whether the key has a value.
@@ -64,7 +78,7 @@ impl<
         requires functions { IsExact F.is_clone }
         ensures called { IfOk result (λ answer. IsCalled K.eq K.code V.eq F.remapped F.merged self.old.map.now.ledger (Contains key) self.old.pass.now self.new.pass.now (Truth answer)) }
         ensures refused { OnErr result (self.new.pass.now ≡ self.old.pass.now) }
-        ensures full { IsErrOf result Fault.PassFull ↔ (length self.old.pass.now.made ≡ 1000000) }
+        ensures full { IsErrOf result Fault.PassFull ↔ (most_calls self.old.map.now.ledger.form ≤ length self.old.pass.now.made) }
         ensures faults { IfErr result IsOfCall }
         ensures map { self.new.map.now ≡ self.old.map.now }
     {
@@ -79,7 +93,7 @@ impl<
         requires functions { IsExact F.is_clone }
         ensures called { IfOk result (λ answer. IsCalled K.eq K.code V.eq F.remapped F.merged self.old.map.now.ledger (Put key value) self.old.pass.now self.new.pass.now (Value answer)) }
         ensures refused { OnErr result (self.new.pass.now ≡ self.old.pass.now) }
-        ensures full { IsErrOf result Fault.PassFull ↔ (length self.old.pass.now.made ≡ 1000000) }
+        ensures full { IsErrOf result Fault.PassFull ↔ (most_calls self.old.map.now.ledger.form ≤ length self.old.pass.now.made) }
         ensures faults { IfErr result IsOfCall }
         ensures map { self.new.map.now ≡ self.old.map.now }
     {
@@ -94,7 +108,7 @@ impl<
         requires functions { IsExact F.is_clone }
         ensures called { IfOk result (λ answer. IsCalled K.eq K.code V.eq F.remapped F.merged self.old.map.now.ledger (PutIfAbsent key value) self.old.pass.now self.new.pass.now (Value answer)) }
         ensures refused { OnErr result (self.new.pass.now ≡ self.old.pass.now) }
-        ensures full { IsErrOf result Fault.PassFull ↔ (length self.old.pass.now.made ≡ 1000000) }
+        ensures full { IsErrOf result Fault.PassFull ↔ (most_calls self.old.map.now.ledger.form ≤ length self.old.pass.now.made) }
         ensures faults { IfErr result IsOfCall }
         ensures map { self.new.map.now ≡ self.old.map.now }
     {
@@ -109,7 +123,7 @@ impl<
         requires functions { IsExact F.is_clone }
         ensures called { IfOk result (λ answer. IsCalled K.eq K.code V.eq F.remapped F.merged self.old.map.now.ledger (Remove key) self.old.pass.now self.new.pass.now (Value answer)) }
         ensures refused { OnErr result (self.new.pass.now ≡ self.old.pass.now) }
-        ensures full { IsErrOf result Fault.PassFull ↔ (length self.old.pass.now.made ≡ 1000000) }
+        ensures full { IsErrOf result Fault.PassFull ↔ (most_calls self.old.map.now.ledger.form ≤ length self.old.pass.now.made) }
         ensures faults { IfErr result IsOfCall }
         ensures map { self.new.map.now ≡ self.old.map.now }
     {
@@ -124,7 +138,7 @@ impl<
         requires functions { IsExact F.is_clone }
         ensures called { IfOk result (λ answer. IsCalled K.eq K.code V.eq F.remapped F.merged self.old.map.now.ledger (RemoveIf key value) self.old.pass.now self.new.pass.now (Truth answer)) }
         ensures refused { OnErr result (self.new.pass.now ≡ self.old.pass.now) }
-        ensures full { IsErrOf result Fault.PassFull ↔ (length self.old.pass.now.made ≡ 1000000) }
+        ensures full { IsErrOf result Fault.PassFull ↔ (most_calls self.old.map.now.ledger.form ≤ length self.old.pass.now.made) }
         ensures faults { IfErr result IsOfCall }
         ensures map { self.new.map.now ≡ self.old.map.now }
     {
@@ -139,7 +153,7 @@ impl<
         requires functions { IsExact F.is_clone }
         ensures called { IfOk result (λ answer. IsCalled K.eq K.code V.eq F.remapped F.merged self.old.map.now.ledger (Replace key value) self.old.pass.now self.new.pass.now (Value answer)) }
         ensures refused { OnErr result (self.new.pass.now ≡ self.old.pass.now) }
-        ensures full { IsErrOf result Fault.PassFull ↔ (length self.old.pass.now.made ≡ 1000000) }
+        ensures full { IsErrOf result Fault.PassFull ↔ (most_calls self.old.map.now.ledger.form ≤ length self.old.pass.now.made) }
         ensures faults { IfErr result IsOfCall }
         ensures map { self.new.map.now ≡ self.old.map.now }
     {
@@ -154,7 +168,7 @@ impl<
         requires functions { IsExact F.is_clone }
         ensures called { IfOk result (λ answer. IsCalled K.eq K.code V.eq F.remapped F.merged self.old.map.now.ledger (ReplaceIf key old new) self.old.pass.now self.new.pass.now (Truth answer)) }
         ensures refused { OnErr result (self.new.pass.now ≡ self.old.pass.now) }
-        ensures full { IsErrOf result Fault.PassFull ↔ (length self.old.pass.now.made ≡ 1000000) }
+        ensures full { IsErrOf result Fault.PassFull ↔ (most_calls self.old.map.now.ledger.form ≤ length self.old.pass.now.made) }
         ensures faults { IfErr result IsOfCall }
         ensures map { self.new.map.now ≡ self.old.map.now }
     {
@@ -174,7 +188,7 @@ impl<
         requires functions { IsExact F.is_clone }
         ensures called { IfOk result (λ answer. IsCalled K.eq K.code V.eq F.remapped F.merged self.old.map.now.ledger (ComputeIfAbsent key function) self.old.pass.now self.new.pass.now (Value answer)) }
         ensures refused { OnErr result (self.new.pass.now ≡ self.old.pass.now) }
-        ensures full { IsErrOf result Fault.PassFull ↔ (length self.old.pass.now.made ≡ 1000000) }
+        ensures full { IsErrOf result Fault.PassFull ↔ (most_calls self.old.map.now.ledger.form ≤ length self.old.pass.now.made) }
         ensures faults { IfErr result IsOfCall }
         ensures map { self.new.map.now ≡ self.old.map.now }
     {
@@ -194,7 +208,7 @@ impl<
         requires functions { IsExact F.is_clone }
         ensures called { IfOk result (λ answer. IsCalled K.eq K.code V.eq F.remapped F.merged self.old.map.now.ledger (ComputeIfPresent key function) self.old.pass.now self.new.pass.now (Value answer)) }
         ensures refused { OnErr result (self.new.pass.now ≡ self.old.pass.now) }
-        ensures full { IsErrOf result Fault.PassFull ↔ (length self.old.pass.now.made ≡ 1000000) }
+        ensures full { IsErrOf result Fault.PassFull ↔ (most_calls self.old.map.now.ledger.form ≤ length self.old.pass.now.made) }
         ensures faults { IfErr result IsOfCall }
         ensures map { self.new.map.now ≡ self.old.map.now }
     {
@@ -209,7 +223,7 @@ impl<
         requires functions { IsExact F.is_clone }
         ensures called { IfOk result (λ answer. IsCalled K.eq K.code V.eq F.remapped F.merged self.old.map.now.ledger (Compute key function) self.old.pass.now self.new.pass.now (Value answer)) }
         ensures refused { OnErr result (self.new.pass.now ≡ self.old.pass.now) }
-        ensures full { IsErrOf result Fault.PassFull ↔ (length self.old.pass.now.made ≡ 1000000) }
+        ensures full { IsErrOf result Fault.PassFull ↔ (most_calls self.old.map.now.ledger.form ≤ length self.old.pass.now.made) }
         ensures faults { IfErr result IsOfCall }
         ensures map { self.new.map.now ≡ self.old.map.now }
     {
@@ -231,7 +245,7 @@ impl<
         requires functions { IsExact F.is_clone }
         ensures called { IfOk result (λ answer. IsCalled K.eq K.code V.eq F.remapped F.merged self.old.map.now.ledger (Merge key value function) self.old.pass.now self.new.pass.now (Value answer)) }
         ensures refused { OnErr result (self.new.pass.now ≡ self.old.pass.now) }
-        ensures full { IsErrOf result Fault.PassFull ↔ (length self.old.pass.now.made ≡ 1000000) }
+        ensures full { IsErrOf result Fault.PassFull ↔ (most_calls self.old.map.now.ledger.form ≤ length self.old.pass.now.made) }
         ensures faults { IfErr result IsOfCall }
         ensures map { self.new.map.now ≡ self.old.map.now }
     {

@@ -168,7 +168,7 @@ pub(crate) fn play<
     ensures fault { IfErr result IsOfPlay }
 {
     let (capacity, clients) = (options.capacity(), blocks.len() as u32);
-    let (map, mut passes) = match Map::with_salt(alloc, capacity, clients, options.salt()) {
+    let (map, mut passes) = match Map::lean(alloc, capacity, clients, options.salt()) {
         Ok(opened) => opened,
         Err(fault) => return Err(refused(fault)),
     };

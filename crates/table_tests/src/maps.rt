@@ -177,6 +177,7 @@ fn make<
     ensures pass { pass.new.ledger ≡ ledger.now.id }
     ensures role { role.new.ledger ≡ ledger.now.id }
     ensures agree { Agree K.eq (after V.eq F.remapped F.merged) bin.new role.new }
+    ensures form { bin.new.form ≡ bin.old.form }
     ensures class { bin.new.class ≡ bin.old.class }
     ensures salt { bin.new.salt ≡ bin.old.salt }
 {
