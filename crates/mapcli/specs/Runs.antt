@@ -19,16 +19,20 @@ IsScript text blocks queries = IsJust text (whole blocks queries)
 abbrev pub IsOutputOf : List ℕ → List ℕ → Type 0
 IsOutputOf text bytes = (blocks : List (List ScriptCall)) × (queries : List Query) × (o : Outcome) × IsScript text blocks queries × IsAllowed blocks o × IsOutput queries o bytes
 
--- why a text gave no output: memory ran out, bins of the map were missing, or its first bad line
+-- why a text gave no script: memory ran out, or its first bad line
+abbrev pub IsUnread : List ℕ → Fault → Type 0
+IsUnread text NoMemory = Unit {0}
+IsUnread text (ScriptFault line kind) = IsFaulty text line kind
+IsUnread text BadCapacity = ⊥
+IsUnread text BadWorkers = ⊥
+IsUnread text Device = ⊥
+IsUnread text BinMissing = ⊥
+IsUnread text (Usage words) = ⊥
+IsUnread text (Help words) = ⊥
+
+-- why a text gave no output: the same, or it is a script, and bins of its map were missing
 abbrev pub IsRefusalOf : List ℕ → Fault → Type 0
-IsRefusalOf text NoMemory = Unit {0}
-IsRefusalOf text (ScriptFault line kind) = IsFaulty text line kind
-IsRefusalOf text BadCapacity = ⊥
-IsRefusalOf text BadWorkers = ⊥
-IsRefusalOf text Device = ⊥
-IsRefusalOf text BinMissing = Unit {0}
-IsRefusalOf text (Usage words) = ⊥
-IsRefusalOf text (Help words) = ⊥
+IsRefusalOf text fault = IsUnread text fault ⊎ ((fault ≡ BinMissing) × (blocks : List (List ScriptCall)) × (queries : List Query) × IsScript text blocks queries)
 
 -- a text that is all that an input had left, where that is known, and for which this holds
 abbrev pub OfInput : Option (List ℕ) → (List ℕ → Type 0) → Type 0

@@ -1,5 +1,7 @@
 -- How the program tells of the end of a run, and how a command line may end it.
-use Rattle.std.specs.Prelude.{◌≡◌, ℕ, List, string_bytes}
+use Rattle.std.specs.Prelude.{◌≡◌, ℕ, Bool, true, false, List, ◌++◌, codes, string_bytes}
+use Rattle.script.specs.Kinds.{fault_text}
+use Rattle.mapcli.specs.Texts.{ended}
 use Rattle.mapcli.specs.declared.fault.Fault.{Fault}
 use Rattle.mapcli.specs.declared.fault.Fault.TheVariants.{NoMemory, BadCapacity, BadWorkers, ScriptFault, Device, BinMissing, Usage, Help}
 
@@ -25,8 +27,18 @@ EndsWords BadWorkers = ⊥
 EndsWords Device = ⊥
 EndsWords BinMissing = ⊥
 
--- a command line's own text is told as it stands
-abbrev pub IsToldWhole : Fault → List ℕ → Type 0
-IsToldWhole (Usage text) told = told ≡ string_bytes text
-IsToldWhole (Help text) told = told ≡ string_bytes text
-IsToldWhole _ told = Unit {0}
+-- what is told of an end: a command line's own text as it stands, and else one line
+abbrev pub line_of : Fault → List ℕ
+line_of (Usage text) = string_bytes text
+line_of (Help text) = string_bytes text
+line_of (ScriptFault line kind) = ended (codes "mapcli: " ++ fault_text line kind)
+line_of NoMemory = ended (codes "mapcli: no memory")
+line_of Device = ended (codes "mapcli: device")
+line_of BinMissing = ended (codes "mapcli: bins missing")
+line_of BadCapacity = ended (codes "mapcli: the capacity is not 1 to 4096")
+line_of BadWorkers = ended (codes "mapcli: the workers are not 1 to 16")
+
+-- help was asked
+abbrev pub is_help : Fault → Bool
+is_help (Help text) = true
+is_help _ = false

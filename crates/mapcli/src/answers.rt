@@ -27,7 +27,8 @@ pub(crate) struct Crew<'a, G> {
 impl<G> Crew<'_, G> {
     /// The plan of a bulk operation with this threshold.
     fn plan(&self, threshold: u64) -> Plan<'_, G>
-        ensures { result.workers ≡ self.now.workers }
+        ensures workers { result.workers ≡ self.now.workers }
+        ensures threshold { result.threshold ≡ threshold }
     {
         Plan {
             threshold,

@@ -2,10 +2,14 @@
 use crate::tests::{check_with, told};
 use crate::{ClientGate, Gate, Options, Reader, Writer, run};
 use hashkeys::Salt;
+use std::alloc::AllocGlobal;
+use std::process::Abort;
+use std::sync::Wait;
 use std::sync::atomic::AtomicU64;
 use std::sync::atomic::Ordering::SeqCst;
 use std::test::Fail;
 use std::thread;
+use std::thread::Threads;
 
 /// Whichever client is first finds no value, and the other the first one's.
 #[test]
@@ -42,21 +46,25 @@ fn one_of_32_clients_is_first(rt: HostRuntime) -> Result<(), Fail> {
     Ok(())
 }
 
-/// Two clients add 1 to one key 1,000 times each. Each sum is the reply of one call.
-#[test]
-fn two_clients_count_to_2000(rt: HostRuntime) -> Result<(), Fail> {
+/// So many clients add 1 to one key, each so often. Each sum is the reply of one call.
+fn count_together<R: Threads + Wait + Sync + Abort + AllocGlobal>(
+    rt: &R,
+    clients: usize,
+    calls: usize,
+) -> Result<(), Fail> {
     let mut script = String::new(rt.alloc());
-    for _ in 0..2 {
+    for _ in 0..clients {
         script.push_str("client\n")?;
-        for _ in 0..1000 {
+        for _ in 0..calls {
             script.push_str("merge a 1 sum\n")?;
         }
     }
     script.push_str("query\nlist 1\n")?;
-    let (status, text) = told(&rt, script.as_bytes(), &Options::new(4, 16)?)?;
+    let (status, text) = told(rt, script.as_bytes(), &Options::new(4, 16)?)?;
     assert_eq!(rt; status, 0);
-    assert!(rt; text.ends_with(b"\na 2000\n"));
-    let mut replies = vec![in rt.alloc(); 0u32; 2001]?;
+    let most = clients.saturating_mul(calls);
+    assert!(rt; text.ends_with(format!(in rt.alloc(); "\na {most}\n")?.as_bytes()));
+    let mut replies = vec![in rt.alloc(); 0u32; most.saturating_add(1)]?;
     for line in str::from_utf8(&text)?.lines() {
         if let Some(sum) = line.strip_prefix("some ") {
             let sum: usize = sum.parse()?;
@@ -69,6 +77,16 @@ fn two_clients_count_to_2000(rt: HostRuntime) -> Result<(), Fail> {
     assert_eq!(rt; replies.first(), Some(&0));
     assert!(rt; replies.iter().skip(1).all(|count| *count == 1));
     Ok(())
+}
+
+#[test]
+fn two_clients_count_to_2000(rt: HostRuntime) -> Result<(), Fail> {
+    count_together(&rt, 2, 1000)
+}
+
+#[test]
+fn all_32_clients_count_to_3200(rt: HostRuntime) -> Result<(), Fail> {
+    count_together(&rt, 32, 100)
 }
 
 /// The table grows from one bin while 32 clients put 40 keys each, take every second of them away again, and read one.
@@ -161,14 +179,28 @@ fn the_gate_sees_each_client_s_calls_in_order(rt: HostRuntime) -> Result<(), Fai
     Ok(())
 }
 
-/// Holds client 0's first call until client 1 has begun one, for so many turns at most.
+/// Lets client 0's first call wait until client 1 is about to make its own, and that one until client 0 is about to
+/// make its third; each for so many turns at most.
 #[derive(Drop)]
 struct Meeting {
-    begun: AtomicU64,
+    first_come: AtomicU64,
+    last_come: AtomicU64,
     missed: AtomicU64,
 }
 
 const MOST_TURNS: u64 = 10_000_000;
+
+impl Meeting {
+    fn wait_for(&self, come: &AtomicU64) {
+        for _ in 0..MOST_TURNS {
+            if come.load(SeqCst) == 1 {
+                return;
+            }
+            thread::yield_now();
+        }
+        self.missed.store(1, SeqCst);
+    }
+}
 
 impl Gate for Meeting {
     fn leaf(&self, _worker: usize, _lo: usize, _hi: usize) {}
@@ -176,33 +208,34 @@ impl Gate for Meeting {
 
 impl ClientGate for Meeting {
     fn call(&self, client: usize, ordinal: u64) {
-        if client == 1 {
-            self.begun.store(1, SeqCst);
-        }
-        if (client, ordinal) == (0, 0) {
-            for _ in 0..MOST_TURNS {
-                if self.begun.load(SeqCst) == 1 {
-                    return;
-                }
-                thread::yield_now();
+        match (client, ordinal) {
+            (0, 0) => self.wait_for(&self.first_come),
+            (0, 2) => self.last_come.store(1, SeqCst),
+            (1, 0) => {
+                self.first_come.store(1, SeqCst);
+                self.wait_for(&self.last_come);
             }
-            self.missed.store(1, SeqCst);
+            _ => {}
         }
     }
 }
 
-/// Clients that play one after the other, client 0 first, miss each other here.
+/// Clients that play one after the other miss each other here. Where the gate came after its call, client 1 would find
+/// nothing: its call would be made before client 0's first comes back.
 #[test]
-fn two_clients_call_at_the_same_time(rt: HostRuntime) -> Result<(), Fail> {
+fn clients_call_at_the_same_time_each_after_its_gate(rt: HostRuntime) -> Result<(), Fail> {
     let gate = Meeting {
-        begun: AtomicU64::new(0),
+        first_come: AtomicU64::new(0),
+        last_come: AtomicU64::new(0),
         missed: AtomicU64::new(0),
     };
     let mut output = Writer::new(Vec::new(rt.alloc()));
     run(
         &rt,
         rt.alloc(),
-        &mut Reader::new(b"client\nput a 1\nclient\nput b 2\nquery\ncount\n".as_slice()),
+        &mut Reader::new(
+            b"client\nget b\nput a 1\nget b\nclient\nget a\nquery\ncount\n".as_slice(),
+        ),
         &mut output,
         &Options::new(4, 16)?,
         &gate,
@@ -210,7 +243,7 @@ fn two_clients_call_at_the_same_time(rt: HostRuntime) -> Result<(), Fail> {
     assert_eq!(rt; gate.missed.load(SeqCst), 0);
     assert_eq!(rt;
         output.inner.as_slice(),
-        b"client 0\nnone\nclient 1\nnone\n2\n".as_slice()
+        b"client 0\nnone\nnone\nnone\nclient 1\nsome 1\n1\n".as_slice()
     );
     Ok(())
 }

@@ -119,6 +119,67 @@ fn a_failed_read_is_never_the_end_of_the_input(rt: HostRuntime) -> Result<(), Fa
     Ok(())
 }
 
+/// A reader and a writer of which a signal interrupts every second call.
+#[derive(Drop)]
+struct Interrupted<D> {
+    inner: D,
+    is_next: bool,
+}
+
+impl<D> Interrupted<D> {
+    fn is_interrupted(&mut self) -> bool {
+        self.is_next = !self.is_next;
+        self.is_next
+    }
+}
+
+impl<D: Read> Read for Interrupted<D> {
+    fn read(&mut self, buffer: &mut [u8]) -> io::Result<usize> {
+        if self.is_interrupted() {
+            return Err(io::Error::from(ErrorKind::Interrupted));
+        }
+        self.inner.read(buffer)
+    }
+}
+
+impl<D: Write> Write for Interrupted<D> {
+    fn write(&mut self, piece: &[u8]) -> io::Result<usize> {
+        if self.is_interrupted() {
+            return Err(io::Error::from(ErrorKind::Interrupted));
+        }
+        self.inner.write(piece)
+    }
+
+    fn flush(&mut self) -> io::Result<()> {
+        self.inner.flush()
+    }
+}
+
+#[test]
+fn interrupted_reads_and_writes_are_made_again(rt: HostRuntime) -> Result<(), Fail> {
+    let mut input = Reader::new(Interrupted {
+        inner: in_pieces(6),
+        is_next: false,
+    });
+    let mut output = Writer::new(Interrupted {
+        inner: byte_by_byte(rt.alloc(), 0, Failure::Refuse),
+        is_next: false,
+    });
+    let options = Options::new(4, 16)?;
+    run(
+        &rt,
+        rt.alloc(),
+        &mut input,
+        &mut output,
+        &options,
+        &OpenGate,
+    )?;
+    assert_eq!(rt; (input.failures, output.failures), (0, 0));
+    let taken = output.inner.inner.taken;
+    assert_eq!(rt; taken.as_slice(), OUTPUT);
+    Ok(())
+}
+
 /// Where one of the writes fails, one for each byte of the output text, what was written is a beginning of it.
 #[test]
 fn a_failed_write_leaves_a_beginning(rt: HostRuntime) -> Result<(), Fail> {

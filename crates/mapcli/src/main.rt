@@ -40,10 +40,9 @@ pub use options::Options;
 pub use run::{parse, run};
 use std::alloc::Global;
 use std::fs::File;
-use std::io::Write;
 use std::process::ExitCode;
 use std::{env, io};
-pub use words::{line, status, words};
+pub use words::{line, status, tell, words};
 
 /// What is told of a word that is not UTF-8, as `clap` would.
 const NOT_UTF_8: &str = "error: invalid UTF-8 was detected in one or more arguments
@@ -53,22 +52,14 @@ Usage: mapcli [OPTIONS] <FILE>
 For more information, try '--help'.
 ";
 
-const NO_MEMORY: &str = "mapcli: no memory\n";
-
-const DEVICE: &str = "mapcli: device\n";
-
-const BINS_MISSING: &str = "mapcli: bins missing\n";
-
-/// Reads the words of the command line, and opens FILE.
-fn open(rt: &HostRuntime) -> Result<(Options, File), Fault> {
+/// Reads the words of the command line.
+fn read_words(rt: &HostRuntime) -> Result<(Options, String), Fault> {
     let all = match env::args(rt) {
         Ok(all) => all,
         Err(error) => return Err(unread(rt.alloc(), error)),
     };
     let after_name: Vec<String> = all.skip(1).collect(rt.alloc())?;
-    let (options, path) = words(rt.alloc(), &after_name)?;
-    let script = File::open(rt, &path).map_err(refused)?;
-    Ok((options, script))
+    words(rt.alloc(), &after_name)
 }
 
 /// What the system did not give: memory, or else a device.
@@ -90,44 +81,49 @@ fn unread(alloc: Global, error: io::Error) -> Fault {
     }
 }
 
-/// Tells how the run ended: help on standard output, any other end on standard error. What the machine did not
-/// give is told by a constant text, which needs no memory.
-fn tell(rt: &HostRuntime, fault: &Fault) -> io::Result<()> {
-    match fault {
-        Fault::Help(text) => rt.stdout().write_all(text.as_bytes()),
-        Fault::Usage(text) => rt.stderr().write_all(text.as_bytes()),
-        Fault::NoMemory => rt.stderr().write_all(NO_MEMORY.as_bytes()),
-        Fault::Device => rt.stderr().write_all(DEVICE.as_bytes()),
-        Fault::BinMissing => rt.stderr().write_all(BINS_MISSING.as_bytes()),
-        _ => match line(rt.alloc(), fault) {
-            Ok(text) => rt.stderr().write_all(text.as_bytes()),
-            Err(_) => rt.stderr().write_all(NO_MEMORY.as_bytes()),
-        },
-    }
+/// Opens FILE.
+fn open(rt: &HostRuntime, path: &str) -> Result<File, Fault> {
+    File::open(rt, path).map_err(refused)
 }
 
-/// Runs the script in FILE, from it to standard output.
+/// Runs a script, from FILE or standard input to standard output.
 fn main(rt: HostRuntime) -> ExitCode {
-    let ended = match open(&rt) {
-        Ok((options, script)) => run(
-            &rt,
-            rt.alloc(),
-            &mut Reader::new(script),
-            &mut Writer::new(rt.stdout()),
-            &options,
-            &OpenGate,
-        ),
-        Err(fault) => Err(fault),
+    let alloc = rt.alloc();
+    let mut output = Writer::new(rt.stdout());
+    let mut errors = Writer::new(rt.stderr());
+    let (options, path) = match read_words(&rt) {
+        Ok(read) => read,
+        Err(fault) => return end(alloc, &mut output, &mut errors, &fault),
+    };
+    let ended = if path.as_str() == "-" {
+        let mut input = Reader::new(rt.stdin());
+        run(&rt, alloc, &mut input, &mut output, &options, &OpenGate)
+    } else {
+        match open(&rt, &path) {
+            Ok(file) => {
+                let mut input = Reader::new(file);
+                run(&rt, alloc, &mut input, &mut output, &options, &OpenGate)
+            }
+            Err(fault) => Err(fault),
+        }
     };
     match ended {
         Ok(()) => ExitCode::SUCCESS,
-        Err(fault) => {
-            let told = tell(&rt, &fault);
-            match &fault {
-                // help that could not be written
-                Fault::Help(_) if told.is_err() => ExitCode::from(status(&Fault::Device)),
-                _ => ExitCode::from(status(&fault)),
-            }
-        }
+        Err(fault) => end(alloc, &mut output, &mut errors, &fault),
+    }
+}
+
+/// Tells how the run ended, and gives its status.
+fn end<O: Output, E: Output>(
+    alloc: Global,
+    output: &mut O,
+    errors: &mut E,
+    fault: &Fault,
+) -> ExitCode {
+    let told = tell(alloc, output, errors, fault);
+    match fault {
+        // help that could not be written
+        Fault::Help(_) if told.is_err() => ExitCode::from(status(&Fault::Device)),
+        _ => ExitCode::from(status(fault)),
     }
 }

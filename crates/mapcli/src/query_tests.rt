@@ -62,6 +62,47 @@ fn two_leaves_run_at_the_same_time(rt: HostRuntime) -> Result<(), Fail> {
     Ok(())
 }
 
+/// Counts the leaves.
+#[derive(Drop)]
+struct Leaves {
+    begun: AtomicU64,
+}
+
+impl Gate for Leaves {
+    fn leaf(&self, _worker: usize, _lo: usize, _hi: usize) {
+        self.begun.fetch_add(1, SeqCst);
+    }
+}
+
+impl ClientGate for Leaves {
+    fn call(&self, _client: usize, _ordinal: u64) {}
+}
+
+/// The work of three keys is divided from a threshold of 1 on, and not where the threshold is above their number.
+#[test]
+fn a_threshold_divides_the_work_or_not(rt: HostRuntime) -> Result<(), Fail> {
+    for query in ["reduce sum", "reduce max", "search above 9", "list"] {
+        for (threshold, is_one) in [("1", false), ("4", true)] {
+            let script = format!(in rt.alloc();
+                "client\nput a 1\nput b 2\nput c 3\nquery\n{query} {threshold}\n"
+            )?;
+            let gate = Leaves {
+                begun: AtomicU64::new(0),
+            };
+            run(
+                &rt,
+                rt.alloc(),
+                &mut Reader::new(script.as_bytes()),
+                &mut Writer::new(Vec::new(rt.alloc())),
+                &Options::new(2, 16)?,
+                &gate,
+            )?;
+            assert_eq!(rt; gate.begun.load(SeqCst) == 1, is_one, "{query} {threshold}");
+        }
+    }
+    Ok(())
+}
+
 /// The answers of 1 to 16 workers, at thresholds that divide the work and that do not, are those of plain loops.
 #[test]
 fn workers_answer_as_plain_loops_do(rt: HostRuntime) -> Result<(), Fail> {

@@ -3,7 +3,7 @@ ghost use Rattle.std.specs.Prelude.{◌≡◌, ◌≢◌, ◌⊎◌, ◌↔◌, 
 ghost use Rattle.std.specs.Io.KnownBytes.{Appends, Keeps};
 ghost use Rattle.script.specs.Verdicts.{blocks_of, IsText, IsWithinLimits};
 ghost use Rattle.mapcli.specs.Devices.{AppendsFront};
-ghost use Rattle.mapcli.specs.Runs.{IsOutputOf, IsRefusalOf, OfInput, OfOutput, OneCounts};
+ghost use Rattle.mapcli.specs.Runs.{IsOutputOf, IsUnread, IsRefusalOf, OfInput, OfOutput, OneCounts};
 
 use crate::answers::{Crew, push_answers};
 use crate::device::{Input, Output};
@@ -23,7 +23,7 @@ use std::thread::Threads;
 pub fn parse<A: Allocator + Clone>(alloc: A, text: &[u8]) -> Result<Script<A>, Fault>
     ensures script { IfOk result (λ script. IsText text.now script) }
     ensures limits { IfOk result (λ script. IsWithinLimits (blocks_of script)) }
-    ensures fault { IfErr result (λ fault. IsRefusalOf text.now fault) }
+    ensures fault { IfErr result (λ fault. IsUnread text.now fault) }
 {
     Ok(script::parse(alloc, text)?)
 }

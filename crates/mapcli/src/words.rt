@@ -1,13 +1,26 @@
 //! The words of the command line, and how a run's end is told.
-ghost use Rattle.std.specs.Prelude.{◌≡◌, IfOk, IfErr, string_bytes};
-ghost use Rattle.mapcli.specs.Statuses.{status_of, EndsWords, IsToldWhole};
+ghost use Rattle.std.specs.Prelude.{◌≡◌, ◌⊎◌, true, false, IfOk, IfErr, OnOk, string_bytes};
+ghost use Rattle.std.specs.Io.KnownBytes.{Appends};
+ghost use Rattle.mapcli.specs.Statuses.{status_of, line_of, is_help, EndsWords};
 
+use crate::device::Output;
 use crate::fault::Fault;
 use crate::options::Options;
+use crate::whole::write_all;
 use clap::error::ErrorKind;
 use clap::{Arg, ArgAction, Command};
 use hashkeys::Salt;
 use std::alloc::{AllocError, Global};
+
+const NO_MEMORY: &str = "mapcli: no memory\n";
+
+const DEVICE: &str = "mapcli: device\n";
+
+const BINS_MISSING: &str = "mapcli: bins missing\n";
+
+const BAD_CAPACITY: &str = "mapcli: the capacity is not 1 to 4096\n";
+
+const BAD_WORKERS: &str = "mapcli: the workers are not 1 to 16\n";
 
 /// The options and FILE that the words after the program's name give. Wrong words, and words that ask for help, end
 /// with the text that tells so.
@@ -112,7 +125,7 @@ fn command<'a>(alloc: Global) -> Result<Command<'a>, AllocError> {
         .default_value("0");
     let file = Arg::new(alloc, "FILE")
         .required(true)
-        .help("The script")
+        .help("The script, or - for standard input")
         .action(ArgAction::Set);
     Command::new(alloc, "mapcli")
         .about("Runs a script of client blocks over a concurrent hash map, and answers its queries")
@@ -137,10 +150,48 @@ pub fn status(fault: &Fault) -> u8
 
 /// What is told of this end of a run: `clap`'s text, or one line.
 pub fn line(alloc: Global, fault: &Fault) -> Result<String, AllocError>
-    ensures { IfOk result (λ told. IsToldWhole fault.now (string_bytes told)) }
+    ensures { IfOk result (λ told. string_bytes told ≡ line_of fault.now) }
 {
     match fault {
         Fault::Help(text) | Fault::Usage(text) => String::from_str(alloc, text),
-        _ => format!(in alloc; "mapcli: {fault}\n"),
+        Fault::ScriptFault { line, kind } => {
+            let (line, kind) = (*line, *kind);
+            let fault = script::Fault { line, kind };
+            format!(in alloc; "mapcli: {fault}\n")
+        }
+        Fault::NoMemory => String::from_str(alloc, NO_MEMORY),
+        Fault::Device => String::from_str(alloc, DEVICE),
+        Fault::BinMissing => String::from_str(alloc, BINS_MISSING),
+        Fault::BadCapacity => String::from_str(alloc, BAD_CAPACITY),
+        Fault::BadWorkers => String::from_str(alloc, BAD_WORKERS),
+    }
+}
+
+/// Tells how a run ended: help to the output, any other end to where errors are told. What the machine did not give
+/// is told by a constant text, which needs no memory; where a line cannot be made for want of it, that is told.
+pub fn tell<O: Output, E: Output>(
+    alloc: Global,
+    output: &mut O,
+    errors: &mut E,
+    fault: &Fault,
+) -> Result<(), Fault>
+    ensures help { is_help fault.now ≡ true → errors.new ≡ errors.old }
+    ensures other { is_help fault.now ≡ false → output.new ≡ output.old }
+    ensures asked { OnOk result (is_help fault.now ≡ true → Appends (O.contents output.old) (O.contents output.new) (line_of fault.now)) }
+    ensures told { OnOk result (is_help fault.now ≡ false → (Appends (E.contents errors.old) (E.contents errors.new) (line_of fault.now))
+        ⊎ (Appends (E.contents errors.old) (E.contents errors.new) (line_of Fault.NoMemory))) }
+{
+    match fault {
+        Fault::Help(text) => write_all(output, text.as_bytes()),
+        Fault::Usage(text) => write_all(errors, text.as_bytes()),
+        Fault::NoMemory => write_all(errors, NO_MEMORY.as_bytes()),
+        Fault::Device => write_all(errors, DEVICE.as_bytes()),
+        Fault::BinMissing => write_all(errors, BINS_MISSING.as_bytes()),
+        Fault::BadCapacity => write_all(errors, BAD_CAPACITY.as_bytes()),
+        Fault::BadWorkers => write_all(errors, BAD_WORKERS.as_bytes()),
+        Fault::ScriptFault { line: _, kind: _ } => match line(alloc, fault) {
+            Ok(text) => write_all(errors, text.as_bytes()),
+            Err(_) => write_all(errors, NO_MEMORY.as_bytes()),
+        },
     }
 }

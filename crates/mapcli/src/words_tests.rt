@@ -1,5 +1,5 @@
 //! Command lines, and how the ends of runs are told.
-use crate::{BINS_MISSING, DEVICE, Fault, NO_MEMORY, line, status, words};
+use crate::{Fault, Writer, line, status, tell, words};
 use hashkeys::Salt;
 use script::Kind;
 use std::alloc::{AllocError, Global};
@@ -24,8 +24,10 @@ fn refusal(rt: &impl Abort, alloc: Global, given: &[&str]) -> Result<(u8, String
 
 #[test]
 fn words_are_taken(rt: HostRuntime) -> Result<(), Fail> {
-    let rows: [(&[&str], usize, usize, u32, &str); 3] = [
+    let rows: [(&[&str], usize, usize, u32, &str); 5] = [
         (&["f"], 4, 16, 0, "f"),
+        (&["-"], 4, 16, 0, "-"),
+        (&["--salt", "04", "--workers=+5", "f"], 5, 16, 4, "f"),
         (
             &[
                 "--workers",
@@ -61,7 +63,19 @@ fn words_are_taken(rt: HostRuntime) -> Result<(), Fail> {
 
 #[test]
 fn wrong_words_are_told_with_their_usage(rt: HostRuntime) -> Result<(), Fail> {
-    let rows: [(&[&str], &str); 6] = [
+    let rows: [(&[&str], &str); 9] = [
+        (
+            &["--salt=-1", "f"],
+            "error: invalid value '-1' for '--salt <N>': -1 is not in 0..=4294967295\n\nFor more information, try '--help'.\n",
+        ),
+        (
+            &["--salt", "x", "f"],
+            "error: invalid value 'x' for '--salt <N>': invalid digit found in string\n\nFor more information, try '--help'.\n",
+        ),
+        (
+            &["--salt=", "f"],
+            "error: invalid value '' for '--salt <N>': cannot parse integer from empty string\n\nFor more information, try '--help'.\n",
+        ),
         (
             &["--workers", "17", "f"],
             "error: invalid value '17' for '--workers <N>': 17 is not in 1..=16\n\nFor more information, try '--help'.\n",
@@ -101,7 +115,7 @@ const HELP: &str =
 Usage: mapcli [OPTIONS] <FILE>
 
 Arguments:
-  <FILE>  The script
+  <FILE>  The script, or - for standard input
 
 Options:
       --workers <N>   How many workers answer the queries, 1 to 16 [default: 4]
@@ -181,15 +195,21 @@ fn each_fault_has_its_status_and_its_line(rt: HostRuntime) -> Result<(), Fail> {
     Ok(())
 }
 
+/// Help goes to the first writer, another end to the second.
 #[test]
-fn constant_texts_are_the_lines_of_their_faults(rt: HostRuntime) -> Result<(), Fail> {
+fn help_is_told_apart_from_faults(rt: HostRuntime) -> Result<(), Fail> {
+    let help = Fault::Help(String::from_str(rt.alloc(), "asked\n")?);
     let rows = [
-        (Fault::NoMemory, NO_MEMORY),
-        (Fault::Device, DEVICE),
-        (Fault::BinMissing, BINS_MISSING),
+        (help, "asked\n", ""),
+        (Fault::NoMemory, "", "mapcli: no memory\n"),
+        (Fault::Device, "", "mapcli: device\n"),
     ];
-    for (fault, wanted) in rows {
-        assert_eq!(rt; line(rt.alloc(), &fault)?.as_str(), wanted);
+    for (fault, wanted_output, wanted_errors) in rows {
+        let mut output = Writer::new(Vec::new(rt.alloc()));
+        let mut errors = Writer::new(Vec::new(rt.alloc()));
+        tell(rt.alloc(), &mut output, &mut errors, &fault)?;
+        assert_eq!(rt; output.inner.as_slice(), wanted_output.as_bytes());
+        assert_eq!(rt; errors.inner.as_slice(), wanted_errors.as_bytes());
     }
     Ok(())
 }

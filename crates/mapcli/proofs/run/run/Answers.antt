@@ -9,8 +9,8 @@ IsExplained remaining r = IfErr r (λ fault. (fault ≡ Device) ⊎ OfInput rema
 
 -- memory may run out whatever the text is
 no_memory : (remaining : Option (List ℕ)) (r : Result Unit Fault) → IsErrOf r NoMemory → IsExplained remaining r
-no_memory None r e = subst (IsExplained None) (sym e) (inr ([], tt, tt))
-no_memory (Some bytes) r e = subst (IsExplained (Some bytes)) (sym e) (inr (bytes, refl, tt))
+no_memory None r e = subst (IsExplained None) (sym e) (inr ([], tt, inl tt))
+no_memory (Some bytes) r e = subst (IsExplained (Some bytes)) (sym e) (inr (bytes, refl, inl tt))
 
 no_device : (remaining : Option (List ℕ)) (r : Result Unit Fault) → IsErrOf r Device → IsExplained remaining r
 no_device remaining r e = subst (IsExplained remaining) (sym e) (inl refl)
