@@ -8,8 +8,8 @@ use std::test::Fail;
 
 type KeyBin = Bin<Key, u64, Plus, Global>;
 
-fn empty(alloc: Global, class: Class) -> Result<KeyBin, AllocError> {
-    Bin::new(alloc, Form::Recorded, Salt(0), class, Vec::new(alloc))
+fn empty(alloc: Global, form: Form, class: Class) -> Result<KeyBin, AllocError> {
+    Bin::new(alloc, form, Salt(0), class, Vec::new(alloc))
 }
 
 /// Makes a call on a bin that has its key, as the next of client 7.
@@ -88,7 +88,7 @@ fn rows(rt: &impl Abort, alloc: Global) -> Result<Vec<Row>, AllocError> {
 #[test]
 fn each_call_replies_and_leaves_what_its_row_says(rt: HostRuntime) -> Result<(), Fail> {
     let rows = rows(&rt, rt.alloc())?;
-    let mut bin = empty(rt.alloc(), Class::new(1, 0))?;
+    let mut bin = empty(rt.alloc(), Form::Recorded, Class::new(1, 0))?;
     let mut line = 0u64;
     for (call, reply, delta) in rows {
         let answered = make(&rt, &mut bin, call)?;
@@ -111,7 +111,7 @@ fn each_call_replies_and_leaves_what_its_row_says(rt: HostRuntime) -> Result<(),
 
 /// A bin of class (16, 1) after 1,025 calls on two keys: both are put, one is taken away and put again.
 fn folded(rt: &impl Abort, alloc: Global) -> Result<KeyBin, AllocError> {
-    let mut bin = empty(alloc, Class::new(16, 1))?;
+    let mut bin = empty(alloc, Form::Recorded, Class::new(16, 1))?;
     let _ = make(rt, &mut bin, Call::Put(key(rt, b"q"), 1))?;
     let _ = make(rt, &mut bin, Call::Put(key(rt, b"a"), 2))?;
     for _ in 0..1021 {
@@ -151,7 +151,7 @@ fn the_oldest_records_are_folded(rt: HostRuntime) -> Result<(), Fail> {
 
 #[test]
 fn a_bin_stores_few_records(rt: HostRuntime) -> Result<(), Fail> {
-    let mut bin = empty(rt.alloc(), Class::new(1, 0))?;
+    let mut bin = empty(rt.alloc(), Form::Recorded, Class::new(1, 0))?;
     let mut calls = 0;
     for (wanted, stored, base) in [
         (512, 512, None),
@@ -171,6 +171,26 @@ fn a_bin_stores_few_records(rt: HostRuntime) -> Result<(), Fail> {
         assert_eq!(rt; (folded, bin.base().len() <= 1), (base, true));
         assert_entries(&rt, bin.entries(), &[(b"a", wanted)]);
     }
+    Ok(())
+}
+
+/// A lean bin after a call on each of two keys and 10,000 more on one of them.
+fn merged_often(rt: &impl Abort, alloc: Global) -> Result<KeyBin, AllocError> {
+    let mut bin = empty(alloc, Form::Lean, Class::new(1, 0))?;
+    let _ = make(rt, &mut bin, Call::Put(key(rt, b"b"), 5))?;
+    let _ = make(rt, &mut bin, Call::Put(key(rt, b"a"), 0))?;
+    for _ in 0..10_000u32 {
+        let _ = make(rt, &mut bin, Call::Merge(key(rt, b"a"), 1, Plus(Some(0))))?;
+    }
+    Ok(bin)
+}
+
+#[test]
+fn a_lean_bin_stores_its_entries_alone(rt: HostRuntime) -> Result<(), Fail> {
+    let bin = merged_often(&rt, rt.alloc())?;
+    assert_entries(&rt, bin.entries(), &[(b"b", 5), (b"a", 10_000)]);
+    assert_entries(&rt, bin.base(), &[(b"b", 5), (b"a", 10_000)]);
+    assert!(rt; bin.records().is_empty());
     Ok(())
 }
 

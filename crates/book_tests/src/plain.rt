@@ -137,32 +137,39 @@ impl Numbers {
     }
 }
 
-#[test]
-fn a_bin_answers_as_a_plain_map(rt: HostRuntime) -> Result<(), Fail> {
-    let alloc = rt.alloc();
-    let mut bin = Bin::new(
-        alloc,
-        Form::Recorded,
-        Salt(0),
-        Class::new(1, 0),
-        Vec::new(alloc),
-    )?;
+/// Whether these are the entries of the pairs, in their order.
+fn are_same(rt: &impl Abort, entries: &[(Key, u64)], pairs: &[(usize, u64)]) -> bool {
+    for (entry, pair) in entries.iter().zip(pairs) {
+        if entry.0 != text(rt, pair.0) || entry.1 != pair.1 {
+            return false;
+        }
+    }
+    entries.len() == pairs.len()
+}
+
+/// Makes 10,000 calls on a bin of the form and on a plain map, and answers which is the first that differs in its reply or in what it leaves.
+fn first_difference(rt: &impl Abort, alloc: Global, form: Form) -> Result<Option<u64>, AllocError> {
+    let mut bin = Bin::new(alloc, form, Salt(0), Class::new(1, 0), Vec::new(alloc))?;
     let mut pairs = Vec::new(alloc);
     let mut numbers = Numbers(1);
     for line in 0..10_000u64 {
         let plain = numbers.call();
-        let call = plain.call(&rt);
+        let call = plain.call(rt);
         assert!(rt; bin.class().covers(bin.salt().hash_of(call.key())));
         let ready = bin.prepare(call)?;
         let (reply, _) = bin.apply(ready, 0, line);
-        assert!(rt; reply == plain.make(&mut pairs)?, "call {line}");
-        assert_eq!(rt; bin.entries().len(), pairs.len(), "after call {line}");
-        for (entry, pair) in bin.entries().iter().zip(pairs.iter()) {
-            assert!(rt;
-                entry.0 == text(&rt, pair.0) && entry.1 == pair.1,
-                "after call {line}"
-            );
+        if reply != plain.make(&mut pairs)? || !are_same(rt, bin.entries(), &pairs) {
+            return Ok(Some(line));
         }
+    }
+    Ok(None)
+}
+
+#[test]
+fn a_bin_answers_as_a_plain_map(rt: HostRuntime) -> Result<(), Fail> {
+    for form in [Form::Recorded, Form::Lean] {
+        let difference = first_difference(&rt, rt.alloc(), form)?;
+        assert_eq!(rt; difference, None);
     }
     Ok(())
 }

@@ -1,12 +1,19 @@
 //! The twelve calls.
-use crate::maps::{Plus, Single, close, key, make, one_client, open};
-use bin_history::{Call, Reply};
+ghost use Rattle.std.specs.Prelude.{◌≡◌};
+
+use crate::maps::{
+    BOTH, KeyCall, KeyMap, KeyPass, Plus, Single, close, key, make, one_client, open,
+};
+use bin_history::{Call, Form, Reply};
+use std::alloc::{AllocError, Allocator, Global};
+use std::process::Abort;
+use std::sync::Wait;
 use std::test::Fail;
 
-#[test]
-fn each_call_replies_as_its_row_says(rt: HostRuntime) -> Result<(), Fail> {
-    let a = || key(&rt, b"a");
-    let b = || key(&rt, b"b");
+/// Calls one after the other, each with its reply.
+fn rows(rt: &impl Abort, alloc: Global) -> Result<Vec<(KeyCall, Reply<u64>)>, AllocError> {
+    let a = || key(rt, b"a");
+    let b = || key(rt, b"b");
     let none = || Reply::Value(None);
     let some = |n| Reply::Value(Some(n));
     let rows = [
@@ -36,22 +43,57 @@ fn each_call_replies_as_its_row_says(rt: HostRuntime) -> Result<(), Fail> {
         (Call::ComputeIfAbsent(b(), Plus(Some(3))), some(3)),
         (Call::PutIfAbsent(a(), 6), none()),
     ];
-    let rows = Vec::from_array(rt.alloc(), rows)?;
+    Ok(Vec::from_array(alloc, rows)?)
+}
+
+/// Makes the calls, and answers which are the first to be replied something else than their rows say.
+fn first_wrong<R: Wait, A: Allocator + Clone>(
+    rt: &R,
+    map: &KeyMap<A>,
+    pass: &mut KeyPass,
+    rows: Vec<(KeyCall, Reply<u64>)>,
+) -> Option<u64>
+    requires { pass.old.ledger ≡ map.now.ledger.id }
+    ensures { pass.new.ledger ≡ map.now.ledger.id }
+{
+    let mut wrong = None;
+    let mut line = 0u64;
+    for (call, reply) in rows {
+        let answered = make(rt, map, pass, call);
+        if wrong.is_none() && answered != Ok(reply) {
+            wrong = Some(line);
+        }
+        line = line.saturating_add(1);
+    }
+    wrong
+}
+
+/// Makes the calls of the rows on a map of one bin. Answers the first wrong line, how many calls were made, and how many keys were counted before and after the
+/// map was closed.
+fn reply_to_all<R: Wait + Abort>(
+    rt: &R,
+    alloc: Global,
+    form: Form,
+    rows: Vec<(KeyCall, Reply<u64>)>,
+) -> (Option<u64>, u64, [u64; 2]) {
     let Single {
         map,
         mut pass,
         place,
-    } = one_client(&rt, open(&rt, rt.alloc(), 1, 1));
-    let mut line = 0u64;
-    for (call, reply) in rows {
-        let answered = make(&rt, &map, &mut pass, call);
-        assert!(rt; answered == Ok(reply), "call {line} replied {answered:?}");
-        line = line.saturating_add(1);
+    } = one_client(rt, open(rt, alloc, form, 1, 1));
+    let wrong = first_wrong(rt, &map, &mut pass, rows);
+    let made = pass.made();
+    let live = map.mapping_count();
+    let closed = close(rt, map, pass, place);
+    (wrong, made, [live, closed.mapping_count()])
+}
+
+#[test]
+fn each_call_replies_as_its_row_says(rt: HostRuntime) -> Result<(), Fail> {
+    for form in BOTH {
+        let rows = rows(&rt, rt.alloc())?;
+        let told = reply_to_all(&rt, rt.alloc(), form, rows);
+        assert_eq!(rt; told, (None, 25, [2, 2]));
     }
-    assert_eq!(rt; pass.made(), 25);
-    assert_eq!(rt; map.mapping_count(), 2);
-    let closed = close(&rt, map, pass, place);
-    assert_eq!(rt; closed.mapping_count(), 2);
-    closed.lawful();
     Ok(())
 }

@@ -1,6 +1,22 @@
 //! How many bins there are, with growth and after opening again.
-use crate::maps::{close_all, count_all, filled};
+use crate::maps::{BOTH, close_all, count_all, filled, records_of};
+use bin_history::Form;
+use std::alloc::Global;
+use std::process::Abort;
+use std::sync::Wait;
 use std::test::Fail;
+
+/// The bins and the keys of a map that so many new keys were put into.
+fn grown<R: Wait + Abort>(
+    rt: &R,
+    alloc: Global,
+    form: Form,
+    capacity: usize,
+    puts: u32,
+) -> (usize, u64) {
+    let closed = filled(rt, alloc, form, capacity, puts);
+    (closed.bins().len(), closed.mapping_count())
+}
 
 #[test]
 fn a_table_grows_at_three_keys_to_four_bins(rt: HostRuntime) -> Result<(), Fail> {
@@ -20,12 +36,33 @@ fn a_table_grows_at_three_keys_to_four_bins(rt: HostRuntime) -> Result<(), Fail>
         (4096, 24_576, 65_536),
         (4096, 60_000, 65_536),
     ];
-    for (capacity, puts, bins) in rows {
-        let closed = filled(&rt, rt.alloc(), capacity, puts);
-        assert_eq!(rt; closed.bins().len(), bins, "{capacity} with {puts} keys");
-        assert_eq!(rt; closed.mapping_count(), u64::from(puts));
+    for form in BOTH {
+        for (capacity, puts, bins) in rows {
+            let sizes = grown(&rt, rt.alloc(), form, capacity, puts);
+            assert_eq!(rt;
+                sizes,
+                (bins, u64::from(puts)),
+                "{capacity} with {puts} keys"
+            );
+        }
     }
     Ok(())
+}
+
+/// The bins, the keys and the records of a map that so many new keys were put into, once it is opened again, with the keys that its passes count.
+fn grown_again<R: Wait + Abort>(
+    rt: &R,
+    alloc: Global,
+    form: Form,
+    capacity: usize,
+    puts: u32,
+) -> (usize, u64, usize, u64) {
+    let opened = filled(rt, alloc, form, capacity, puts).reopen(2);
+    let (map, mut passes) = opened.expect(rt, "a map");
+    let counted = count_all(rt, &map, &mut passes);
+    let closed = close_all(rt, map, passes);
+    let keys = closed.mapping_count();
+    (closed.bins().len(), keys, records_of(&closed), counted)
 }
 
 #[test]
@@ -40,14 +77,12 @@ fn a_table_is_opened_again_with_room_for_its_keys(rt: HostRuntime) -> Result<(),
         (16, 49_151, 65_536),
         (16, 60_000, 65_536),
     ];
-    for (capacity, puts, bins) in rows {
-        let first = filled(&rt, rt.alloc(), capacity, puts);
-        let (map, mut passes) = first.reopen(2).expect(&rt, "a map");
-        assert_eq!(rt; count_all(&rt, &map, &mut passes), u64::from(puts));
-        let closed = close_all(&rt, map, passes);
-        assert_eq!(rt; closed.bins().len(), bins, "{capacity} with {puts} keys");
-        assert_eq!(rt; closed.mapping_count(), u64::from(puts));
-        assert!(rt; closed.bins().iter().all(|bin| bin.records().is_empty()));
+    for form in BOTH {
+        for (capacity, puts, bins) in rows {
+            let sizes = grown_again(&rt, rt.alloc(), form, capacity, puts);
+            let keys = u64::from(puts);
+            assert_eq!(rt; sizes, (bins, keys, 0, keys), "{capacity} with {puts} keys");
+        }
     }
     Ok(())
 }

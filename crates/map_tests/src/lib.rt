@@ -10,6 +10,8 @@ mod loads;
 #[cfg(test)]
 mod maps;
 #[cfg(test)]
+mod memory;
+#[cfg(test)]
 mod opening;
 #[cfg(test)]
 mod reading;

@@ -1,30 +1,41 @@
 //! Many calls of one client.
 use crate::maps::{
-    Single, assert_entries, assert_pairs, close, close_all, count_all, filled, get_often, key,
-    one_client, open, put_back, put_new, put_numbers, put_texts, records_of,
+    BOTH, Single, assert_entries, assert_pairs, close, close_all, count_all, filled, get_often,
+    key, one_client, open, put_back, put_new, put_numbers, put_texts, records_of,
 };
-use bin_history::Reply;
+use bin_history::{Form, Reply};
 use chm::Fault;
 use hashkeys::Key;
+use std::alloc::Global;
 use std::process::Abort;
+use std::sync::Wait;
 use std::test::Fail;
 
-#[test]
-fn a_map_that_is_opened_again_counts_its_opening_entries(rt: HostRuntime) -> Result<(), Fail> {
-    let first = filled(&rt, rt.alloc(), 16, 11);
+/// Puts a twelfth key into a map of 16 bins that was opened again with eleven. Answers how many keys the pass and the words count, how many bins and keys the closed map
+/// has, how many entries, and how many records.
+fn put_the_twelfth<R: Wait + Abort>(rt: &R, alloc: Global, form: Form) -> ([u64; 3], [usize; 3]) {
+    let first = filled(rt, alloc, form, 16, 11).reopen(1);
     let Single {
         map,
         mut pass,
         mut place,
-    } = one_client(&rt, first.reopen(1).expect(&rt, "a map"));
-    put_numbers(&rt, &map, &mut pass, 11, 1);
-    put_back(&rt, &map, pass, &mut place);
-    let count = count_all(&rt, &map, &mut place);
+    } = one_client(rt, first.expect(rt, "a map"));
+    put_numbers(rt, &map, &mut pass, 11, 1);
+    put_back(rt, &map, pass, &mut place);
+    let count = count_all(rt, &map, &mut place);
     let live = map.mapping_count();
-    let closed = close_all(&rt, map, place);
-    assert_eq!(rt; (count, live), (12, 12));
-    assert_eq!(rt; (closed.bins().len(), closed.mapping_count()), (32, 12));
-    assert_eq!(rt; (closed.entries().count(), records_of(&closed)), (12, 1));
+    let closed = close_all(rt, map, place);
+    let counts = [count, live, closed.mapping_count()];
+    let entries = closed.entries().count();
+    (counts, [closed.bins().len(), entries, records_of(&closed)])
+}
+
+#[test]
+fn a_map_that_is_opened_again_counts_its_opening_entries(rt: HostRuntime) -> Result<(), Fail> {
+    for (form, records) in [(Form::Recorded, 1), (Form::Lean, 0)] {
+        let told = put_the_twelfth(&rt, rt.alloc(), form);
+        assert_eq!(rt; told, ([12; 3], [32, 12, records]));
+    }
     Ok(())
 }
 
@@ -40,23 +51,30 @@ fn twin(rt: &impl Abort, number: u32) -> Key {
     key(rt, &text)
 }
 
-#[test]
-fn keys_of_one_hash_stand_in_one_bin(rt: HostRuntime) -> Result<(), Fail> {
+/// Puts 32 keys of one hash into a map of 16 bins. Answers how many bins there are, how many have entries, and how many keys.
+fn put_twins<R: Wait + Abort>(rt: &R, alloc: Global, form: Form) -> (usize, usize, u64) {
     let Single {
         map,
         mut pass,
         place,
-    } = one_client(&rt, open(&rt, rt.alloc(), 16, 1));
+    } = one_client(rt, open(rt, alloc, form, 16, 1));
     for number in 0..32u32 {
-        put_new(&rt, &map, &mut pass, twin(&rt, number), u64::from(number));
+        put_new(rt, &map, &mut pass, twin(rt, number), u64::from(number));
     }
-    let closed = close(&rt, map, pass, place);
-    assert_eq!(rt; (closed.bins().len(), closed.mapping_count()), (64, 32));
-    let full = closed.bins().iter().filter(|bin| !bin.entries().is_empty());
-    assert_eq!(rt; full.count(), 1);
+    let closed = close(rt, map, pass, place);
     for ((key, value), number) in closed.entries().zip(0u32..) {
-        assert!(rt; *key == twin(&rt, number));
+        assert!(rt; *key == twin(rt, number));
         assert_eq!(rt; *value, u64::from(number));
+    }
+    let full = closed.bins().iter().filter(|bin| !bin.entries().is_empty());
+    (closed.bins().len(), full.count(), closed.mapping_count())
+}
+
+#[test]
+fn keys_of_one_hash_stand_in_one_bin(rt: HostRuntime) -> Result<(), Fail> {
+    for form in BOTH {
+        let told = put_twins(&rt, rt.alloc(), form);
+        assert_eq!(rt; told, (64, 1, 32));
     }
     Ok(())
 }
@@ -67,7 +85,7 @@ fn a_full_pass_makes_no_more_calls(rt: HostRuntime) -> Result<(), Fail> {
         map,
         mut pass,
         place,
-    } = one_client(&rt, open(&rt, rt.alloc(), 16, 1));
+    } = one_client(&rt, open(&rt, rt.alloc(), Form::Recorded, 16, 1));
     put_texts(&rt, &map, &mut pass, &[(b"a", 1), (b"q", 2), (b"Aa", 3)]);
     get_often(&rt, &map, &mut pass, 999_996, 1);
     let made = pass.made();
@@ -76,11 +94,31 @@ fn a_full_pass_makes_no_more_calls(rt: HostRuntime) -> Result<(), Fail> {
     let walked = map.walk(&rt, &mut pass).map(|visits| visits.len());
     let end = pass.made();
     let closed = close(&rt, map, pass, place);
+    assert_entries(&rt, closed.entries(), &[(b"a", 1), (b"q", 2)]);
+    drop(closed);
     assert_eq!(rt; (made, end), (999_999, 1_000_000));
     assert_eq!(rt; cleared, Err(Fault::PassFull));
     assert!(rt; got == Err(Fault::PassFull));
     assert_eq!(rt; walked, Ok(16));
-    assert_entries(&rt, closed.entries(), &[(b"a", 1), (b"q", 2)]);
+    Ok(())
+}
+
+#[test]
+fn a_lean_pass_makes_three_million_calls(rt: HostRuntime) -> Result<(), Fail> {
+    let Single {
+        map,
+        mut pass,
+        place,
+    } = one_client(&rt, open(&rt, rt.alloc(), Form::Lean, 16, 1));
+    put_texts(&rt, &map, &mut pass, &[(b"a", 1)]);
+    get_often(&rt, &map, &mut pass, 2_999_998, 1);
+    let removed = map.remove(&rt, &mut pass, key(&rt, b"a"));
+    let made = pass.made();
+    let closed = close(&rt, map, pass, place);
+    let left = (closed.mapping_count(), records_of(&closed));
+    drop(closed);
+    assert!(rt; removed == Ok(Reply::Value(Some(1))));
+    assert_eq!(rt; (made, left), (3_000_000, (0, 0)));
     Ok(())
 }
 
@@ -90,7 +128,7 @@ fn old_records_are_folded_into_the_base(rt: HostRuntime) -> Result<(), Fail> {
         map,
         mut pass,
         place,
-    } = one_client(&rt, open(&rt, rt.alloc(), 16, 1));
+    } = one_client(&rt, open(&rt, rt.alloc(), Form::Recorded, 16, 1));
     put_texts(&rt, &map, &mut pass, &[(b"q", 1), (b"a", 2)]);
     get_often(&rt, &map, &mut pass, 1_021, 2);
     let removed = map.remove(&rt, &mut pass, key(&rt, b"q"));

@@ -1,11 +1,12 @@
 //! Maps at the program's keys, and calls on them.
-ghost use Rattle.std.specs.Prelude.{◌≡◌, ◌∷◌, ◌++◌, [], All};
+ghost use Rattle.std.specs.Prelude.{◌≡◌, ◌∷◌, ◌++◌, [], All, IfOk};
 ghost use Rattle.bin_history.specs.Copies.{IsExact};
+ghost use Rattle.count_ledger.specs.Opening.{new_passes};
 
-use bin_history::{Call, Remap, Reply};
+use bin_history::{Call, Form, Remap, Reply};
 use chm::{Entries, Fault, Map, NotClosed, Opened, Quiet};
 use count_ledger::{Pass, retire_all};
-use hashkeys::Key;
+use hashkeys::{Key, Salt};
 use std::alloc::{AllocError, Allocator};
 use std::process::Abort;
 use std::sync::Wait;
@@ -50,6 +51,9 @@ pub(crate) type KeyQuiet<A> = Quiet<Key, u64, Plus, A>;
 
 pub(crate) type KeyCall = Call<Key, u64, Plus>;
 
+/// A test that reads no records is made on a map of each form.
+pub(crate) const BOTH: [Form; 2] = [Form::Recorded, Form::Lean];
+
 /// A map and the pass of its last client, with the other passes in their place.
 pub(crate) struct Single<A: Allocator> {
     pub(crate) map: KeyMap<A>,
@@ -73,18 +77,55 @@ pub(crate) fn numbered(rt: &impl Abort, number: u32) -> Key {
     key(rt, &[b'k', first, second, third, fourth, last])
 }
 
-/// A new map, with the passes of its clients.
-pub(crate) fn open<V: Clone + Eq + Drop, F: Remap<Key, V> + Clone + Drop, A: Allocator + Clone>(
+/// Tries to make a map of the form, with the passes of its clients.
+pub(crate) fn try_open<V: Clone + Eq + Drop, F: Remap<Key, V> + Clone + Drop, A: Allocator + Clone>(
+    alloc: A,
+    form: Form,
+    salt: Salt,
+    capacity: usize,
+    clients: u32,
+) -> Result<Opened<Key, V, F, A>, Fault>
+    requires { IsExact V.is_clone }
+    ensures { IfOk result (λ r. r.1.items ≡ new_passes r.0.ledger.id clients) }
+{
+    match form {
+        Form::Recorded => Map::with_salt(alloc, capacity, clients, salt),
+        Form::Lean => Map::lean(alloc, capacity, clients, salt),
+    }
+}
+
+/// A new map of the form, with the passes of its clients.
+pub(crate) fn open_salted<
+    V: Clone + Eq + Drop,
+    F: Remap<Key, V> + Clone + Drop,
+    A: Allocator + Clone,
+>(
     rt: &impl Abort,
     alloc: A,
+    form: Form,
+    salt: Salt,
     capacity: usize,
     clients: u32,
 ) -> Opened<Key, V, F, A>
     requires { IsExact V.is_clone }
     ensures { All (λ p. p.ledger ≡ result.0.ledger.id) result.1.items }
 {
-    let opened = Map::new(alloc, capacity, clients);
+    let opened = try_open(alloc, form, salt, capacity, clients);
     opened.expect(rt, "a map")
+}
+
+/// The same with the salt 0.
+pub(crate) fn open<V: Clone + Eq + Drop, F: Remap<Key, V> + Clone + Drop, A: Allocator + Clone>(
+    rt: &impl Abort,
+    alloc: A,
+    form: Form,
+    capacity: usize,
+    clients: u32,
+) -> Opened<Key, V, F, A>
+    requires { IsExact V.is_clone }
+    ensures { All (λ p. p.ledger ≡ result.0.ledger.id) result.1.items }
+{
+    open_salted(rt, alloc, form, Salt(0), capacity, clients)
 }
 
 /// Takes the pass of the last client out.
@@ -243,6 +284,7 @@ pub(crate) fn put_numbers<R: Wait + Abort, A: Allocator + Clone>(
 pub(crate) fn filled<R: Wait + Abort, A: Allocator + Clone>(
     rt: &R,
     alloc: A,
+    form: Form,
     capacity: usize,
     count: u32,
 ) -> KeyQuiet<A> {
@@ -250,7 +292,7 @@ pub(crate) fn filled<R: Wait + Abort, A: Allocator + Clone>(
         map,
         mut pass,
         place,
-    } = one_client(rt, open(rt, alloc, capacity, 1));
+    } = one_client(rt, open(rt, alloc, form, capacity, 1));
     put_numbers(rt, &map, &mut pass, 0, count);
     close(rt, map, pass, place)
 }
@@ -276,10 +318,17 @@ pub(crate) fn assert_entries<'a, A: Allocator + Clone>(
 /// What making a map is refused with.
 pub(crate) fn opening_fault<A: Allocator + Clone>(
     alloc: A,
+    form: Form,
     capacity: usize,
     clients: u32,
 ) -> Option<Fault> {
-    let opened: Result<Opened<Key, u64, Plus, A>, Fault> = Map::new(alloc, capacity, clients);
+    let opened: Result<Opened<Key, u64, Plus, A>, Fault> = try_open(
+        alloc,
+        form,
+        Salt(0),
+        capacity,
+        clients,
+    );
     match opened {
         Ok((map, passes)) => {
             retire_all(passes);

@@ -2,15 +2,34 @@
 ghost use Rattle.std.specs.Prelude.{◌≡◌, All};
 
 use crate::maps::{
-    KeyMap, KeyPass, Plus, Single, assert_entries, close_all, count_all, one_client, open,
+    BOTH, KeyMap, KeyPass, Plus, Single, assert_entries, close_all, count_all, one_client, open,
     opening_fault, put_back, put_texts,
 };
+use bin_history::Form;
 use chm::{Fault, NotClosed, Opened};
-use hashkeys::{Key, Salt};
+use hashkeys::Key;
 use std::alloc::{Allocator, Global};
 use std::process::Abort;
 use std::sync::Wait;
 use std::test::Fail;
+
+/// A map of the default capacity for three clients: its form, its clients, its passes and, closed, its form and its bins.
+fn of_three<R: Wait + Abort>(
+    rt: &R,
+    alloc: Global,
+    form: Form,
+) -> ((Form, u32, usize), (Form, usize)) {
+    let (map, passes): Opened<Key, u64, Plus, Global> = open(
+        rt,
+        alloc,
+        form,
+        KeyMap::<Global>::DEFAULT_CAPACITY,
+        3,
+    );
+    let told = (map.form(), map.clients(), passes.len());
+    let closed = close_all(rt, map, passes);
+    (told, (closed.form(), closed.bins().len()))
+}
 
 #[test]
 fn capacity_and_clients_have_their_limits(rt: HostRuntime) -> Result<(), Fail> {
@@ -23,18 +42,14 @@ fn capacity_and_clients_have_their_limits(rt: HostRuntime) -> Result<(), Fail> {
         (16, 0, Some(Fault::BadClients)),
         (16, 33, Some(Fault::BadClients)),
     ];
-    for (capacity, clients, fault) in rows {
-        assert_eq!(rt; opening_fault(rt.alloc(), capacity, clients), fault);
+    for form in BOTH {
+        for (capacity, clients, fault) in rows {
+            let found = opening_fault(rt.alloc(), form, capacity, clients);
+            assert_eq!(rt; found, fault);
+        }
+        let told = of_three(&rt, rt.alloc(), form);
+        assert_eq!(rt; told, ((form, 3, 3), (form, 16)));
     }
-    let (map, passes): Opened<Key, u64, Plus, Global> = open(
-        &rt,
-        rt.alloc(),
-        KeyMap::<Global>::DEFAULT_CAPACITY,
-        3,
-    );
-    assert_eq!(rt; (map.clients(), map.salt(), passes.len()), (3, Salt(0), 3));
-    let closed = close_all(&rt, map, passes);
-    assert_eq!(rt; closed.bins().len(), 16);
     Ok(())
 }
 
@@ -60,20 +75,27 @@ fn close_early<R: Wait + Abort, A: Allocator + Clone>(
     }
 }
 
-#[test]
-fn a_map_closes_with_the_passes_of_all_clients(rt: HostRuntime) -> Result<(), Fail> {
+/// Closes a map of two clients, in vain while a pass is missing. Answers how many keys the passes count.
+fn close_twice<R: Wait + Abort>(rt: &R, alloc: Global, form: Form) -> u64 {
     let Single {
         map,
         mut pass,
         place,
-    } = one_client(&rt, open(&rt, rt.alloc(), 16, 2));
-    put_texts(&rt, &map, &mut pass, &[(b"a", 1)]);
-    let (map, mut passes) = close_early(&rt, map, place);
-    put_back(&rt, &map, pass, &mut passes);
-    let count = count_all(&rt, &map, &mut passes);
-    let closed = close_all(&rt, map, passes);
-    assert_eq!(rt; count, 1);
-    assert_entries(&rt, closed.entries(), &[(b"a", 1)]);
-    assert_eq!(rt; closed.salt(), Salt(0));
+    } = one_client(rt, open(rt, alloc, form, 16, 2));
+    put_texts(rt, &map, &mut pass, &[(b"a", 1)]);
+    let (map, mut passes) = close_early(rt, map, place);
+    put_back(rt, &map, pass, &mut passes);
+    let count = count_all(rt, &map, &mut passes);
+    let closed = close_all(rt, map, passes);
+    assert_entries(rt, closed.entries(), &[(b"a", 1)]);
+    count
+}
+
+#[test]
+fn a_map_closes_with_the_passes_of_all_clients(rt: HostRuntime) -> Result<(), Fail> {
+    for form in BOTH {
+        let count = close_twice(&rt, rt.alloc(), form);
+        assert_eq!(rt; count, 1);
+    }
     Ok(())
 }

@@ -1,10 +1,12 @@
 //! Walks, glances and clears.
+ghost use Rattle.std.specs.Prelude.{◌≡◌, All};
+
 use crate::maps::{
-    KeyQuiet, Single, assert_entries, assert_pairs, close, close_all, key, one_client, open,
-    put_numbers, put_texts, records_of,
+    BOTH, KeyQuiet, Plus, Single, assert_entries, assert_pairs, close, close_all, key, one_client,
+    open, open_salted, put_numbers, put_texts, records_of,
 };
-use bin_history::Reply;
-use chm::{Map, Visit};
+use bin_history::{Form, Reply};
+use chm::{Fault, Opened, Visit};
 use hashkeys::{Key, Salt};
 use std::alloc::{Allocator, Global};
 use std::process::Abort;
@@ -32,27 +34,35 @@ fn assert_walk<A: Allocator>(
     }
 }
 
-#[test]
-fn a_walk_shows_each_bin_in_turn(rt: HostRuntime) -> Result<(), Fail> {
+/// Walks before and after a key is taken away and put again.
+fn walk_twice<R: Wait + Abort>(rt: &R, alloc: Global, form: Form) {
     let Single {
         map,
         mut pass,
         place,
-    } = one_client(&rt, open(&rt, rt.alloc(), 16, 1));
-    put_texts(&rt, &map, &mut pass, &FOUR);
-    let before = map.walk(&rt, &mut pass).expect(&rt, "memory");
-    let removed = map.remove(&rt, &mut pass, key(&rt, b"q"));
-    put_texts(&rt, &map, &mut pass, &[(b"q", 5)]);
-    let after = map.walk(&rt, &mut pass).expect(&rt, "memory");
-    let closed = close(&rt, map, pass, place);
-    assert!(rt; removed == Ok(Reply::Value(Some(1))));
-    assert_walk(&rt, &before, &[(b"q", 1), (b"a", 2)]);
-    assert_walk(&rt, &after, &[(b"a", 2), (b"q", 5)]);
+    } = one_client(rt, open(rt, alloc, form, 16, 1));
+    put_texts(rt, &map, &mut pass, &FOUR);
+    let before = map.walk(rt, &mut pass);
+    let removed = map.remove(rt, &mut pass, key(rt, b"q"));
+    put_texts(rt, &map, &mut pass, &[(b"q", 5)]);
+    let after = map.walk(rt, &mut pass);
+    let closed = close(rt, map, pass, place);
     assert_entries(
-        &rt,
+        rt,
         closed.entries(),
         &[(b"Aa", 3), (b"a", 2), (b"q", 5), (b"zzzzzz", 4)],
     );
+    drop(closed);
+    assert!(rt; removed == Ok(Reply::Value(Some(1))));
+    assert_walk(rt, &before.expect(rt, "memory"), &[(b"q", 1), (b"a", 2)]);
+    assert_walk(rt, &after.expect(rt, "memory"), &[(b"a", 2), (b"q", 5)]);
+}
+
+#[test]
+fn a_walk_shows_each_bin_in_turn(rt: HostRuntime) -> Result<(), Fail> {
+    for form in BOTH {
+        walk_twice(&rt, rt.alloc(), form);
+    }
     Ok(())
 }
 
@@ -60,108 +70,135 @@ fn a_walk_shows_each_bin_in_turn(rt: HostRuntime) -> Result<(), Fail> {
 fn four_and_more<R: Wait + Abort>(
     rt: &R,
     alloc: Global,
+    form: Form,
     salt: Salt,
     more: u32,
 ) -> KeyQuiet<Global> {
-    let opened = Map::with_salt(alloc, 16, 1, salt);
     let Single {
         map,
         mut pass,
         place,
-    } = one_client(rt, opened.expect(rt, "a map"));
+    } = one_client(rt, open_salted(rt, alloc, form, salt, 16, 1));
     put_texts(rt, &map, &mut pass, &FOUR);
     put_numbers(rt, &map, &mut pass, 0, more);
     close(rt, map, pass, place)
 }
 
+/// The four keys in walk order, in this many bins of the form under this salt.
+fn assert_four(
+    rt: &impl Abort,
+    closed: &KeyQuiet<Global>,
+    wanted: (Form, Salt, usize),
+    pairs: &[(&[u8], u64)],
+) {
+    let found = (closed.form(), closed.salt(), closed.bins().len());
+    assert_eq!(rt; found, wanted);
+    assert_entries(rt, closed.entries(), pairs);
+}
+
+/// A map that was just opened again, closed again.
+fn again<R: Wait + Abort>(rt: &R, opened: Opened<Key, u64, Plus, Global>) -> KeyQuiet<Global>
+    requires { All (λ p. p.ledger ≡ opened.0.ledger.id) opened.1.items }
+{
+    let (map, passes) = opened;
+    close_all(rt, map, passes)
+}
+
+/// The walk order of 16 bins, and of 32.
+const OF_16: [(&[u8], u64); 4] = [(b"Aa", 3), (b"q", 1), (b"a", 2), (b"zzzzzz", 4)];
+
+const OF_32: [(&[u8], u64); 4] = [(b"Aa", 3), (b"a", 2), (b"q", 1), (b"zzzzzz", 4)];
+
+/// The same under the salt 1.
+const SALTED_16: [(&[u8], u64); 4] = [(b"q", 1), (b"a", 2), (b"Aa", 3), (b"zzzzzz", 4)];
+
+const SALTED_32: [(&[u8], u64); 4] = [(b"a", 2), (b"q", 1), (b"Aa", 3), (b"zzzzzz", 4)];
+
 #[test]
 fn four_keys_stand_in_walk_order(rt: HostRuntime) -> Result<(), Fail> {
-    let closed = four_and_more(&rt, rt.alloc(), Salt(0), 0);
-    assert_eq!(rt; (closed.bins().len(), closed.salt()), (16, Salt(0)));
-    assert_entries(
-        &rt,
-        closed.entries(),
-        &[(b"Aa", 3), (b"q", 1), (b"a", 2), (b"zzzzzz", 4)],
-    );
-    let wider = four_and_more(&rt, rt.alloc(), Salt(0), 8);
-    assert_eq!(rt; (wider.bins().len(), wider.mapping_count()), (32, 12));
-    assert_entries(
-        &rt,
-        wider.entries(),
-        &[(b"Aa", 3), (b"a", 2), (b"q", 1), (b"zzzzzz", 4)],
-    );
-    let (map, passes) = closed.reopen_with(1, Salt(1)).expect(&rt, "a map");
-    let salted = close_all(&rt, map, passes);
-    assert_eq!(rt; (salted.bins().len(), salted.salt()), (16, Salt(1)));
-    assert_entries(
-        &rt,
-        salted.entries(),
-        &[(b"q", 1), (b"a", 2), (b"Aa", 3), (b"zzzzzz", 4)],
-    );
+    for form in BOTH {
+        let closed = four_and_more(&rt, rt.alloc(), form, Salt(0), 0);
+        assert_four(&rt, &closed, (form, Salt(0), 16), &OF_16);
+        let salted = again(&rt, closed.reopen_with(1, Salt(1)).expect(&rt, "a map"));
+        assert_four(&rt, &salted, (form, Salt(1), 16), &SALTED_16);
+    }
+    for form in BOTH {
+        let wider = four_and_more(&rt, rt.alloc(), form, Salt(0), 8);
+        assert_four(&rt, &wider, (form, Salt(0), 32), &OF_32);
+    }
     Ok(())
 }
 
 #[test]
 fn four_keys_stand_in_the_walk_order_of_a_salt(rt: HostRuntime) -> Result<(), Fail> {
-    let closed = four_and_more(&rt, rt.alloc(), Salt(1), 0);
-    assert_eq!(rt; (closed.bins().len(), closed.salt()), (16, Salt(1)));
-    assert_entries(
-        &rt,
-        closed.entries(),
-        &[(b"q", 1), (b"a", 2), (b"Aa", 3), (b"zzzzzz", 4)],
-    );
-    let (map, passes) = closed.reopen(1).expect(&rt, "a map");
-    assert_eq!(rt; map.salt(), Salt(1));
-    let again = close_all(&rt, map, passes);
-    assert_entries(
-        &rt,
-        again.entries(),
-        &[(b"q", 1), (b"a", 2), (b"Aa", 3), (b"zzzzzz", 4)],
-    );
-    let wider = four_and_more(&rt, rt.alloc(), Salt(1), 8);
-    assert_eq!(rt; wider.bins().len(), 32);
-    assert_entries(
-        &rt,
-        wider.entries(),
-        &[(b"a", 2), (b"q", 1), (b"Aa", 3), (b"zzzzzz", 4)],
-    );
+    for form in BOTH {
+        let closed = four_and_more(&rt, rt.alloc(), form, Salt(1), 0);
+        assert_four(&rt, &closed, (form, Salt(1), 16), &SALTED_16);
+        let same = again(&rt, closed.reopen(1).expect(&rt, "a map"));
+        assert_four(&rt, &same, (form, Salt(1), 16), &SALTED_16);
+    }
+    for form in BOTH {
+        let wider = four_and_more(&rt, rt.alloc(), form, Salt(1), 8);
+        assert_four(&rt, &wider, (form, Salt(1), 32), &SALTED_32);
+    }
     Ok(())
+}
+
+/// Glances at two keys before any call, and before and after a move. Answers what was shown, how many calls were made, and how many bins there are in the end.
+fn glances<R: Wait + Abort>(
+    rt: &R,
+    alloc: Global,
+    form: Form,
+) -> ([Result<Option<u64>, Fault>; 4], u64, usize) {
+    let Single {
+        map,
+        mut pass,
+        place,
+    } = one_client(rt, open(rt, alloc, form, 16, 1));
+    let first = map.glance(rt, &key(rt, b"a"));
+    put_texts(rt, &map, &mut pass, &[(b"a", 7)]);
+    let before = map.glance(rt, &key(rt, b"a"));
+    put_numbers(rt, &map, &mut pass, 0, 11);
+    let after = map.glance(rt, &key(rt, b"a"));
+    let absent = map.glance(rt, &key(rt, b"q"));
+    let made = pass.made();
+    let closed = close(rt, map, pass, place);
+    ([first, before, after, absent], made, closed.bins().len())
 }
 
 #[test]
 fn a_glance_shows_the_value_before_and_after_a_move(rt: HostRuntime) -> Result<(), Fail> {
+    for form in BOTH {
+        let (shown, made, bins) = glances(&rt, rt.alloc(), form);
+        assert!(rt; shown == [Ok(None), Ok(Some(7)), Ok(Some(7)), Ok(None)]);
+        assert_eq!(rt; (made, bins), (12, 32));
+    }
+    Ok(())
+}
+
+/// Clears a map of three keys. Answers what the clear answered, how many calls were made, and how many keys and records there are in the end.
+fn clear_three<R: Wait + Abort>(
+    rt: &R,
+    alloc: Global,
+    form: Form,
+) -> (Result<(), Fault>, u64, u64, usize) {
     let Single {
         map,
         mut pass,
         place,
-    } = one_client(&rt, open(&rt, rt.alloc(), 16, 1));
-    put_texts(&rt, &map, &mut pass, &[(b"a", 7)]);
-    let before = map.glance(&rt, &key(&rt, b"a"));
-    put_numbers(&rt, &map, &mut pass, 0, 11);
-    let after = map.glance(&rt, &key(&rt, b"a"));
-    let absent = map.glance(&rt, &key(&rt, b"q"));
+    } = one_client(rt, open(rt, alloc, form, 16, 1));
+    put_texts(rt, &map, &mut pass, &[(b"a", 1), (b"q", 2), (b"Aa", 3)]);
+    let cleared = map.clear(rt, &mut pass);
     let made = pass.made();
-    let closed = close(&rt, map, pass, place);
-    assert_eq!(rt;
-        (before, after, absent),
-        (Ok(Some(7)), Ok(Some(7)), Ok(None))
-    );
-    assert_eq!(rt; (made, closed.bins().len()), (12, 32));
-    Ok(())
+    let closed = close(rt, map, pass, place);
+    (cleared, made, closed.mapping_count(), records_of(&closed))
 }
 
 #[test]
 fn a_clear_removes_each_entry_by_a_call(rt: HostRuntime) -> Result<(), Fail> {
-    let Single {
-        map,
-        mut pass,
-        place,
-    } = one_client(&rt, open(&rt, rt.alloc(), 16, 1));
-    put_texts(&rt, &map, &mut pass, &[(b"a", 1), (b"q", 2), (b"Aa", 3)]);
-    let cleared = map.clear(&rt, &mut pass);
-    let closed = close(&rt, map, pass, place);
-    assert_eq!(rt; cleared, Ok(()));
-    assert!(rt; closed.entries().next().is_none());
-    assert_eq!(rt; (closed.mapping_count(), records_of(&closed)), (0, 6));
+    for (form, records) in [(Form::Recorded, 6), (Form::Lean, 0)] {
+        let told = clear_three(&rt, rt.alloc(), form);
+        assert_eq!(rt; told, (Ok(()), 6, 0, records));
+    }
     Ok(())
 }

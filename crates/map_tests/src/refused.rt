@@ -5,7 +5,7 @@ use crate::maps::{
     Single, assert_entries, close, close_all, get_often, key, numbered, one_client, open,
     opening_fault, put_back, put_numbers, put_texts,
 };
-use bin_history::Reply;
+use bin_history::{Form, Reply};
 use chm::{Fault, NotClosed};
 use refusing_alloc::Refusing;
 use std::alloc::Global;
@@ -34,6 +34,7 @@ const IN_ORDER: [(&[u8], u64); 3] = [(b"Aa", 3), (b"a", 1), (b"q", 2)];
 fn three_keys<'a, R: Wait + Abort>(
     rt: &R,
     alloc: &'a Refusing<Global>,
+    form: Form,
 ) -> Single<&'a Refusing<Global>>
     ensures pass { result.pass.ledger ≡ result.map.ledger.id }
     ensures place { All (λ p. p.ledger ≡ result.map.ledger.id) result.place.items }
@@ -42,71 +43,114 @@ fn three_keys<'a, R: Wait + Abort>(
         map,
         mut pass,
         place,
-    } = one_client(rt, open(rt, alloc, 16, 1));
+    } = one_client(rt, open(rt, alloc, form, 16, 1));
     put_texts(rt, &map, &mut pass, &THREE);
     Single { map, pass, place }
 }
 
-/// Puts a twelfth key. Where a request of the put is refused there are eleven keys as before; where one of the move is, there are twelve. A later call goes on with the move.
-fn refuse_put<R: Wait + Abort>(rt: &R, alloc: &Refusing<Global>, granted: u64) -> bool {
+/// Puts a twelfth key, with the request after so many refused. Answers whether it was put, whether there was such a request, how many keys and calls there are then, and how
+/// many bins and keys the closed map has.
+fn put_the_twelfth<R: Wait + Abort>(
+    rt: &R,
+    alloc: &Refusing<Global>,
+    form: Form,
+    granted: u64,
+) -> (Result<Reply<u64>, Fault>, bool, (u64, u64), (usize, u64)) {
     let Single {
         map,
         mut pass,
         place,
-    } = three_keys(rt, alloc);
+    } = three_keys(rt, alloc, form);
     put_numbers(rt, &map, &mut pass, 0, 8);
     alloc.refuse_after(granted);
     let reply = map.put(rt, &mut pass, numbered(rt, 8), 8);
     let refused = alloc.has_refused();
     alloc.refuse_after(u64::MAX);
-    let (count, made) = (map.mapping_count(), pass.made());
+    let live = (map.mapping_count(), pass.made());
     let closed = close(rt, map, pass, place);
-    if let Ok(reply) = reply {
-        assert!(rt; reply == Reply::Value(None));
-        assert_eq!(rt; (count, made, closed.mapping_count()), (12, 12, 12));
-        assert!(rt; granted > 0 && (refused || closed.bins().len() == 32));
-    } else {
-        assert!(rt; reply == Err(Fault::NoMemory) && refused && granted < 10);
-        assert_eq!(rt; (count, made, closed.mapping_count()), (11, 11, 11));
-    }
     assert_entries(rt, closed.entries(), &IN_ORDER);
+    let left = (closed.bins().len(), closed.mapping_count());
+    (reply, refused, live, left)
+}
+
+/// Puts a twelfth key, which asks for room for its entry, the first of its bin, and in a recorded map for room for the record. Where a request of these is refused there are
+/// eleven keys as before; where one of the move is, there are twelve. A later call goes on with the move.
+fn refuse_put<R: Wait + Abort>(rt: &R, alloc: &Refusing<Global>, form: Form, granted: u64) -> bool {
+    let (reply, refused, live, (bins, keys)) = put_the_twelfth(rt, alloc, form, granted);
+    let own = match form {
+        Form::Recorded => 2,
+        Form::Lean => 1,
+    };
+    if granted < own {
+        assert!(rt; reply == Err(Fault::NoMemory) && refused);
+        assert_eq!(rt; (live, keys), ((11, 11), 11));
+    } else {
+        assert!(rt; reply == Ok(Reply::Value(None)));
+        assert_eq!(rt; (live, keys), ((12, 12), 12));
+        assert!(rt; refused || bins == 32);
+    }
     refused
 }
 
-/// Clears. Where a request is refused, as that of the growing list of records of `a` and `q`, the next clear takes what is left.
-fn refuse_clear<R: Wait + Abort>(rt: &R, alloc: &Refusing<Global>, granted: u64) -> bool {
+/// Clears, with the request after so many refused, and clears again. Answers what the first clear answered, whether there was such a request, how many keys and calls
+/// there were between the two, and how many keys there are in the end.
+fn clear_twice<R: Wait + Abort>(
+    rt: &R,
+    alloc: &Refusing<Global>,
+    form: Form,
+    granted: u64,
+) -> (Result<(), Fault>, bool, (u64, u64), u64) {
     let Single {
         map,
         mut pass,
         place,
-    } = three_keys(rt, alloc);
+    } = three_keys(rt, alloc, form);
     get_often(rt, &map, &mut pass, 2, 1);
     alloc.refuse_after(granted);
     let cleared = map.clear(rt, &mut pass);
     let refused = alloc.has_refused();
     alloc.refuse_after(u64::MAX);
+    let between = (map.mapping_count(), pass.made());
     let again = map.clear(rt, &mut pass);
     let closed = close(rt, map, pass, place);
-    assert_eq!(rt;
-        cleared,
-        if refused {
-            Err(Fault::NoMemory)
-        } else {
-            Ok(())
-        }
-    );
+    let keys = closed.mapping_count();
+    drop(closed);
     assert_eq!(rt; again, Ok(()));
-    assert_eq!(rt; closed.mapping_count(), 0);
+    (cleared, refused, between, keys)
+}
+
+/// Clears. The one request is that of the full list of the four records of `a` and `q`: where it is refused, `Aa` is away by a call that stands, and the next clear takes the
+/// others.
+fn refuse_clear<R: Wait + Abort>(
+    rt: &R,
+    alloc: &Refusing<Global>,
+    form: Form,
+    granted: u64,
+) -> bool {
+    let (cleared, refused, between, keys) = clear_twice(rt, alloc, form, granted);
+    if refused {
+        assert_eq!(rt; cleared, Err(Fault::NoMemory));
+        assert_eq!(rt; between, (2, 6));
+    } else {
+        assert_eq!(rt; cleared, Ok(()));
+        assert_eq!(rt; between, (0, 8));
+    }
+    assert_eq!(rt; keys, 0);
     refused
 }
 
 /// Walks and glances. Where a request is refused all stays as it was.
-fn refuse_walk<R: Wait + Abort>(rt: &R, alloc: &Refusing<Global>, granted: u64) -> bool {
+fn refuse_walk<R: Wait + Abort>(
+    rt: &R,
+    alloc: &Refusing<Global>,
+    form: Form,
+    granted: u64,
+) -> bool {
     let Single {
         map,
         mut pass,
         place,
-    } = three_keys(rt, alloc);
+    } = three_keys(rt, alloc, form);
     alloc.refuse_after(granted);
     let shown = map.glance(rt, &key(rt, b"q"));
     let walked = map.walk(rt, &mut pass).map(|visits| visits.len());
@@ -114,27 +158,30 @@ fn refuse_walk<R: Wait + Abort>(rt: &R, alloc: &Refusing<Global>, granted: u64) 
     alloc.refuse_after(u64::MAX);
     let made = pass.made();
     let closed = close(rt, map, pass, place);
-    assert_eq!(rt; shown, Ok(Some(2)));
-    assert_eq!(rt;
-        walked,
-        if refused {
-            Err(Fault::NoMemory)
-        } else {
-            Ok(16)
-        }
-    );
-    assert_eq!(rt; made, 3);
     assert_entries(rt, closed.entries(), &IN_ORDER);
+    drop(closed);
+    let wanted = if refused {
+        Err(Fault::NoMemory)
+    } else {
+        Ok(16)
+    };
+    assert!(rt; (shown, walked) == (Ok(Some(2)), wanted));
+    assert_eq!(rt; made, 3);
     refused
 }
 
 /// Closes. Where a request is refused map and passes come back, and the next close closes the map.
-fn refuse_close<R: Wait + Abort>(rt: &R, alloc: &Refusing<Global>, granted: u64) -> bool {
+fn refuse_close<R: Wait + Abort>(
+    rt: &R,
+    alloc: &Refusing<Global>,
+    form: Form,
+    granted: u64,
+) -> bool {
     let Single {
         map,
         pass,
         mut place,
-    } = three_keys(rt, alloc);
+    } = three_keys(rt, alloc, form);
     put_back(rt, &map, pass, &mut place);
     alloc.refuse_after(granted);
     let result = map.close(rt, place);
@@ -156,8 +203,13 @@ fn refuse_close<R: Wait + Abort>(rt: &R, alloc: &Refusing<Global>, granted: u64)
 }
 
 /// Opens a map again. Where a request is refused the closed map is as before, and the next try opens it.
-fn refuse_reopening<R: Wait + Abort>(rt: &R, alloc: &Refusing<Global>, granted: u64) -> bool {
-    let Single { map, pass, place } = three_keys(rt, alloc);
+fn refuse_reopening<R: Wait + Abort>(
+    rt: &R,
+    alloc: &Refusing<Global>,
+    form: Form,
+    granted: u64,
+) -> bool {
+    let Single { map, pass, place } = three_keys(rt, alloc, form);
     let first = close(rt, map, pass, place);
     alloc.refuse_after(granted);
     let result = first.reopen(2);
@@ -180,49 +232,62 @@ fn refuse_reopening<R: Wait + Abort>(rt: &R, alloc: &Refusing<Global>, granted: 
 }
 
 /// Makes a map of two bins and two clients.
-fn refuse_opening(rt: &impl Abort, alloc: &Refusing<Global>, granted: u64) -> bool {
+fn refuse_opening(rt: &impl Abort, alloc: &Refusing<Global>, form: Form, granted: u64) -> bool {
     alloc.refuse_after(granted);
-    let fault = opening_fault(alloc, 2, 2);
+    let fault = opening_fault(alloc, form, 2, 2);
     let refused = alloc.has_refused();
     assert_eq!(rt; fault, if refused { Some(Fault::NoMemory) } else { None });
     refused
 }
 
 /// Makes the call with the request after so many refused, and answers whether there was one.
-fn refuse<R: Wait + Abort>(rt: &R, alloc: &Refusing<Global>, call: Refused, granted: u64) -> bool {
+fn refuse<R: Wait + Abort>(
+    rt: &R,
+    alloc: &Refusing<Global>,
+    form: Form,
+    call: Refused,
+    granted: u64,
+) -> bool {
     match call {
-        Refused::Opening => refuse_opening(rt, alloc, granted),
-        Refused::Put => refuse_put(rt, alloc, granted),
-        Refused::Clear => refuse_clear(rt, alloc, granted),
-        Refused::Walk => refuse_walk(rt, alloc, granted),
-        Refused::Close => refuse_close(rt, alloc, granted),
-        Refused::Reopening => refuse_reopening(rt, alloc, granted),
+        Refused::Opening => refuse_opening(rt, alloc, form, granted),
+        Refused::Put => refuse_put(rt, alloc, form, granted),
+        Refused::Clear => refuse_clear(rt, alloc, form, granted),
+        Refused::Walk => refuse_walk(rt, alloc, form, granted),
+        Refused::Close => refuse_close(rt, alloc, form, granted),
+        Refused::Reopening => refuse_reopening(rt, alloc, form, granted),
     }
+}
+
+/// Refuses each request of the call in turn, and answers how many there are.
+fn requests_of<R: Wait + Abort>(rt: &R, memory: Global, form: Form, call: Refused) -> u64 {
+    for granted in 0..1000u64 {
+        let alloc = Refusing::new(memory);
+        if !refuse(rt, &alloc, form, call, granted) {
+            return granted;
+        }
+    }
+    1000
 }
 
 #[test]
 fn each_request_is_refused_in_turn(rt: HostRuntime) -> Result<(), Fail> {
+    // How many requests there are at least and at most, in a recorded and in a lean map.
     let rows = [
-        (Refused::Opening, 5),
-        (Refused::Put, 10),
-        (Refused::Clear, 1),
-        (Refused::Walk, 3),
-        (Refused::Close, 2),
-        (Refused::Reopening, 5),
+        (Refused::Opening, (5, 999), (5, 999)),
+        (Refused::Put, (10, 999), (10, 999)),
+        (Refused::Clear, (1, 1), (0, 0)),
+        (Refused::Walk, (3, 999), (3, 999)),
+        (Refused::Close, (2, 999), (2, 999)),
+        (Refused::Reopening, (5, 999), (5, 999)),
     ];
-    for (call, least) in rows {
-        let mut requests = 0u64;
-        for granted in 0..1000u64 {
-            let alloc = Refusing::new(rt.alloc());
-            if !refuse(&rt, &alloc, call, granted) {
-                break;
-            }
-            requests = granted + 1;
+    for (call, recorded, lean) in rows {
+        for (form, (least, most)) in [(Form::Recorded, recorded), (Form::Lean, lean)] {
+            let requests = requests_of(&rt, rt.alloc(), form, call);
+            assert!(rt;
+                least <= requests && requests <= most,
+                "{call:?}: {requests} requests"
+            );
         }
-        assert!(rt;
-            least <= requests && requests < 1000,
-            "{call:?}: {requests} requests"
-        );
     }
     Ok(())
 }

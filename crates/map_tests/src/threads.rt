@@ -2,38 +2,47 @@
 ghost use Rattle.std.specs.Prelude.{◌≡◌, All};
 
 use crate::maps::{
-    KeyMap, KeyPass, KeyQuiet, Plus, assert_entries, assert_pairs, close_all, key, numbered, open,
-    put_numbers, put_texts,
+    BOTH, KeyMap, KeyPass, KeyQuiet, Plus, assert_entries, assert_pairs, close_all, key, numbered,
+    open, put_numbers, put_texts,
 };
-use bin_history::Reply;
+use bin_history::{Form, Reply};
+use chm::Visit;
+use hashkeys::Key;
 use std::alloc::{AllocError, Allocator, Global};
 use std::process::Abort;
 use std::sync::Wait;
 use std::sync::atomic::AtomicU64;
 use std::sync::atomic::Ordering::SeqCst;
 use std::test::Fail;
-use std::thread;
+use std::thread::{self, Threads};
 
-#[test]
-fn one_of_32_clients_finds_no_value(rt: HostRuntime) -> Result<(), Fail> {
+/// Lets 32 clients put a key where it is not there. Answers how many found no value, how many the value, and how many keys there are.
+fn put_once<R: Threads + Wait + Abort + Sync>(rt: &R, alloc: Global, form: Form) -> [u64; 3] {
     let none = AtomicU64::new(0);
     let some = AtomicU64::new(0);
-    let (map, mut passes) = open(&rt, rt.alloc(), 16, 32);
+    let (map, mut passes) = open(rt, alloc, form, 16, 32);
     let work = |_number: usize, pass: &mut KeyPass|
         requires pass { pass.now.ledger ≡ map.ledger.id }
         ensures { pass.exit.now.ledger ≡ map.ledger.id }
     {
-        match map.put_if_absent(&rt, pass, key(&rt, b"a"), 1) {
+        match map.put_if_absent(rt, pass, key(rt, b"a"), 1) {
             Ok(Reply::Value(None)) => none.fetch_add(1, SeqCst),
             Ok(Reply::Value(Some(1))) => some.fetch_add(1, SeqCst),
             _ => 0,
         };
     };
-    thread::for_each_mut(&rt, &mut passes, 32, &work);
-    let closed = close_all(&rt, map, passes);
-    assert_eq!(rt; (none.load(SeqCst), some.load(SeqCst)), (1, 31));
-    assert_entries(&rt, closed.entries(), &[(b"a", 1)]);
-    assert_eq!(rt; closed.mapping_count(), 1);
+    thread::for_each_mut(rt, &mut passes, 32, &work);
+    let closed = close_all(rt, map, passes);
+    assert_entries(rt, closed.entries(), &[(b"a", 1)]);
+    [none.load(SeqCst), some.load(SeqCst), closed.mapping_count()]
+}
+
+#[test]
+fn one_of_32_clients_finds_no_value(rt: HostRuntime) -> Result<(), Fail> {
+    for form in BOTH {
+        let told = put_once(&rt, rt.alloc(), form);
+        assert_eq!(rt; told, [1, 31, 1]);
+    }
     Ok(())
 }
 
@@ -66,40 +75,52 @@ fn merge_often<R: Wait + Abort, A: Allocator + Clone>(
     }
 }
 
-#[test]
-fn two_clients_merge_each_sum_once(rt: HostRuntime) -> Result<(), Fail> {
-    let replies = counters(rt.alloc(), 2001)?;
-    let (map, mut passes) = open(&rt, rt.alloc(), 16, 2);
+/// Lets so many clients add to the value of one key.
+fn merge_together<R: Threads + Wait + Abort + Sync>(
+    rt: &R,
+    alloc: Global,
+    form: Form,
+    clients: u32,
+    replies: &[AtomicU64],
+) -> KeyQuiet<Global> {
+    let (map, mut passes) = open(rt, alloc, form, 16, clients);
     let work = |_number: usize, pass: &mut KeyPass|
         requires pass { pass.now.ledger ≡ map.ledger.id }
         ensures { pass.exit.now.ledger ≡ map.ledger.id }
-    { merge_often(&rt, &map, pass, &replies) };
-    thread::for_each_mut(&rt, &mut passes, 2, &work);
-    let closed = close_all(&rt, map, passes);
+    { merge_often(rt, &map, pass, replies) };
+    thread::for_each_mut(rt, &mut passes, 32, &work);
+    close_all(rt, map, passes)
+}
+
+/// Asserts that each sum from 1 on was replied once, and 0 never.
+fn assert_once(rt: &impl Abort, replies: &[AtomicU64]) {
     for (sum, counter) in replies.iter().enumerate() {
         assert_eq!(rt; counter.load(SeqCst), if sum == 0 { 0 } else { 1 });
     }
-    assert_entries(&rt, closed.entries(), &[(b"a", 2000)]);
-    let bin = closed.bins().get(1).expect(&rt, "a bin of slot 1");
-    assert_eq!(rt; bin.records().len(), 976);
-    assert_pairs(&rt, bin.base(), &[(b"a", 1024)]);
+}
+
+#[test]
+fn two_clients_merge_each_sum_once(rt: HostRuntime) -> Result<(), Fail> {
+    for (form, records, base) in [(Form::Recorded, 976, 1024), (Form::Lean, 0, 2000)] {
+        let replies = counters(rt.alloc(), 2001)?;
+        let closed = merge_together(&rt, rt.alloc(), form, 2, &replies);
+        assert_entries(&rt, closed.entries(), &[(b"a", 2000)]);
+        let bin = closed.bins().get(1).expect(&rt, "a bin of slot 1");
+        assert_eq!(rt; bin.records().len(), records);
+        assert_pairs(&rt, bin.base(), &[(b"a", base)]);
+        assert_once(&rt, &replies);
+    }
     Ok(())
 }
 
 #[test]
 fn many_clients_merge_each_sum_once(rt: HostRuntime) -> Result<(), Fail> {
-    let replies = counters(rt.alloc(), 32_001)?;
-    let (map, mut passes) = open(&rt, rt.alloc(), 16, 32);
-    let work = |_number: usize, pass: &mut KeyPass|
-        requires pass { pass.now.ledger ≡ map.ledger.id }
-        ensures { pass.exit.now.ledger ≡ map.ledger.id }
-    { merge_often(&rt, &map, pass, &replies) };
-    thread::for_each_mut(&rt, &mut passes, 32, &work);
-    let closed = close_all(&rt, map, passes);
-    for (sum, counter) in replies.iter().enumerate() {
-        assert_eq!(rt; counter.load(SeqCst), if sum == 0 { 0 } else { 1 });
+    for form in BOTH {
+        let replies = counters(rt.alloc(), 32_001)?;
+        let closed = merge_together(&rt, rt.alloc(), form, 32, &replies);
+        assert_entries(&rt, closed.entries(), &[(b"a", 32_000)]);
+        assert_once(&rt, &replies);
     }
-    assert_entries(&rt, closed.entries(), &[(b"a", 32_000)]);
     Ok(())
 }
 
@@ -115,49 +136,73 @@ fn assert_numbers<A: Allocator + Clone>(rt: &impl Abort, closed: &KeyQuiet<A>, c
     assert_eq!(rt; seen, count);
 }
 
+/// Lets so many clients, at most 16, put so many new keys each into a map of one bin.
+fn grow_together<R: Threads + Wait + Abort + Sync>(
+    rt: &R,
+    alloc: Global,
+    form: Form,
+    clients: u32,
+    puts: u32,
+) -> KeyQuiet<Global> {
+    let (map, mut passes) = open(rt, alloc, form, 1, clients);
+    let work = |number: usize, pass: &mut KeyPass|
+        requires pass { pass.now.ledger ≡ map.ledger.id }
+        ensures { pass.exit.now.ledger ≡ map.ledger.id }
+    {
+        assert!(rt; number < 16);
+        let first = (number as u32).saturating_mul(puts);
+        put_numbers(rt, &map, pass, first, puts)
+    };
+    thread::for_each_mut(rt, &mut passes, 16, &work);
+    close_all(rt, map, passes)
+}
+
 #[test]
 fn clients_grow_one_table_and_lose_no_key(rt: HostRuntime) -> Result<(), Fail> {
-    let rows = [(2, 300), (16, 5000)];
-    for (clients, puts) in rows {
-        let (map, mut passes) = open(&rt, rt.alloc(), 1, clients);
-        let work = |number: usize, pass: &mut KeyPass|
-            requires pass { pass.now.ledger ≡ map.ledger.id }
-            ensures { pass.exit.now.ledger ≡ map.ledger.id }
-        {
-            assert!(rt; number < 16);
-            let first = (number as u32).saturating_mul(puts);
-            put_numbers(&rt, &map, pass, first, puts)
-        };
-        thread::for_each_mut(&rt, &mut passes, 16, &work);
-        let closed = close_all(&rt, map, passes);
-        assert_numbers(&rt, &closed, clients.saturating_mul(puts));
+    for form in BOTH {
+        for (clients, puts) in [(2, 300), (16, 5000)] {
+            let closed = grow_together(&rt, rt.alloc(), form, clients, puts);
+            assert_numbers(&rt, &closed, clients.saturating_mul(puts));
+        }
     }
     Ok(())
 }
 
-#[test]
-fn a_walk_after_threads_shows_the_calls_of_both(rt: HostRuntime) -> Result<(), Fail> {
-    let (map, mut passes) = open(&rt, rt.alloc(), 16, 2);
+/// What a walk shows of slot 1 after two clients each put a key there.
+fn walk_after_two<R: Threads + Wait + Abort + Sync>(
+    rt: &R,
+    alloc: Global,
+    form: Form,
+) -> Option<Visit<Key, u64, Global>> {
+    let (map, mut passes) = open(rt, alloc, form, 16, 2);
     let work = |number: usize, pass: &mut KeyPass|
         requires pass { pass.now.ledger ≡ map.ledger.id }
         ensures { pass.exit.now.ledger ≡ map.ledger.id }
     {
         let text: &[u8] = if number == 0 { b"a" } else { b"q" };
-        put_texts(&rt, &map, pass, &[(text, 1)])
+        put_texts(rt, &map, pass, &[(text, 1)])
     };
-    thread::for_each_mut(&rt, &mut passes, 2, &work);
+    thread::for_each_mut(rt, &mut passes, 2, &work);
     assert!(rt; passes.len() == 2);
-    let visits = map.walk(&rt, &mut passes[0]).expect(&rt, "memory");
-    let visit = visits.get(1).expect(&rt, "a visit of slot 1");
-    assert_eq!(rt; visit.entries.len(), 2);
-    for text in [b"a".as_slice(), b"q"] {
-        let shown = visit
-            .entries
-            .iter()
-            .any(|(key, value)| key.bytes() == text && *value == 1);
-        assert!(rt; shown);
-    }
-    let closed = close_all(&rt, map, passes);
+    let visits = map.walk(rt, &mut passes[0]);
+    let closed = close_all(rt, map, passes);
     assert_eq!(rt; closed.mapping_count(), 2);
+    drop(closed);
+    visits.expect(rt, "memory").into_iter().nth(1)
+}
+
+#[test]
+fn a_walk_after_threads_shows_the_calls_of_both(rt: HostRuntime) -> Result<(), Fail> {
+    for form in BOTH {
+        let visit = walk_after_two(&rt, rt.alloc(), form).expect(&rt, "a visit of slot 1");
+        assert_eq!(rt; visit.entries.len(), 2);
+        for text in [b"a".as_slice(), b"q"] {
+            let shown = visit
+                .entries
+                .iter()
+                .any(|(key, value)| key.bytes() == text && *value == 1);
+            assert!(rt; shown);
+        }
+    }
     Ok(())
 }

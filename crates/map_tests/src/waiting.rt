@@ -2,8 +2,8 @@
 ghost use Rattle.std.specs.Prelude.{◌≡◌, All};
 ghost use Rattle.bin_history.specs.Copies.{IsExact};
 
-use crate::maps::{close_all, key, open};
-use bin_history::{Remap, Reply};
+use crate::maps::{BOTH, close_all, key, open};
+use bin_history::{Form, Remap, Reply};
 use chm::Map;
 use count_ledger::Pass;
 use crossbeam_utils::Backoff;
@@ -89,10 +89,10 @@ impl<'a> Remap<Key, u64> for OneAfter<'a> {
 fn compute_while_another_puts<
     R: Threads + Wait + Abort + Sync,
     F: Remap<Key, u64> + Clone + Drop + Send + Sync,
->(rt: &R, alloc: Global, function: &F, event: &Event) -> u64
+>(rt: &R, alloc: Global, form: Form, function: &F, event: &Event) -> u64
     requires { IsExact F.is_clone }
 {
-    let (map, mut passes) = open::<u64, F, Global>(rt, alloc, 16, 2);
+    let (map, mut passes) = open::<u64, F, Global>(rt, alloc, form, 16, 2);
     let work = |number: usize, pass: &mut Pass<Key, u64, F>|
         requires functions { IsExact F.is_clone }
         requires pass { pass.now.ledger ≡ map.ledger.id }
@@ -114,10 +114,12 @@ fn compute_while_another_puts<
 
 #[test]
 fn a_function_waits_for_a_put_on_another_bin(rt: HostRuntime) -> Result<(), Fail> {
-    let event = Event::new();
-    let function = OneAfter { event: &event };
-    let count = compute_while_another_puts(&rt, rt.alloc(), &function, &event);
-    assert_eq!(rt; (event.given_up(), count), (0, 2));
+    for form in BOTH {
+        let event = Event::new();
+        let function = OneAfter { event: &event };
+        let count = compute_while_another_puts(&rt, rt.alloc(), form, &function, &event);
+        assert_eq!(rt; (event.given_up(), count), (0, 2));
+    }
     Ok(())
 }
 
@@ -203,22 +205,34 @@ fn put_a<'a, R: Wait + Abort>(
     map.put(rt, &mut passes[0], key(rt, b"a"), value) == Ok(Reply::Value(None))
 }
 
-#[test]
-fn two_glances_copy_one_value_at_once(rt: HostRuntime) -> Result<(), Fail> {
+/// Glances at a value in two threads at once. Answers what both found, how many waits were given up, and how many keys there are.
+fn glance_together<R: Threads + Wait + Abort + Sync>(
+    rt: &R,
+    alloc: Global,
+    form: Form,
+) -> ((bool, bool), u64, u64) {
     let event = Event::new();
     let told = AtomicU64::new(0);
-    let (map, mut passes) = open::<Paired, (), Global>(&rt, rt.alloc(), 16, 1);
+    let (map, mut passes) = open::<Paired, (), Global>(rt, alloc, form, 16, 1);
     let value = Paired {
         event: &event,
         told: &told,
     };
-    let put = put_a(&rt, &map, &mut passes, value);
+    let put = put_a(rt, &map, &mut passes, value);
     told.store(1, SeqCst);
-    let glance = || matches!(map.glance(&rt, &key(&rt, b"a")), Ok(Some(_)));
-    let both = thread::join(&rt, glance, glance);
+    let glance = || matches!(map.glance(rt, &key(rt, b"a")), Ok(Some(_)));
+    let both = thread::join(rt, glance, glance);
     told.store(0, SeqCst);
-    let closed = close_all(&rt, map, passes);
-    assert_eq!(rt; (put, both), (true, (true, true)));
-    assert_eq!(rt; (event.given_up(), closed.mapping_count()), (0, 1));
+    let keys = close_all(rt, map, passes).mapping_count();
+    assert!(rt; put);
+    (both, event.given_up(), keys)
+}
+
+#[test]
+fn two_glances_copy_one_value_at_once(rt: HostRuntime) -> Result<(), Fail> {
+    for form in BOTH {
+        let told = glance_together(&rt, rt.alloc(), form);
+        assert_eq!(rt; told, ((true, true), 0, 1));
+    }
     Ok(())
 }

@@ -1,0 +1,84 @@
+//! Calls that ask for no memory.
+ghost use Rattle.std.specs.Prelude.{◌≡◌};
+
+use crate::maps::{
+    KeyMap, KeyPass, Plus, Single, close, key, numbered, one_client, open, put_numbers, put_texts,
+};
+use bin_history::{Form, Reply};
+use refusing_alloc::Refusing;
+use std::alloc::{Allocator, Global};
+use std::process::Abort;
+use std::sync::Wait;
+use std::test::Fail;
+
+/// Gets, puts and merges at a key that is there, in turn, three calls a time. Answers how many times all three replied the value as it should be.
+fn call_often<R: Wait + Abort, A: Allocator + Clone>(
+    rt: &R,
+    map: &KeyMap<A>,
+    pass: &mut KeyPass,
+    times: u64,
+) -> u64
+    requires { pass.old.ledger ≡ map.now.ledger.id }
+    ensures { pass.new.ledger ≡ map.now.ledger.id }
+{
+    let mut right = 0u64;
+    for time in 0..times {
+        let got = map.get(rt, pass, key(rt, b"a"));
+        let put = map.put(rt, pass, key(rt, b"a"), time);
+        let merged = map.merge(rt, pass, key(rt, b"a"), 1, Plus(Some(0)));
+        let next = Ok(Reply::Value(Some(time.wrapping_add(1))));
+        if got == put && merged == next {
+            right = right.wrapping_add(1);
+        }
+    }
+    right
+}
+
+/// Takes a thousand keys away and puts them again, one after the other, so many times. Answers how often both calls replied as they should.
+fn put_again<R: Wait + Abort, A: Allocator + Clone>(
+    rt: &R,
+    map: &KeyMap<A>,
+    pass: &mut KeyPass,
+    times: u32,
+) -> u64
+    requires { pass.old.ledger ≡ map.now.ledger.id }
+    ensures { pass.new.ledger ≡ map.now.ledger.id }
+{
+    let mut right = 0u64;
+    for time in 0..times.saturating_mul(1000) {
+        let number = time % 1000;
+        let value = u64::from(number);
+        let removed = map.remove(rt, pass, numbered(rt, number));
+        let put = map.put(rt, pass, numbered(rt, number), value);
+        if removed == Ok(Reply::Value(Some(value))) && put == Ok(Reply::Value(None)) {
+            right = right.wrapping_add(1);
+        }
+    }
+    right
+}
+
+/// Makes calls on keys of a lean map that have been there. Answers how many calls replied as they should, and whether one asked for memory.
+fn asked_for<R: Wait + Abort>(rt: &R, alloc: &Refusing<Global>) -> ((u64, u64), bool, u64) {
+    let Single {
+        map,
+        mut pass,
+        place,
+    } = one_client(rt, open(rt, alloc, Form::Lean, 4096, 1));
+    put_texts(rt, &map, &mut pass, &[(b"a", 0)]);
+    put_numbers(rt, &map, &mut pass, 0, 1000);
+    alloc.refuse_after(0);
+    let called = call_often(rt, &map, &mut pass, 100_000);
+    let again = put_again(rt, &map, &mut pass, 100);
+    let asked = alloc.has_refused();
+    alloc.refuse_after(u64::MAX);
+    let keys = close(rt, map, pass, place).mapping_count();
+    ((called, again), asked, keys)
+}
+
+#[test]
+fn calls_on_keys_of_a_lean_map_ask_for_no_memory(rt: HostRuntime) -> Result<(), Fail> {
+    let alloc = Refusing::new(rt.alloc());
+    let told = asked_for(&rt, &alloc);
+    assert_eq!(rt; told, ((100_000, 100_000), false, 1001));
+    Ok(())
+}
