@@ -10,3 +10,4 @@ pub mod Clearing
 pub mod Dealing
 pub mod Reopening
 pub mod Shared
+pub mod Finding

@@ -14,6 +14,7 @@ mod map;
 mod moving;
 mod quiet;
 mod reopen;
+mod single;
 mod size;
 mod under;
 mod visit;

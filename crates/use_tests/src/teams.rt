@@ -48,11 +48,15 @@ fn each_typed_call_answers(rt: HostRuntime) -> Result<(), Fail> {
     let closed = team.close(&rt)?;
     let greatest = reduce(&rt, rt.alloc(), &closed, &Plan::new(0, 2), &Greatest)?;
     let count = closed.mapping_count();
+    let one = closed.get(&1).copied();
+    let three = closed.get(&3).copied();
     drop(closed);
     assert_eq!(rt; right.load(SeqCst), 13);
     assert_eq!(rt; made, Some(13));
     assert_eq!(rt; greatest, Some(7));
     assert_eq!(rt; count, 1);
+    assert_eq!(rt; one, None);
+    assert_eq!(rt; three, Some(7));
     Ok(())
 }
 

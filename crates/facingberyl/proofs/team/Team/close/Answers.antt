@@ -1,6 +1,4 @@
-use Rattle.std.proofs.Common.{◌≡◌, ◌⊎◌, inl, inr, ◌<◌, length, ap, ◌∙◌, arith}
-use Rattle.chm.specs.declared.fault.Fault.{Fault}
-use Rattle.chm.specs.declared.fault.Fault.TheVariants.{NoMemory, BinMissing}
+use Rattle.std.proofs.Common.{◌≡◌, inl, inr, ◌<◌, length, ap, ◌∙◌, arith}
 use Rattle.facingberyl.proofs.team.Team.close.Goals as goal
 
 pub returns-in-Err-clause-faults : goal.returns-in-Err-clause-faults
