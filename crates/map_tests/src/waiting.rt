@@ -4,7 +4,7 @@ ghost use Rattle.bin_history.specs.Copies.{IsExact};
 
 use crate::maps::{BOTH, close_all, key, open};
 use bin_history::{Form, Remap, Reply};
-use chm::Map;
+use chm::{Fault, Map};
 use count_ledger::Pass;
 use crossbeam_utils::Backoff;
 use hashkeys::Key;
@@ -123,7 +123,12 @@ fn a_function_waits_for_a_put_on_another_bin(rt: HostRuntime) -> Result<(), Fail
     Ok(())
 }
 
-/// A value whose copies wait for one another, once they are told to. Any two are equal.
+/// What the copies of a value are told to do: nothing, to wait for one another, or to be refused.
+const WAIT: u64 = 1;
+
+const REFUSE: u64 = 2;
+
+/// A value whose copies wait for one another, or are refused, once they are told to. Any two are equal.
 #[derive(Drop)]
 struct Paired<'a> {
     event: &'a Event,
@@ -136,7 +141,11 @@ impl<'a> Clone for Paired<'a> {
     ghost is_clone = { λ x y. y ≡ x };
 
     fn clone(&self) -> Result<Paired<'a>, AllocError> {
-        if self.told.load(SeqCst) == 1 {
+        let told = self.told.load(SeqCst);
+        if told == REFUSE {
+            return Err(AllocError);
+        }
+        if told == WAIT {
             self.event.done();
             self.event.wait(2);
         }
@@ -219,7 +228,7 @@ fn glance_together<R: Threads + Wait + Abort + Sync>(
         told: &told,
     };
     let put = put_a(rt, &map, &mut passes, value);
-    told.store(1, SeqCst);
+    told.store(WAIT, SeqCst);
     let glance = || matches!(map.glance(rt, &key(rt, b"a")), Ok(Some(_)));
     let both = thread::join(rt, glance, glance);
     told.store(0, SeqCst);
@@ -233,6 +242,38 @@ fn two_glances_copy_one_value_at_once(rt: HostRuntime) -> Result<(), Fail> {
     for form in BOTH {
         let told = glance_together(&rt, rt.alloc(), form);
         assert_eq!(rt; told, ((true, true), 0, 1));
+    }
+    Ok(())
+}
+
+/// Glances at a value whose copies are refused, and again once they are not. Answers whether each glance found it.
+fn glance_in_vain<R: Wait + Abort>(
+    rt: &R,
+    alloc: Global,
+    form: Form,
+) -> (Result<bool, Fault>, Result<bool, Fault>) {
+    let event = Event::new();
+    let told = AtomicU64::new(0);
+    let (map, mut passes) = open::<Paired, (), Global>(rt, alloc, form, 16, 1);
+    let value = Paired {
+        event: &event,
+        told: &told,
+    };
+    let put = put_a(rt, &map, &mut passes, value);
+    told.store(REFUSE, SeqCst);
+    let refused = map.glance(rt, &key(rt, b"a")).map(|shown| shown.is_some());
+    told.store(0, SeqCst);
+    let again = map.glance(rt, &key(rt, b"a")).map(|shown| shown.is_some());
+    let keys = close_all(rt, map, passes).mapping_count();
+    assert_eq!(rt; (put, keys), (true, 1));
+    (refused, again)
+}
+
+#[test]
+fn a_glance_whose_copy_is_refused_leaves_the_bin(rt: HostRuntime) -> Result<(), Fail> {
+    for form in BOTH {
+        let told = glance_in_vain(&rt, rt.alloc(), form);
+        assert!(rt; told == (Err(Fault::NoMemory), Ok(true)));
     }
     Ok(())
 }
