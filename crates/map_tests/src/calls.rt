@@ -68,8 +68,8 @@ fn first_wrong<R: Wait, A: Allocator + Clone>(
     wrong
 }
 
-/// Makes the calls of the rows on a map of one bin. Answers the first wrong line, how many calls were made, and how many keys were counted before and after the
-/// map was closed.
+/// Makes the calls of the rows on a map of one bin. Answers the first wrong line, how many calls were made, and how
+/// many keys were counted before and after the map was closed.
 fn reply_to_all<R: Wait + Abort>(
     rt: &R,
     alloc: Global,

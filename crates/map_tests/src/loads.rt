@@ -11,8 +11,8 @@ use std::process::Abort;
 use std::sync::Wait;
 use std::test::Fail;
 
-/// Puts a twelfth key into a map of 16 bins that was opened again with eleven. Answers how many keys the pass and the words count, how many bins and keys the closed map
-/// has, how many entries, and how many records.
+/// Puts a twelfth key into a map of 16 bins that was opened again with eleven. Answers how many keys the pass and the
+/// words count, how many bins and keys the closed map has, how many entries, and how many records.
 fn put_the_twelfth<R: Wait + Abort>(rt: &R, alloc: Global, form: Form) -> ([u64; 3], [usize; 3]) {
     let first = filled(rt, alloc, form, 16, 11).reopen(1);
     let Single {
@@ -51,7 +51,8 @@ fn twin(rt: &impl Abort, number: u32) -> Key {
     key(rt, &text)
 }
 
-/// Puts 32 keys of one hash into a map of 16 bins. Answers how many bins there are, how many have entries, and how many keys.
+/// Puts 32 keys of one hash into a map of 16 bins. Answers how many bins there are, how many have entries, and how many
+/// keys.
 fn put_twins<R: Wait + Abort>(rt: &R, alloc: Global, form: Form) -> (usize, usize, u64) {
     let Single {
         map,

@@ -13,7 +13,8 @@ use std::process::Abort;
 use std::sync::Wait;
 use std::test::Fail;
 
-/// A map of the default capacity for three clients: its form, its clients, its passes and, closed, its form and its bins.
+/// A map of the default capacity for three clients: its form, its clients, its passes and, closed, its form and its
+/// bins.
 fn of_three<R: Wait + Abort>(
     rt: &R,
     alloc: Global,

@@ -48,8 +48,8 @@ fn three_keys<'a, R: Wait + Abort>(
     Single { map, pass, place }
 }
 
-/// Puts a twelfth key, with the request after so many refused. Answers whether it was put, whether there was such a request, how many keys and calls there are then, and how
-/// many bins and keys the closed map has.
+/// Puts a twelfth key, with the request after so many refused. Answers whether it was put, whether there was such a
+/// request, how many keys and calls there are then, and how many bins and keys the closed map has.
 fn put_the_twelfth<R: Wait + Abort>(
     rt: &R,
     alloc: &Refusing<Global>,
@@ -73,8 +73,9 @@ fn put_the_twelfth<R: Wait + Abort>(
     (reply, refused, live, left)
 }
 
-/// Puts a twelfth key, which asks for room for its entry, the first of its bin, and in a recorded map for room for the record. Where a request of these is refused there are
-/// eleven keys as before; where one of the move is, there are twelve. A later call goes on with the move.
+/// Puts a twelfth key, which asks for room for its entry, the first of its bin, and in a recorded map for room for the
+/// record. Where a request of these is refused there are eleven keys as before; where one of the move is, there are
+/// twelve. A later call goes on with the move.
 fn refuse_put<R: Wait + Abort>(rt: &R, alloc: &Refusing<Global>, form: Form, granted: u64) -> bool {
     let (reply, refused, live, (bins, keys)) = put_the_twelfth(rt, alloc, form, granted);
     let own = match form {
@@ -92,8 +93,9 @@ fn refuse_put<R: Wait + Abort>(rt: &R, alloc: &Refusing<Global>, form: Form, gra
     refused
 }
 
-/// Clears, with the request after so many refused, and clears again. Answers what the first clear answered, whether there was such a request, how many keys and calls
-/// there were between the two, and how many keys there are in the end.
+/// Clears, with the request after so many refused, and clears again. Answers what the first clear answered, whether
+/// there was such a request, how many keys and calls there were between the two, and how many keys there are in the
+/// end.
 fn clear_twice<R: Wait + Abort>(
     rt: &R,
     alloc: &Refusing<Global>,
@@ -119,8 +121,8 @@ fn clear_twice<R: Wait + Abort>(
     (cleared, refused, between, keys)
 }
 
-/// Clears. The one request is that of the full list of the four records of `a` and `q`: where it is refused, `Aa` is away by a call that stands, and the next clear takes the
-/// others.
+/// Clears. The one request is that of the full list of the four records of `a` and `q`: where it is refused, `Aa` is
+/// away by a call that stands, and the next clear takes the others.
 fn refuse_clear<R: Wait + Abort>(
     rt: &R,
     alloc: &Refusing<Global>,

@@ -16,7 +16,8 @@ use std::sync::atomic::Ordering::SeqCst;
 use std::test::Fail;
 use std::thread::{self, Threads};
 
-/// Lets 32 clients put a key where it is not there. Answers how many found no value, how many the value, and how many keys there are.
+/// Lets 32 clients put a key where it is not there. Answers how many found no value, how many the value, and how many
+/// keys there are.
 fn put_once<R: Threads + Wait + Abort + Sync>(rt: &R, alloc: Global, form: Form) -> [u64; 3] {
     let none = AtomicU64::new(0);
     let some = AtomicU64::new(0);

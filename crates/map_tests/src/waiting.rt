@@ -214,7 +214,8 @@ fn put_a<'a, R: Wait + Abort>(
     map.put(rt, &mut passes[0], key(rt, b"a"), value) == Ok(Reply::Value(None))
 }
 
-/// Glances at a value in two threads at once. Answers what both found, how many waits were given up, and how many keys there are.
+/// Glances at a value in two threads at once. Answers what both found, how many waits were given up, and how many keys
+/// there are.
 fn glance_together<R: Threads + Wait + Abort + Sync>(
     rt: &R,
     alloc: Global,

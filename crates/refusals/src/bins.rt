@@ -129,8 +129,8 @@ fn bin_of<'a>(
     Ok(bin)
 }
 
-/// Asserts that `a` has this value, if any, after so many calls: a recorded bin has a record of each over no base, a lean
-/// one none over its entries.
+/// Asserts that `a` has this value, if any, after so many calls: a recorded bin has a record of each over no base, a
+/// lean one none over its entries.
 fn assert_value(rt: &impl Abort, bin: &NumberBin<'_>, value: Option<u64>, calls: usize) {
     match value {
         Some(number) => assert_pairs(rt, bin.entries(), &[(b"a", number)]),
@@ -201,9 +201,10 @@ fn refuse_call(
 
 /// Of each kind of call what it does where `a` has the value 1, and where it has none.
 ///
-/// The requests are those of a lean bin, in this order. Where `a` has none and the call may give it one: room for the entry. A copy of the value before, if there is
-/// one. What the call's row says of the value after: a copy of the argument, or a request of the function. A copy for the entry, where the value changes; of
-/// the value before, where it does not. A copy for the reply, where that is a value.
+/// The requests are those of a lean bin, in this order. Where `a` has none and the call may give it one: room for the
+/// entry. A copy of the value before, if there is one. What the call's row says of the value after: a copy of the
+/// argument, or a request of the function. A copy for the entry, where the value changes; of the value before, where it
+/// does not. A copy for the reply, where that is a value.
 fn rows() -> [(Outcome, Outcome); 12] {
     let some = |n| Reply::Value(Some(n));
     let none = || Reply::Value(None);
@@ -292,8 +293,8 @@ fn a_refused_fold_leaves_the_base(rt: HostRuntime) -> Result<(), Fail> {
             break;
         }
     }
-    // Room in the base, and two copies of the value: the entries had two keys, and a list that is folded has room for the
-    // record.
+    // Room in the base, and two copies of the value: the entries had two keys, and a list that is folded has room for
+    // the record.
     assert_eq!(rt; refusals, 3);
     Ok(())
 }

@@ -63,7 +63,8 @@ impl<'a> Eq for Number<'a> {
     ghost laws = { nat_eq_equiv };
 }
 
-/// The function whose result is this number, or none. Its calls and its copies ask for memory. Contracts see it as the result.
+/// The function whose result is this number, or none. Its calls and its copies ask for memory. Contracts see it as the
+/// result.
 #[derive(Drop)]
 pub(crate) struct Answer<'a> {
     pub(crate) number: Option<u64>,

@@ -20,7 +20,8 @@ fn sizes<R: Wait, A: Allocator + Clone>(rt: &R, map: &KeyMap<A>) -> [(u32, usize
     [of_held, of_shown]
 }
 
-/// Moves the one bin of a map under an allocator that refuses the request after so many. Where the move is refused the bin is there as before, and the next try moves it. Answers whether it was moved, and whether a request was refused.
+/// Moves the one bin of a map under an allocator that refuses the request after so many. Where the move is refused the
+/// bin is there as before, and the next try moves it. Answers whether it was moved, and whether a request was refused.
 fn refused_move<R: Wait + Abort>(
     rt: &R,
     alloc: &Refusing<Global>,
@@ -53,8 +54,9 @@ fn refused_move<R: Wait + Abort>(
 #[test]
 fn a_refused_move_leaves_the_bin(rt: HostRuntime) -> Result<(), Fail> {
     let alloc = Refusing::new(rt.alloc());
-    // The list of entries of the half that has the key, and a row of the arena; of a recorded bin the list of records of that half too, and a log for each half. One
-    // request more is for the numbers of the new table's places: the move goes on without them.
+    // The list of entries of the half that has the key, and a row of the arena; of a recorded bin the list of records
+    // of that half too, and a log for each half. One request more is for the numbers of the new table's places: the
+    // move goes on without them.
     for (form, needed) in [(Form::Recorded, 5), (Form::Lean, 2)] {
         for granted in 0..7u64 {
             let (moved, refused) = refused_move(&rt, &alloc, form, granted)?;
@@ -64,7 +66,8 @@ fn a_refused_move_leaves_the_bin(rt: HostRuntime) -> Result<(), Fail> {
     Ok(())
 }
 
-/// Takes out the bins of a map under an allocator that refuses the request after so many. Where that is refused the map comes back, and the next try takes them out. Answers whether it was refused.
+/// Takes out the bins of a map under an allocator that refuses the request after so many. Where that is refused the map
+/// comes back, and the next try takes them out. Answers whether it was refused.
 fn refused_leaves<R: Wait + Abort>(
     rt: &R,
     alloc: &Refusing<Global>,
@@ -118,8 +121,8 @@ fn refused_map(rt: &impl Abort, alloc: &Refusing<Global>, form: Form, granted: u
 #[test]
 fn a_refused_map_is_made_at_the_next_try(rt: HostRuntime) -> Result<(), Fail> {
     let alloc = Refusing::new(rt.alloc());
-    // Lists of bases, passes, roles and places, the table's two blocks, the list of lists of numbers, and the arena's list of rows; of each of two recorded bins
-    // a log.
+    // Lists of bases, passes, roles and places, the table's two blocks, the list of lists of numbers, and the arena's
+    // list of rows; of each of two recorded bins a log.
     for (form, needed) in [(Form::Recorded, 10), (Form::Lean, 8)] {
         for granted in 0..12u64 {
             let refused = refused_map(&rt, &alloc, form, granted);
