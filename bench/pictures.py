@@ -37,7 +37,7 @@ def whole(width, height, parts, title):
 
 def bars(title, note, panels, names, own, kinds):
     """Draws a panel for each of `panels`, (its name, {(map, kind): number}). A map has a bar for each kind, the last one in full colour."""
-    colour, left, gap, thick = colours(names, own), 118, 62, 13
+    colour, left, gap, thick = colours(names, own), 22 + 8 * max(map(len, names)), 62, 13
     panel = (940 - left - gap * len(panels)) / len(panels)
     row = thick * len(kinds) + 13
     top, bottom = 68, 68 + row * len(names)
