@@ -2,21 +2,10 @@
 use bin_history::Remap;
 use std::alloc::AllocError;
 
-/// No function. There is no value of this type, so no call of a map computes or merges.
-#[derive(Drop, Debug)]
-pub enum NoFunction {}
-
-impl Clone for NoFunction {
-    ghost use Rattle.std.specs.Prelude.{◌≡◌, ⊤};
-
-    ghost is_clone = { λ x y. y ≡ x };
-
-    ghost is_infallible = { λ _. ⊤ };
-
-    fn clone(&self) -> Result<NoFunction, AllocError> {
-        match *self {}
-    }
-}
+/// No function, for maps whose calls compute and merge nothing. A compute call that is made with it all the same
+/// answers that the key is to have no value, and so does a merge on a key that is there.
+#[derive(Clone, Copy, PartialEq, Eq, Debug)]
+pub struct NoFunction;
 
 impl<K, V> Remap<K, V> for NoFunction {
     ghost use Rattle.std.specs.Prelude.{None};
@@ -26,10 +15,10 @@ impl<K, V> Remap<K, V> for NoFunction {
     ghost merged = { λ _ _ _. None };
 
     fn remap(&self, _key: &K, _value: Option<&V>) -> Result<Option<V>, AllocError> {
-        match *self {}
+        Ok(None)
     }
 
     fn merge(&self, _old: &V, _given: &V) -> Result<Option<V>, AllocError> {
-        match *self {}
+        Ok(None)
     }
 }
