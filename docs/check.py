@@ -5,9 +5,12 @@ usage: python3 docs/check.py
 It proves nothing. It looks whether
   a line of a page has at most 120 characters (a row of a table in the top README may have more);
   what stands in a block `antt` stands so, but for line breaks, in the file that the last comment with a path names;
+  each other block is told of by a comment before it, as `<!-- crates/hit_counter/stdout -->`: its parts stand so, but
+    for line breaks and indents where they are code, in that file; or by `<!-- typed -->`: it is a command, or a form;
   a file that is named is there;
   a function that a page names with its file, or with its clauses, is there and has them;
   a definition that a page names with its file is there;
+  each line of an example that stands with a call of a client stands in the tests that run it;
   each crate of crates.txt has a README and a line in ARCHITECTURE.md, and each stored edit a line in TRIED.md;
   each test that TRIED.md names is there.
 It prints a line for each fault, and ends with status 1 where there is one."""
@@ -20,6 +23,7 @@ TOP = os.path.dirname(os.path.dirname(os.path.realpath(__file__)))
 COLUMNS = 120
 PATH = r"[a-z_]+/(?:src|specs)/\w+\.(?:rt|antt)"
 TRIED = "docs/TRIED.md"
+EXAMPLES = "crates/use_tests/src/examples.rt"
 
 
 def text_of(path):
@@ -52,6 +56,45 @@ def wrong_quotes(page, text):
                 whole = text_of(f"crates/{path}") if os.path.isfile(f"{TOP}/crates/{path}") else ""
             if part.strip() and not is_within(part, whole):
                 yield f"{page}: crates/{path} has not: {' '.join(part.split())[:90]}"
+
+
+def blocks_of(text):
+    """Returns the blocks that are indented by 4 or fenced, each with the line it begins at and the last line before it that is not empty."""
+    lines = re.sub(r"(?ms)^```antt$.*?^```$", lambda it: "\n" * it[0].count("\n"), text).splitlines()
+    before, block, fenced = "", [], False
+    for number, line in enumerate([*lines, "."], 1):
+        fence = line.startswith("```")
+        if fenced and not fence or not fenced and re.match(" {4}", line) and (block or not lines[number - 2].strip()):
+            block.append(line)
+        elif block and not fenced and not line.strip():
+            block.append(line)
+        else:
+            if block:
+                yield number - len(block), before, "\n".join(block)
+                block = []
+            before = line if line.strip() and not fence else before
+        fenced ^= fence
+
+
+def is_shown(part, path, whole):
+    """Whether a part of a block stands in a file: code whatever the line breaks, other text line by line."""
+    if not path.endswith(".rt"):
+        lines = [it[4:] for it in part.splitlines()]
+        return "\n".join(lines).strip() in whole
+    part, whole = ("".join(it.split()).replace(",)", ")") for it in (part, whole))
+    return part in whole
+
+
+def wrong_examples(page, text):
+    for number, before, block in blocks_of(text):
+        named = re.search(r"<!-- ([\w./]+) -->$", before.strip())
+        if not named:
+            yield f"{page}:{number}: no comment names the file of this block"
+        elif named[1] != "typed":
+            whole = text_of(named[1]) if os.path.isfile(f"{TOP}/{named[1]}") else ""
+            for part in re.split(r"\n\s*\n", block.strip("\n")):
+                if not whole or part.strip() and not is_shown(part, named[1], whole):
+                    yield f"{page}:{number}: {named[1]} has not: {' '.join(part.split())[:90]}"
 
 
 def lost_files(page, text):
@@ -105,6 +148,17 @@ def lost_definitions(page, flat):
                 yield f"{page}: crates/{path} defines no {name}"
 
 
+def wrong_client_examples():
+    """Examples in the comments of the calls of a client, which EXAMPLES runs."""
+    run = "".join(text_of(EXAMPLES).split()).replace(",}", "}")
+    for name in ("typed", "computed"):
+        page = f"crates/facingberyl/src/{name}.rt"
+        for number, line in enumerate(text_of(page).splitlines(), 1):
+            shown = re.match(r"\s*///     (.*)$", line)
+            if shown and "".join(shown[1].split()) not in run:
+                yield f"{page}:{number}: {EXAMPLES} has not: {shown[1]}"
+
+
 def crates():
     lines = [it.partition("#")[0] for it in text_of("crates.txt").splitlines()]
     return [it.split(":")[0].split()[0] for it in lines if ":" in it]
@@ -144,12 +198,13 @@ def main():
     for page in pages:
         text = text_of(page)
         flat = " ".join(text.split())
-        for look in (wide_lines, wrong_quotes, lost_files):
+        for look in (wide_lines, wrong_quotes, wrong_examples, lost_files):
             faults += look(page, text)
         for look in (lost_functions, lost_definitions):
             faults += look(page, flat)
         if page != TRIED:
             faults += lost_clauses(page, flat)
+    faults += wrong_client_examples()
     faults += lost_crates()
     faults += lost_edits()
     for fault in faults:

@@ -2,16 +2,46 @@
 use Rattle.std.specs.Prelude.{◌≡◌, ℕ, ◌<◌, suc, zero, Bool, Option, Some, None, List, [], ◌∷◌, ◌++◌, length}
 use Rattle.std.specs.List.{remove as remove_at}
 use Rattle.bin_history.specs.Births.{place}
+use Rattle.bin_history.specs.Calls.{after, reply}
+use Rattle.bin_history.specs.Ops.{call_on, value_of}
+use Rattle.bin_history.specs.declared.call.Reply.{Reply}
+use Rattle.bin_history.specs.declared.call.Reply.TheVariants.{Value}
+use Rattle.bin_history.specs.declared.effect.Answer.{Answer}
+use Rattle.bin_history.specs.declared.effect.Answer.TheVariants.{Known, Taken}
 use Rattle.bin_history.specs.declared.effect.Effect.{Effect}
-use Rattle.bin_history.specs.declared.effect.Effect.TheVariants.{Keep, Set, Clear}
+use Rattle.bin_history.specs.declared.effect.Effect.TheVariants.{Keep, Give, Set}
+use Rattle.bin_history.specs.declared.op.Op.{Op}
+use Rattle.bin_history.specs.declared.work.Work.{Work}
 use Rattle.bin_history.specs.declared.change.Change.{Change}
 use Rattle.bin_history.specs.declared.change.Change.TheVariants.{Stay, Assign, Add, Take}
 
--- the value that an effect leaves
-abbrev pub left_by : {V : Type 0} → Effect V → Option V → Option V
-left_by Keep before = before
-left_by (Set v) before = Some v
-left_by Clear before = None
+-- the value that an effect of a call leaves
+abbrev pub left_by : {V F : Type 0} → Op V F → Effect V → Option V → Option V
+left_by op Keep before = before
+left_by op Give before = value_of op
+left_by op (Set value) before = value
+
+-- the value that an effect takes away
+abbrev pub taken_by : {V : Type 0} → Effect V → Option V → Option V
+taken_by Keep before = None
+taken_by Give before = before
+taken_by (Set value) before = before
+
+-- the reply, by the value that is taken away
+abbrev pub answered : {V : Type 0} → Answer V → Option V → Reply V
+answered (Known reply) taken = reply
+answered Taken taken = Value taken
+
+-- what the call on a key does and answers is worked out, by the value before it
+pub record IsWork {K V F : Type 0} (same_value : V → V → Bool) (remapped : F → K → Option V → Option V) (merged : F → V → V → Option V) (k : K) (op : Op V F) (before : Option V) (work : Work V) : Type 0 where
+  pub effect : left_by op work.effect before ≡ after same_value remapped merged (call_on k op) before
+  pub answer : answered work.answer (taken_by work.effect before) ≡ reply same_value (call_on k op) before (left_by op work.effect before)
+
+-- the value at a place
+abbrev pub value_in : {K V : Type 0} → List (K × V) → ℕ → Option V
+value_in [] i = None
+value_in (e ∷ es) zero = Some e.1
+value_in (e ∷ es) (suc i) = value_in es i
 
 -- the entries with another value at a place
 abbrev pub assign_at : {K V : Type 0} → List (K × V) → ℕ → V → List (K × V)
@@ -24,6 +54,13 @@ changed es Stay = es
 changed es (Assign i v) = assign_at es i v
 changed es (Add k v) = es ++ (k, v) ∷ []
 changed es (Take i) = remove_at es i
+
+-- the value that a change takes away
+abbrev pub taken_from : {K V : Type 0} → List (K × V) → Change K V → Option V
+taken_from es Stay = None
+taken_from es (Assign i v) = value_in es i
+taken_from es (Add k v) = None
+taken_from es (Take i) = value_in es i
 
 -- its place is there
 abbrev pub HasPlace : {K V : Type 0} → List (K × V) → Change K V → Type 0
@@ -44,15 +81,19 @@ abbrev pub IsFound : {K V : Type 0} → (K → K → Bool) → List (K × V) →
 IsFound same_key es k None = length es ≡ place same_key es k
 IsFound same_key es k (Some i) = (i < length es) × (i ≡ place same_key es k)
 
+-- the change by which the key at a place gets this value, or none
+abbrev pub change_at : {K V : Type 0} → ℕ → Option V → Change K V
+change_at i None = Take i
+change_at i (Some v) = Assign i v
+
 -- the change by which the found key gets this value, or none
 abbrev pub change_to : {K V : Type 0} → Option ℕ → K → Option V → Change K V
 change_to None k None = Stay
 change_to None k (Some v) = Add k v
-change_to (Some i) k None = Take i
-change_to (Some i) k (Some v) = Assign i v
+change_to (Some i) k value = change_at i value
 
--- the change that an effect on the found key makes
-abbrev pub change_by : {K V : Type 0} → Option ℕ → K → Effect V → Change K V
-change_by found k Keep = Stay
-change_by found k (Set v) = change_to found k (Some v)
-change_by found k Clear = change_to found k None
+-- the change that an effect on the found key makes, where the call's value is at hand
+abbrev pub change_by : {K V : Type 0} → Option ℕ → K → Effect V → Option V → Change K V
+change_by found k Keep given = Stay
+change_by found k Give given = change_to found k given
+change_by found k (Set value) given = change_to found k value

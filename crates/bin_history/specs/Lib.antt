@@ -1,4 +1,5 @@
 pub mod Calls
+pub mod Ops
 pub mod Clients
 pub mod Plain
 pub mod Cells

@@ -1,14 +1,20 @@
 -- A call that is ready to be made on a bin.
-use Rattle.std.specs.Prelude.{◌≡◌, ℕ, ◌<◌, Bool, true, Option, List, length, take, drop, ◌⊎◌}
+use Rattle.std.specs.Prelude.{◌≡◌, ℕ, ◌<◌, Bool, true, Option, Some, None, option_map, List, length, take, drop, ◌⊎◌}
 use Rattle.hashkeys.specs.Classes.{is_of}
 use Rattle.bin_history.specs.Calls.{key_of, after, reply}
 use Rattle.bin_history.specs.Entries.{lookup, store, replay}
-use Rattle.bin_history.specs.Changes.{changed, HasPlace, Fits}
+use Rattle.bin_history.specs.Changes.{answered, changed, taken_from, HasPlace, Fits}
+use Rattle.bin_history.specs.Ops.{call_on}
 use Rattle.bin_history.specs.Lawful.{BinView}
 use Rattle.bin_history.specs.declared.call.Call.{Call}
-use Rattle.bin_history.specs.declared.call.Reply.{Reply}
 use Rattle.bin_history.specs.Records.{RecordView}
-use Rattle.bin_history.specs.declared.form.Form.TheVariants.{Recorded}
+use Rattle.bin_history.specs.declared.form.Form.{Form}
+use Rattle.bin_history.specs.declared.form.Form.TheVariants.{Recorded, Lean}
+use Rattle.bin_history.specs.declared.effect.Answer.{Answer}
+use Rattle.bin_history.specs.declared.ready.Kept.{Kept}
+use Rattle.bin_history.specs.declared.seen.SeenCall.{SeenCall}
+use Rattle.bin_history.specs.declared.seen.SeenCall.TheVariants.{Whole, Parts}
+use Rattle.std.specs.declared.snapshot.Snapshot.{Snapshot}
 use Rattle.bin_history.specs.declared.change.Change.{Change}
 
 -- a call whose effects are worked out, as contracts see it
@@ -16,15 +22,29 @@ pub record ReadyView (K V F : Type 0) : Type 0 where
   pub call : Call K V F
   pub before : Option V
   pub after : Option V
-  pub reply : Reply V
+  pub answer : Answer V
   pub change : Change K V
+  pub kept : Option (Kept K V F)
+
+-- a call that was seen, and a value that was, if there was one
+abbrev pub call_seen : {K V F : Type 0} → SeenCall K V F → Call K V F
+call_seen (Whole call) = call.value
+call_seen (Parts k op) = call_on k.value op.value
+
+abbrev pub value_seen : {V : Type 0} → Option (Snapshot V) → Option V
+value_seen seen = option_map (λ x. x.value) seen
+
+-- what a bin of the form keeps of a call
+abbrev pub kept_in : {K V F : Type 0} → Form → Call K V F → Option V → Option V → Option (Kept K V F)
+kept_in Recorded call before after = Some (record { call = call; before = before; after = after })
+kept_in Lean call before after = None
 
 module _ {K V F : Type 0} (same_key : K → K → Bool) (same_value : V → V → Bool) (remapped : F → K → Option V → Option V) (merged : F → V → V → Option V) where
   -- all that the call does to these entries is worked out
   pub record IsWorkedOut (ready : ReadyView K V F) (entries : List (K × V)) : Type 0 where
     pub before_is : ready.before ≡ lookup same_key entries (key_of ready.call)
     pub after_is : ready.after ≡ after same_value remapped merged ready.call ready.before
-    pub reply_is : ready.reply ≡ reply same_value ready.call ready.before ready.after
+    pub reply_is : answered ready.answer (taken_from entries ready.change) ≡ reply same_value ready.call ready.before ready.after
     pub has_place : HasPlace entries ready.change
     pub change_is : changed entries ready.change ≡ store same_key entries (key_of ready.call) ready.after
 
@@ -39,6 +59,7 @@ module _ {K V F : Type 0} (same_key : K → K → Bool) (code : K → ℕ) (same
   pub record IsPrepared (ready : ReadyView K V F) (b : BinView K V F) : Type 0 where
     pub worked_out : IsWorkedOut same_key same_value remapped merged ready b.entries
     pub room : HasRoom ready b
+    pub kept : ready.kept ≡ kept_in b.form ready.call ready.before ready.after
     pub of_class : is_of code b.salt b.class (key_of ready.call) ≡ true
 
 -- the record of a call that is ready

@@ -5,7 +5,9 @@ use crate::call::{Call, Remap, Reply};
 use crate::change::find;
 use crate::copies::copy_of_entries;
 use crate::form::Form;
+use crate::given::Given;
 use crate::log::{Log, add_to, fold_in, part_of_log, reserve_in};
+use crate::op::Op;
 use crate::ready::{Ready, work_out};
 use crate::record::Record;
 use crate::room::make_room_for;
@@ -170,6 +172,18 @@ impl<K: HashKey, V: Clone + Eq, F: Remap<K, V> + Clone, A: Allocator + Clone> Bi
         copy_of_entries(self.entries.allocator().clone()?, &self.entries)
     }
 
+    /// The pairs that the bin holds, in order of insertion, taken out of it. Nothing is copied.
+    pub fn into_entries(self) -> Vec<(K, V), A>
+    where
+        K: Drop,
+        V: Drop,
+        F: Drop,
+        ensures { result.items ≡ self.entries }
+    {
+        let Bin { entries, .. } = self;
+        entries
+    }
+
     /// What holds of each bin. It does nothing when it runs.
     pub fn lawful(&self)
         ensures lawful { IsLawful K.eq K.code (after V.eq F.remapped F.merged) self.now }
@@ -186,6 +200,7 @@ impl<K: HashKey, V: Clone + Eq, F: Remap<K, V> + Clone, A: Allocator + Clone> Bi
     ghost use Rattle.bin_history.specs.Copies.{IsExact};
     ghost use Rattle.bin_history.specs.Entries.{store};
     ghost use Rattle.bin_history.specs.Histories.{GoesOn};
+    ghost use Rattle.bin_history.specs.Ops.{call_on, key_in};
     ghost use Rattle.bin_history.specs.declared.form.Form.TheVariants.{Recorded};
     ghost use Rattle.bin_history.specs.Logs.{with_one_more};
     ghost use Rattle.bin_history.specs.Readiness.{IsPrepared, KeepsOrFolds, recorded};
@@ -195,7 +210,7 @@ impl<K: HashKey, V: Clone + Eq, F: Remap<K, V> + Clone, A: Allocator + Clone> Bi
     /// records stay too, but where there are 1,024 records the oldest 512 are folded into the base. For
     /// want of memory the call is dropped, and nothing else changes. Room for an entry is made only for a call
     /// that may add one, on a key that is not there.
-    pub fn prepare(&mut self, call: Call<K, V, F>) -> Result<Ready<K, V, F>, AllocError>
+    pub fn prepare<'a>(&'a mut self, call: Call<K, V, F>) -> Result<Ready<K, V, F>, AllocError>
         requires keys { IsExact K.is_clone }
         requires values { IsExact V.is_clone }
         requires of_class { is_of K.code self.old.salt self.old.class (key_of call) ≡ true }
@@ -209,10 +224,37 @@ impl<K: HashKey, V: Clone + Eq, F: Remap<K, V> + Clone, A: Allocator + Clone> Bi
         ensures class { self.new.class ≡ self.old.class }
         ensures salt { self.new.salt ≡ self.old.salt }
     {
-        let found = find(&self.entries, call.key());
-        make_room_for(&mut self.entries, found, &call)?;
+        let (key, op) = call.into_parts();
+        let key: Given<'a, K> = Given::Owned(key);
+        self.prepare_on(key, op)
+    }
+
+    /// The same of a call whose key is given beside it, handed over or lent. A lent key is copied where an entry is
+    /// made of it, and for the record in a recorded bin. A lean bin copies no value but one that is both stored and
+    /// answered.
+    pub fn prepare_on(
+        &mut self,
+        key: Given<'_, K>,
+        op: Op<V, F>,
+    ) -> Result<Ready<K, V, F>, AllocError>
+        requires keys { IsExact K.is_clone }
+        requires values { IsExact V.is_clone }
+        requires of_class { is_of K.code self.old.salt self.old.class (key_in key) ≡ true }
+        ensures ready { IfOk result (λ r. IsPrepared K.eq K.code V.eq F.remapped F.merged r self.new) }
+        ensures call { IfOk result (λ r. r.call ≡ call_on (key_in key.entry) op) }
+        ensures ok { OnOk result (KeepsOrFolds K.eq self.old self.new) }
+        ensures records { OnErr result (self.new.records ≡ self.old.records) }
+        ensures base { OnErr result (self.new.base ≡ self.old.base) }
+        ensures entries { self.new.entries ≡ self.old.entries }
+        ensures form { self.new.form ≡ self.old.form }
+        ensures class { self.new.class ≡ self.old.class }
+        ensures salt { self.new.salt ≡ self.old.salt }
+    {
+        let found = find(&self.entries, key.get());
+        make_room_for(&mut self.entries, found, &op)?;
         reserve_in(&mut self.log)?;
-        let ready = work_out(&self.entries, found, call)?;
+        let form = self.form();
+        let ready = work_out(&self.entries, form, found, key, op)?;
         fold_in(&mut self.log);
         Ok(ready)
     }
@@ -240,17 +282,14 @@ impl<K: HashKey, V: Clone + Eq, F: Remap<K, V> + Clone, A: Allocator + Clone> Bi
         ensures salt { self.new.salt ≡ self.old.salt }
     {
         let Ready {
-            call,
-            before,
-            after,
-            reply,
+            seen,
+            answer,
             change,
+            kept,
         } = ready;
-        change.carry_out(&mut self.entries);
-        let entry = Record::new(client, ordinal, call, before, after);
-        let trace = Trace::of(&entry);
-        add_to(&mut self.log, entry);
-        (reply, trace)
+        let taken = change.carry_out(&mut self.entries);
+        add_to(&mut self.log, client, ordinal, kept);
+        (answer.reply(taken), Trace::seen(client, ordinal, seen))
     }
 }
 

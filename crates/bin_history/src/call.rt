@@ -1,7 +1,9 @@
 //! Calls, and what they reply.
 ghost use Rattle.std.specs.Prelude.{◌≡◌, Option, IfOk, option_copied};
-ghost use Rattle.bin_history.specs.Calls.{key_of, may_add};
+ghost use Rattle.bin_history.specs.Calls.{key_of};
+ghost use Rattle.bin_history.specs.Ops.{call_on};
 
+use crate::op::Op;
 use std::alloc::AllocError;
 
 /// A remapping function of keys `K` and values `V`, which may answer that the key is to have no value.
@@ -66,23 +68,43 @@ impl<K, V, F> Call<K, V, F> {
         }
     }
 
-    /// Whether the call may give a value to a key that has none.
-    pub(crate) fn may_add(&self) -> bool
-        ensures { result ≡ may_add self.now }
+    /// The call on this key.
+    pub(crate) fn on(key: K, op: Op<V, F>) -> Call<K, V, F>
+        ensures { result ≡ call_on key op }
+    {
+        match op {
+            Op::Get => Call::Get(key),
+            Op::Contains => Call::Contains(key),
+            Op::Put(value) => Call::Put(key, value),
+            Op::PutIfAbsent(value) => Call::PutIfAbsent(key, value),
+            Op::Remove => Call::Remove(key),
+            Op::RemoveIf(value) => Call::RemoveIf(key, value),
+            Op::Replace(value) => Call::Replace(key, value),
+            Op::ReplaceIf(old, new) => Call::ReplaceIf(key, old, new),
+            Op::ComputeIfAbsent(function) => Call::ComputeIfAbsent(key, function),
+            Op::ComputeIfPresent(function) => Call::ComputeIfPresent(key, function),
+            Op::Compute(function) => Call::Compute(key, function),
+            Op::Merge(value, function) => Call::Merge(key, value, function),
+        }
+    }
+
+    /// The call's key, and the call without it.
+    pub fn into_parts(self) -> (K, Op<V, F>)
+        ensures { call_on result.0 result.1 ≡ self }
     {
         match self {
-            Call::Put(_, _)
-            | Call::PutIfAbsent(_, _)
-            | Call::ComputeIfAbsent(_, _)
-            | Call::Compute(_, _)
-            | Call::Merge(_, _, _) => true,
-            Call::Get(_)
-            | Call::Contains(_)
-            | Call::Remove(_)
-            | Call::RemoveIf(_, _)
-            | Call::Replace(_, _)
-            | Call::ReplaceIf(_, _, _)
-            | Call::ComputeIfPresent(_, _) => false,
+            Call::Get(key) => (key, Op::Get),
+            Call::Contains(key) => (key, Op::Contains),
+            Call::Put(key, value) => (key, Op::Put(value)),
+            Call::PutIfAbsent(key, value) => (key, Op::PutIfAbsent(value)),
+            Call::Remove(key) => (key, Op::Remove),
+            Call::RemoveIf(key, value) => (key, Op::RemoveIf(value)),
+            Call::Replace(key, value) => (key, Op::Replace(value)),
+            Call::ReplaceIf(key, old, new) => (key, Op::ReplaceIf(old, new)),
+            Call::ComputeIfAbsent(key, function) => (key, Op::ComputeIfAbsent(function)),
+            Call::ComputeIfPresent(key, function) => (key, Op::ComputeIfPresent(function)),
+            Call::Compute(key, function) => (key, Op::Compute(function)),
+            Call::Merge(key, value, function) => (key, Op::Merge(value, function)),
         }
     }
 }

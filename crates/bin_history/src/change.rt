@@ -1,13 +1,15 @@
 //! Changes of a list of entries.
-ghost use Rattle.std.specs.Prelude.{◌≡◌, ◌<◌, ◌≤◌, ◌+◌, ◌-◌, IfOk, vec_len, vec_capacity};
+ghost use Rattle.std.specs.Prelude.{◌≡◌, ◌<◌, ◌≤◌, ◌+◌, ◌-◌, IfOk, option_copied, vec_len, vec_capacity};
 ghost use Rattle.bin_history.specs.Entries.{lookup};
-ghost use Rattle.bin_history.specs.Changes.{IsFound, change_to, change_by, changed, HasPlace, Fits};
+ghost use Rattle.bin_history.specs.Changes.{IsFound, change_at, change_to, change_by, changed, taken_from, HasPlace, Fits};
 ghost use Rattle.bin_history.specs.Copies.{IsExact};
+ghost use Rattle.bin_history.specs.Ops.{key_in};
 
-use crate::copies::copy_of;
 use crate::effect::Effect;
+use crate::given::Given;
 use hashkeys::HashKey;
 use std::alloc::{AllocError, Allocator};
+use std::mem::replace;
 
 /// One change, at a known place.
 #[derive(Drop)]
@@ -31,43 +33,29 @@ pub(crate) fn find<K: HashKey, V>(entries: &[(K, V)], key: &K) -> Option<usize>
 }
 
 /// The value at a key that `find` looked for.
-pub(crate) fn value_at<K: HashKey, V: Clone>(
-    entries: &[(K, V)],
+pub(crate) fn value_at<'a, K: HashKey, V>(
+    entries: &'a [(K, V)],
     key: &K,
     found: Option<usize>,
-) -> Result<Option<V>, AllocError>
-    requires values { IsExact V.is_clone }
-    requires found { IsFound K.eq entries.now key.now found }
-    ensures { IfOk result (λ value. value ≡ lookup K.eq entries.now key.now) }
+) -> Option<&'a V>
+    requires { IsFound K.eq entries.now key.now found }
+    ensures { option_copied result ≡ lookup K.eq entries.now key.now }
 {
     let _ = key;
     match found {
-        Some(i) => Ok(Some(copy_of(&entries[i].1)?)),
-        None => Ok(None),
+        Some(i) => Some(&entries[i].1),
+        None => None,
     }
 }
 
-impl<K: Clone, V: Clone> Change<K, V> {
-    /// The change that an effect on the key makes.
-    pub(crate) fn by(
-        key: &K,
-        found: Option<usize>,
-        effect: &Effect<V>,
-    ) -> Result<Change<K, V>, AllocError>
-        requires keys { IsExact K.is_clone }
-        requires values { IsExact V.is_clone }
-        ensures { IfOk result (λ change. change ≡ change_by found key.now effect.now) }
+impl<K, V> Change<K, V> {
+    /// The change by which the key at this place gets this value, or none.
+    fn at(i: usize, value: Option<V>) -> Change<K, V>
+        ensures { result ≡ change_at i value }
     {
-        match effect {
-            Effect::Keep => Ok(Change::Stay),
-            Effect::Set(value) => match found {
-                Some(i) => Ok(Change::Assign(i, copy_of(value)?)),
-                None => Ok(Change::Add(copy_of(key)?, copy_of(value)?)),
-            },
-            Effect::Clear => match found {
-                Some(i) => Ok(Change::Take(i)),
-                None => Ok(Change::Stay),
-            },
+        match value {
+            Some(inner) => Change::Assign(i, inner),
+            None => Change::Take(i),
         }
     }
 }
@@ -78,10 +66,7 @@ impl<K: Drop, V> Change<K, V> {
         ensures { result ≡ change_to found key value }
     {
         match found {
-            Some(i) => match value {
-                Some(inner) => Change::Assign(i, inner),
-                None => Change::Take(i),
-            },
+            Some(i) => Change::at(i, value),
             None => match value {
                 Some(inner) => Change::Add(key, inner),
                 None => Change::Stay,
@@ -90,21 +75,63 @@ impl<K: Drop, V> Change<K, V> {
     }
 }
 
+impl<K: Clone + Drop, V: Drop> Change<K, V> {
+    /// The same of a key that was given: it is copied at most where it was lent and an entry is made.
+    fn given(
+        key: Given<'_, K>,
+        found: Option<usize>,
+        value: Option<V>,
+    ) -> Result<Change<K, V>, AllocError>
+        requires { IsExact K.is_clone }
+        ensures { IfOk result (λ change. change ≡ change_to found (key_in key.entry) value) }
+    {
+        match found {
+            Some(i) => Ok(Change::at(i, value)),
+            None => match value {
+                Some(inner) => Ok(Change::Add(key.into_owned()?, inner)),
+                None => Ok(Change::Stay),
+            },
+        }
+    }
+
+    /// The change that a call's effect on the key makes, with the value that the call brings.
+    pub(crate) fn by(
+        key: Given<'_, K>,
+        found: Option<usize>,
+        effect: Effect<V>,
+        value: Option<V>,
+    ) -> Result<Change<K, V>, AllocError>
+        requires { IsExact K.is_clone }
+        ensures { IfOk result (λ change. change ≡ change_by found (key_in key.entry) effect value) }
+    {
+        match effect {
+            Effect::Keep => Ok(Change::Stay),
+            Effect::Give => Change::given(key, found, value),
+            Effect::Set(made) => Change::given(key, found, made),
+        }
+    }
+}
+
 impl<K: Drop, V: Drop> Change<K, V> {
-    /// Makes the change.
-    pub(crate) fn carry_out<A: Allocator>(self, entries: &mut Vec<(K, V), A>)
+    /// Makes the change. It gives back the value that it takes away.
+    pub(crate) fn carry_out<A: Allocator>(self, entries: &mut Vec<(K, V), A>) -> Option<V>
         requires place { HasPlace entries.old.items self }
         requires room { Fits (vec_capacity entries.old - vec_len entries.old) self }
+        ensures taken { result ≡ taken_from entries.old.items self }
         ensures items { entries.new.items ≡ changed entries.old.items self }
         ensures len { vec_len entries.new ≤ vec_len entries.old + 1 }
         ensures capacity { vec_capacity entries.old ≤ vec_capacity entries.new }
     {
         match self {
-            Change::Stay => {}
-            Change::Assign(i, value) => entries[i].1 = value,
-            Change::Add(key, value) => entries.push_reserved((key, value)),
+            Change::Stay => None,
+            Change::Assign(i, value) => Some(replace(&mut entries[i].1, value)),
+            Change::Add(key, value) => {
+                entries.push_reserved((key, value));
+                None
+            }
             Change::Take(i) => {
-                let _ = entries.remove(i);
+                let (_key, value) = entries.remove(i);
+                Some(value)
             }
         }
     }

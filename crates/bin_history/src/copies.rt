@@ -1,5 +1,5 @@
 //! Copies of keys, values, functions and calls.
-ghost use Rattle.std.specs.Prelude.{◌≡◌, IfOk};
+ghost use Rattle.std.specs.Prelude.{◌≡◌, IfOk, option_copied};
 ghost use Rattle.bin_history.specs.Copies.{IsExact};
 
 use crate::call::Call;
@@ -12,9 +12,9 @@ pub(crate) fn copy_of<T: Clone>(value: &T) -> Result<T, AllocError>
     value.clone()
 }
 
-pub(crate) fn copy_of_option<T: Clone>(value: &Option<T>) -> Result<Option<T>, AllocError>
+pub(crate) fn copy_of_option<T: Clone>(value: Option<&T>) -> Result<Option<T>, AllocError>
     requires { IsExact T.is_clone }
-    ensures { IfOk result (λ copy. copy ≡ value.now) }
+    ensures { IfOk result (λ copy. copy ≡ option_copied value.entry) }
 {
     match value {
         Some(inner) => Ok(Some(copy_of(inner)?)),

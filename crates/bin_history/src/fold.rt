@@ -24,7 +24,7 @@ fn store_record<K: HashKey, V: Drop, F: Drop, A: Allocator>(
     let (call, after) = entry.into_call();
     let key = call.into_key();
     let found = find(base, &key);
-    Change::to(key, found, after).carry_out(base);
+    drop(Change::to(key, found, after).carry_out(base));
 }
 
 /// Folds the oldest records into the base. It moves their values and copies nothing.

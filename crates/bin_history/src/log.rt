@@ -1,13 +1,16 @@
 //! What a recorded bin stores beside its entries.
-ghost use Rattle.std.specs.Prelude.{◌≡◌, ◌<◌, ◌≤◌, List, [], length, IfOk, OnOk};
+ghost use Rattle.std.specs.Prelude.{◌≡◌, ◌<◌, ◌≤◌, ◌^◌, Option, List, [], length, IfOk, OnOk};
 ghost use Rattle.hashkeys.specs.Classes.{is_of};
 ghost use Rattle.bin_history.specs.Copies.{IsExact};
 ghost use Rattle.bin_history.specs.Logs.{form_of, base_of, records_of, record_room_of, CanFold, IsKeptOrFolded, with_one_more};
 ghost use Rattle.bin_history.specs.Part.{part_of_entries, part_of_records};
+ghost use Rattle.bin_history.specs.Readiness.{kept_in};
+ghost use Rattle.bin_history.specs.declared.call.Call.{Call};
 ghost use Rattle.bin_history.specs.declared.form.Form.TheVariants.{Recorded};
 
 use crate::bin::MOST_RECORDS;
 use crate::fold::{FOLDED, fold_front};
+use crate::ready::Kept;
 use crate::record::Record;
 use crate::room::make_room_in;
 use crate::split::{part_of_entries, part_of_records};
@@ -119,19 +122,29 @@ pub(crate) fn fold_in<K: HashKey, V: Drop, F: Drop, A: Allocator>(
     }
 }
 
-/// Puts a record into a log that has room for it. Where there is no log the record is dropped.
+/// Puts the record of a call into a log that has room for it. Where there is no log there is none.
 pub(crate) fn add_to<K: Drop, V: Drop, F: Drop, A: Allocator>(
     log: &mut Option<Box<Log<K, V, F, A>, A>>,
-    entry: Record<K, V, F>,
+    client: u32,
+    ordinal: u64,
+    kept: Option<Kept<K, V, F>>,
 )
+    requires client { client < 64 }
+    requires ordinal { ordinal < 2 ^ 58 }
     requires room { form_of log.old ≡ Recorded → 0 < record_room_of log.old }
     ensures form { form_of log.new ≡ form_of log.old }
     ensures base { (es : List (K × V)) → base_of log.new es ≡ base_of log.old es }
-    ensures records { records_of log.new ≡ with_one_more (form_of log.old) (records_of log.old) entry }
+    ensures records { (call : Call K V F) (before after : Option V) → kept ≡ kept_in (form_of log.old) call before after
+        → records_of log.new ≡ with_one_more (form_of log.old) (records_of log.old) (record { client = client; ordinal = ordinal; call = call; before = before; after = after }) }
 {
-    match log {
-        Some(log) => log.records.push_reserved(entry),
-        None => drop(entry),
+    if let (Some(log), Some(kept)) = (log, kept) {
+        let Kept {
+            call,
+            before,
+            after,
+        } = kept;
+        let entry = Record::new(client, ordinal, call, before, after);
+        log.records.push_reserved(entry);
     }
 }
 

@@ -1,8 +1,8 @@
 //! Room in lists of records and of entries.
 ghost use Rattle.std.specs.Prelude.{◌≡◌, ◌<◌, ◌≤◌, None, true, OnOk, vec_len, vec_capacity};
-ghost use Rattle.bin_history.specs.Calls.{may_add};
+ghost use Rattle.bin_history.specs.Ops.{may_add};
 
-use crate::call::Call;
+use crate::op::Op;
 use std::alloc::{AllocError, Allocator};
 
 /// A list begins with room for so many.
@@ -32,12 +32,12 @@ pub(crate) fn make_room_in<T: Drop, A: Allocator + Clone>(
 pub(crate) fn make_room_for<K: Drop, V: Drop, F, A: Allocator>(
     entries: &mut Vec<(K, V), A>,
     found: Option<usize>,
-    call: &Call<K, V, F>,
+    op: &Op<V, F>,
 ) -> Result<(), AllocError>
     ensures items { entries.new.items ≡ entries.old.items }
-    ensures room { OnOk result (found ≡ None → may_add call.now ≡ true → vec_len entries.new < vec_capacity entries.new) }
+    ensures room { OnOk result (found ≡ None → may_add op.now ≡ true → vec_len entries.new < vec_capacity entries.new) }
 {
-    if found.is_none() && call.may_add() {
+    if found.is_none() && op.may_add() {
         entries.reserve(1)
     } else {
         Ok(())

@@ -2,4 +2,3 @@ pub mod Ranges
 pub mod Folding
 pub mod Probing
 pub mod Orders
-pub mod Wrapped

@@ -1,16 +1,10 @@
--- Sums that wrap at a number.
-use Rattle.std.specs.Prelude.{◌≡◌, ℕ, ◌+◌, ◌%◌}
-use Rattle.std.proofs.Common.{ap, sym, ◌∙◌, add_assoc, add_comm, add-zero, zero-add}
-use Rattle.std.proofs.Math.Nat.{mod-add-mod, add-mod-mod, mod-mod}
+-- What a sum of so many numbers lies within.
+use Rattle.std.specs.Prelude.{ℕ, ℤ, pos, ◌*◌, ◌≤◌, ◌≤ℤ◌, neg_ℤ}
 
-pub wrapped_sum_associative : (m a b c : ℕ) → ((a + b) % m + c) % m ≡ (a + (b + c) % m) % m
-wrapped_sum_associative m a b c = mod-add-mod (a + b) m c ∙ ap (λ n. n % m) (add_assoc a b c) ∙ sym (add-mod-mod a (b + c) m)
+-- of numbers of 64 bits with a sign
+abbrev pub IsSumOfSigned : ℕ → ℤ → Type 0
+IsSumOfSigned n a = (neg_ℤ (pos (n * 9223372036854775808)) ≤ℤ a) × (a ≤ℤ pos (n * 9223372036854775808))
 
-pub wrapped_sum_commutative : (m a b : ℕ) → (a + b) % m ≡ (b + a) % m
-wrapped_sum_commutative m a b = ap (λ n. n % m) (add_comm a b)
-
-pub zero_before_wrapped : (m a : ℕ) → (0 + a % m) % m ≡ a % m
-zero_before_wrapped m a = ap (λ n. n % m) (zero-add (a % m)) ∙ mod-mod a m
-
-pub zero_after_wrapped : (m a : ℕ) → (a % m + 0) % m ≡ a % m
-zero_after_wrapped m a = ap (λ n. n % m) (add-zero (a % m)) ∙ mod-mod a m
+-- of numbers of 64 bits without one
+abbrev pub IsSumOfUnsigned : ℕ → ℕ → Type 0
+IsSumOfUnsigned n a = a ≤ n * 18446744073709551616

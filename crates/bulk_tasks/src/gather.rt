@@ -1,5 +1,5 @@
 //! What the workers of a pool collect.
-ghost use Rattle.std.specs.Prelude.{◌≡◌};
+ghost use Rattle.std.specs.Prelude.{◌≡◌, ◌<◌, ◌^◌, length};
 ghost use Rattle.chm.specs.Quiets.{entries_of};
 ghost use Rattle.bulk_tasks.specs.Plans.{AreWorkers};
 
@@ -27,7 +27,8 @@ pub(crate) fn gather<
 where
     C::Part: Send,
     requires { AreWorkers plan.now.workers }
-    ensures { C.collected collector.now (entries_of quiet.now.bins) result }
+    ensures collected { C.collected collector.now (entries_of quiet.now.bins) result }
+    ensures few { length (entries_of quiet.now.bins) < 2 ^ 64 }
 {
     let count = quiet.mapping_count();
     if count == 0 {

@@ -1,5 +1,5 @@
 //! Reductions of all entries to one value.
-ghost use Rattle.std.specs.Prelude.{◌≡◌, List, IfOk, IsOk, IsErrOf, IsTrue};
+ghost use Rattle.std.specs.Prelude.{◌≡◌, ℕ, ◌<◌, ◌^◌, List, IfOk, IfSome, IsOk, IsErrOf, IsTrue};
 ghost use Rattle.std.specs.List.Sorted.{IsPermutation};
 ghost use Rattle.chm.specs.Quiets.{entries_of};
 ghost use Rattle.bulk_tasks.specs.Folds.{fold_from, plain_fold, FoldsInAnyOrder};
@@ -29,7 +29,7 @@ impl<K, V, R: Reducer<K, V>> Collector<K, V> for Folding<'_, R> {
 
     type Part = Result<Option<R::A>, AllocError>;
 
-    ghost collected = { λ c es part. IsFolded (R.lifted c.reducer.now) (R.joined c.reducer.now) R.never_refuses es part };
+    ghost collected = { λ c es part. IsFolded (R.lifted c.reducer.now) (R.joined c.reducer.now) (R.within c.reducer.now) R.never_refuses es part };
 
     fn start(&self) -> Result<Option<R::A>, AllocError> {
         Ok(None)
@@ -91,7 +91,7 @@ fn join_onto<K, V, R: Reducer<K, V>>(
     folded: Option<R::A>,
 ) -> Result<R::A, AllocError>
     ensures fold { IfOk result (λ a. (es : List (K × V)) → folded ≡ plain_fold (R.lifted reducer.now) (R.joined reducer.now) es → a ≡ fold_from (R.lifted reducer.now) (R.joined reducer.now) basis es) }
-    ensures total { IsTrue R.never_refuses → IsOk result }
+    ensures total { IsTrue R.never_refuses → R.within reducer.now 0 basis → (n : ℕ) → n < 2 ^ 64 → IfSome folded (R.within reducer.now n) → IsOk result }
 {
     match folded {
         None => Ok(basis),

@@ -11,7 +11,7 @@ use crate::plan::Plan;
 use crate::traits::Probe;
 use bin_history::{Bin, Remap};
 use chm::Quiet;
-use completers::Found;
+use completers::{Finds, Found};
 use hashkeys::HashKey;
 use std::alloc::{Allocator, Global};
 use std::sync::Wait;
@@ -27,11 +27,20 @@ pub enum Probed<U> {
     Refused,
 }
 
+/// A search tells that something was found, and not where: whoever finds something claims index 0.
+pub(crate) struct Somewhere;
+
+impl Finds for Somewhere {
+    ghost use Rattle.std.specs.Prelude.{◌≡◌};
+
+    ghost finds = { λ index. index ≡ 0 };
+}
+
 /// Collects the first that a probe finds. Where it may give up, a part does so at the first bin that it comes to after something was found.
 #[derive(Drop)]
 pub(crate) struct Searching<'a, P> {
     pub(crate) probe: &'a P,
-    pub(crate) found: &'a Found,
+    pub(crate) found: &'a Found<Somewhere>,
     pub(crate) may_give_up: bool,
 }
 

@@ -1,12 +1,13 @@
 //! What a caller of a bulk operation gives. Each states the function that it works out; all may be refused memory, and a reducer or a probe may state that it never is.
-ghost use Rattle.std.specs.Prelude.{◌≡◌, IfOk, IsOk, IsTrue};
+ghost use Rattle.std.specs.Prelude.{◌≡◌, ℕ, ◌+◌, ◌<◌, ◌^◌, IfOk, IsOk, IsTrue};
 
 use std::alloc::AllocError;
 
-/// What makes one value of all pairs: each is lifted, and the lifted values are joined. Join is associative and commutative, so it does not matter which are joined first.
+/// What makes one value of all pairs: each is lifted, and the lifted values are joined. Join is associative and commutative, so it does not matter which are joined first. A reducer states a
+/// bound within which the value of so many pairs lies: a join that is never refused need hold values of fewer than 2^64 pairs alone.
 pub trait Reducer<K, V> {
-    ghost use Rattle.std.specs.Prelude.{Bool};
-    ghost use Rattle.bulk_tasks.specs.Folds.{IsAssociative, IsCommutative};
+    ghost use Rattle.std.specs.Prelude.{ℕ, Bool};
+    ghost use Rattle.bulk_tasks.specs.Folds.{IsAssociative, IsCommutative, JoinsWithin};
 
     /// What the pairs are reduced to.
     type A: Drop;
@@ -15,22 +16,28 @@ pub trait Reducer<K, V> {
 
     ghost joined: { Self → Self.A → Self.A → Self.A };
 
-    // Whether neither call, nor that of a basis, is ever refused.
+    // What a value of so many pairs lies within.
+    ghost within: { Self → ℕ → Self.A → Type 0 };
+
+    // Whether neither call, nor that of a basis, is ever refused, where there are fewer than 2^64 pairs.
     ghost never_refuses: { Bool };
 
     /// The value of one pair.
     fn lift(&self, key: &K, value: &V) -> Result<Self::A, AllocError>
         ensures value { IfOk result (λ a. a ≡ lifted self.now key.now value.now) }
+        ensures within { IfOk result (within self.now 1) }
         ensures total { IsTrue never_refuses → IsOk result };
 
     /// The value of two.
     fn join(&self, left: Self::A, right: Self::A) -> Result<Self::A, AllocError>
         ensures value { IfOk result (λ a. a ≡ joined self.now left right) }
-        ensures total { IsTrue never_refuses → IsOk result };
+        ensures total { IsTrue never_refuses → (n m : ℕ) → within self.now n left → within self.now m right → n + m < 2 ^ 64 → IsOk result };
 
     ghost associative: { (r : Self) → IsAssociative (joined r) };
 
     ghost commutative: { (r : Self) → IsCommutative (joined r) };
+
+    ghost joins: { (r : Self) → JoinsWithin (within r) (joined r) };
 }
 
 /// A reducer with a value of no pairs, which is an identity of join.
@@ -42,6 +49,7 @@ pub trait BasedReducer<K, V>: Reducer<K, V> {
     /// The value of no pairs.
     fn basis(&self) -> Result<Self::A, AllocError>
         ensures value { IfOk result (λ a. a ≡ based self.now) }
+        ensures within { IfOk result (Self.within self.now 0) }
         ensures total { IsTrue Self.never_refuses → IsOk result };
 
     ghost identity: { (r : Self) → IsIdentity (Self.lifted r) (Self.joined r) (based r) };

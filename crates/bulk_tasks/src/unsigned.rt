@@ -4,14 +4,17 @@ use crate::traits::{BasedReducer, Reducer};
 use std::alloc::AllocError;
 
 impl<K> Reducer<K, u64> for Sum {
-    ghost use Rattle.std.specs.Prelude.{true, ◌+◌, ◌%◌, ◌^◌};
-    ghost use Rattle.bulk_tasks.specs.Sums.{wrapped_sum_associative, wrapped_sum_commutative};
+    ghost use Rattle.std.specs.Prelude.{true, ◌+◌};
+    ghost use Rattle.std.proofs.Common.{arith, add_assoc, add_comm};
+    ghost use Rattle.bulk_tasks.specs.Sums.{IsSumOfUnsigned};
 
     type A = u128;
 
-    ghost lifted = { λ _ _ v. v % 2 ^ 128 };
+    ghost lifted = { λ _ _ v. v };
 
-    ghost joined = { λ _ a b. (a + b) % 2 ^ 128 };
+    ghost joined = { λ _ a b. a + b };
+
+    ghost within = { λ _ n a. IsSumOfUnsigned n a };
 
     ghost never_refuses = { true };
 
@@ -20,17 +23,19 @@ impl<K> Reducer<K, u64> for Sum {
     }
 
     fn join(&self, left: u128, right: u128) -> Result<u128, AllocError> {
-        Ok(left.wrapping_add(right))
+        left.checked_add(right).ok_or(AllocError)
     }
 
-    ghost associative = { λ _. wrapped_sum_associative (2 ^ 128) };
+    ghost associative = { λ _ a b c. add_assoc a b c };
 
-    ghost commutative = { λ _. wrapped_sum_commutative (2 ^ 128) };
+    ghost commutative = { λ _ a b. add_comm a b };
+
+    ghost joins = { λ _ n m a b p q. Prim.omega (arith, p, q) };
 }
 
 impl<K> BasedReducer<K, u64> for Sum {
-    ghost use Rattle.std.specs.Prelude.{◌+◌, ◌^◌};
-    ghost use Rattle.bulk_tasks.specs.Sums.{zero_before_wrapped, zero_after_wrapped};
+    ghost use Rattle.std.specs.Prelude.{◌+◌};
+    ghost use Rattle.std.proofs.Common.{add-zero, zero-add};
 
     ghost based = { λ _. 0 };
 
@@ -39,22 +44,9 @@ impl<K> BasedReducer<K, u64> for Sum {
     }
 
     ghost identity = { λ _. (
-      (λ k v. (zero_before_wrapped (2 ^ 128) v, zero_after_wrapped (2 ^ 128) v)),
-      λ a b. (zero_before_wrapped (2 ^ 128) (a + b), zero_after_wrapped (2 ^ 128) (a + b)),
+      (λ k v. (zero-add v, add-zero v)),
+      λ a b. (zero-add (a + b), add-zero (a + b)),
     ) };
-}
-
-impl Sum {
-    ghost use Rattle.std.specs.Prelude.{◌≡◌, ℕ, ◌+◌, ◌%◌, ◌^◌, List, sum_by};
-    ghost use Rattle.bulk_tasks.specs.Folds.{fold_from};
-
-    /// The same of unsigned values: from its basis it folds pairs to the sum of their values, modulo 2^128. It does
-    /// nothing when it runs.
-    pub fn wraps_unsigned<K>(&self)
-        ensures { (es : List (K × ℕ)) → fold_from (λ _ v. v % 2 ^ 128) (λ a b. (a + b) % 2 ^ 128) 0 es ≡ sum_by (λ e. e.1) es % 2 ^ 128 }
-    {
-        let _ = self;
-    }
 }
 
 impl<K> Reducer<K, u64> for Greatest {
@@ -66,6 +58,8 @@ impl<K> Reducer<K, u64> for Greatest {
     ghost lifted = { λ _ _ v. v };
 
     ghost joined = { λ _ a b. max a b };
+
+    ghost within = { λ _ _ _. Unit {0} };
 
     ghost never_refuses = { true };
 
@@ -80,4 +74,6 @@ impl<K> Reducer<K, u64> for Greatest {
     ghost associative = { λ _ a b c. Prim.omega arith };
 
     ghost commutative = { λ _ a b. Prim.omega arith };
+
+    ghost joins = { λ _ n m a b p q. tt };
 }

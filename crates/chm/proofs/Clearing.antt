@@ -1,5 +1,6 @@
 -- What a clear takes away, and what its visits show at the end.
-use Rattle.std.proofs.Common.{◌≡◌, ◌≢◌, ℕ, ◌<◌, ◌≤◌, Bool, true, false, Decides, cond, Option, Some, None, List, [], ◌∷◌, ◌++◌, length, filter, All, slice_index_or, refl, sym, ap, subst, ◌∙◌, arith}
+use Rattle.std.proofs.Common.{◌≡◌, ◌≢◌, ℕ, ◌<◌, ◌≤◌, Bool, true, false, Decides, cond, Option, Some, None, List, [], ◌∷◌, ◌++◌, length, filter, All, slice_index_or, refl, sym, ap, subst, ◌∙◌, arith, Result, Err, IsErrOf}
+use Rattle.std.specs.Result.{IsErrAnd}
 use Rattle.std.proofs.lemmas.List.{append_assoc, append-nil}
 use Rattle.std.proofs.lemmas.List.Elements.{All-nil, All-cons, All-head, All-tail, All-append, All-push, All-weaker, filter-append}
 use Rattle.std.proofs.lemmas.List.Sums.{sum_by-cons}
@@ -16,7 +17,7 @@ use Rattle.bin_history.specs.Records.{RecordView}
 use Rattle.bin_history.specs.declared.call.Reply.{Reply}
 use Rattle.count_ledger.specs.Views.{LedgerView, PassView}
 use Rattle.chm.specs.Called.{IsCalledOn}
-use Rattle.chm.specs.Cleared.{IsRemoval, HasRemoved, HasRemovedIn}
+use Rattle.chm.specs.Cleared.{HasLeft, HasOwnLeft, HasRemoved, HasRemovedIn, IsRemoval}
 use Rattle.chm.specs.Met.{IsHistory}
 use Rattle.chm.specs.Views.{opening_in}
 use Rattle.chm.specs.Visits.{VisitView, classes_of, IsVisit}
@@ -84,6 +85,10 @@ apart (c ∷ cs) class hash once its = go (λ few. apart cs class hash few its) 
   go rest_apart true is = (let rest = none_of cs in let more = sum_by-cons (λ (y : ClassView). cond (covers y hash) 1 0) c (cs ++ class ∷ []) in let one : ◌≡◌ {A = ℕ} (cond (covers c hash) 1 0) 1 = ap (λ (b : Bool). cond b 1 0) is in absurd (omega arith))
   go rest_apart false is = (let more = sum_by-cons (λ (y : ClassView). cond (covers y hash) 1 0) c (cs ++ class ∷ []) in let none : ◌≡◌ {A = ℕ} (cond (covers c hash) 1 0) 0 = ap (λ (b : Bool). cond b 1 0) is in All-cons (λ (c : ClassView). covers c hash ≡ false) c cs is (rest_apart (omega arith)))
 
+-- what a `?` passes on is the error that it met
+pub passed_on : {S T E : Type 0} (r : Result S E) (e f : E) → IsErrAnd r (λ y. y ≡ e) → IsErrOf r f → IsErrOf {T = T} (Err e) f
+passed_on {S} {T} {E} r e f same is = let its : f ≡ e = subst (λ (x : Result S E). IsErrAnd x (λ y. y ≡ e)) is same in ap (λ (x : E). Err x) (sym its)
+
 filter-none : {X : Type 0} (p : X → Bool) (xs : List X) → All (λ x. p x ≡ false) xs → filter p xs ≡ []
 filter-none p [] none = refl
 filter-none {X} p (x ∷ xs) none = let N : X → Type 0 = λ y. p y ≡ false in ap (λ b. cond b (x ∷ filter p xs) (filter p xs)) (All-head N x xs none) ∙ filter-none p xs (All-tail N x xs none)
@@ -92,7 +97,8 @@ module _ {K V F : Type 0} (same : K → K → Bool) (code : K → ℕ) (after : 
   -- a visit still shows the bin after removals of keys of a class that has none of its hashes
   pub IsVisit-later : (old new : PassView K V F) (class : ClassView) (v : VisitView K V) → HasRemovedIn code ledger.salt class old new → ((hash : ℕ) → covers class hash ≡ true → covers v.class hash ≡ false)
       → IsVisit same code after ledger old v → IsVisit same code after ledger new v
-  IsVisit-later old new class v (rs, each, of, is) other (kept, history, entries) =
+  IsVisit-later old new class v (rs, each, of, is) other visit =
+      let (kept, history, entries) = visit.made in
       let In : RecordView K V F → Type 0 = λ r. is_of code ledger.salt class (key_of r.call) ≡ true in
       let Out : RecordView K V F → Type 0 = λ r. is_of code ledger.salt v.class (key_of r.call) ≡ false in
       let none : part_of_records (is_of code ledger.salt v.class) rs ≡ [] = filter-none (λ (r : RecordView K V F). is_of code ledger.salt v.class (key_of r.call)) rs (All-weaker In Out (λ r i. other (hash_of ledger.salt (code (key_of r.call))) i) rs of) in
@@ -100,7 +106,7 @@ module _ {K V F : Type 0} (same : K → K → Bool) (code : K → ℕ) (after : 
       filter-append (λ (r : RecordView K V F). is_of code ledger.salt v.class (key_of r.call)) old.made rs ∙ ap (λ (l : List (RecordView K V F)). part_of_records (is_of code ledger.salt v.class) old.made ++ l) none ∙ append-nil (part_of_records (is_of code ledger.salt v.class) old.made)
       in
       let later : IsHistory same code after ledger (record old { made = old.made ++ rs }) v.class kept = record { client = history.client; legal = history.legal; clients = history.clients; of_class = history.of_class; own = history.own ∙ sym grown } in
-      (kept, subst (λ (p : PassView K V F). IsHistory same code after ledger p v.class kept) (sym is) later, entries)
+      record { distinct = visit.distinct; of_class = visit.of_class; made = (kept, subst (λ (p : PassView K V F). IsHistory same code after ledger p v.class kept) (sym is) later, entries) }
 
   -- the same of all visits of a walk that goes on by that class
   pub visits-later : (old new : PassView K V F) (class : ClassView) (vs : List (VisitView K V)) → HasRemovedIn code ledger.salt class old new → ((hash : ℕ) → covering (classes_of vs ++ class ∷ []) hash ≤ 1)
@@ -133,3 +139,7 @@ module _ {K V F : Type 0} (same : K → K → Bool) (code : K → ℕ) (after : 
       All-cons (λ c. replay same (opening_in code ledger c) (part_of_records (is_of code ledger.salt c) pass.made) ≡ []) v.class (classes_of vs)
       (sym (IsOwn-visit same code after ledger pass v one (All-head P v vs visits)) ∙ All-head E v vs empty)
       (emptied pass vs one (All-tail P v vs visits) (All-tail E v vs empty))
+
+  -- with one client, a bin that has entries left has them by its own calls
+  pub own_left : (pass : PassView K V F) → ledger.clients ≡ 1 → HasLeft same code after ledger pass → HasOwnLeft same code ledger pass
+  own_left pass one (v, visit, some) = (v.class, λ none. some (IsOwn-visit same code after ledger pass v one visit ∙ none))

@@ -11,3 +11,4 @@ pub mod Dealing
 pub mod Reopening
 pub mod Shared
 pub mod Finding
+pub mod Passes

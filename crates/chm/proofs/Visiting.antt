@@ -1,13 +1,14 @@
 -- What the visits of a walk show.
 use Rattle.std.proofs.Common.{◌≡◌, ℕ, ◌<◌, ◌==◌, Bool, true, Option, Some, None, option_copied, Bor, List, [], ◌∷◌, ◌++◌, map, All, refl, sym, ap, subst, ◌∙◌, arith}
 use Rattle.std.specs.Option.{IsSomeAnd, MatchOption}
+use Rattle.std.proofs.Common.{Decides}
 use Rattle.std.proofs.lemmas.Bool.Decides.{nat_tests}
 use Rattle.std.proofs.lemmas.List.{map-append}
-use Rattle.std.proofs.lemmas.List.Elements.{All-head, All-tail}
+use Rattle.std.proofs.lemmas.List.Elements.{All-head, All-tail, All-weaker}
 use Rattle.hashkeys.specs.Classes.{ClassView, covers, is_of}
 use Rattle.hashkeys.specs.Hashing.{hash_of}
 use Rattle.bin_history.specs.Clients.{by_client}
-use Rattle.bin_history.specs.Entries.{lookup, replay}
+use Rattle.bin_history.specs.Entries.{lookup, HasDistinctKeys, replay}
 use Rattle.bin_history.specs.Lawful.{BinView}
 use Rattle.bin_history.specs.Part.{part_of_records}
 use Rattle.bin_history.specs.declared.call.Call.{Call}
@@ -17,7 +18,8 @@ use Rattle.generations.specs.Leaves.{IsLeaf}
 use Rattle.generations.specs.Views.{GenerationsView}
 use Rattle.chm.specs.Met.{IsHistory}
 use Rattle.chm.specs.Views.{MapView, bins_of, opening_in}
-use Rattle.chm.specs.Visits.{VisitView, classes_of, IsVisit, IsOwn, IsShown}
+use Rattle.chm.specs.Visits.{VisitView, classes_of, shown_by, AreVisits, IsVisit, IsOwn, IsShown}
+use Rattle.chm.proofs.Homes.{OwnsItsKeys, distinct_all}
 
 -- all records are the only client's
 only_client : {K V F : Type 0} (c : ℕ) (rs : List (RecordView K V F)) → c < 1 → All (λ r. r.client < 1) rs → by_client c rs ≡ rs
@@ -36,7 +38,15 @@ module _ {K V F : Type 0} (same : K → K → Bool) (code : K → ℕ) (after : 
       sym (only_client pass.client kept mine few) ∙ h.own
 
   pub IsOwn-visit : (v : VisitView K V) → ledger.clients ≡ 1 → IsVisit same code after ledger pass v → IsOwn same code ledger pass v
-  IsOwn-visit v one (kept, h, is) = is ∙ ap (λ (rs : List (RecordView K V F)). replay same (opening_in code ledger v.class) rs) (own_history v.class kept one h)
+  IsOwn-visit v one visit = let (kept, h, is) = visit.made in is ∙ ap (λ (rs : List (RecordView K V F)). replay same (opening_in code ledger v.class) rs) (own_history v.class kept one h)
+
+  -- no key comes twice in the visits of a walk
+  pub distinct_visits : (tells : (x y : K) → Decides (same x y) (x ≡ y)) (n : ℕ) (visits : List (VisitView K V)) → AreVisits same code after n ledger pass visits → HasDistinctKeys same (shown_by visits)
+  distinct_visits tells n visits are =
+      let Own = OwnsItsKeys same tells (λ k. hash_of ledger.salt (code k)) (λ (v : VisitView K V). v.class) (λ v. v.entries) in
+      distinct_all same tells (λ k. hash_of ledger.salt (code k)) (λ (v : VisitView K V). v.class) (λ v. v.entries) visits
+      (All-weaker (IsVisit same code after ledger pass) Own (λ v visit. (visit.distinct, visit.of_class)) visits are.each)
+      (λ k. let once = are.walk.each_hash (hash_of ledger.salt (code k)) in omega arith)
 
 pub classes-push : {K V : Type 0} (vs : List (VisitView K V)) (v : VisitView K V) → classes_of (vs ++ v ∷ []) ≡ classes_of vs ++ v.class ∷ []
 classes-push vs v = map-append (λ (x : VisitView _ _). x.class) vs (v ∷ [])

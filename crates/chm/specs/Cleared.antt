@@ -1,5 +1,5 @@
 -- What a clear did.
-use Rattle.std.specs.Prelude.{◌≡◌, negsuc, ℕ, Bool, true, Option, List, [], ◌++◌, All}
+use Rattle.std.specs.Prelude.{◌≡◌, ◌≢◌, negsuc, ℕ, Bool, true, Option, List, [], ◌++◌, All}
 use Rattle.hashkeys.specs.Classes.{ClassView, is_of}
 use Rattle.hashkeys.specs.declared.hashing.Salt.{Salt}
 use Rattle.bin_history.specs.Calls.{key_of}
@@ -12,7 +12,7 @@ use Rattle.bin_history.specs.Records.{RecordView}
 use Rattle.count_ledger.specs.Views.{LedgerView, PassView}
 use Rattle.generations.specs.Walks.{IsWalk}
 use Rattle.chm.specs.Views.{opening_in}
-use Rattle.chm.specs.Visits.{VisitView, AreVisits}
+use Rattle.chm.specs.Visits.{VisitView, AreVisits, IsVisit}
 
 -- a call that took a key away
 pub record IsRemoval {K V F : Type 0} (r : RecordView K V F) : Type 0 where
@@ -32,6 +32,14 @@ module _ {K V F : Type 0} (same_key : K → K → Bool) (code : K → ℕ) (afte
   -- a walk over the bins as they were left would have shown none with entries
   abbrev pub IsCleared : ℕ → LedgerView K V → PassView K V F → Type 0
   IsCleared n ledger pass = (visits : List (VisitView K V)) × AreVisits same_key code after n ledger pass visits × All (λ v. v.entries ≡ []) visits
+
+  -- a bin that was met has entries left
+  abbrev pub HasLeft : LedgerView K V → PassView K V F → Type 0
+  HasLeft ledger pass = (v : VisitView K V) × IsVisit same_key code after ledger pass v × (v.entries ≢ [])
+
+-- a pair is left: by the client's own calls, a class has one
+abbrev pub HasOwnLeft : {K V F : Type 0} → (K → K → Bool) → (K → ℕ) → LedgerView K V → PassView K V F → Type 0
+HasOwnLeft same_key code ledger pass = (c : ClassView) × (replay same_key (opening_in code ledger c) (part_of_records (is_of code ledger.salt c) pass.made) ≢ [])
 
 -- nothing is left: by the client's own calls, no class of a walk has a pair
 abbrev pub IsEmptied : {K V F : Type 0} → (K → K → Bool) → (K → ℕ) → ℕ → LedgerView K V → PassView K V F → Type 0

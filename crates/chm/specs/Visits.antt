@@ -1,7 +1,7 @@
 -- What a walk shows: the entries of each bin, one bin after the other.
-use Rattle.std.specs.Prelude.{◌≡◌, ℕ, ◌≤◌, Bool, true, Option, List, All, map}
+use Rattle.std.specs.Prelude.{◌≡◌, ℕ, ◌≤◌, Bool, true, Option, List, All, map, flat_map}
 use Rattle.hashkeys.specs.Classes.{ClassView, IsClass, covers, is_of}
-use Rattle.bin_history.specs.Entries.{lookup, replay}
+use Rattle.bin_history.specs.Entries.{lookup, HasDistinctKeys, replay}
 use Rattle.bin_history.specs.Lawful.{BinView}
 use Rattle.bin_history.specs.Part.{part_of_records}
 use Rattle.bin_history.specs.declared.call.Call.{Call}
@@ -20,6 +20,10 @@ pub record VisitView (K V : Type 0) : Type 0 where
 abbrev pub classes_of : {K V : Type 0} → List (VisitView K V) → List ClassView
 classes_of visits = map (λ v. v.class) visits
 
+-- all that visits show
+abbrev pub shown_by : {K V : Type 0} → List (VisitView K V) → List (K × V)
+shown_by visits = flat_map (λ v. v.entries) visits
+
 -- a bin's class is the first, in walk order, of those that a class has become
 pub record IsFirstOf (next class : ClassView) : Type 0 where
   pub next_is : IsClass next
@@ -28,9 +32,11 @@ pub record IsFirstOf (next class : ClassView) : Type 0 where
   pub narrow : next.n ≤ class.n
 
 module _ {K V F : Type 0} (same_key : K → K → Bool) (code : K → ℕ) (after : Call K V F → Option V → Option V) where
-  -- the entries are what a history of the class made of the opening map's part
-  abbrev pub IsVisit : LedgerView K V → PassView K V F → VisitView K V → Type 0
-  IsVisit ledger pass v = (kept : List (RecordView K V F)) × IsHistory same_key code after ledger pass v.class kept × (v.entries ≡ replay same_key (opening_in code ledger v.class) kept)
+  -- the entries are of keys of the class, each once, and are what a history of the class made of the opening map's part
+  pub record IsVisit (ledger : LedgerView K V) (pass : PassView K V F) (v : VisitView K V) : Type 0 where
+    pub distinct : HasDistinctKeys same_key v.entries
+    pub of_class : All (λ e. is_of code ledger.salt v.class e.0 ≡ true) v.entries
+    pub made : (kept : List (RecordView K V F)) × IsHistory same_key code after ledger pass v.class kept × (v.entries ≡ replay same_key (opening_in code ledger v.class) kept)
 
   -- visits of a whole table that opened with n bins: in walk order, and every hash is of one of them
   pub record AreVisits (n : ℕ) (ledger : LedgerView K V) (pass : PassView K V F) (visits : List (VisitView K V)) : Type 0 where

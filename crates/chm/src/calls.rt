@@ -1,7 +1,7 @@
 //! The twelve calls.
 ghost use Rattle.std.specs.Prelude.{◌≡◌, ◌<◌, ◌≤◌, ◌↔◌, ◌++◌, ◌∷◌, [], true, length, IfOk, IfErr, IsErrOf, OnErr};
 ghost use Rattle.hashkeys.specs.Classes.{is_of};
-ghost use Rattle.bin_history.specs.Calls.{key_of};
+ghost use Rattle.bin_history.specs.Ops.{call_on, key_in};
 ghost use Rattle.bin_history.specs.Copies.{IsExact};
 ghost use Rattle.bin_history.specs.declared.call.Call.TheVariants.{Get, Contains, Put, PutIfAbsent, Remove, RemoveIf, Replace, ReplaceIf, ComputeIfAbsent, ComputeIfPresent, Compute, Merge};
 ghost use Rattle.count_ledger.specs.Limits.{most_calls};
@@ -11,7 +11,7 @@ ghost use Rattle.chm.specs.Refusals.{IsOfCall};
 use crate::fault::Fault;
 use crate::map::Map;
 use crate::moving::Landed;
-use bin_history::{Call, Remap, Reply};
+use bin_history::{Call, Given, Op, Remap, Reply};
 use count_ledger::Pass;
 use hashkeys::HashKey;
 use std::alloc::{AllocError, Allocator};
@@ -28,22 +28,21 @@ impl<
         &self,
         rt: &R,
         pass: &mut Pass<K, V, F>,
-        call: Call<K, V, F>,
+        key: Given<'_, K>,
+        op: Op<V, F>,
     ) -> Result<(Reply<V>, Landed), AllocError>
         requires keys { IsExact K.is_clone }
         requires values { IsExact V.is_clone }
         requires pass { pass.old.ledger ≡ self.now.ledger.id }
         requires room { length pass.old.made < most_calls self.now.ledger.form }
-        ensures called { IfOk result (λ r. IsCalled K.eq K.code V.eq F.remapped F.merged self.now.ledger call pass.old pass.new r.0) }
+        ensures called { IfOk result (λ r. IsCalled K.eq K.code V.eq F.remapped F.merged self.now.ledger (call_on (key_in key.entry) op) pass.old pass.new r.0) }
         ensures refused { OnErr result (pass.new ≡ pass.old) }
     {
-        let mut held = self.bins.hold(rt, self.salt().hash_of(call.key()));
+        let mut held = self.bins.hold(rt, self.salt().hash_of(key.get()));
         let class = held.bin.class();
         let passed_forwarded = self.bins.n() < class.n();
-        let mut bin = held.bin;
         let mut role = held.role;
-        let made = self.call_under(pass, &mut bin, &mut role, call);
-        held.bin = bin;
+        let made = self.call_under(pass, &mut held.bin, &mut role, key, op);
         held.role = role;
         held.release();
         let (reply, grew) = made?;
@@ -57,8 +56,8 @@ impl<
 
     /// Makes a call, whichever of the twelve it is. It posts the call, and then does the call's part for the table. The pass is full after 1,000,000
     /// calls in a recorded map, and after 2^57 in a lean one.
-    pub fn call<R: Wait>(
-        &self,
+    pub fn call<'a, R: Wait>(
+        &'a self,
         rt: &R,
         pass: &mut Pass<K, V, F>,
         call: Call<K, V, F>,
@@ -72,10 +71,33 @@ impl<
         ensures full { IsErrOf result Fault.PassFull ↔ (most_calls self.now.ledger.form ≤ length pass.old.made) }
         ensures faults { IfErr result IsOfCall }
     {
+        let (key, op) = call.into_parts();
+        let key: Given<'a, K> = Given::Owned(key);
+        self.call_on(rt, pass, key, op)
+    }
+
+    /// The same of a call whose key is given beside it, handed over or lent. A lent key is copied where an entry is made of
+    /// it, and for the record in a recorded map.
+    pub fn call_on<R: Wait>(
+        &self,
+        rt: &R,
+        pass: &mut Pass<K, V, F>,
+        key: Given<'_, K>,
+        op: Op<V, F>,
+    ) -> Result<Reply<V>, Fault>
+        requires keys { IsExact K.is_clone }
+        requires values { IsExact V.is_clone }
+        requires functions { IsExact F.is_clone }
+        requires pass { pass.old.ledger ≡ self.now.ledger.id }
+        ensures called { IfOk result (λ reply. IsCalled K.eq K.code V.eq F.remapped F.merged self.now.ledger (call_on (key_in key.entry) op) pass.old pass.new reply) }
+        ensures refused { OnErr result (pass.new ≡ pass.old) }
+        ensures full { IsErrOf result Fault.PassFull ↔ (most_calls self.now.ledger.form ≤ length pass.old.made) }
+        ensures faults { IfErr result IsOfCall }
+    {
         if pass.made() >= self.ledger.most_calls() {
             return Err(Fault::PassFull);
         }
-        let (reply, landed) = self.make(rt, pass, call)?;
+        let (reply, landed) = self.make(rt, pass, key, op)?;
         self.after_call(rt, &landed);
         Ok(reply)
     }

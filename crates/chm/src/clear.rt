@@ -4,13 +4,13 @@ ghost use Rattle.bin_history.specs.Calls.{after};
 ghost use Rattle.bin_history.specs.Copies.{IsExact};
 ghost use Rattle.count_ledger.specs.Agreement.{Agree};
 ghost use Rattle.count_ledger.specs.Limits.{most_calls};
-ghost use Rattle.chm.specs.Cleared.{HasRemoved, HasRemovedIn, IsCleared, IsEmptied};
+ghost use Rattle.chm.specs.Cleared.{HasLeft, HasOwnLeft, HasRemoved, HasRemovedIn, IsCleared, IsEmptied};
 ghost use Rattle.chm.specs.Refusals.{IsOfCall};
 ghost use Rattle.chm.specs.Visits.{IsFirstOf, IsVisit};
 
 use crate::fault::Fault;
 use crate::map::Map;
-use bin_history::{Bin, Call, Remap};
+use bin_history::{Bin, Given, Op, Remap};
 use count_ledger::{BinRole, Pass};
 use generations::{next_in_walk, walk_laws};
 use hashkeys::{Class, HashKey};
@@ -24,8 +24,8 @@ impl<
     A: Allocator + Clone,
 > Map<K, V, F, A> {
     /// Takes the first entry of a bin that is held away, by a call of the pass's client.
-    fn remove_first(
-        &self,
+    fn remove_first<'a>(
+        &'a self,
         pass: &mut Pass<K, V, F>,
         bin: &mut Bin<K, V, F, A>,
         role: &mut BinRole<K, V, F>,
@@ -44,6 +44,7 @@ impl<
         ensures ledger { role.new.ledger ≡ role.old.ledger }
         ensures agree { Agree K.eq (after V.eq F.remapped F.merged) bin.new role.new }
         ensures full { IsErrOf result Fault.PassFull → most_calls self.now.ledger.form ≤ length pass.new.made }
+        ensures left { IsErrOf result Fault.PassFull → bin.new.entries ≢ [] }
         ensures faults { IfErr result IsOfCall }
     {
         if pass.made() >= self.ledger.most_calls() {
@@ -51,7 +52,8 @@ impl<
         }
         bin.lawful();
         let key = bin.entries()[0].0.clone()?;
-        self.call_under(pass, bin, role, Call::Remove(key))?;
+        let given: Given<'a, K> = Given::Owned(key);
+        self.call_under(pass, bin, role, given, Op::Remove)?;
         Ok(())
     }
 
@@ -75,6 +77,7 @@ impl<
         ensures ledger { role.new.ledger ≡ role.old.ledger }
         ensures agree { Agree K.eq (after V.eq F.remapped F.merged) bin.new role.new }
         ensures full { IsErrOf result Fault.PassFull → most_calls self.now.ledger.form ≤ length pass.new.made }
+        ensures left { IsErrOf result Fault.PassFull → bin.new.entries ≢ [] }
         ensures faults { IfErr result IsOfCall }
     {
         while !bin.entries().is_empty() {
@@ -98,6 +101,7 @@ impl<
         ensures first { IfOk result (λ its. IsFirstOf class its) }
         ensures visit { IfOk result (λ its. IsVisit K.eq K.code (after V.eq F.remapped F.merged) self.now.ledger pass.new (record { class = its; entries = [] })) }
         ensures full { IsErrOf result Fault.PassFull → most_calls self.now.ledger.form ≤ length pass.new.made }
+        ensures left { IsErrOf result Fault.PassFull → HasLeft K.eq K.code (after V.eq F.remapped F.merged) self.now.ledger pass.new }
         ensures faults { IfErr result IsOfCall }
     {
         let mut held = self.hold_first(rt, class);
@@ -105,6 +109,7 @@ impl<
         let mut bin = held.bin;
         let mut role = held.role;
         let done = self.empty(pass, &mut bin, &mut role);
+        bin.lawful();
         self.meet_under(pass, &bin, &mut role);
         held.bin = bin;
         held.role = role;
@@ -114,7 +119,8 @@ impl<
     }
 
     /// Takes all entries away, bin by bin in walk order, each bin under one hold, by a remove of each entry that it meets. Others may put new ones
-    /// into bins that were left; with one client the map is then empty. Where a remove is refused, those made before it stand.
+    /// into bins that were left; with one client the map is then empty. Where a remove is refused, those made before it stand; a full pass refuses none but
+    /// where an entry is left.
     pub fn clear<R: Wait>(&self, rt: &R, pass: &mut Pass<K, V, F>) -> Result<(), Fault>
         requires keys { IsExact K.is_clone }
         requires values { IsExact V.is_clone }
@@ -123,6 +129,8 @@ impl<
         ensures emptied { self.now.ledger.clients ≡ 1 → OnOk result (IsEmptied K.eq K.code self.now.n self.now.ledger pass.new) }
         ensures removed { HasRemoved pass.old pass.new }
         ensures full { IsErrOf result Fault.PassFull → most_calls self.now.ledger.form ≤ length pass.new.made }
+        ensures left { IsErrOf result Fault.PassFull → HasLeft K.eq K.code (after V.eq F.remapped F.merged) self.now.ledger pass.new }
+        ensures own_left { self.now.ledger.clients ≡ 1 → IsErrOf result Fault.PassFull → HasOwnLeft K.eq K.code self.now.ledger pass.new }
         ensures faults { IfErr result IsOfCall }
     {
         walk_laws();

@@ -5,26 +5,31 @@
 //! moves 16 of them at a time; calls that meet a moved bin help. No refusal in a move is an error of a call.
 #![tactic(auto)]
 
+mod balance;
 mod calls;
 mod clear;
 mod close;
 mod fault;
 mod growth;
+mod lent;
 mod map;
 mod moving;
 mod quiet;
 mod reopen;
+mod share;
 mod single;
 mod size;
+mod taken;
 mod under;
 mod visit;
 
-pub use bin_history::{Call, Form, Remap, Reply};
+pub use bin_history::{Call, Form, Given, Op, Remap, Reply};
 pub use close::NotClosed;
 pub use count_ledger::{MOST_CALLS, MOST_CLIENTS, MOST_LEAN_CALLS, Pass, retire_all};
 pub use fault::Fault;
 pub use hashkeys::{ByteString, Bytes, Class, HashKey, Key, Salt};
 pub use map::{Map, Opened};
 pub use quiet::{Entries, Quiet};
+pub use share::Sharing;
 pub use size::MOST_BINS;
 pub use visit::Visit;

@@ -79,6 +79,7 @@ impl<
         ensures opening { IfOk result (λ r. r.0.ledger.opening ≡ []) }
         ensures size { IfOk result (λ r. IsSizeFor capacity r.0.n) }
         ensures passes { IfOk result (λ r. r.1.items ≡ new_passes r.0.ledger.id clients) }
+        ensures own { IfOk result (λ r. All (λ p. p.ledger ≡ r.0.ledger.id) r.1.items) }
         ensures capacity { IsErrOf result Fault.BadCapacity ↔ (¬ IsCapacity capacity) }
         ensures some { IsErrOf result Fault.BadClients ↔ (IsCapacity capacity × (¬ AreClients clients)) }
         ensures faults { IfErr result IsMaking }
@@ -102,6 +103,7 @@ impl<
         ensures opening { IfOk result (λ r. r.0.ledger.opening ≡ []) }
         ensures size { IfOk result (λ r. IsSizeFor capacity r.0.n) }
         ensures passes { IfOk result (λ r. r.1.items ≡ new_passes r.0.ledger.id clients) }
+        ensures own { IfOk result (λ r. All (λ p. p.ledger ≡ r.0.ledger.id) r.1.items) }
         ensures capacity { IsErrOf result Fault.BadCapacity ↔ (¬ IsCapacity capacity) }
         ensures some { IsErrOf result Fault.BadClients ↔ (IsCapacity capacity × (¬ AreClients clients)) }
         ensures faults { IfErr result IsMaking }
@@ -126,6 +128,7 @@ impl<
         ensures opening { IfOk result (λ r. r.0.ledger.opening ≡ []) }
         ensures size { IfOk result (λ r. IsSizeFor capacity r.0.n) }
         ensures passes { IfOk result (λ r. r.1.items ≡ new_passes r.0.ledger.id clients) }
+        ensures own { IfOk result (λ r. All (λ p. p.ledger ≡ r.0.ledger.id) r.1.items) }
         ensures capacity { IsErrOf result Fault.BadCapacity ↔ (¬ IsCapacity capacity) }
         ensures some { IsErrOf result Fault.BadClients ↔ (IsCapacity capacity × (¬ AreClients clients)) }
         ensures faults { IfErr result IsMaking }
@@ -150,6 +153,7 @@ impl<
         ensures opening { IfOk result (λ r. r.0.ledger.opening ≡ []) }
         ensures size { IfOk result (λ r. IsSizeFor capacity r.0.n) }
         ensures passes { IfOk result (λ r. r.1.items ≡ new_passes r.0.ledger.id clients) }
+        ensures own { IfOk result (λ r. All (λ p. p.ledger ≡ r.0.ledger.id) r.1.items) }
         ensures capacity { IsErrOf result Fault.BadCapacity ↔ (¬ IsCapacity capacity) }
         ensures some { IsErrOf result Fault.BadClients ↔ (IsCapacity capacity × (¬ AreClients clients)) }
         ensures faults { IfErr result IsMaking }

@@ -1,5 +1,6 @@
 //! What calls do for the table once their own work is done. No refusal here is an error of the call.
 ghost use Rattle.std.specs.Prelude.{◌≡◌, ◌≤◌};
+ghost use Rattle.hashkeys.specs.Classes.{IsTableSize};
 ghost use Rattle.bin_history.specs.Copies.{IsExact};
 ghost use Rattle.transfer.specs.Views.{IsUnfinished};
 
@@ -8,7 +9,7 @@ use crate::map::Map;
 use crate::size::{MOST_BINS, threshold};
 use bin_history::Remap;
 use hashkeys::{Class, HashKey};
-use std::alloc::Allocator;
+use std::alloc::{AllocError, Allocator};
 use std::sync::Wait;
 use transfer::{Finish, Mover, Range, Strides};
 
@@ -102,7 +103,18 @@ impl<
         strides.leave(mover);
     }
 
-    /// Tries to open a move, and then moves strides until none is left.
+    /// Makes the places of a table of twice as many bins.
+    fn widen<R: Wait>(&self, rt: &R, n: u32) -> Result<(), AllocError>
+        requires { IsTableSize n }
+    {
+        if self.bins.n() <= n && n < MOST_BINS {
+            self.bins.widen(rt, 2 * n)
+        } else {
+            Ok(())
+        }
+    }
+
+    /// Tries to open a move, and then moves strides until none is left. For want of memory for its places or its strides there is no move.
     fn grow<R: Wait>(&self, rt: &R, table: Table)
         requires keys { IsExact K.is_clone }
         requires values { IsExact V.is_clone }
@@ -113,6 +125,10 @@ impl<
             return;
         };
         if !self.growth.open(table) {
+            return;
+        }
+        if self.widen(rt, table.n()).is_err() {
+            self.growth.shut(table);
             return;
         }
         let Ok((strides, mut mover)) = self.growth.make_strides(table.n()) else {

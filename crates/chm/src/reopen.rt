@@ -1,5 +1,5 @@
 //! Opening a map again with the pairs of a closed one.
-ghost use Rattle.std.specs.Prelude.{◌≡◌, ◌≤◌, ◌<◌, ◌^◌, ◌↔◌, length, flat_map, IfOk, IsOk, IsErrOf, IfErr};
+ghost use Rattle.std.specs.Prelude.{◌≡◌, ◌≤◌, ◌<◌, ◌^◌, ◌↔◌, length, flat_map, All, IfOk, IsOk, IsErrOf, IfErr};
 ghost use Rattle.hashkeys.specs.Classes.{IsTableSize};
 ghost use Rattle.bin_history.specs.Copies.{IsExact};
 ghost use Rattle.bin_history.specs.Entries.{lookup};
@@ -61,6 +61,7 @@ impl<
         ensures same_map { IfOk result (λ r. (k : K) → lookup K.eq r.0.ledger.opening k ≡ lookup K.eq (entries_of self.now.bins) k) }
         ensures size { IfOk result (λ r. IsSizeFrom self.now.n (length (entries_of self.now.bins)) r.0.n) }
         ensures passes { IfOk result (λ r. r.1.items ≡ new_passes r.0.ledger.id clients) }
+        ensures own { IfOk result (λ r. All (λ p. p.ledger ≡ r.0.ledger.id) r.1.items) }
         ensures capacity { IsErrOf result Fault.BadCapacity ↔ (4294967295 < length (entries_of self.now.bins)) }
         ensures some { IsErrOf result Fault.BadClients ↔ ((length (entries_of self.now.bins) ≤ 4294967295) × (¬ AreClients clients)) }
         ensures faults { IfErr result IsMaking }
@@ -80,6 +81,7 @@ impl<
         ensures same_map { IfOk result (λ r. (k : K) → lookup K.eq r.0.ledger.opening k ≡ lookup K.eq (entries_of self.now.bins) k) }
         ensures size { IfOk result (λ r. IsSizeFrom self.now.n (length (entries_of self.now.bins)) r.0.n) }
         ensures passes { IfOk result (λ r. r.1.items ≡ new_passes r.0.ledger.id clients) }
+        ensures own { IfOk result (λ r. All (λ p. p.ledger ≡ r.0.ledger.id) r.1.items) }
         ensures capacity { IsErrOf result Fault.BadCapacity ↔ (4294967295 < length (entries_of self.now.bins)) }
         ensures some { IsErrOf result Fault.BadClients ↔ ((length (entries_of self.now.bins) ≤ 4294967295) × (¬ AreClients clients)) }
         ensures faults { IfErr result IsMaking }

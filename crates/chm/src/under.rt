@@ -1,15 +1,16 @@
 //! What is done with a bin while it is held.
 ghost use Rattle.std.specs.Prelude.{◌≡◌, ◌<◌, true, length, IfOk, OnOk, OnErr};
 ghost use Rattle.hashkeys.specs.Classes.{is_of};
-ghost use Rattle.bin_history.specs.Calls.{after, key_of};
+ghost use Rattle.bin_history.specs.Calls.{after};
 ghost use Rattle.bin_history.specs.Copies.{IsExact};
+ghost use Rattle.bin_history.specs.Ops.{call_on, key_in};
 ghost use Rattle.count_ledger.specs.Agreement.{Agree};
 ghost use Rattle.count_ledger.specs.Limits.{most_calls};
 ghost use Rattle.chm.specs.Called.{IsCalledOn};
 ghost use Rattle.chm.specs.Met.{IsMet};
 
 use crate::map::Map;
-use bin_history::{Bin, Call, Remap, Reply};
+use bin_history::{Bin, Given, Op, Remap, Reply};
 use count_ledger::{BinRole, Pass};
 use hashkeys::HashKey;
 use std::alloc::{AllocError, Allocator};
@@ -27,7 +28,8 @@ impl<
         pass: &mut Pass<K, V, F>,
         bin: &mut Bin<K, V, F, A>,
         role: &mut BinRole<K, V, F>,
-        call: Call<K, V, F>,
+        key: Given<'_, K>,
+        op: Op<V, F>,
     ) -> Result<(Reply<V>, bool), AllocError>
         requires keys { IsExact K.is_clone }
         requires values { IsExact V.is_clone }
@@ -35,8 +37,8 @@ impl<
         requires role { role.old.ledger ≡ self.now.ledger.id }
         requires room { length pass.old.made < most_calls self.now.ledger.form }
         requires agree { Agree K.eq (after V.eq F.remapped F.merged) bin.old role.old }
-        requires of_class { is_of K.code bin.old.salt bin.old.class (key_of call) ≡ true }
-        ensures called { IfOk result (λ r. IsCalledOn K.eq K.code V.eq F.remapped F.merged bin.old.entries bin.new.entries call pass.old pass.new r.0) }
+        requires of_class { is_of K.code bin.old.salt bin.old.class (key_in key) ≡ true }
+        ensures called { IfOk result (λ r. IsCalledOn K.eq K.code V.eq F.remapped F.merged bin.old.entries bin.new.entries (call_on (key_in key.entry) op) pass.old pass.new r.0) }
         ensures met { OnOk result (IsMet K.eq K.code (after V.eq F.remapped F.merged) self.now.ledger pass.old bin.old role.old) }
         ensures refused { OnErr result (pass.new ≡ pass.old) }
         ensures stayed { OnErr result (bin.new.entries ≡ bin.old.entries) }
@@ -47,7 +49,7 @@ impl<
         ensures agree { Agree K.eq (after V.eq F.remapped F.merged) bin.new role.new }
     {
         bin.lawful();
-        let ready = bin.prepare(call)?;
+        let ready = bin.prepare_on(key, op)?;
         let (reply, trace) = bin.apply(ready, pass.client(), pass.made());
         self.ledger.post_trace(pass, role, &trace);
         Ok((reply, trace.delta() == 1))

@@ -4,7 +4,8 @@ ghost use Rattle.bin_history.specs.Calls.{after};
 ghost use Rattle.bin_history.specs.Copies.{IsExact};
 ghost use Rattle.generations.specs.Places.{AreAt};
 ghost use Rattle.chm.specs.Called.{IsFound};
-ghost use Rattle.chm.specs.Visits.{AreVisits, IsFirstOf, IsOwn, IsShown, IsVisit};
+ghost use Rattle.bin_history.specs.Entries.{HasDistinctKeys};
+ghost use Rattle.chm.specs.Visits.{AreVisits, IsFirstOf, IsOwn, IsShown, IsVisit, shown_by};
 
 use crate::fault::Fault;
 use crate::map::Map;
@@ -72,6 +73,7 @@ impl<
         ensures same { pass.new ≡ pass.old }
     {
         let mut held = self.hold_first(rt, class);
+        held.bin.lawful();
         let class = held.bin.class();
         let entries = held.bin.copy_entries();
         let mut role = held.role;
@@ -84,7 +86,7 @@ impl<
         })
     }
 
-    /// Shows the entries of each bin in walk order, one bin after the other, each as it was while it was held. Calls of others may come
+    /// Shows the entries of each bin in walk order, one bin after the other, each as it was while it was held. No key comes twice. Calls of others may come
     /// between two bins; calls of the pass's own client do not, so with one client the walk shows the map. A walk does not promise that other
     /// clients really made the calls it shows; `close` does. For want of memory nothing is shown.
     pub fn walk<R: Wait>(
@@ -96,6 +98,7 @@ impl<
         requires values { IsExact V.is_clone }
         requires pass { pass.old.ledger ≡ self.now.ledger.id }
         ensures visits { IfOk result (λ v. AreVisits K.eq K.code (after V.eq F.remapped F.merged) self.now.n self.now.ledger pass.old v.items) }
+        ensures distinct { IfOk result (λ v. HasDistinctKeys K.eq (shown_by v.items)) }
         ensures own { self.now.ledger.clients ≡ 1 → IfOk result (λ v. All (IsOwn K.eq K.code self.now.ledger pass.old) v.items) }
         ensures same { pass.new ≡ pass.old }
         ensures faults { IfErr result (λ fault. fault ≡ Fault.NoMemory) }

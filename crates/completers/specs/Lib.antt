@@ -1,3 +1,4 @@
+pub mod Claims
 pub mod Game
 pub mod Rights
 pub mod Parts

@@ -18,7 +18,7 @@ mod tree;
 mod words;
 
 pub use arrive::Arrival;
-pub use found::Found;
+pub use found::{Finds, Found};
 pub use parts::Parts;
 pub use relation::{Partial, Relation};
 pub use tokens::{Node, Supply, Ticket};

@@ -1,1 +1,3 @@
 pub mod Passes
+mod Computing
+pub mod Tallies

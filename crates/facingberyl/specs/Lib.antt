@@ -1,1 +1,3 @@
 pub mod Teams
+pub mod Computed
+pub mod Tallies

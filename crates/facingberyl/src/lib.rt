@@ -3,6 +3,8 @@
 #![tactic(auto)]
 
 mod client;
+mod computed;
+mod lent;
 mod team;
 mod typed;
 mod work;
@@ -11,10 +13,11 @@ mod work;
 pub use bulk_tasks as bulk;
 pub use chm::{
     ByteString, Bytes, Call, Class, Entries, Fault, Form, HashKey, Key, MOST_BINS, MOST_CALLS,
-    MOST_CLIENTS, MOST_LEAN_CALLS, Map, NotClosed, Opened, Pass, Quiet, Remap, Reply, Salt, Visit,
-    retire_all,
+    MOST_CLIENTS, MOST_LEAN_CALLS, Map, NotClosed, Opened, Pass, Quiet, Remap, Reply, Salt,
+    Sharing, Visit, retire_all,
 };
 pub use client::{Client, Seat};
+pub use computed::Computed;
 pub use functions::{Add, Greatest, NoFunction, Set};
 pub use team::Team;
 pub use work::Work;

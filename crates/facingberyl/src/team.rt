@@ -10,7 +10,7 @@ ghost use Rattle.chm.specs.Reopened.{in_classes};
 ghost use Rattle.chm.specs.Refusals.{AreClients, IsCapacity, IsMaking};
 ghost use Rattle.chm.specs.Sizes.{IsSizeFor, IsSizeFrom};
 
-use crate::work::{Work, work_as};
+use crate::work::{Lent, Work};
 use bin_history::Remap;
 use chm::{Fault, Map, NotClosed, Opened, Quiet};
 use count_ledger::{Pass, retire_all};
@@ -18,11 +18,7 @@ use hashkeys::{HashKey, Salt};
 use std::alloc::Allocator;
 use std::marker::Model;
 use std::sync::Wait;
-use std::thread;
 use std::thread::Threads;
-
-/// How many threads work at once at most: as many as a map has clients.
-const MOST_THREADS: usize = 32;
 
 /// A map with the passes of all its clients, which it lends to threads. Dropped, it ends the passes with the map.
 pub struct Team<K: HashKey, V: Clone + Eq, F: Remap<K, V> + Clone, A: Allocator> {
@@ -130,13 +126,7 @@ impl<
         ensures len { length self.new.passes ≡ length self.old.passes }
         ensures done { (i : ℕ) (d : PassView K V F) → i < length self.old.passes → W.does work.now (slice_index_or self.old.passes i d) (slice_index_or self.new.passes i d) }
     {
-        let map = &self.map;
-        let lend = |_number: usize, pass: &mut Pass<K, V, F>|
-            requires { pass.now.ledger ≡ map.now.ledger.id }
-            ensures ledger { pass.exit.now.ledger ≡ pass.entry.now.ledger }
-            ensures done { W.does work.entry.now pass.entry.now pass.exit.now }
-        { work_as(rt, map, pass, work) };
-        thread::for_each_mut(rt, &mut self.passes, MOST_THREADS, &lend);
+        self.map.share(rt, &mut self.passes, &Lent { work });
     }
 
     /// Closes the map, as `Map::close` does. Where it is refused the passes end, and the map with them: to try again

@@ -1,8 +1,8 @@
-//! The twelve calls of a client, each with an answer of its own type.
+//! The calls of a client, each with an answer of its own type.
 ghost use Rattle.std.specs.Prelude.{◌≡◌, ◌≤◌, ◌↔◌, Bool, Option, length, IfOk, IfErr, IsErrOf, OnErr};
 ghost use Rattle.bin_history.specs.Calls.{after};
 ghost use Rattle.bin_history.specs.Copies.{IsExact};
-ghost use Rattle.bin_history.specs.declared.call.Call.TheVariants.{Get, Contains, Put, PutIfAbsent, Remove, RemoveIf, Replace, ReplaceIf, ComputeIfAbsent, ComputeIfPresent, Compute, Merge};
+ghost use Rattle.bin_history.specs.declared.call.Call.TheVariants.{Get, Contains, Put, PutIfAbsent, Remove, RemoveIf, Replace, ReplaceIf, Compute};
 ghost use Rattle.bin_history.specs.declared.call.Reply.TheVariants.{Value, Truth};
 ghost use Rattle.count_ledger.specs.Limits.{most_calls};
 ghost use Rattle.chm.specs.Called.{IsCalled, IsFound};
@@ -16,7 +16,7 @@ use std::alloc::Allocator;
 use std::sync::Wait;
 
 /// The value of a reply that is one.
-fn value_in<V: Drop>(reply: Reply<V>) -> Option<V>
+pub(crate) fn value_in<V: Drop>(reply: Reply<V>) -> Option<V>
     requires { (value : Option V) × (reply ≡ Value value) }
     ensures { reply ≡ Value result }
 {
@@ -27,7 +27,7 @@ fn value_in<V: Drop>(reply: Reply<V>) -> Option<V>
 }
 
 /// The truth of a reply that is one.
-fn truth_in<V: Drop>(reply: Reply<V>) -> bool
+pub(crate) fn truth_in<V: Drop>(reply: Reply<V>) -> bool
     requires { (truth : Bool) × (reply ≡ Truth truth) }
     ensures { reply ≡ Truth result }
 {
@@ -45,6 +45,9 @@ impl<
     A: Allocator + Clone,
 > Client<'_, S, K, V, F, A> {
     /// The value at the key.
+    ///
+    ///     client.put(rt, 1, 5)?;
+    ///     client.get(rt, 1)? == Some(5)
     pub fn get<R: Wait>(&mut self, rt: &R, key: K) -> Result<Option<V>, Fault>
         requires keys { IsExact K.is_clone }
         requires values { IsExact V.is_clone }
@@ -61,6 +64,9 @@ impl<
 
     /// A copy of the value at the key, which a `get` would answer now. It is no call: it borrows the key, nothing is
     /// posted, and a full pass may look too.
+    ///
+    ///     client.put(rt, 1, 5)?;
+    ///     client.look_up(rt, &1)? == Some(5)
     pub fn look_up<R: Wait>(&mut self, rt: &R, key: &K) -> Result<Option<V>, Fault>
         requires values { IsExact V.is_clone }
         ensures found { IfOk result (IsFound K.eq K.code (after V.eq F.remapped F.merged) self.old.map.now.ledger self.old.pass.now key.now) }
@@ -72,6 +78,9 @@ impl<
     }
 
     /// Whether the key has a value.
+    ///
+    ///     client.put(rt, 1, 5)?;
+    ///     client.contains_key(rt, 1)?
     pub fn contains_key<R: Wait>(&mut self, rt: &R, key: K) -> Result<bool, Fault>
         requires keys { IsExact K.is_clone }
         requires values { IsExact V.is_clone }
@@ -87,6 +96,9 @@ impl<
     }
 
     /// Gives the key this value. It answers the value before.
+    ///
+    ///     client.put(rt, 1, 5)?;
+    ///     client.put(rt, 1, 6)? == Some(5)
     pub fn put<R: Wait>(&mut self, rt: &R, key: K, value: V) -> Result<Option<V>, Fault>
         requires keys { IsExact K.is_clone }
         requires values { IsExact V.is_clone }
@@ -102,6 +114,9 @@ impl<
     }
 
     /// Gives the key this value where it has none. It answers the value before.
+    ///
+    ///     client.put(rt, 1, 5)?;
+    ///     client.put_if_absent(rt, 1, 6)? == Some(5)
     pub fn put_if_absent<R: Wait>(&mut self, rt: &R, key: K, value: V) -> Result<Option<V>, Fault>
         requires keys { IsExact K.is_clone }
         requires values { IsExact V.is_clone }
@@ -117,6 +132,9 @@ impl<
     }
 
     /// Takes the key away. It answers the value before.
+    ///
+    ///     client.put(rt, 1, 5)?;
+    ///     client.remove(rt, 1)? == Some(5)
     pub fn remove<R: Wait>(&mut self, rt: &R, key: K) -> Result<Option<V>, Fault>
         requires keys { IsExact K.is_clone }
         requires values { IsExact V.is_clone }
@@ -132,6 +150,9 @@ impl<
     }
 
     /// Takes the key away where it has this value. It answers whether it had.
+    ///
+    ///     client.put(rt, 1, 5)?;
+    ///     !client.remove_if(rt, 1, 6)?
     pub fn remove_if<R: Wait>(&mut self, rt: &R, key: K, value: V) -> Result<bool, Fault>
         requires keys { IsExact K.is_clone }
         requires values { IsExact V.is_clone }
@@ -147,6 +168,9 @@ impl<
     }
 
     /// Gives the key this value where it has one. It answers the value before.
+    ///
+    ///     client.remove(rt, 1)?;
+    ///     client.replace(rt, 1, 6)? == None
     pub fn replace<R: Wait>(&mut self, rt: &R, key: K, value: V) -> Result<Option<V>, Fault>
         requires keys { IsExact K.is_clone }
         requires values { IsExact V.is_clone }
@@ -162,6 +186,9 @@ impl<
     }
 
     /// Gives the key the new value where it has the old one. It answers whether it had.
+    ///
+    ///     client.put(rt, 1, 5)?;
+    ///     client.replace_if(rt, 1, 5, 6)?
     pub fn replace_if<R: Wait>(&mut self, rt: &R, key: K, old: V, new: V) -> Result<bool, Fault>
         requires keys { IsExact K.is_clone }
         requires values { IsExact V.is_clone }
@@ -176,47 +203,11 @@ impl<
         Ok(truth_in(reply))
     }
 
-    /// Gives a key without a value what the function makes of none. It answers the value after.
-    pub fn compute_if_absent<R: Wait>(
-        &mut self,
-        rt: &R,
-        key: K,
-        function: F,
-    ) -> Result<Option<V>, Fault>
-        requires keys { IsExact K.is_clone }
-        requires values { IsExact V.is_clone }
-        requires functions { IsExact F.is_clone }
-        ensures called { IfOk result (λ answer. IsCalled K.eq K.code V.eq F.remapped F.merged self.old.map.now.ledger (ComputeIfAbsent key function) self.old.pass.now self.new.pass.now (Value answer)) }
-        ensures refused { OnErr result (self.new.pass.now ≡ self.old.pass.now) }
-        ensures full { IsErrOf result Fault.PassFull ↔ (most_calls self.old.map.now.ledger.form ≤ length self.old.pass.now.made) }
-        ensures faults { IfErr result IsOfCall }
-        ensures map { self.new.map.now ≡ self.old.map.now }
-    {
-        let reply = self.map.compute_if_absent(rt, self.pass, key, function)?;
-        Ok(value_in(reply))
-    }
-
-    /// Gives a key with a value what the function makes of it. It answers the value after.
-    pub fn compute_if_present<R: Wait>(
-        &mut self,
-        rt: &R,
-        key: K,
-        function: F,
-    ) -> Result<Option<V>, Fault>
-        requires keys { IsExact K.is_clone }
-        requires values { IsExact V.is_clone }
-        requires functions { IsExact F.is_clone }
-        ensures called { IfOk result (λ answer. IsCalled K.eq K.code V.eq F.remapped F.merged self.old.map.now.ledger (ComputeIfPresent key function) self.old.pass.now self.new.pass.now (Value answer)) }
-        ensures refused { OnErr result (self.new.pass.now ≡ self.old.pass.now) }
-        ensures full { IsErrOf result Fault.PassFull ↔ (most_calls self.old.map.now.ledger.form ≤ length self.old.pass.now.made) }
-        ensures faults { IfErr result IsOfCall }
-        ensures map { self.new.map.now ≡ self.old.map.now }
-    {
-        let reply = self.map.compute_if_present(rt, self.pass, key, function)?;
-        Ok(value_in(reply))
-    }
-
-    /// Gives the key what the function makes of its value, or of none. It answers the value after.
+    /// Gives the key what the function makes of its value, or of none. It answers the value after. The function is used at
+    /// each such call.
+    ///
+    ///     client.put(rt, 1, 5)?;
+    ///     client.compute(rt, 1, Add)? == Some(5)
     pub fn compute<R: Wait>(&mut self, rt: &R, key: K, function: F) -> Result<Option<V>, Fault>
         requires keys { IsExact K.is_clone }
         requires values { IsExact V.is_clone }
@@ -228,28 +219,6 @@ impl<
         ensures map { self.new.map.now ≡ self.old.map.now }
     {
         let reply = self.map.compute(rt, self.pass, key, function)?;
-        Ok(value_in(reply))
-    }
-
-    /// Gives a key without a value this one, and a key with a value what the function makes of both. It answers the value
-    /// after.
-    pub fn merge<R: Wait>(
-        &mut self,
-        rt: &R,
-        key: K,
-        value: V,
-        function: F,
-    ) -> Result<Option<V>, Fault>
-        requires keys { IsExact K.is_clone }
-        requires values { IsExact V.is_clone }
-        requires functions { IsExact F.is_clone }
-        ensures called { IfOk result (λ answer. IsCalled K.eq K.code V.eq F.remapped F.merged self.old.map.now.ledger (Merge key value function) self.old.pass.now self.new.pass.now (Value answer)) }
-        ensures refused { OnErr result (self.new.pass.now ≡ self.old.pass.now) }
-        ensures full { IsErrOf result Fault.PassFull ↔ (most_calls self.old.map.now.ledger.form ≤ length self.old.pass.now.made) }
-        ensures faults { IfErr result IsOfCall }
-        ensures map { self.new.map.now ≡ self.old.map.now }
-    {
-        let reply = self.map.merge(rt, self.pass, key, value, function)?;
         Ok(value_in(reply))
     }
 }

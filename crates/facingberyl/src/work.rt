@@ -3,7 +3,7 @@ ghost use Rattle.std.specs.Prelude.{◌≡◌};
 
 use crate::client::{Client, Seat};
 use bin_history::Remap;
-use chm::Map;
+use chm::{Map, Sharing};
 use count_ledger::Pass;
 use hashkeys::HashKey;
 use std::alloc::Allocator;
@@ -54,18 +54,21 @@ fn work_seated<
     pass
 }
 
-/// Lets a client work on its map.
-pub(crate) fn work_as<
-    K: HashKey,
-    V: Clone + Eq,
-    F: Remap<K, V> + Clone,
-    A: Allocator,
-    W: Work<K, V, F, A>,
-    R: Wait,
->(rt: &R, map: &Map<K, V, F, A>, pass: &mut Pass<K, V, F>, work: &W)
-    requires { pass.old.ledger ≡ map.now.ledger.id }
-    ensures ledger { pass.new.ledger ≡ pass.old.ledger }
-    ensures done { W.does work.now pass.old pass.new }
-{
-    let _pass = work_seated::<Brand, K, V, F, A, W, R>(rt, map, pass, work);
+/// Work that is lent to all threads of a team.
+#[derive(Clone, Copy)]
+pub(crate) struct Lent<'a, W> {
+    pub(crate) work: &'a W,
+}
+
+impl<K: HashKey, V: Clone + Eq, F: Remap<K, V> + Clone, A: Allocator, W: Work<K, V, F, A>> Sharing<
+    K,
+    V,
+    F,
+    A,
+> for Lent<'_, W> {
+    ghost does = { λ lent old new. W.does lent.work.now old new };
+
+    fn work<R: Wait>(&self, rt: &R, map: &Map<K, V, F, A>, pass: &mut Pass<K, V, F>) {
+        let _pass = work_seated::<Brand, K, V, F, A, W, R>(rt, map, pass, self.work);
+    }
 }

@@ -1,4 +1,5 @@
 pub mod Cursor
+pub mod Indexes
 pub mod Lists
 pub mod Openings
 pub mod Places

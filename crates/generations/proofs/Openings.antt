@@ -11,9 +11,7 @@ use Rattle.bin_history.specs.declared.form.Form.TheVariants.{Recorded, Lean}
 use Rattle.count_ledger.specs.Opening.{AreOfTheirClasses, base_at, class_at, lists_of, new_role, new_roles}
 use Rattle.count_ledger.specs.Views.{LedgerId, RoleView}
 use Rattle.count_ledger.proofs.Openings.{range_next}
-use Rattle.generations.specs.Inside.{AreOpening, form_number, form_numbered}
-use Rattle.generations.specs.Views.{place_of}
-use Rattle.generations.specs.declared.state.PlaceTag.{PlaceTag}
+use Rattle.generations.specs.Inside.{form_number, form_numbered}
 
 -- the first of what f gives from i on, and the others
 pub first_of_range : {X : Type 0} (f : ℕ → X) (i n : ℕ) (x : X) (xs all : List X) → i < n → all ≡ map f (range_with_len i (n - i)) → all ≡ x ∷ xs → (x ≡ f i) × (xs ≡ map f (range_with_len (i + 1) (n - (i + 1))))
@@ -46,16 +44,6 @@ module _ {K V Z Y : Type 0} (code : K → ℕ) (salt : Salt) (bases : Vec (Vec (
 pub form_numbered-number : (form : Form) → form_numbered (form_number form) ≡ form
 form_numbered-number Recorded = refl
 form_numbered-number Lean = refl
-
--- the place for the opening bin at i
-abbrev pub opening_tag : LedgerId → Form → Salt → ℕ → ℕ → PlaceTag
-opening_tag ledger form salt n i = place_of (record { ledger = ledger; form = form; salt = salt; n = n }) (record { n = n; index = i })
-
-pub AreOpening-all : (ledger : LedgerId) (form : Form) (salt : Salt) (n : ℕ) (places : List PlaceTag) → length places ≡ n → places ≡ map (opening_tag ledger form salt n) (range_with_len 0 n) → AreOpening (record { ledger = ledger; form = form; salt = salt; n = n }) places
-AreOpening-all ledger form salt n places len is = λ i d lt.
-    let below : i < n = omega arith in
-    let at : get_or (map (opening_tag ledger form salt n) (range_with_len 0 n)) i d ≡ opening_tag ledger form salt n i = get_or-map-range_with_len (opening_tag ledger form salt n) 0 n i i d below (omega arith) in
-    ap (λ (l : List PlaceTag). get_or l i d) is ∙ at ∙ ap (λ (m : ℕ). place_of (record { ledger = ledger; form = form; salt = salt; n = n }) (record { n = m; index = i })) (sym len)
 
 pub length-new_roles : {K V F Z Y : Type 0} (id : LedgerId) (salt : Salt) (bases : Vec (Vec (K × V) Z) Y) (roles : List (RoleView K V F)) → roles ≡ new_roles id salt (lists_of bases) → length roles ≡ length bases.items
 length-new_roles {K} {V} {F} {Z} {Y} id salt bases roles e =

@@ -9,21 +9,14 @@ use Rattle.count_ledger.specs.Views.{RoleView}
 use Rattle.count_ledger.proofs.Agreements.{Agree-divided}
 use Rattle.generations.specs.Leaves.{IsLeaf}
 use Rattle.generations.specs.Places.{AreAt}
-use Rattle.generations.specs.States.{FitsPlace}
 use Rattle.generations.specs.Views.{GenerationsView, IsOfMap, place_of}
 use Rattle.generations.specs.declared.state.PlaceTag.{PlaceTag}
-use Rattle.generations.specs.declared.state.State.{State}
-use Rattle.generations.specs.declared.state.State.TheVariants.{Live}
 
 module _ {K V F : Type 0} (same : K → K → Bool) (after : Call K V F → Option V → Option V) where
   -- what is at a place covers the hashes of the place
   pub AreAt-covers : (o : Option (BinView K V F × RoleView K V F)) (p : PlaceTag) (hash : ℕ) → IsSomeAnd o (λ x. AreAt same after p x.0 x.1) → covers p.class hash ≡ true → IsSomeAnd o (λ x. covers x.0.class hash ≡ true)
   AreAt-covers (Some x) p hash at place_covers = ap (λ (class : ClassView). covers class hash) at.class ∙ place_covers
   AreAt-covers None p hash at place_covers = elim at [ ]
-
-  -- what lies live under a place's lock is at the place
-  pub AreAt-live : {A : Type 0} (p : PlaceTag) (s : State K V F A) (b : BinView K V F) (r : RoleView K V F) → FitsPlace same after p s → s ≡ Live b r → AreAt same after p b r
-  AreAt-live p s b r fits is = subst (FitsPlace same after p) is fits
 
   pub IsLeaf-at : (code : K → ℕ) (map : GenerationsView) (p : PlaceTag) (b : BinView K V F) (r : RoleView K V F) → AreAt same after p b r → IsOfMap map p → IsLawful same code after b → IsLeaf same code after map b r
   IsLeaf-at code map p b r at of_map lawful = record {

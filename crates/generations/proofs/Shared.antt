@@ -3,7 +3,6 @@ use denote.RattleType.{RattleType}
 use denote.Struct.Declared.{shape}
 use denote.Param.Send.{IsSend, IsSync, Frees, AllSend, AllSync, part_keyless, sendable}
 use Rattle.std.proofs.CrossingOver.{crosses}
-use Rattle.std.proofs.sync.OnceLock.TheSendSync as once
 use Rattle.std.proofs.sync.atomic.AtomicU64.TheSendSync as atomic
 use Rattle.std.specs.declared.alloc.Allocator as Allocator
 use Rattle.std.specs.declared.clone.Clone as Clone
@@ -12,11 +11,6 @@ use Rattle.std.specs.declared.cmp.PartialEq as PartialEq
 use Rattle.atomic_table.specs.contracts.badge.Badge as badge
 use Rattle.atomic_table.proofs.badge.Badge.TheSendSync as the_badge
 use Rattle.boxcar.proofs.slot.OnceSlot.TheSendSync as slot
-use Rattle.boxcar.specs.declared.table.Keeps as Keeps
-use Rattle.boxcar.specs.contracts.table.Table as Table
-use Rattle.boxcar.specs.contracts.table.Table.TheInside as TableInside
-use Rattle.boxcar.specs.contracts.vec.Vec as Arena
-use Rattle.boxcar.specs.contracts.vec.Vec.TheInside as ArenaInside
 use Rattle.boxcar.proofs.tag.Tag.TheSendSync as tag
 use Rattle.counted_slot.proofs.Counted.TheSendSync as counted
 use Rattle.hashkeys.specs.declared.hashing.HashKey as HashKey
@@ -28,7 +22,6 @@ use Rattle.bin_history.specs.contracts.log.Log.TheInside as LogInside
 use Rattle.bin_history.specs.contracts.record.Record as Record
 use Rattle.bin_history.specs.contracts.record.Record.TheInside as RecordInside
 use Rattle.count_ledger.specs.contracts.tokens.BinRole as Role
-use Rattle.generations.specs.contracts.shortcuts.Shortcuts as Shortcuts
 use Rattle.generations.specs.contracts.state.State as State
 use Rattle.generations.specs.contracts.place.Place as Place
 use Rattle.generations.specs.contracts.place.Place.TheInside as PlaceInside
@@ -37,31 +30,6 @@ use Rattle.generations.specs.contracts.generations.Generations.TheInside as Gens
 
 badge_sync : (V : RattleType) → IsSync (badge.the_row V)
 badge_sync V = record { shared = λ d b o κ q. part_keyless (badge.the_row V) (the_badge.the_send V) q d b o }
-
-module _ (T A P : RattleType) (alloc : Allocator.Ghosts A.Denot) (keeps : Keeps.Ghosts P.Denot T.Denot) (st : IsSend T) (sa : IsSend A) (yt : IsSync T) (ya : IsSync A) (frees : Frees alloc alloc.dealloc_token) where
-  table_fields_send : AllSend (shape (TableInside.the_type T P A keeps alloc)).fields
-  table_fields_send = (search (sendable, crosses, slot.the_send) depth 30, (search sendable depth 20, (search (sendable, tag.the_send) depth 20, tt)))
-
-  table_fields_sync : AllSync (shape (TableInside.the_type T P A keeps alloc)).fields
-  table_fields_sync = (search (sendable, crosses, slot.the_send, slot.the_sync) depth 30, (search sendable depth 20, (search (sendable, tag.the_sync) depth 20, tt)))
-
-  table_send : IsSend (Table.the_row T P A keeps alloc)
-  table_send = search (sendable, table_fields_send) depth 20
-
-  table_sync : IsSync (Table.the_row T P A keeps alloc)
-  table_sync = search (sendable, table_fields_sync) depth 20
-
-  arena_fields_send : AllSend (shape (ArenaInside.the_type T A P alloc keeps)).fields
-  arena_fields_send = (search sendable depth 20, (search (sendable, table_send) depth 20, (search sendable depth 20, tt)))
-
-  arena_fields_sync : AllSync (shape (ArenaInside.the_type T A P alloc keeps)).fields
-  arena_fields_sync = (search (sendable, atomic.the_sync) depth 20, (search (sendable, table_sync) depth 20, (search (sendable, atomic.the_sync) depth 20, tt)))
-
-  arena_send : IsSend (Arena.the_row T A P alloc keeps)
-  arena_send = search (sendable, arena_fields_send) depth 20
-
-  arena_sync : IsSync (Arena.the_row T A P alloc keeps)
-  arena_sync = search (sendable, arena_fields_sync) depth 20
 
 module _ (K V F A : RattleType) (hash : HashKey.Ghosts K.Denot) (key_eq : Eq.Ghosts K.Denot) (key_same : PartialEq.Ghosts K.Denot) (key_clone : Clone.Ghosts K.Denot) (value_clone : Clone.Ghosts V.Denot) (value_eq : Eq.Ghosts V.Denot) (value_same : PartialEq.Ghosts V.Denot)
     (remap : Remap.Ghosts F.Denot K.Denot V.Denot) (function_clone : Clone.Ghosts F.Denot) (alloc : Allocator.Ghosts A.Denot)
@@ -115,10 +83,10 @@ module _ (K V F A : RattleType) (hash : HashKey.Ghosts K.Denot) (key_eq : Eq.Gho
   state_sync = search (sendable, bin_sync, role_sync) depth 30
 
   place_fields_send : AllSend (shape (PlaceInside.the_type K V F A hash key_eq key_same key_clone value_clone value_eq value_same remap function_clone alloc)).fields
-  place_fields_send = (search sendable depth 20, (search (sendable, once.the_send) depth 20, (search (sendable, counted.the_send, state_send) depth 20, tt)))
+  place_fields_send = (search sendable depth 20, (search (sendable, counted.the_send, state_send) depth 20, tt))
 
   place_fields_sync : AllSync (shape (PlaceInside.the_type K V F A hash key_eq key_same key_clone value_clone value_eq value_same remap function_clone alloc)).fields
-  place_fields_sync = (search sendable depth 20, (search (sendable, once.the_sync) depth 20, (search (sendable, counted.the_sync, state_send, state_sync) depth 20, tt)))
+  place_fields_sync = (search sendable depth 20, (search (sendable, counted.the_sync, state_send, state_sync) depth 20, tt))
 
   pub place_send : IsSend (Place.the_row K V F A hash key_eq key_same key_clone value_clone value_eq value_same remap function_clone alloc)
   place_send = search (sendable, place_fields_send) depth 30
@@ -126,17 +94,11 @@ module _ (K V F A : RattleType) (hash : HashKey.Ghosts K.Denot) (key_eq : Eq.Gho
   pub place_sync : IsSync (Place.the_row K V F A hash key_eq key_same key_clone value_clone value_eq value_same remap function_clone alloc)
   place_sync = search (sendable, place_fields_sync) depth 30
 
-  shortcuts_fields_send : AllSend (shape (Shortcuts.the_type A alloc)).fields
-  shortcuts_fields_send = (search (sendable, atomic.the_send) depth 20, (search (sendable, crosses, atomic.the_send, once.the_send) depth 30, tt))
-
-  shortcuts_fields_sync : AllSync (shape (Shortcuts.the_type A alloc)).fields
-  shortcuts_fields_sync = (search (sendable, atomic.the_sync) depth 20, (search (sendable, crosses, atomic.the_send, atomic.the_sync, once.the_sync) depth 30, tt))
-
   map_fields_send : AllSend (shape (GensInside.the_type K V F A hash key_eq key_same key_clone value_clone value_eq value_same remap function_clone alloc)).fields
-  map_fields_send = (search (sendable, crosses, place_send) depth 20, (search (sendable, arena_send, place_send, place_sync) depth 20, (search (sendable, shortcuts_fields_send) depth 20, (search sendable depth 20, (search sendable depth 20, (search (sendable, tag.the_send) depth 20, tt))))))
+  map_fields_send = (search (sendable, crosses, place_send) depth 20, (search (sendable, crosses, slot.the_send, place_send) depth 30, (search (sendable, atomic.the_send) depth 20, (search sendable depth 20, (search sendable depth 20, (search (sendable, tag.the_send) depth 20, tt))))))
 
   map_fields_sync : AllSync (shape (GensInside.the_type K V F A hash key_eq key_same key_clone value_clone value_eq value_same remap function_clone alloc)).fields
-  map_fields_sync = (search (sendable, crosses, place_sync) depth 20, (search (sendable, arena_sync, place_send, place_sync) depth 20, (search (sendable, shortcuts_fields_sync) depth 20, (search sendable depth 20, (search sendable depth 20, (search (sendable, tag.the_sync) depth 20, tt))))))
+  map_fields_sync = (search (sendable, crosses, place_sync) depth 20, (search (sendable, crosses, slot.the_send, slot.the_sync, place_send, place_sync) depth 30, (search (sendable, atomic.the_sync) depth 20, (search sendable depth 20, (search sendable depth 20, (search (sendable, tag.the_sync) depth 20, tt))))))
 
   pub map_send : IsSend (Gens.the_row K V F A hash key_eq key_same key_clone value_clone value_eq value_same remap function_clone alloc)
   map_send = search (sendable, map_fields_send) depth 30

@@ -3,13 +3,12 @@ use Rattle.std.specs.Prelude.{Option, Some, None}
 use Rattle.bin_history.specs.Lawful.{BinView}
 use Rattle.count_ledger.specs.Views.{RoleView}
 use Rattle.generations.specs.declared.state.State.{State}
-use Rattle.generations.specs.declared.state.State.TheVariants.{Live, Forwarded, Taken}
+use Rattle.generations.specs.declared.state.State.TheVariants.{Live, Away}
 
 -- the bin and its role, if there is one
 abbrev pub pair_in : {K V F A : Type 0} → State K V F A → Option (BinView K V F × RoleView K V F)
 pair_in (Live b r) = Some (b, r)
-pair_in Forwarded = None
-pair_in Taken = None
+pair_in Away = None
 
 abbrev pub seen : {K V F A : Type 0} → Option (State K V F A) → Option (BinView K V F × RoleView K V F)
 seen (Some s) = pair_in s

@@ -15,7 +15,7 @@ use std::sync::Wait;
 pub enum Moved {
     /// It replaced the bin of the class by its halves.
     Yes,
-    /// The bin of the class was forwarded before.
+    /// The bin of the class was replaced before.
     Already,
     /// A bin of a wider class stands there, and nothing was changed.
     Wider,
@@ -43,23 +43,22 @@ impl<
     {
         let backoff = Backoff::new();
         for _ in rt.forever() {
-            if let Some(place) = self.find(class.index()) {
-                let size = place.class().n();
-                if class.n() < size {
-                    return Ok(Moved::Already);
-                }
-                if size < class.n() {
-                    return Ok(Moved::Wider);
-                }
-                if let Some(held) = self.try_hold(rt, place) {
-                    return match held.halve(rt, ledger) {
-                        Ok(()) => Ok(Moved::Yes),
-                        Err((held, error)) => {
-                            held.release();
-                            Err(error)
-                        }
-                    };
-                }
+            let place = self.find(class.index());
+            let size = place.class().n();
+            if class.n() < size {
+                return Ok(Moved::Already);
+            }
+            if size < class.n() {
+                return Ok(Moved::Wider);
+            }
+            if let Some(held) = self.try_hold(rt, place) {
+                return match held.halve(rt, ledger) {
+                    Ok(()) => Ok(Moved::Yes),
+                    Err((held, error)) => {
+                        held.release();
+                        Err(error)
+                    }
+                };
             }
             backoff.snooze();
         }

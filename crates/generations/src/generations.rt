@@ -1,74 +1,29 @@
 //! All places of a map, and the way from a hash to its place.
-ghost use Rattle.std.specs.Prelude.{◌≡◌, true, IfSome, IfOk, length};
+ghost use Rattle.std.specs.Prelude.{◌≡◌, ℕ, ◌≤◌, ◌^◌, true, IfSome, IfOk, length};
 ghost use Rattle.hashkeys.specs.Classes.{covers, IsTableSize};
-ghost use Rattle.generations.specs.Inside.{AreOpening, map_named};
-ghost use Rattle.generations.specs.Views.{IsOfMap, place_of};
+ghost use Rattle.generations.specs.Inside.{IsTable};
+ghost use Rattle.generations.specs.Views.{GenerationsView, IsOfMap, place_of};
 
-use crate::place::{Halves, Place};
-use crate::shortcuts::{SIZES, Shortcuts};
-use crate::state::PlaceTag;
+use crate::place::Place;
+use crate::state::{PlaceTag, State};
+use crate::tables::{Places, SIZES, Slots, no_tables};
 use bin_history::{Form, Remap};
-use boxcar::Keeps;
-use boxcar::tag::{Names, Tag};
 use count_ledger::LedgerName;
+use crossbeam_utils::Backoff;
 use hashkeys::{Class, HashKey, Salt};
 use std::alloc::{AllocError, Allocator};
 use std::marker::Model;
-
-/// The rule of the arena, whose tag names the map: each place is of this map.
-pub struct OfMap;
-
-impl<K: HashKey, V: Clone + Eq, F: Remap<K, V> + Clone, A: Allocator> Keeps<Place<K, V, F, A>>
-    for OfMap {
-    ghost use Rattle.generations.specs.Inside.{map_named};
-    ghost use Rattle.generations.specs.Views.{IsOfMap};
-
-    ghost holds = { λ tag _ p. IsOfMap (map_named tag) p };
-}
-
-/// What the tag of an arena says.
-struct MapName {
-    n: u32,
-    form: Form,
-    salt: Salt,
-    ledger: Tag,
-}
-
-struct OfName;
-
-impl Names<MapName> for OfName {
-    ghost use Rattle.std.specs.Prelude.{◌∷◌};
-    ghost use Rattle.generations.specs.Inside.{form_number};
-
-    ghost numbers = { λ m. m.n ∷ form_number m.form ∷ m.salt.0 ∷ m.ledger.numbers };
-}
-
-fn tag_of(n: u32, form: Form, salt: Salt, ledger: &LedgerName) -> Tag
-    ensures { map_named result.numbers ≡ record { ledger = ledger.now; form = form; salt = salt; n = n } }
-{
-    let name = MapName {
-        n,
-        form,
-        salt,
-        ledger: ledger.to_tag(),
-    };
-    let tag = Tag::of::<MapName, OfName>(&name);
-    let MapName {
-        n: _,
-        form: _,
-        salt: _,
-        ledger,
-    } = name;
-    drop(ledger);
-    tag
-}
+use std::sync::Wait;
+use std::sync::atomic::AtomicU64;
+use std::sync::atomic::Ordering::SeqCst;
 
 /// The locked bins of one map. Contracts see the map's ledger, its form, its salt and the number of its opening bins.
 #[derive(Drop)]
 pub struct Generations<K: HashKey, V: Clone + Eq, F: Remap<K, V> + Clone, A: Allocator> {
     opening: Vec<Place<K, V, F, A>, A>,
-    pub(crate) arena: boxcar::Vec<Place<K, V, F, A>, A, OfMap>,
-    pub(crate) shortcuts: Shortcuts<A>,
+    tables: Slots<K, V, F, A>,
+    /// The exponent of the widest table that was made. It saves time and no more.
+    widest: AtomicU64,
     pub(crate) form: Form,
     pub(crate) salt: Salt,
     pub(crate) ledger: LedgerName,
@@ -84,7 +39,19 @@ impl<K: HashKey, V: Clone + Eq, F: Remap<K, V> + Clone, A: Allocator> Model
 
     ghost view = { λ g. view_of g.ledger g.form g.salt g.opening.items };
 
-    ghost invariant = { λ g. IsMap g.ledger g.form g.salt g.opening.items g.arena.tag };
+    ghost invariant = { λ g. IsMap g.ledger g.form g.salt g.opening.items g.tables.items };
+}
+
+/// The place of a table that has the hash.
+fn place_in<'a, K: HashKey, V: Clone + Eq, F: Remap<K, V> + Clone, A: Allocator>(
+    places: &'a Places<K, V, F, A>,
+    hash: u32,
+) -> &'a Place<K, V, F, A>
+    requires { (map : GenerationsView) × (n : ℕ) × IsTable map n places.now.items }
+    ensures of_map { (map : GenerationsView) (n : ℕ) → IsTable map n places.now.items → IsOfMap map result.now }
+    ensures covers { covers result.now.class hash ≡ true }
+{
+    &places[hash as usize & (places.len() - 1)]
 }
 
 impl<K: HashKey, V: Clone + Eq, F: Remap<K, V> + Clone, A: Allocator> Generations<K, V, F, A> {
@@ -108,7 +75,7 @@ impl<K: HashKey, V: Clone + Eq, F: Remap<K, V> + Clone, A: Allocator> Generation
     }
 
     /// The tag of this map's place for a bin of the class.
-    pub(crate) fn tag_for(&self, class: Class) -> PlaceTag
+    fn tag_for(&self, class: Class) -> PlaceTag
         ensures { result ≡ place_of self.now class }
     {
         PlaceTag {
@@ -119,66 +86,28 @@ impl<K: HashKey, V: Clone + Eq, F: Remap<K, V> + Clone, A: Allocator> Generation
         }
     }
 
-    fn opening_place(&self, hash: u32) -> &Place<K, V, F, A>
+    /// The table of 2 to the exponent places, once it was made.
+    fn table(&self, exponent: u32) -> Option<&Places<K, V, F, A>>
+        ensures { IfSome result (λ t. IsTable self.now (2 ^ exponent) t.now.items) }
+    {
+        self.tables.get(exponent as usize)?.get()
+    }
+
+    /// The place of the hash in the widest table where it was begun, and else its opening place.
+    pub(crate) fn find(&self, hash: u32) -> &Place<K, V, F, A>
         ensures of_map { IsOfMap self.now result.now }
         ensures covers { covers result.now.class hash ≡ true }
     {
-        &self.opening[hash as usize % self.opening.len()]
-    }
-
-    /// The place with this number in the arena, if it has the hash.
-    fn place_at(&self, number: usize, hash: u32) -> Option<&Place<K, V, F, A>>
-        ensures of_map { IfSome result (λ p. IsOfMap self.now p.now) }
-        ensures covers { IfSome result (λ p. covers p.now.class hash ≡ true) }
-    {
-        let place = self.arena.get(number)?;
-        place.class().covers(hash).then_some(place)
-    }
-
-    /// The place of the half that has the hash.
-    fn half_place(&self, class: Class, halves: Halves, hash: u32) -> Option<&Place<K, V, F, A>>
-        ensures of_map { IfSome result (λ p. IsOfMap self.now p.now) }
-        ensures covers { IfSome result (λ p. covers p.now.class hash ≡ true) }
-    {
-        let number = if hash % (2 * class.n()) < class.n() {
-            halves.low
-        } else {
-            halves.high
-        };
-        self.place_at(number, hash)
-    }
-
-    /// A place that has the hash, past those that were forwarded before it, if one was noted.
-    fn noted_place(&self, hash: u32) -> Option<&Place<K, V, F, A>>
-        ensures of_map { IfSome result (λ p. IsOfMap self.now p.now) }
-        ensures covers { IfSome result (λ p. covers p.now.class hash ≡ true) }
-    {
-        self.place_at(self.shortcuts.number_for(hash)?, hash)
-    }
-
-    /// The class of the place that a look for the hash begins at, if one was noted. Where none was, the look begins at an opening place.
-    pub fn noted_class(&self, hash: u32) -> Option<Class>
-        ensures { IfSome result (λ c. covers c hash ≡ true) }
-    {
-        Some(self.noted_place(hash)?.class())
-    }
-
-    /// The place of the hash that was not forwarded, as far as is known now. It goes past forwarded places without their locks.
-    pub(crate) fn find(&self, hash: u32) -> Option<&Place<K, V, F, A>>
-        ensures of_map { IfSome result (λ p. IsOfMap self.now p.now) }
-        ensures covers { IfSome result (λ p. covers p.now.class hash ≡ true) }
-    {
-        let mut place = match self.noted_place(hash) {
-            Some(place) => place,
-            None => self.opening_place(hash),
-        };
-        for _ in 0..SIZES {
-            let Some(halves) = place.halves() else {
-                return Some(place);
-            };
-            place = self.half_place(place.class(), halves, hash)?;
+        let widest = self.widest.load(SeqCst).min(u64::from(SIZES)) as u32;
+        for narrower in 0..widest {
+            if let Some(places) = self.table(widest - narrower) {
+                let place = place_in(places, hash);
+                if place.is_begun() {
+                    return place;
+                }
+            }
         }
-        None
+        place_in(&self.opening, hash)
     }
 }
 
@@ -188,7 +117,7 @@ impl<
     F: Remap<K, V> + Clone + Drop,
     A: Allocator + Clone,
 > Generations<K, V, F, A> {
-    /// The map with these opening places and an empty arena.
+    /// The map with these opening places and no tables of later ones.
     pub(crate) fn around(
         alloc: A,
         form: Form,
@@ -196,22 +125,92 @@ impl<
         ledger: LedgerName,
         opening: Vec<Place<K, V, F, A>, A>,
     ) -> Result<Generations<K, V, F, A>, AllocError>
-        requires size { IsTableSize (length opening.items) }
-        requires places { AreOpening (record { ledger = ledger; form = form; salt = salt; n = length opening.items }) opening.items }
+        requires opening { IsTable (record { ledger = ledger; form = form; salt = salt; n = length opening.items }) (length opening.items) opening.items }
         ensures { IfOk result (λ g. g ≡ record { ledger = ledger; form = form; salt = salt; n = length opening.items }) }
     {
-        let shortcuts = Shortcuts::new(alloc.clone()?)?;
-        let arena = boxcar::Vec::with_rule(
-            alloc,
-            tag_of(opening.len() as u32, form, salt, &ledger),
-        )?;
+        let tables = no_tables(alloc, opening.len() as u32, form, salt, &ledger)?;
         Ok(Generations {
             opening,
-            arena,
-            shortcuts,
+            tables,
+            widest: AtomicU64::new(0),
             form,
             salt,
             ledger,
         })
+    }
+
+    /// A table of places with nothing in them.
+    fn new_table(&self, size: u32) -> Result<Places<K, V, F, A>, AllocError>
+        requires size { IsTableSize size }
+        requires least { self.now.n ≤ size }
+        ensures { IfOk result (λ t. IsTable self.now size t.items) }
+    {
+        let mut places = Vec::with_capacity(self.allocator().clone()?, size as usize)?;
+        for index in 0..size {
+            let tag = self.tag_for(Class::new(size, index));
+            places.push_reserved(Place::new(&tag, State::Away));
+        }
+        Ok(places)
+    }
+
+    /// Puts a table into its slot, unless there is one already.
+    fn keep_table(&self, exponent: u32, places: Places<K, V, F, A>)
+        requires { IsTable self.now (2 ^ exponent) places.items }
+    {
+        if let Some(slot) = self.tables.get(exponent as usize) {
+            drop(slot.set_written(places));
+            self.widest.fetch_max(u64::from(exponent), SeqCst);
+        }
+    }
+
+    /// Waits for a table that some thread puts in.
+    fn wait_for_table<R: Wait>(&self, rt: &R, exponent: u32) -> &Places<K, V, F, A>
+        ensures { IsTable self.now (2 ^ exponent) result.now.items }
+    {
+        let backoff = Backoff::new();
+        for _ in rt.forever() {
+            if let Some(places) = self.table(exponent) {
+                return places;
+            }
+            backoff.snooze();
+        }
+        unreachable!()
+    }
+
+    /// The table of this size, which is made where there is none yet.
+    fn table_made<R: Wait>(&self, rt: &R, size: u32) -> Result<&Places<K, V, F, A>, AllocError>
+        requires size { IsTableSize size }
+        requires least { self.now.n ≤ size }
+        ensures { IfOk result (λ t. IsTable self.now size t.now.items) }
+    {
+        let exponent = size.trailing_zeros();
+        if self.table(exponent).is_none() {
+            let places = self.new_table(size)?;
+            self.keep_table(exponent, places);
+        }
+        Ok(self.wait_for_table(rt, exponent))
+    }
+
+    /// The place for a bin of the class. Its table is made where there is none yet.
+    pub(crate) fn place_for<R: Wait>(
+        &self,
+        rt: &R,
+        class: Class,
+    ) -> Result<&Place<K, V, F, A>, AllocError>
+        requires least { self.now.n ≤ class.n }
+        ensures { IfOk result (λ p. p.now ≡ place_of self.now class) }
+    {
+        let places = self.table_made(rt, class.n())?;
+        Ok(&places[class.index() as usize])
+    }
+
+    /// Makes the table of this many places, a power of two from 1 to 65,536, if there is none yet: so many bins the map can then be moved to. For want of memory
+    /// there is none, and nothing is changed. It waits while another thread puts the same table in.
+    pub fn widen<R: Wait>(&self, rt: &R, size: u32) -> Result<(), AllocError>
+        requires size { IsTableSize size }
+        requires least { self.now.n ≤ size }
+    {
+        self.table_made(rt, size)?;
+        Ok(())
     }
 }

@@ -1,23 +1,20 @@
 //! Bins that are held, to call on them or to halve them.
-ghost use Rattle.std.specs.Prelude.{◌≡◌, ◌<◌, true, IfSome, IfOk, IfErr};
+ghost use Rattle.std.specs.Prelude.{◌≡◌, ◌<◌, true, IfSome, IfErr};
 ghost use Rattle.hashkeys.specs.Classes.{covers};
 ghost use Rattle.bin_history.specs.Calls.{after};
 ghost use Rattle.bin_history.specs.Copies.{IsExact};
 ghost use Rattle.bin_history.specs.Lawful.{IsLawful};
-ghost use Rattle.boxcar.specs.Table.{Shows};
-ghost use Rattle.generations.specs.Inside.{map_named};
 ghost use Rattle.generations.specs.Places.{AreAt};
 ghost use Rattle.generations.specs.Views.{IsOfMap};
 
-use crate::generations::{Generations, OfMap};
-use crate::place::{AWAY, Halves, Out, Place};
-use crate::state::{PlaceTag, State};
+use crate::generations::Generations;
+use crate::place::{AWAY, Place};
+use crate::state::State;
 use bin_history::{Bin, Remap};
-use boxcar::Pushed;
-use count_ledger::{BinRole, Ledger, LedgerName};
+use count_ledger::{BinRole, Ledger};
 use counted_slot::{Claim, PRESENT};
 use crossbeam_utils::Backoff;
-use hashkeys::{Class, HashKey, Salt};
+use hashkeys::HashKey;
 use std::alloc::{AllocError, Allocator};
 use std::sync::Wait;
 
@@ -51,10 +48,8 @@ impl<
     {
         let backoff = Backoff::new();
         for _ in rt.forever() {
-            if let Some(place) = self.find(hash) {
-                if let Some(held) = self.try_hold(rt, place) {
-                    return held;
-                }
+            if let Some(held) = self.try_hold(rt, self.find(hash)) {
+                return held;
             }
             backoff.snooze();
         }
@@ -73,23 +68,18 @@ impl<
         ensures place { IfSome result (λ h. h.place.now ≡ place.now) }
         ensures home { IfSome result (λ h. h.home.now ≡ self.now) }
     {
-        let Out { state, claim } = place.try_take(rt)?;
-        match state.into_pair() {
-            Ok((bin, role)) => {
-                bin.lawful();
-                Some(Held {
-                    bin,
-                    role,
-                    place,
-                    home: self,
-                    claim,
-                })
-            }
-            Err(state) => {
-                drop(claim.put(state, AWAY));
-                None
-            }
-        }
+        let claim = place.try_claim()?;
+        let State::Live(bin, role) = claim.put(State::Away, AWAY) else {
+            return None;
+        };
+        bin.lawful();
+        Some(Held {
+            bin,
+            role,
+            place,
+            home: self,
+            claim: place.claim_from(rt, AWAY),
+        })
     }
 }
 
@@ -114,6 +104,22 @@ impl<
         drop(claim.put(State::Live(bin, role), PRESENT));
     }
 
+    /// Takes the bin and its role for good. Nothing stays in the place.
+    pub(crate) fn take(self) -> (Bin<K, V, F, A>, BinRole<K, V, F>)
+        ensures bin { result.0 ≡ self.entry.bin }
+        ensures role { result.1 ≡ self.entry.role }
+    {
+        let Held {
+            bin,
+            role,
+            place: _,
+            home: _,
+            claim,
+        } = self;
+        drop(claim.put(State::Away, AWAY));
+        (bin, role)
+    }
+
     /// Puts the two halves of the bin, each with its part of the role, in its place. For want of memory it hands everything back as it was.
     pub fn halve<R: Wait>(
         self,
@@ -133,58 +139,20 @@ impl<
     {
         let home: &'a Generations<K, V, F, A> = self.home;
         let (low_class, high_class) = self.bin.class().halves();
+        let Ok(low_place) = home.place_for(rt, low_class) else {
+            return Err((self, AllocError));
+        };
+        let Ok(high_place) = home.place_for(rt, high_class) else {
+            return Err((self, AllocError));
+        };
         let Ok((low, high)) = self.bin.split() else {
             return Err((self, AllocError));
         };
-        let Ok(low_at) = add_place(rt, &home.arena, &home.tag_for(low_class)) else {
-            return Err((self, AllocError));
-        };
-        let Ok(high_at) = add_place(rt, &home.arena, &home.tag_for(high_class)) else {
-            return Err((self, AllocError));
-        };
-        let Held {
-            bin,
-            role,
-            place,
-            home: _,
-            claim,
-        } = self;
+        let (bin, role) = self.take();
         drop(bin);
         let (low_role, high_role) = ledger.divide(role);
-        home.arena.value(&low_at).fill(rt, low, low_role);
-        home.arena.value(&high_at).fill(rt, high, high_role);
-        place.forward_to(Halves {
-            low: low_at.index(),
-            high: high_at.index(),
-        });
-        drop(claim.put(State::Forwarded, AWAY));
-        home.shortcuts.note(low_class, low_at.index());
-        home.shortcuts.note(high_class, high_at.index());
+        low_place.fill(rt, low, low_role);
+        high_place.fill(rt, high, high_role);
         Ok(())
-    }
-}
-
-/// A place in the arena, with nothing in it yet.
-fn add_place<
-    K: HashKey + Drop,
-    V: Clone + Eq + Drop,
-    F: Remap<K, V> + Clone + Drop,
-    A: Allocator + Clone,
-    R: Wait,
->(
-    rt: &R,
-    arena: &boxcar::Vec<Place<K, V, F, A>, A, OfMap>,
-    tag: &PlaceTag,
-) -> Result<Pushed<Place<K, V, F, A>, A, OfMap>, AllocError>
-    requires { IsOfMap (map_named arena.now.tag) tag.now }
-    ensures shows { IfOk result (λ p. Shows arena.now p) }
-    ensures value { IfOk result (λ p. p.value ≡ tag.now) }
-{
-    match arena.push_shown(rt, Place::new(tag, State::Taken)) {
-        Ok(pushed) => Ok(pushed),
-        Err(place) => {
-            drop(place);
-            Err(AllocError)
-        }
     }
 }

@@ -8,8 +8,7 @@ ghost use Rattle.generations.specs.Views.{IsOfMap};
 ghost use Rattle.generations.specs.Walks.{IsWalk};
 
 use crate::generations::Generations;
-use crate::place::{AWAY, Out, Place};
-use crate::state::State;
+use crate::place::Place;
 use crate::walk::next_in_walk;
 use bin_history::{Bin, Remap};
 use count_ledger::BinRole;
@@ -40,10 +39,7 @@ impl<
         let n = self.n();
         let mut next = Class::new(n, 0);
         for before in 0..MOST_BINS {
-            let Some(place) = self.find(next.index()) else {
-                return before;
-            };
-            match next_in_walk(n, place.class()) {
+            match next_in_walk(n, self.find(next.index()).class()) {
                 Some(class) => next = class,
                 None => return before + 1,
             }
@@ -61,18 +57,7 @@ impl<
         ensures class { IfSome result (λ p. p.0.class ≡ place.now.class) }
         ensures leaf { IfSome result (λ p. IsLeaf K.eq K.code (after V.eq F.remapped F.merged) self.now p.0 p.1) }
     {
-        let Out { state, claim } = place.try_take(rt)?;
-        match state.into_pair() {
-            Ok((bin, role)) => {
-                bin.lawful();
-                drop(claim.put(State::Taken, AWAY));
-                Some((bin, role))
-            }
-            Err(state) => {
-                drop(claim.put(state, AWAY));
-                None
-            }
-        }
+        Some(self.try_hold(rt, place)?.take())
     }
 
     /// Takes all bins. False where one is missing, or there are more than there is room for.
@@ -90,9 +75,7 @@ impl<
         let n = self.n();
         let mut next = Class::new(n, 0);
         while bins.len() < bins.capacity() && roles.len() < roles.capacity() {
-            let Some(place) = self.find(next.index()) else {
-                return false;
-            };
+            let place = self.find(next.index());
             let class = place.class();
             if class.n() < next.n() {
                 return false;

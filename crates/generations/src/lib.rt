@@ -1,8 +1,9 @@
-//! The locked bins of a map. Opening bins stand in a vector, later ones in an arena, each in a place of its own with a lock. Where a bin grew too full its place
-//! was forwarded: the numbers of the places of its two halves stand beside the lock, and whoever looks for a hash goes on there.
+//! The locked bins of a map, each in a place of its own with a lock. Places stand in tables, one for each size: the opening table has a place for each class among
+//! n, and the table of 2n places, made when the map is to grow, one for each half of those. Where a bin is replaced by its halves these are put into their places
+//! of the wider table. Whoever looks for a hash begins at the widest table and takes the first place that was begun.
 //!
-//! Whoever gets the lock of a place finds a lawful bin of the place's class, and a role of this map's ledger that agrees with it. No call but `new`, `halve`, `forward`
-//! and `into_leaves` takes memory. Calls that may wait for another thread take a `Wait`.
+//! Whoever gets the lock of a place finds a lawful bin of the place's class, and a role of this map's ledger that agrees with it. No call but `new`, `widen`, `halve`,
+//! `forward` and `into_leaves` takes memory. Calls that may wait for another thread take a `Wait`.
 #![tactic(auto)]
 
 mod forward;
@@ -11,9 +12,9 @@ mod hold;
 mod leaves;
 mod opening;
 mod place;
-mod shortcuts;
 mod shown;
 mod state;
+mod tables;
 mod walk;
 
 pub use forward::Moved;

@@ -4,7 +4,7 @@ ghost use Rattle.hashkeys.specs.Classes.{IsTableSize, is_of};
 ghost use Rattle.bin_history.specs.Calls.{after};
 ghost use Rattle.bin_history.specs.Copies.{IsExact};
 ghost use Rattle.bin_history.specs.Entries.{HasDistinctKeys};
-ghost use Rattle.generations.specs.Inside.{AreOpening};
+ghost use Rattle.generations.specs.Inside.{IsTable};
 ghost use Rattle.count_ledger.specs.Opening.{AreOfTheirClasses, lists_of, new_roles};
 ghost use Rattle.count_ledger.specs.Views.{LedgerId};
 
@@ -65,7 +65,7 @@ fn opening_places<
     requires roles { (ledger : LedgerId) × (roles.items ≡ new_roles ledger salt (lists_of bases)) }
     ensures count { IfOk result (λ places. length places.items ≡ n) }
     ensures places { IfOk result (λ places. (ledger : LedgerId) → roles.items ≡ new_roles ledger salt (lists_of bases)
-        → AreOpening (record { ledger = ledger; form = form; salt = salt; n = n }) places.items) }
+        → IsTable (record { ledger = ledger; form = form; salt = salt; n = n }) n places.items) }
 {
     let mut places = Vec::with_capacity(alloc.clone()?, n as usize)?;
     let mut bases = bases.into_iter();

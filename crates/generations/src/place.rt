@@ -13,24 +13,16 @@ use crossbeam_utils::Backoff;
 use hashkeys::{Class, HashKey};
 use std::alloc::Allocator;
 use std::marker::Model;
-use std::sync::{OnceLock, Wait};
+use std::sync::Wait;
 
-/// The word of a place whose bin is being taken out, was forwarded, or was taken for good. A place is made under `FREE`, and nobody reads there yet; once it was
-/// held it is `PRESENT`, where readers may come. While its bin is held the word is `TAKEN`.
+/// The word of a place whose bin is being taken out, was halved, or was taken for good. A place is made under `FREE`, and nobody reads there yet; once it was
+/// held or filled it is `PRESENT`, where readers may come. While its bin is held the word is `TAKEN`.
 pub(crate) const AWAY: u64 = MARKED;
 
-/// Where in the arena the places of a bin's two halves are.
-#[derive(Clone, Copy, Debug)]
-pub(crate) struct Halves {
-    pub(crate) low: usize,
-    pub(crate) high: usize,
-}
-
-/// A place for one bin: the bin's class, its lock, and where its halves are once it is forwarded. Contracts see what was fixed when it was made.
+/// A place for one bin: the bin's class, and its lock with the bin. Contracts see what was fixed when it was made.
 #[derive(Drop)]
 pub struct Place<K: HashKey, V: Clone + Eq, F: Remap<K, V> + Clone, A: Allocator> {
     class: Class,
-    halves: OnceLock<Halves>,
     lock: Counted<State<K, V, F, A>>,
 }
 
@@ -45,12 +37,6 @@ impl<K: HashKey, V: Clone + Eq, F: Remap<K, V> + Clone, A: Allocator> Model for 
     ghost invariant = { λ p. p.class ≡ p.lock.class };
 }
 
-/// What was taken out from under a lock, with the right to put something there again.
-pub(crate) struct Out<'a, K: HashKey, V: Clone + Eq, F: Remap<K, V> + Clone, A: Allocator> {
-    pub(crate) state: State<K, V, F, A>,
-    pub(crate) claim: Claim<'a, State<K, V, F, A>>,
-}
-
 impl<K: HashKey, V: Clone + Eq, F: Remap<K, V> + Clone, A: Allocator> Place<K, V, F, A> {
     pub(crate) fn new(tag: &PlaceTag, state: State<K, V, F, A>) -> Place<K, V, F, A>
         requires { FitsPlace K.eq (after V.eq F.remapped F.merged) tag.now state }
@@ -58,7 +44,6 @@ impl<K: HashKey, V: Clone + Eq, F: Remap<K, V> + Clone, A: Allocator> Place<K, V
     {
         Place {
             class: tag.class,
-            halves: OnceLock::new(),
             lock: Counted::new(state, tag),
         }
     }
@@ -70,14 +55,9 @@ impl<K: HashKey, V: Clone + Eq, F: Remap<K, V> + Clone, A: Allocator> Place<K, V
         self.class
     }
 
-    /// Where the halves are, if the bin was forwarded.
-    pub(crate) fn halves(&self) -> Option<Halves> {
-        self.halves.get().copied()
-    }
-
-    /// Says where the halves are, once.
-    pub(crate) fn forward_to(&self, halves: Halves) {
-        let _ = self.halves.try_set(halves);
+    /// Whether the place was held or filled since it was made. Once it was it stays so.
+    pub(crate) fn is_begun(&self) -> bool {
+        self.lock.load() != FREE
     }
 
     /// One try for a claim to read.
@@ -95,16 +75,25 @@ impl<K: HashKey, V: Clone + Eq, F: Remap<K, V> + Clone, A: Allocator> Place<K, V
         }
         Some(claim)
     }
-}
 
-impl<K: HashKey + Drop, V: Clone + Eq + Drop, F: Remap<K, V> + Clone + Drop, A: Allocator> Place<
-    K,
-    V,
-    F,
-    A,
-> {
+    /// One try for the right to write.
+    pub(crate) fn try_claim(&self) -> Option<Claim<'_, State<K, V, F, A>>>
+        ensures { IfSome result (λ c. (c.right ≡ 2) × (c.tag ≡ self.now)) }
+    {
+        let word = self.lock.load();
+        if word != PRESENT && word != FREE {
+            return None;
+        }
+        let (found, claim) = self.lock.turn(word, TAKEN);
+        if found != word {
+            claim.done();
+            return None;
+        }
+        Some(claim)
+    }
+
     /// The right to write, from a word that nobody but the caller turns.
-    fn claim_from<R: Wait>(&self, rt: &R, word: u64) -> Claim<'_, State<K, V, F, A>>
+    pub(crate) fn claim_from<R: Wait>(&self, rt: &R, word: u64) -> Claim<'_, State<K, V, F, A>>
         requires { (word % 4 < 3) × (readers word ≡ 0) }
         ensures { (result.right ≡ 2) × (result.tag ≡ self.now) }
     {
@@ -119,40 +108,19 @@ impl<K: HashKey + Drop, V: Clone + Eq + Drop, F: Remap<K, V> + Clone + Drop, A: 
         }
         unreachable!()
     }
+}
 
-    /// One try for the lock. Where it is got, what lay under it is handed out.
-    pub(crate) fn try_take<R: Wait>(&self, rt: &R) -> Option<Out<'_, K, V, F, A>>
-        ensures { IfSome result (λ o. (o.claim.right ≡ 2) × (o.claim.tag ≡ self.now) × FitsPlace K.eq (after V.eq F.remapped F.merged) self.now o.state) }
-    {
-        let word = self.lock.load();
-        if word != PRESENT && word != FREE {
-            return None;
-        }
-        let (found, claim) = self.lock.turn(word, TAKEN);
-        if found != word {
-            claim.done();
-            return None;
-        }
-        let state = claim.put(State::Taken, AWAY);
-        let claim = self.claim_from(rt, AWAY);
-        Some(Out { state, claim })
-    }
-
+impl<K: HashKey + Drop, V: Clone + Eq + Drop, F: Remap<K, V> + Clone + Drop, A: Allocator> Place<
+    K,
+    V,
+    F,
+    A,
+> {
     /// Puts a bin into a place that is new.
     pub(crate) fn fill<R: Wait>(&self, rt: &R, bin: Bin<K, V, F, A>, role: BinRole<K, V, F>)
         requires { AreAt K.eq (after V.eq F.remapped F.merged) self.now bin role }
     {
         let claim = self.claim_from(rt, FREE);
         drop(claim.put(State::Live(bin, role), PRESENT));
-    }
-
-    /// Lets readers come to a place that was never held.
-    pub(crate) fn open_up<R: Wait>(&self, rt: &R) {
-        if self.lock.load() != FREE {
-            return;
-        }
-        if let Some(Out { state, claim }) = self.try_take(rt) {
-            drop(claim.put(state, PRESENT));
-        }
     }
 }

@@ -5,6 +5,7 @@ ghost use Rattle.bin_history.specs.Calls.{after};
 ghost use Rattle.bin_history.specs.Lawful.{IsLawful};
 ghost use Rattle.generations.specs.Leaves.{IsLeaf};
 ghost use Rattle.generations.specs.Places.{AreAt};
+ghost use Rattle.generations.specs.Views.{IsOfMap};
 
 use crate::generations::Generations;
 use crate::place::Place;
@@ -59,8 +60,7 @@ impl<'a, K: HashKey, V: Clone + Eq, F: Remap<K, V> + Clone, A: Allocator + Clone
                 bin.lawful();
                 true
             }
-            State::Forwarded => false,
-            State::Taken => false,
+            State::Away => false,
         };
         if live {
             Some(Shown { claim })
@@ -76,8 +76,7 @@ impl<'a, K: HashKey, V: Clone + Eq, F: Remap<K, V> + Clone, A: Allocator + Clone
     {
         match self.claim.get() {
             State::Live(bin, _) => bin,
-            State::Forwarded => unreachable!(),
-            State::Taken => unreachable!(),
+            State::Away => unreachable!(),
         }
     }
 
@@ -94,6 +93,18 @@ impl<
     F: Remap<K, V> + Clone + Drop,
     A: Allocator + Clone,
 > Generations<K, V, F, A> {
+    /// Lets readers come to a place that was never held.
+    fn open_up<R: Wait>(&self, rt: &R, place: &Place<K, V, F, A>)
+        requires { IsOfMap self.now place.now }
+    {
+        if place.is_begun() {
+            return;
+        }
+        if let Some(held) = self.try_hold(rt, place) {
+            held.release();
+        }
+    }
+
     /// Waits for the bin of the hash, to read it beside others.
     pub fn read<R: Wait>(&self, rt: &R, hash: u32) -> Shown<'_, K, V, F, A>
         ensures covers { IsSomeAnd result (λ p. covers p.0.class hash ≡ true) }
@@ -101,12 +112,11 @@ impl<
     {
         let backoff = Backoff::new();
         for _ in rt.forever() {
-            if let Some(place) = self.find(hash) {
-                place.open_up(rt);
-                if let Some(claim) = place.try_share() {
-                    if let Some(shown) = Shown::of(place, claim) {
-                        return shown;
-                    }
+            let place = self.find(hash);
+            self.open_up(rt, place);
+            if let Some(claim) = place.try_share() {
+                if let Some(shown) = Shown::of(place, claim) {
+                    return shown;
                 }
             }
             backoff.snooze();

@@ -7,11 +7,15 @@ mod calls;
 #[cfg(test)]
 mod growth;
 #[cfg(test)]
+mod lent;
+#[cfg(test)]
 mod loads;
 #[cfg(test)]
 mod maps;
 #[cfg(test)]
 mod memory;
+#[cfg(test)]
+mod moves;
 #[cfg(test)]
 mod opening;
 #[cfg(test)]

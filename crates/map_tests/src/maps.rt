@@ -6,7 +6,7 @@ ghost use Rattle.count_ledger.specs.Opening.{new_passes};
 use bin_history::{Call, Form, Remap, Reply};
 use chm::{Entries, Fault, Map, NotClosed, Opened, Quiet};
 use count_ledger::{Pass, retire_all};
-use hashkeys::{Key, Salt};
+use hashkeys::{HashKey, Key, Salt};
 use std::alloc::{AllocError, Allocator};
 use std::process::Abort;
 use std::sync::Wait;
@@ -78,14 +78,20 @@ pub(crate) fn numbered(rt: &impl Abort, number: u32) -> Key {
 }
 
 /// Tries to make a map of the form, with the passes of its clients.
-pub(crate) fn try_open<V: Clone + Eq + Drop, F: Remap<Key, V> + Clone + Drop, A: Allocator + Clone>(
+pub(crate) fn try_open<
+    K: HashKey + Drop,
+    V: Clone + Eq + Drop,
+    F: Remap<K, V> + Clone + Drop,
+    A: Allocator + Clone,
+>(
     alloc: A,
     form: Form,
     salt: Salt,
     capacity: usize,
     clients: u32,
-) -> Result<Opened<Key, V, F, A>, Fault>
-    requires { IsExact V.is_clone }
+) -> Result<Opened<K, V, F, A>, Fault>
+    requires keys { IsExact K.is_clone }
+    requires values { IsExact V.is_clone }
     ensures { IfOk result (λ r. r.1.items ≡ new_passes r.0.ledger.id clients) }
 {
     match form {
@@ -96,8 +102,9 @@ pub(crate) fn try_open<V: Clone + Eq + Drop, F: Remap<Key, V> + Clone + Drop, A:
 
 /// A new map of the form, with the passes of its clients.
 pub(crate) fn open_salted<
+    K: HashKey + Drop,
     V: Clone + Eq + Drop,
-    F: Remap<Key, V> + Clone + Drop,
+    F: Remap<K, V> + Clone + Drop,
     A: Allocator + Clone,
 >(
     rt: &impl Abort,
@@ -106,8 +113,9 @@ pub(crate) fn open_salted<
     salt: Salt,
     capacity: usize,
     clients: u32,
-) -> Opened<Key, V, F, A>
-    requires { IsExact V.is_clone }
+) -> Opened<K, V, F, A>
+    requires keys { IsExact K.is_clone }
+    requires values { IsExact V.is_clone }
     ensures { All (λ p. p.ledger ≡ result.0.ledger.id) result.1.items }
 {
     let opened = try_open(alloc, form, salt, capacity, clients);
@@ -115,14 +123,14 @@ pub(crate) fn open_salted<
 }
 
 /// The same with the salt 0.
-pub(crate) fn open<V: Clone + Eq + Drop, F: Remap<Key, V> + Clone + Drop, A: Allocator + Clone>(
-    rt: &impl Abort,
-    alloc: A,
-    form: Form,
-    capacity: usize,
-    clients: u32,
-) -> Opened<Key, V, F, A>
-    requires { IsExact V.is_clone }
+pub(crate) fn open<
+    K: HashKey + Drop,
+    V: Clone + Eq + Drop,
+    F: Remap<K, V> + Clone + Drop,
+    A: Allocator + Clone,
+>(rt: &impl Abort, alloc: A, form: Form, capacity: usize, clients: u32) -> Opened<K, V, F, A>
+    requires keys { IsExact K.is_clone }
+    requires values { IsExact V.is_clone }
     ensures { All (λ p. p.ledger ≡ result.0.ledger.id) result.1.items }
 {
     open_salted(rt, alloc, form, Salt(0), capacity, clients)
@@ -145,10 +153,11 @@ pub(crate) fn one_client<A: Allocator>(
 /// Closes a map, with the passes of all clients.
 pub(crate) fn close_all<
     R: Wait + Abort,
+    K: HashKey + Drop,
     V: Clone + Eq + Drop,
-    F: Remap<Key, V> + Clone + Drop,
+    F: Remap<K, V> + Clone + Drop,
     A: Allocator + Clone,
->(rt: &R, map: Map<Key, V, F, A>, passes: Vec<Pass<Key, V, F>, A>) -> Quiet<Key, V, F, A>
+>(rt: &R, map: Map<K, V, F, A>, passes: Vec<Pass<K, V, F>, A>) -> Quiet<K, V, F, A>
     requires { All (λ p. p.ledger ≡ map.ledger.id) passes.items }
 {
     match map.close(rt, passes) {
@@ -168,12 +177,12 @@ pub(crate) fn close_all<
 }
 
 /// Puts a pass back in its place.
-pub(crate) fn put_back<A: Allocator + Clone>(
-    rt: &impl Abort,
-    map: &KeyMap<A>,
-    pass: KeyPass,
-    place: &mut Vec<KeyPass, A>,
-)
+pub(crate) fn put_back<
+    K: HashKey + Drop,
+    V: Clone + Eq + Drop,
+    F: Remap<K, V> + Clone + Drop,
+    A: Allocator + Clone,
+>(rt: &impl Abort, map: &Map<K, V, F, A>, pass: Pass<K, V, F>, place: &mut Vec<Pass<K, V, F>, A>)
     requires pass { pass.ledger ≡ map.now.ledger.id }
     requires place { All (λ p. p.ledger ≡ map.now.ledger.id) place.old.items }
     ensures { All (λ p. p.ledger ≡ map.now.ledger.id) place.new.items }

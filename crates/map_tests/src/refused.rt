@@ -75,7 +75,7 @@ fn put_the_twelfth<R: Wait + Abort>(
 
 /// Puts a twelfth key, which asks for room for its entry, the first of its bin, and in a recorded map for room for the
 /// record. Where a request of these is refused there are eleven keys as before; where one of the move is, there are
-/// twelve. A later call goes on with the move.
+/// twelve.
 fn refuse_put<R: Wait + Abort>(rt: &R, alloc: &Refusing<Global>, form: Form, granted: u64) -> bool {
     let (reply, refused, live, (bins, keys)) = put_the_twelfth(rt, alloc, form, granted);
     let own = match form {

@@ -92,7 +92,7 @@ fn compute_while_another_puts<
 >(rt: &R, alloc: Global, form: Form, function: &F, event: &Event) -> u64
     requires { IsExact F.is_clone }
 {
-    let (map, mut passes) = open::<u64, F, Global>(rt, alloc, form, 16, 2);
+    let (map, mut passes) = open::<Key, u64, F, Global>(rt, alloc, form, 16, 2);
     let work = |number: usize, pass: &mut Pass<Key, u64, F>|
         requires functions { IsExact F.is_clone }
         requires pass { pass.now.ledger ≡ map.ledger.id }
@@ -223,7 +223,7 @@ fn glance_together<R: Threads + Wait + Abort + Sync>(
 ) -> ((bool, bool), u64, u64) {
     let event = Event::new();
     let told = AtomicU64::new(0);
-    let (map, mut passes) = open::<Paired, (), Global>(rt, alloc, form, 16, 1);
+    let (map, mut passes) = open::<Key, Paired, (), Global>(rt, alloc, form, 16, 1);
     let value = Paired {
         event: &event,
         told: &told,
@@ -255,7 +255,7 @@ fn glance_in_vain<R: Wait + Abort>(
 ) -> (Result<bool, Fault>, Result<bool, Fault>) {
     let event = Event::new();
     let told = AtomicU64::new(0);
-    let (map, mut passes) = open::<Paired, (), Global>(rt, alloc, form, 16, 1);
+    let (map, mut passes) = open::<Key, Paired, (), Global>(rt, alloc, form, 16, 1);
     let value = Paired {
         event: &event,
         told: &told,

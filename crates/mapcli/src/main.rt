@@ -2,47 +2,11 @@
 //! queries of it.
 #![tactic(auto)]
 
-mod answers;
-mod client;
-#[cfg(test)]
-mod client_tests;
-mod device;
-#[cfg(test)]
-mod device_tests;
-mod fault;
-mod gate;
-mod laws;
-#[cfg(test)]
-mod limit_tests;
-mod options;
-#[cfg(test)]
-mod order_tests;
-#[cfg(test)]
-mod plain;
-mod play;
-#[cfg(test)]
-mod query_tests;
-mod run;
-mod tasks;
-#[cfg(test)]
-mod tests;
-mod text;
-mod whole;
-mod words;
-#[cfg(test)]
-mod words_tests;
-
-pub use device::{DeviceError, Input, Output, Reader, Writer};
-pub use fault::Fault;
-pub use gate::{ClientGate, Gate, OpenGate};
-pub use laws::{each_key, no_crossed_misses, one_output};
-pub use options::Options;
-pub use run::{parse, run};
+use facing_cli::{Fault, OpenGate, Options, Output, Reader, Writer, run, status, tell, words};
 use std::alloc::Global;
 use std::fs::File;
 use std::process::ExitCode;
 use std::{env, io};
-pub use words::{line, status, tell, words};
 
 /// What is told of a word that is not UTF-8, as `clap` would.
 const NOT_UTF_8: &str = "error: invalid UTF-8 was detected in one or more arguments

@@ -255,7 +255,6 @@ fn the_greatest_numbers(rt: HostRuntime) -> Result<(), Fail> {
     let rows: [(&[u8], i64); 2] = [(b"a", 9223372036854775807), (b"b", 9223372036854775807)];
     let quiet = quiet_of(&rt, rt.alloc(), 16, &rows)?;
     let plan = open_plan(1, 4);
-    Sum.wraps::<Key>();
     assert_eq!(rt;
         reduce_based(&rt, rt.alloc(), &quiet, &plan, &Sum),
         Ok(18446744073709551614)

@@ -113,6 +113,8 @@ impl Reducer<Key, i64> for ShortGreatest {
 
     ghost joined = { λ _ a b. int_max a b };
 
+    ghost within = { λ _ _ _. Unit {0} };
+
     ghost never_refuses = { false };
 
     fn lift(&self, _key: &Key, value: &i64) -> Result<i64, AllocError> {
@@ -129,6 +131,8 @@ impl Reducer<Key, i64> for ShortGreatest {
     ghost associative = { λ _ a b c. Prim.omega (arith, ints, int_max_is a b, int_max_is (int_max a b) c, int_max_is b c, int_max_is a (int_max b c)) };
 
     ghost commutative = { λ _ a b. Prim.omega (arith, ints, int_max_is a b, int_max_is b a) };
+
+    ghost joins = { λ _ n m a b p q. tt };
 }
 
 /// Finds a value above this one.

@@ -1,7 +1,7 @@
 //! Trees whose parts are the numbers of bins.
 ghost use Rattle.std.specs.Prelude.{◌≡◌, ◌+◌, ◌<◌, ◌≤◌};
 
-use completers::{Arrival, Found, Node, Partial, Parts, Relation, Supply, Ticket, Tree};
+use completers::{Arrival, Finds, Found, Node, Partial, Parts, Relation, Supply, Ticket, Tree};
 use std::alloc::{AllocError, Global};
 use std::process::Abort;
 use std::sync::atomic::AtomicU64;
@@ -136,9 +136,16 @@ fn four_leaves_arrive_in_every_order(rt: HostRuntime) -> Result<(), Fail> {
     Ok(())
 }
 
+/// Finds something at each index.
+struct Everywhere;
+
+impl Finds for Everywhere {
+    ghost finds = { λ _. Unit {0} };
+}
+
 #[test]
 fn the_first_claim_is_found(rt: HostRuntime) {
-    let found = Found::new();
+    let found = Found::<Everywhere>::new();
     assert_eq!(rt; found.look(), None);
     assert!(rt; found.claim(65535));
     assert!(rt; !found.claim(0));

@@ -143,19 +143,30 @@ fn assert_value(rt: &impl Abort, bin: &NumberBin<'_>, value: Option<u64>, calls:
     assert_eq!(rt; (bin.records().len(), bin.base().len()), stored);
 }
 
-/// What a call replies, the value that it leaves, and how often it asks for memory in a lean bin.
+/// What a call replies, the value that it leaves, and how often it asks for memory in a bin of each form.
 #[derive(Drop)]
 struct Outcome {
     reply: Reply<u64>,
     value: Option<u64>,
-    requests: u64,
+    recorded: u64,
+    lean: u64,
 }
 
-fn replies(reply: Reply<u64>, value: Option<u64>, requests: u64) -> Outcome {
+impl Outcome {
+    fn requests(&self, form: Form) -> u64 {
+        match form {
+            Form::Recorded => self.recorded,
+            Form::Lean => self.lean,
+        }
+    }
+}
+
+fn replies(reply: Reply<u64>, value: Option<u64>, recorded: u64, lean: u64) -> Outcome {
     Outcome {
         reply,
         value,
-        requests,
+        recorded,
+        lean,
     }
 }
 
@@ -201,48 +212,63 @@ fn refuse_call(
 
 /// Of each kind of call what it does where `a` has the value 1, and where it has none.
 ///
-/// The requests are those of a lean bin, in this order. Where `a` has none and the call may give it one: room for the
-/// entry. A copy of the value before, if there is one. What the call's row says of the value after: a copy of the
-/// argument, or a request of the function. A copy for the entry, where the value changes; of the value before, where it
-/// does not. A copy for the reply, where that is a value.
+/// The requests, in this order. Where `a` has none and the call may give it one: room for the entry. A request of the
+/// function, where it is asked. A copy for the reply, where that is the value after the call. In a recorded bin, for the
+/// record: a copy of the argument, where it is the value after the call; of the value before and of the value after, if
+/// there is one.
 fn rows() -> [(Outcome, Outcome); 12] {
     let some = |n| Reply::Value(Some(n));
     let none = || Reply::Value(None);
     let truth = |t| Reply::Truth(t);
     [
-        (replies(some(1), Some(1), 3), replies(none(), None, 0)),
+        (replies(some(1), Some(1), 3, 1), replies(none(), None, 0, 0)),
         (
-            replies(truth(true), Some(1), 2),
-            replies(truth(false), None, 0),
+            replies(truth(true), Some(1), 2, 0),
+            replies(truth(false), None, 0, 0),
         ),
-        (replies(some(1), Some(5), 4), replies(none(), Some(5), 3)),
-        (replies(some(1), Some(1), 3), replies(none(), Some(5), 3)),
-        (replies(some(1), None, 2), replies(none(), None, 0)),
         (
-            replies(truth(true), None, 1),
-            replies(truth(false), None, 0),
+            replies(some(1), Some(5), 3, 0),
+            replies(none(), Some(5), 3, 1),
         ),
-        (replies(some(1), Some(5), 4), replies(none(), None, 0)),
         (
-            replies(truth(true), Some(5), 3),
-            replies(truth(false), None, 0),
+            replies(some(1), Some(1), 3, 1),
+            replies(none(), Some(5), 3, 1),
         ),
-        (replies(some(1), Some(1), 3), replies(some(7), Some(7), 4)),
-        (replies(some(7), Some(7), 4), replies(none(), None, 0)),
-        (replies(some(7), Some(7), 4), replies(some(7), Some(7), 4)),
-        (replies(some(7), Some(7), 4), replies(some(5), Some(5), 4)),
+        (replies(some(1), None, 1, 0), replies(none(), None, 0, 0)),
+        (
+            replies(truth(true), None, 1, 0),
+            replies(truth(false), None, 0, 0),
+        ),
+        (replies(some(1), Some(5), 3, 0), replies(none(), None, 0, 0)),
+        (
+            replies(truth(true), Some(5), 3, 0),
+            replies(truth(false), None, 0, 0),
+        ),
+        (
+            replies(some(1), Some(1), 3, 1),
+            replies(some(7), Some(7), 4, 3),
+        ),
+        (replies(some(7), Some(7), 4, 2), replies(none(), None, 0, 0)),
+        (
+            replies(some(7), Some(7), 4, 2),
+            replies(some(7), Some(7), 4, 3),
+        ),
+        (
+            replies(some(7), Some(7), 4, 2),
+            replies(some(5), Some(5), 4, 2),
+        ),
     ]
 }
 
-/// Refuses each request of each kind of call. A first call asks for so many requests more than in a lean bin.
+/// Refuses each request of each kind of call. The first call on a bin makes so many requests more.
 fn refuse_calls(rt: &impl Abort, memory: Global, form: Form, first: u64) -> Result<(), AllocError> {
     for (kind, (present, absent)) in rows().iter().enumerate() {
         let requests = refuse_call(rt, memory, form, kind, Some(1), present)?;
-        assert_eq!(rt; requests, present.requests, "kind {kind}, present");
+        assert_eq!(rt; requests, present.requests(form), "kind {kind}, present");
         let requests = refuse_call(rt, memory, form, kind, None, absent)?;
         assert_eq!(rt;
             requests,
-            absent.requests.wrapping_add(first),
+            absent.requests(form).wrapping_add(first),
             "kind {kind}, absent"
         );
     }
@@ -251,7 +277,7 @@ fn refuse_calls(rt: &impl Abort, memory: Global, form: Form, first: u64) -> Resu
 
 #[test]
 fn a_refused_call_leaves_the_bin(rt: HostRuntime) -> Result<(), Fail> {
-    // The first record's list, which has room for the second.
+    // In a recorded bin the list of records, which has room for the second.
     refuse_calls(&rt, rt.alloc(), Form::Recorded, 1)?;
     refuse_calls(&rt, rt.alloc(), Form::Lean, 0)?;
     Ok(())

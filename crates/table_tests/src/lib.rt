@@ -6,7 +6,7 @@ mod maps;
 #[cfg(test)]
 mod refused;
 #[cfg(test)]
-mod shortcuts;
+mod sizes;
 #[cfg(test)]
 mod threads;
 #[cfg(test)]

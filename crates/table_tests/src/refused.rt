@@ -54,13 +54,12 @@ fn refused_move<R: Wait + Abort>(
 #[test]
 fn a_refused_move_leaves_the_bin(rt: HostRuntime) -> Result<(), Fail> {
     let alloc = Refusing::new(rt.alloc());
-    // The list of entries of the half that has the key, and a row of the arena; of a recorded bin the list of records
-    // of that half too, and a log for each half. One request more is for the numbers of the new table's places: the
-    // move goes on without them.
+    // The table of two places, and the list of entries of the half that has the key; of a recorded bin the list of
+    // records of that half too, and a log for each half.
     for (form, needed) in [(Form::Recorded, 5), (Form::Lean, 2)] {
         for granted in 0..7u64 {
             let (moved, refused) = refused_move(&rt, &alloc, form, granted)?;
-            assert_eq!(rt; (moved, refused), (granted >= needed, granted <= needed));
+            assert_eq!(rt; (moved, refused), (granted >= needed, granted < needed));
         }
     }
     Ok(())
@@ -121,9 +120,9 @@ fn refused_map(rt: &impl Abort, alloc: &Refusing<Global>, form: Form, granted: u
 #[test]
 fn a_refused_map_is_made_at_the_next_try(rt: HostRuntime) -> Result<(), Fail> {
     let alloc = Refusing::new(rt.alloc());
-    // Lists of bases, passes, roles and places, the table's two blocks, the list of lists of numbers, and the arena's
-    // list of rows; of each of two recorded bins a log.
-    for (form, needed) in [(Form::Recorded, 10), (Form::Lean, 8)] {
+    // Lists of bases, passes, roles and places, the two blocks of the ledger's words, and the list of tables; of each of
+    // two recorded bins a log.
+    for (form, needed) in [(Form::Recorded, 9), (Form::Lean, 7)] {
         for granted in 0..12u64 {
             let refused = refused_map(&rt, &alloc, form, granted);
             assert_eq!(rt; refused, granted < needed);

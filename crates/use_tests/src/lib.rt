@@ -2,6 +2,12 @@
 #![tactic(auto)]
 
 #[cfg(test)]
+mod closed;
+#[cfg(test)]
+mod examples;
+#[cfg(test)]
 mod keys;
+#[cfg(test)]
+mod lent;
 #[cfg(test)]
 mod teams;

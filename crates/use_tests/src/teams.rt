@@ -1,6 +1,6 @@
 //! A team of one client, and refused teams.
 use facingberyl::bulk::{Greatest, Plan, reduce};
-use facingberyl::{Add, Client, Fault, NoFunction, Seat, Team, Work};
+use facingberyl::{Add, Client, Computed, Fault, NoFunction, Seat, Team, Work};
 use std::alloc::Global;
 use std::sync::Wait;
 use std::sync::atomic::AtomicU64;
@@ -11,6 +11,11 @@ use std::test::Fail;
 #[derive(Clone, Copy)]
 struct EachCall<'a> {
     right: &'a AtomicU64,
+}
+
+/// The answer of a call with a function.
+fn computed(value: Option<u64>, used: bool) -> Result<Computed<u64>, Fault> {
+    Ok(Computed { value, used })
 }
 
 impl EachCall<'_> {
@@ -29,10 +34,14 @@ impl Work<u64, u64, Add, Global> for EachCall<'_> {
         self.note(client.put_if_absent(rt, 1, 9) == Ok(Some(5)));
         self.note(client.remove_if(rt, 1, 9) == Ok(false));
         self.note(client.replace_if(rt, 1, 5, 6) == Ok(true));
-        self.note(client.merge(rt, 1, 4, Add) == Ok(Some(10)));
+        self.note(client.merge(rt, 1, 4, Add) == computed(Some(10), true));
         self.note(client.compute(rt, 1, Add) == Ok(Some(10)));
-        self.note(client.compute_if_absent(rt, 2, Add) == Ok(None));
-        self.note(client.compute_if_present(rt, 1, Add) == Ok(Some(10)));
+        self.note(client.compute_if_absent(rt, 2, Add) == computed(None, true));
+        self.note(client.compute_if_absent(rt, 1, Add) == computed(Some(10), false));
+        self.note(client.compute_if_present(rt, 1, Add) == computed(Some(10), true));
+        self.note(client.compute_if_present(rt, 2, Add) == computed(None, false));
+        self.note(client.merge(rt, 4, 8, Add) == computed(Some(8), false));
+        self.note(client.remove(rt, 4) == Ok(Some(8)));
         self.note(client.put(rt, 3, 7) == Ok(None));
         self.note(client.remove(rt, 1) == Ok(Some(10)));
         self.note(client.get(rt, 3) == Ok(Some(7)));
@@ -51,8 +60,8 @@ fn each_typed_call_answers(rt: HostRuntime) -> Result<(), Fail> {
     let one = closed.get(&1).copied();
     let three = closed.get(&3).copied();
     drop(closed);
-    assert_eq!(rt; right.load(SeqCst), 13);
-    assert_eq!(rt; made, Some(13));
+    assert_eq!(rt; right.load(SeqCst), 17);
+    assert_eq!(rt; made, Some(17));
     assert_eq!(rt; greatest, Some(7));
     assert_eq!(rt; count, 1);
     assert_eq!(rt; one, None);

@@ -1,4 +1,4 @@
-use Rattle.std.proofs.Common.{◌≡◌, ◌-◌, ◌<◌, length, vec_len, ap, ◌∙◌, sym, arith, length-drop}
+use Rattle.std.proofs.Common.{◌≡◌, ◌-◌, length, vec_len, ap, ◌∙◌, sym, arith, length-drop}
 use Rattle.bin_history.proofs.log.fold_in.Goals as goal
 
 pub returns-then-len-eq-MOST_RECORDS-clause-room : goal.returns-then-len-eq-MOST_RECORDS-clause-room

@@ -1,35 +1,63 @@
-use Rattle.std.proofs.Common.{◌≡◌, None, ℕ, Option, ap, subst, ◌∙◌}
-use Rattle.bin_history.specs.Calls.{after, may_add}
-use Rattle.bin_history.specs.Changes.{IsFound}
+use Rattle.std.proofs.Common.{◌≡◌, ℕ, Option, option_copied, ap, subst, ◌∙◌}
+use Rattle.bin_history.specs.Calls.{after}
+use Rattle.bin_history.specs.Changes.{IsFound, IsWork, left_by}
+use Rattle.bin_history.specs.Entries.{lookup}
+use Rattle.bin_history.specs.Ops.{call_on, key_in, may_add, value_of}
+use Rattle.bin_history.specs.Readiness.{value_seen}
+use Rattle.bin_history.specs.declared.effect.Effect.TheVariants.{Give}
 use Rattle.bin_history.proofs.Keys.{key_tells}
-use Rattle.bin_history.proofs.Changes.{changed-by, HasPlace-change_by, Fits-change_by, after_of_none, lookup_absent}
+use Rattle.bin_history.proofs.Changes.{changed-by, taken-by, HasPlace-change_by, Fits-change_by, after_of_none, key-call_on, lookup_absent}
 use Rattle.bin_history.proofs.ready.work_out.Goals as goal
+use Rattle.bin_history.proofs.ready.work_out.Goals.{in-Recorded+in_ok-value-in-Recorded+in_ok-before-in-Recorded+in_ok-after-in-Recorded+in_ok-copy_of-in-Recorded, in-Lean}
+
+-- where the effect is to give it, the value that the call brings is at hand
+given : (g : _) (c : goal.In_ok-by g) → c.in_ok-work.work.effect ≡ Give → c.match-form.value.0 ≡ value_of c.args.op
+given g c give =
+    elim c.match-form.branch [
+      | in-Recorded+in_ok-value-in-Recorded+in_ok-before-in-Recorded+in_ok-after-in-Recorded+in_ok-copy_of-in-Recorded w ↦ ap (λ (x : _ × _). x.0) w.value-is ∙ w.in_ok-value-in-Recorded.ensures give
+      | in-Lean w ↦ ap (λ (x : _ × _). x.0) w.value-is ∙ w.into_value.ensures
+    ]
+
+-- the value before the call is the one at its key
+found_before : (g : _) (c : goal.In_ok-by g) → option_copied c.value_at-before.result ≡ lookup g.K.PartialEq.eq c.args.entries.now (key_in c.args.key)
+found_before g c = rw c.get.ensures at c.value_at-before.ensures
+
+work_is : (g : _) (c : goal.In_ok-by g) → IsWork g.V.PartialEq.eq g.F.Remap.remapped g.F.Remap.merged (key_in c.args.key) c.args.op (lookup g.K.PartialEq.eq c.args.entries.now (key_in c.args.key)) c.in_ok-work.work
+work_is g c = rw (c.get-2.ensures, found_before g c) at c.in_ok-work.ensures
 
 pub returns-clause-ready : goal.returns-clause-ready
 returns-clause-ready g c =
     let tells = key_tells g.met.K.Eq.laws g.met.K.HashKey.equal_is_same in
     let es = c.args.entries.now in
-    let found = c.requires.found in
-    let before = rw c.key-key.ensures at c.in_ok-before.ensures in
-    let change = rw c.key.ensures at c.in_ok-change.ensures in
+    let k = key_in c.args.key in
+    let op = c.args.op in
+    let effect = c.in_ok-work.work.effect in
+    let value = c.match-form.value.0 in
+    let key : c.of.result.value ≡ k = c.of.ensures ∙ c.get-3.ensures in
+    let rest : c.of-2.result.value ≡ op = c.of-2.ensures in
+    let before : value_seen c.value_seen.result ≡ lookup g.K.PartialEq.eq es k = c.value_seen.ensures ∙ found_before g c in
+    let left : value_seen c.value_seen-2.result ≡ left_by op effect (lookup g.K.PartialEq.eq es k) = c.value_seen-2.ensures ∙ c.left-after.ensures ∙ ap (left_by op effect) (found_before g c) in
+    let work = work_is g c in
+    let change = c.in_ok-by.ensures in
     record {
-      before_is = before;
-      after_is = c.in_ok-after.ensures ∙ c.in_ok-effect.ensures;
-      reply_is = c.in_ok-reply.ensures;
-      has_place = rw change (HasPlace-change_by g.K.PartialEq.eq tells es _ _ c.in_ok-effect.effect found);
-      change_is = rw (change, c.in_ok-after.ensures, before) (changed-by g.K.PartialEq.eq tells es _ _ c.in_ok-effect.effect found);
+      before_is = rw (key, rest, key-call_on k op) before;
+      after_is = rw (key, rest, before) (left ∙ work.effect);
+      reply_is = rw (key, rest, before, left, change, taken-by g.K.PartialEq.eq tells es k c.args.found effect value c.requires.found) work.answer;
+      has_place = rw change (HasPlace-change_by g.K.PartialEq.eq tells es k c.args.found effect value c.requires.found);
+      change_is = rw (key, rest, key-call_on k op, left, change) (changed-by g.K.PartialEq.eq tells es k c.args.found op effect value (given g c) c.requires.found);
     }
 
 pub returns-clause-fits : goal.returns-clause-fits
 returns-clause-fits g c room has =
     let tells = key_tells g.met.K.Eq.laws g.met.K.HashKey.equal_is_same in
     let es = c.args.entries.now in
-    let call = c.args.call in
-    let before = rw c.key-key.ensures at c.in_ok-before.ensures in
+    let k = key_in c.args.key in
+    let op = c.args.op in
     let made = after g.V.PartialEq.eq g.F.Remap.remapped g.F.Remap.merged in
-    let Found : Option ℕ → Type 0 = IsFound g.K.PartialEq.eq es _ in
-    rw c.in_ok-change.ensures
-    (Fits-change_by c.args.found _ c.in_ok-effect.effect c.in_ok-before.before (may_add call) room
-    (λ none. before ∙ lookup_absent g.K.PartialEq.eq tells es _ (subst Found none c.requires.found))
-    (λ never none. c.in_ok-effect.ensures ∙ ap (made call) none ∙ after_of_none g.V.PartialEq.eq g.F.Remap.remapped g.F.Remap.merged call never)
+    let Found : Option ℕ → Type 0 = IsFound g.K.PartialEq.eq es k in
+    rw c.in_ok-by.ensures
+    (Fits-change_by c.args.found k op c.in_ok-work.work.effect c.match-form.value.0 (lookup g.K.PartialEq.eq es k) (may_add op) room (given g c)
+    (λ none never.
+    let absent = lookup_absent g.K.PartialEq.eq tells es k (subst Found none c.requires.found) in
+    (work_is g c).effect ∙ ap (made (call_on k op)) absent ∙ after_of_none g.V.PartialEq.eq g.F.Remap.remapped g.F.Remap.merged k op never)
     has)

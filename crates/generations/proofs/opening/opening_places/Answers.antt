@@ -6,7 +6,8 @@ use Rattle.std.proofs.lemmas.List.Elements.{All-get_or}
 use Rattle.std.proofs.lemmas.List.FromFn.{map-range_with_len_more}
 use Rattle.bin_history.specs.Entries.{HasDistinctKeys}
 use Rattle.count_ledger.specs.Opening.{lists_of, new_role}
-use Rattle.generations.proofs.Openings.{first_of_range, first_of_rest, base_of_class, role_of_base, length-new_roles, opening_tag, AreOpening-all}
+use Rattle.generations.proofs.Openings.{first_of_range, first_of_rest, base_of_class, role_of_base, length-new_roles}
+use Rattle.generations.proofs.Indexes.{tag_at, IsTable-all}
 use Rattle.generations.proofs.opening.opening_places.Goals as goal
 
 pub loop-index-init : goal.loop-index-init
@@ -61,8 +62,8 @@ loop-index-preserved g c =
       bases_left = omega (arith, kept.bases_left, c.in-Some.ensures.len, c.loop-index-test.true);
       places = λ ledger e.
           let role = first_of_range (new_role ledger c.args.salt (lists_of c.args.bases)) c.loop-index.index c.args.n c.in-Some-next.role (into_iter_items c.next-in-loop-index.new.self) (into_iter_items c.loop-index.roles) c.loop-index-test.true (kept.roles ledger e) c.in-Some-next.ensures.items in
-          let place : c.in_ok-place.place ≡ opening_tag ledger c.args.form c.args.salt c.args.n c.loop-index.index = c.in_ok-place.ensures ∙ (λ x. record { class = c.new-class.ensures x; form = c.args.form; salt = c.args.salt; ledger = ap (λ r. r.ledger) role.0 x }) in
-          c.push_reserved.ensures.items ∙ (λ x. kept.places ledger e x ++ place x ∷ []) ∙ sym (map-range_with_len_more (opening_tag ledger c.args.form c.args.salt c.args.n) 0 c.loop-index.index c.loop-index.index (omega arith));
+          let place : c.in_ok-place.place ≡ tag_at (record { ledger = ledger; form = c.args.form; salt = c.args.salt; n = c.args.n }) c.args.n c.loop-index.index = c.in_ok-place.ensures ∙ (λ x. record { class = c.new-class.ensures x; form = c.args.form; salt = c.args.salt; ledger = ap (λ r. r.ledger) role.0 x }) in
+          c.push_reserved.ensures.items ∙ (λ x. kept.places ledger e x ++ place x ∷ []) ∙ sym (map-range_with_len_more (tag_at (record { ledger = ledger; form = c.args.form; salt = c.args.salt; n = c.args.n }) c.args.n) 0 c.loop-index.index c.loop-index.index (omega arith));
       len = omega (arith, c.push_reserved.ensures.len, kept.len);
       room = omega (arith, c.push_reserved.ensures.capacity, kept.room);
     }
@@ -71,5 +72,5 @@ pub returns-clause-places : goal.returns-clause-places
 returns-clause-places g c = λ ledger e.
     let kept = c.loop-index.invariant in
     let all : c.loop-index.index ≡ c.args.n = omega (arith, c.loop-index-test.false, c.loop-index.auto.index-end) in
-    AreOpening-all ledger c.args.form c.args.salt c.args.n c.loop-index.places.items (omega (arith, c.loop-index.places.ok.0, kept.len))
-    (kept.places ledger e ∙ ap (λ m. map (opening_tag ledger c.args.form c.args.salt c.args.n) (range_with_len 0 m)) all)
+    IsTable-all (record { ledger = ledger; form = c.args.form; salt = c.args.salt; n = c.args.n }) c.args.n c.loop-index.places.items c.requires.size (omega arith) (omega (arith, c.loop-index.places.ok.0, kept.len, all))
+    (kept.places ledger e ∙ ap (λ (m : _). map (tag_at (record { ledger = ledger; form = c.args.form; salt = c.args.salt; n = c.args.n }) c.args.n) (range_with_len 0 m)) all)

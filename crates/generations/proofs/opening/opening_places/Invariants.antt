@@ -3,7 +3,7 @@ use Rattle.std.specs.List.{range_with_len}
 use Rattle.std.specs.Vec.Iter.{into_iter_items, into_iter_len}
 use Rattle.count_ledger.specs.Opening.{lists_of, new_role, new_roles}
 use Rattle.count_ledger.specs.Views.{LedgerId}
-use Rattle.generations.proofs.Openings.{opening_tag}
+use Rattle.generations.proofs.Indexes.{tag_at}
 use Rattle.generations.proofs.opening.opening_places.Given as goal
 
 abbrev pub invariant-loop-index : goal.invariant-loop-index
@@ -13,7 +13,7 @@ invariant-loop-index g l =
       roles_left : into_iter_len l.roles ≡ l.n - l.index;
       bases : into_iter_items l.bases ≡ drop l.index l.fn.bases.items;
       bases_left : into_iter_len l.bases ≡ l.n - l.index;
-      places : (ledger : LedgerId) → l.fn.roles.items ≡ new_roles ledger l.salt (lists_of l.fn.bases) → l.places.items ≡ map (opening_tag ledger l.form l.salt l.n) (range_with_len 0 l.index);
+      places : (ledger : LedgerId) → l.fn.roles.items ≡ new_roles ledger l.salt (lists_of l.fn.bases) → l.places.items ≡ map (tag_at (record { ledger = ledger; form = l.form; salt = l.salt; n = l.n }) l.n) (range_with_len 0 l.index);
       len : vec_len l.places ≡ l.index;
       room : l.n ≤ vec_capacity l.places;
     }

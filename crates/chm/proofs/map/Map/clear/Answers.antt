@@ -4,8 +4,9 @@ use Rattle.hashkeys.specs.Classes.{ClassView, covering, IsTableSize}
 use Rattle.bin_history.specs.Calls.{after}
 use Rattle.generations.specs.Walks.{IsWalk, IsWalkTo, IsFirstAfter, IsLast}
 use Rattle.chm.specs.Views.{MapView}
+use Rattle.chm.specs.declared.fault.Fault.TheVariants.{PassFull}
 use Rattle.chm.specs.Visits.{VisitView, classes_of, IsVisit}
-use Rattle.chm.proofs.Clearing.{emptied, unchanged, removed-more, visits-more}
+use Rattle.chm.proofs.Clearing.{emptied, own_left, passed_on, unchanged, removed-more, visits-more}
 use Rattle.chm.proofs.Visiting.{classes-push}
 use Rattle.chm.proofs.map.Map.clear.Goals as goal
 
@@ -73,3 +74,8 @@ pub returns-in-None-next_in_walk-clause-emptied : goal.returns-in-None-next_in_w
 returns-in-None-next_in_walk-clause-emptied g c one =
     let (visits, are, empty) = returns-in-None-next_in_walk-clause-cleared g c in
     (classes_of visits, are.walk, emptied g.K.PartialEq.eq g.K.HashKey.code (after g.V.PartialEq.eq g.F.Remap.remapped g.F.Remap.merged) c.args.self.now.ledger c.empty_first.new.pass visits one are.each empty)
+
+pub returns-in_err-class-clause-own_left : goal.returns-in_err-class-clause-own_left
+returns-in_err-class-clause-own_left g c = λ one full.
+    own_left g.K.PartialEq.eq g.K.HashKey.code (after g.V.PartialEq.eq g.F.Remap.remapped g.F.Remap.merged) c.args.self.now.ledger c.empty_first.new.pass one
+    (c.in_err-class.ensures.left (passed_on c.from_residual.result c.in_err-class.field-0.0 PassFull c.from_residual.ensures.1 full))

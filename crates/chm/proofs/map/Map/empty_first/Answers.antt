@@ -1,11 +1,14 @@
-use Rattle.std.proofs.Common.{[], sym, subst, ap, ◌∙◌}
-use Rattle.hashkeys.specs.Classes.{ClassView}
+use Rattle.std.proofs.Common.{◌≡◌, true, [], All, sym, subst, ap, ◌∙◌}
+use Rattle.std.proofs.lemmas.List.Elements.{All-nil}
+use Rattle.hashkeys.specs.Classes.{ClassView, is_of}
 use Rattle.hashkeys.specs.declared.hashing.Salt.{Salt}
 use Rattle.bin_history.specs.Calls.{after}
 use Rattle.count_ledger.specs.Agreement.{Agree}
 use Rattle.count_ledger.specs.Views.{PassView, RoleView}
 use Rattle.chm.specs.Cleared.{HasRemovedIn}
+use Rattle.chm.proofs.Clearing.{passed_on}
 use Rattle.chm.specs.Visits.{IsVisit}
+use Rattle.chm.specs.declared.fault.Fault.TheVariants.{PassFull}
 use Rattle.chm.proofs.map.Map.empty_first.Goals as goal
 
 pub release-requires : goal.release-requires
@@ -34,4 +37,15 @@ returns-clause-visit g c =
     IsVisit g.K.PartialEq.eq g.K.HashKey.code (after g.V.PartialEq.eq g.F.Remap.remapped g.F.Remap.merged) c.args.self.now.ledger pass (record { class = class; entries = [] }) in
     subst (Visited c.class-class.result) (sym c.meet_under.ensures.same_pass)
     (subst (λ (class : ClassView). Visited class c.empty-done.new.pass) (sym (c.class-class.ensures ∙ sym c.empty-done.ensures.class))
-    (c.empty-done.new.role.kept, met.history, sym c.in_ok-done.ensures.empty ∙ met.entries))
+    (record { distinct = tt; of_class = All-nil (λ (e : _ × _). is_of g.K.HashKey.code c.args.self.now.ledger.salt c.empty-done.new.bin.class e.0 ≡ true); made = (c.empty-done.new.role.kept, met.history, sym c.in_ok-done.ensures.empty ∙ met.entries) }))
+
+pub returns-in_err-done-clause-left : goal.returns-in_err-done-clause-left
+returns-in_err-done-clause-left g c = λ full.
+    let met = c.meet_under.ensures.met in
+    let lawful = c.lawful.ensures.lawful in
+    let bin = c.empty-done.new.bin in
+    let salt = c.empty-done.ensures.salt ∙ c.hold_first-held.ensures.salt in
+    let some = c.in_err-done.ensures.left (passed_on c.from_residual.result c.in_err-done.field-0.0 PassFull c.from_residual.ensures.1 full) in
+    let visit : IsVisit g.K.PartialEq.eq g.K.HashKey.code (after g.V.PartialEq.eq g.F.Remap.remapped g.F.Remap.merged) c.args.self.now.ledger c.empty-done.new.pass (record { class = bin.class; entries = bin.entries }) =
+    record { distinct = lawful.distinct; of_class = subst (λ (s : Salt). All (λ (e : _ × _). is_of g.K.HashKey.code s bin.class e.0 ≡ true) bin.entries) salt lawful.of_class; made = (c.empty-done.new.role.kept, met.history, met.entries) } in
+    (record { class = bin.class; entries = bin.entries }, subst (λ (p : PassView _ _ _). IsVisit g.K.PartialEq.eq g.K.HashKey.code (after g.V.PartialEq.eq g.F.Remap.remapped g.F.Remap.merged) c.args.self.now.ledger p (record { class = bin.class; entries = bin.entries })) (sym c.meet_under.ensures.same_pass) visit, some)

@@ -1,6 +1,8 @@
-use Rattle.std.proofs.Common.{sym, subst, ◌∙◌}
-use Rattle.hashkeys.specs.Classes.{ClassView}
+use Rattle.std.proofs.Common.{◌≡◌, true, List, All, sym, subst, ◌∙◌}
+use Rattle.hashkeys.specs.Classes.{ClassView, is_of}
+use Rattle.hashkeys.specs.declared.hashing.Salt.{Salt}
 use Rattle.bin_history.specs.Calls.{after}
+use Rattle.bin_history.specs.Entries.{HasDistinctKeys}
 use Rattle.count_ledger.specs.Views.{RoleView}
 use Rattle.generations.specs.Places.{AreAt}
 use Rattle.chm.specs.Visits.{IsVisit}
@@ -14,4 +16,11 @@ release-requires g c =
 pub returns-clause-visit : goal.returns-clause-visit
 returns-clause-visit g c =
     let Visited : ClassView → Type 0 = λ class. IsVisit g.K.PartialEq.eq g.K.HashKey.code (after g.V.PartialEq.eq g.F.Remap.remapped g.F.Remap.merged) c.args.self.now.ledger c.args.pass.now (record { class = class; entries = c.in_ok-entries.field-0.items }) in
-    subst Visited (sym c.class-class.ensures) (c.hold_first-held.result.role.kept, c.meet_under.ensures.met.history, c.in_ok-entries.ensures ∙ c.meet_under.ensures.met.entries)
+    let lawful = c.lawful.ensures.lawful in
+    let class = c.hold_first-held.result.bin.class in
+    let Of : Salt → List (_ × _) → Type 0 = λ salt entries. All (λ e. is_of g.K.HashKey.code salt class e.0 ≡ true) entries in
+    subst Visited (sym c.class-class.ensures) (record {
+      distinct = subst (HasDistinctKeys g.K.PartialEq.eq) (sym c.in_ok-entries.ensures) lawful.distinct;
+      of_class = subst (λ (s : Salt). Of s c.in_ok-entries.field-0.items) c.hold_first-held.ensures.salt (subst (Of c.hold_first-held.result.bin.salt) (sym c.in_ok-entries.ensures) lawful.of_class);
+      made = (c.hold_first-held.result.role.kept, c.meet_under.ensures.met.history, c.in_ok-entries.ensures ∙ c.meet_under.ensures.met.entries);
+    })

@@ -5,7 +5,8 @@ use Rattle.bin_history.specs.Calls.{after}
 use Rattle.generations.specs.Walks.{IsWalk, IsWalkTo, IsFirstAfter, IsLast}
 use Rattle.chm.specs.Views.{MapView}
 use Rattle.chm.specs.Visits.{VisitView, classes_of, IsVisit, IsOwn}
-use Rattle.chm.proofs.Visiting.{classes-push, IsOwn-visit}
+use Rattle.bin_history.proofs.Keys.{key_tells}
+use Rattle.chm.proofs.Visiting.{classes-push, distinct_visits, IsOwn-visit}
 use Rattle.chm.proofs.map.Map.walk.Goals as goal
 
 -- src/visit.rt:106:9
@@ -59,3 +60,8 @@ returns-in-None-next_in_walk-clause-own g c one =
     let P : VisitView _ _ → Type 0 = IsVisit g.K.PartialEq.eq g.K.HashKey.code (after g.V.PartialEq.eq g.F.Remap.remapped g.F.Remap.merged) c.args.self.now.ledger c.args.pass.now in
     let Q : VisitView _ _ → Type 0 = IsOwn g.K.PartialEq.eq g.K.HashKey.code c.args.self.now.ledger c.args.pass.now in
     All-weaker P Q (λ v is. IsOwn-visit g.K.PartialEq.eq g.K.HashKey.code (after g.V.PartialEq.eq g.F.Remap.remapped g.F.Remap.merged) c.args.self.now.ledger c.args.pass.now v one is) c.push.new.self.items visits.each
+
+pub returns-in-None-next_in_walk-clause-distinct : goal.returns-in-None-next_in_walk-clause-distinct
+returns-in-None-next_in_walk-clause-distinct g c =
+    let visits = returns-in-None-next_in_walk-clause-visits g c in
+    distinct_visits g.K.PartialEq.eq g.K.HashKey.code (after g.V.PartialEq.eq g.F.Remap.remapped g.F.Remap.merged) c.args.self.now.ledger c.args.pass.now (key_tells g.met.K.Eq.laws g.met.K.HashKey.equal_is_same) c.args.self.now.n c.push.new.self.items visits

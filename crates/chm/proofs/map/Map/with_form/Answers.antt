@@ -2,6 +2,7 @@ use Rattle.std.proofs.Common.{List, length, flat_map, ap, sym, subst, ◌∙◌}
 use Rattle.hashkeys.specs.Classes.{IsTableSize}
 use Rattle.chm.specs.Sizes.{IsSizeFor}
 use Rattle.chm.proofs.Empty.{flat_map-empty, length-empty, distinct-empty}
+use Rattle.chm.proofs.Passes.{new_passes-ledger}
 use Rattle.chm.proofs.map.Map.with_form.Goals as goal
 
 pub open-requires-clause-size : goal.open-requires-clause-size
@@ -18,3 +19,6 @@ returns-clause-opening g c = c.in_ok-open.ensures.opening ∙ ap (λ (l : List (
 
 pub returns-clause-size : goal.returns-clause-size
 returns-clause-size g c = subst (IsSizeFor c.args.capacity) (sym (c.in_ok-open.ensures.n ∙ length-empty c.in_ok-bases.bases.items c.size_for.result c.in_ok-bases.ensures)) c.size_for.ensures
+
+pub returns-clause-own : goal.returns-clause-own
+returns-clause-own g c = new_passes-ledger _ _ _ c.in_ok-open.ensures.passes

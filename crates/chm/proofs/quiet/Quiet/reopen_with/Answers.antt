@@ -9,6 +9,7 @@ use Rattle.chm.specs.Quiets.{QuietView, entries_of}
 use Rattle.chm.specs.Reopened.{in_classes}
 use Rattle.chm.specs.Sizes.{IsSizeFrom}
 use Rattle.chm.proofs.Dealing.{positive, length-dealt, distinct-dealt, of_class-dealt}
+use Rattle.chm.proofs.Passes.{new_passes-ledger}
 use Rattle.chm.proofs.Reopening.{distinct_of_leaves, lookup-in_classes}
 use Rattle.chm.proofs.quiet.Quiet.reopen_with.Goals as goal
 
@@ -52,3 +53,6 @@ returns-clause-same_map g c k =
     let size = (returns-clause-size g c).size in
     ap (λ (es : List (_ × _)). lookup g.K.PartialEq.eq es k) (returns-clause-opening g c)
     ∙ lookup-in_classes g.K.PartialEq.eq (key_tells g.met.K.Eq.laws g.met.K.HashKey.equal_is_same) g.K.HashKey.code c.args.salt n pairs k (positive n size)
+
+pub returns-clause-own : goal.returns-clause-own
+returns-clause-own g c = new_passes-ledger _ _ _ c.in_ok-open.ensures.passes

@@ -1,4 +1,11 @@
+use Rattle.facingberyl.proofs.Computing.{told-merge}
 use Rattle.facingberyl.proofs.client.Client.merge.Goals as goal
 
 pub returns-clause-called : goal.returns-clause-called
-returns-clause-called g c = rw c.value_in.ensures at c.in_ok-reply.ensures.called
+returns-clause-called g c = rw (c.value_in-value.ensures, c.balance-before.ensures.same) at (rw (← c.balance.ensures.same) at c.in_ok-reply.ensures.called)
+
+pub returns-clause-used : goal.returns-clause-used
+returns-clause-used g c =
+    let (r, made, found) = c.in_ok-reply.ensures.called in
+    told-merge g.V.PartialEq.eq g.F.Remap.remapped g.F.Remap.merged _ _ _ _ c.balance-before.result c.balance.result c.value_in-value.result c.balance-before.ensures.same c.balance.ensures.same c.balance-before.type_inv c.balance-before.ensures.sum c.balance.ensures.sum
+    c.args.key c.args.value c.args.function c.in_ok-reply.reply r c.is_none.result c.value_in-value.ensures c.is_none.ensures made

@@ -1,7 +1,8 @@
-use Rattle.std.proofs.Common.{◌≡◌, ◌<◌, length, ap, sym, ◌∙◌, arith}
+use Rattle.std.proofs.Common.{◌≡◌, ℕ, ◌<◌, length, ap, subst, sym, ◌∙◌, arith}
 use Rattle.std.proofs.lemmas.Nat.{pow_pos}
 use Rattle.count_ledger.specs.Views.{LedgerId}
-use Rattle.generations.specs.Views.{GenerationsView, place_of}
+use Rattle.generations.specs.Inside.{IsTable}
+use Rattle.generations.specs.Views.{GenerationsView}
 use Rattle.generations.proofs.Openings.{length-new_roles, first_ledger, if_ok_then}
 use Rattle.generations.proofs.generations.Generations.new.Goals as goal
 
@@ -11,13 +12,14 @@ index-requires g c =
     let (id, made) = c.requires.roles in
     omega (arith, c.args.roles.ok.0, length-new_roles id c.args.salt c.args.bases c.args.roles.items made, c.requires.count, is, pow_pos e)
 
-pub around-requires-clause-places : goal.around-requires-clause-places
-around-requires-clause-places g c = λ i d lt.
+pub around-requires : goal.around-requires
+around-requires g c =
     let (e, le, is) = c.requires.size in
     let (id, made) = c.requires.roles in
     let some : 0 < length c.args.bases.items = omega (arith, c.requires.count, is, pow_pos e) in
     let name : c.of-ledger.result ≡ id = c.of-ledger.ensures ∙ first_ledger id c.args.salt c.args.bases c.args.roles.items c.index.result.now made some c.index.ensures in
-    c.in_ok-places.ensures.places id made i d lt ∙ ap (λ (x : LedgerId). place_of (record { ledger = x; form = c.args.form; salt = c.args.salt; n = c.args.n }) (record { n = length c.in_ok-places.places.items; index = i })) (sym name)
+    let table = subst (λ (n : ℕ). IsTable (record { ledger = id; form = c.args.form; salt = c.args.salt; n = n }) n c.in_ok-places.places.items) (sym c.in_ok-places.ensures.count) (c.in_ok-places.ensures.places id made) in
+    record { opening = subst (λ (x : LedgerId). IsTable (record { ledger = x; form = c.args.form; salt = c.args.salt; n = length c.in_ok-places.places.items }) (length c.in_ok-places.places.items) c.in_ok-places.places.items) (sym name) table }
 
 pub returns-clause-n : goal.returns-clause-n
 returns-clause-n g c = if_ok_then c.around.result (λ (m : GenerationsView) made. ap (λ (x : GenerationsView). x.n) made ∙ c.in_ok-places.ensures.count) c.around.ensures

@@ -21,14 +21,14 @@ loop-roles-preserved g c =
     let n_is = c.n-n.ensures.value in
     let size : IsTableSize c.n-n.result = subst IsTableSize (sym n_is) c.n-n.ensures.size in
     let class_is = c.class-class.ensures in
-    let least : c.n-n.result ≤ c.class-class.result.n = (let l = c.in-Some.ensures.of_map.least in let e = ap (λ (x : ClassView). x.n) class_is in omega arith) in
-    let of : covers c.class-class.result c.loop-roles.next.index ≡ true = subst (λ (x : ClassView). covers x c.loop-roles.next.index ≡ true) (sym class_is) (ap (λ i. covers c.in-Some.place.now.class i) (sym c.index.ensures) ∙ c.in-Some.ensures.covers) in
+    let least : c.n-n.result ≤ c.class-class.result.n = (let l = c.find-place.ensures.of_map.least in let e = ap (λ (x : ClassView). x.n) class_is in omega arith) in
+    let of : covers c.class-class.result c.loop-roles.next.index ≡ true = subst (λ (x : ClassView). covers x c.loop-roles.next.index ≡ true) (sym class_is) (ap (λ i. covers c.find-place.result.now.class i) (sym c.index.ensures) ∙ c.find-place.ensures.covers) in
     let wide : c.loop-roles.next.n ≤ c.class-class.result.n = (let a = c.n.ensures.value in let b = c.n-in-loop-roles.ensures.value in let ge = c.if-n.false in omega arith) in
     record {
-      walk = IsWalkTo-more c.n-n.result c.loop-roles.bins.items c.push_reserved.new.self.items c.in-Some-take_leaf.bin c.loop-roles.next c.class-class.result size c.n-in-loop-roles.ensures.class c.n.ensures.class least
-          c.loop-roles.invariant.walk of wide (c.in-Some-take_leaf.ensures.class ∙ sym class_is) c.push_reserved.ensures.items c.in-Some-next_in_walk.class c.in-Some-next_in_walk.ensures.next;
+      walk = IsWalkTo-more c.n-n.result c.loop-roles.bins.items c.push_reserved.new.self.items c.in-Some.bin c.loop-roles.next c.class-class.result size c.n-in-loop-roles.ensures.class c.n.ensures.class least
+          c.loop-roles.invariant.walk of wide (c.in-Some.ensures.class ∙ sym class_is) c.push_reserved.ensures.items c.in-Some-next_in_walk.class c.in-Some-next_in_walk.ensures.next;
       leaves = AreLeaves-more g.K.PartialEq.eq g.K.HashKey.code (after g.V.PartialEq.eq g.F.Remap.remapped g.F.Remap.merged) c.args.self.now c.loop-roles.bins.items c.push_reserved.new.self.items c.loop-roles.roles.items c.push_reserved-in-loop-roles.new.self.items
-          c.in-Some-take_leaf.bin c.in-Some-take_leaf.role c.loop-roles.invariant.leaves c.in-Some-take_leaf.ensures.leaf c.push_reserved.ensures.items c.push_reserved-in-loop-roles.ensures.items;
+          c.in-Some.bin c.in-Some.role c.loop-roles.invariant.leaves c.in-Some.ensures.leaf c.push_reserved.ensures.items c.push_reserved-in-loop-roles.ensures.items;
     }
 
 pub returns-in-None-clause-walk : goal.returns-in-None-clause-walk
@@ -36,14 +36,14 @@ returns-in-None-clause-walk g c = λ ok.
     let n_is = c.n-n.ensures.value in
     let size : IsTableSize c.n-n.result = subst IsTableSize (sym n_is) c.n-n.ensures.size in
     let class_is = c.class-class.ensures in
-    let least : c.n-n.result ≤ c.class-class.result.n = (let l = c.in-Some.ensures.of_map.least in let e = ap (λ (x : ClassView). x.n) class_is in omega arith) in
-    let of : covers c.class-class.result c.loop-roles.next.index ≡ true = subst (λ (x : ClassView). covers x c.loop-roles.next.index ≡ true) (sym class_is) (ap (λ i. covers c.in-Some.place.now.class i) (sym c.index.ensures) ∙ c.in-Some.ensures.covers) in
+    let least : c.n-n.result ≤ c.class-class.result.n = (let l = c.find-place.ensures.of_map.least in let e = ap (λ (x : ClassView). x.n) class_is in omega arith) in
+    let of : covers c.class-class.result c.loop-roles.next.index ≡ true = subst (λ (x : ClassView). covers x c.loop-roles.next.index ≡ true) (sym class_is) (ap (λ i. covers c.find-place.result.now.class i) (sym c.index.ensures) ∙ c.find-place.ensures.covers) in
     let wide : c.loop-roles.next.n ≤ c.class-class.result.n = (let a = c.n.ensures.value in let b = c.n-in-loop-roles.ensures.value in let ge = c.if-n.false in omega arith) in
     subst (λ m. IsWalk m (classes_of_bins c.push_reserved.new.self.items)) n_is
-    (IsWalk-all c.n-n.result c.loop-roles.bins.items c.push_reserved.new.self.items c.in-Some-take_leaf.bin c.loop-roles.next c.class-class.result size c.n-in-loop-roles.ensures.class c.n.ensures.class least
-    c.loop-roles.invariant.walk of wide (c.in-Some-take_leaf.ensures.class ∙ sym class_is) c.push_reserved.ensures.items c.in-None.ensures.last)
+    (IsWalk-all c.n-n.result c.loop-roles.bins.items c.push_reserved.new.self.items c.in-Some.bin c.loop-roles.next c.class-class.result size c.n-in-loop-roles.ensures.class c.n.ensures.class least
+    c.loop-roles.invariant.walk of wide (c.in-Some.ensures.class ∙ sym class_is) c.push_reserved.ensures.items c.in-None.ensures.last)
 
 pub returns-in-None-clause-leaves : goal.returns-in-None-clause-leaves
 returns-in-None-clause-leaves g c = λ ok.
     AreLeaves-more g.K.PartialEq.eq g.K.HashKey.code (after g.V.PartialEq.eq g.F.Remap.remapped g.F.Remap.merged) c.args.self.now c.loop-roles.bins.items c.push_reserved.new.self.items c.loop-roles.roles.items c.push_reserved-in-loop-roles.new.self.items
-    c.in-Some-take_leaf.bin c.in-Some-take_leaf.role c.loop-roles.invariant.leaves c.in-Some-take_leaf.ensures.leaf c.push_reserved.ensures.items c.push_reserved-in-loop-roles.ensures.items
+    c.in-Some.bin c.in-Some.role c.loop-roles.invariant.leaves c.in-Some.ensures.leaf c.push_reserved.ensures.items c.push_reserved-in-loop-roles.ensures.items

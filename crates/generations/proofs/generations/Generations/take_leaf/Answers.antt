@@ -1,11 +1,17 @@
+use Rattle.std.proofs.Common.{subst, sym}
 use Rattle.bin_history.specs.Calls.{after}
-use Rattle.generations.proofs.Places.{AreAt-live, IsLeaf-at}
+use Rattle.bin_history.specs.Lawful.{BinView}
+use Rattle.count_ledger.specs.Views.{RoleView}
+use Rattle.generations.specs.Leaves.{IsLeaf}
+use Rattle.generations.proofs.Places.{IsLeaf-at}
 use Rattle.generations.proofs.generations.Generations.take_leaf.Goals as goal
 
-pub returns-in-Ok-clause-leaf : goal.returns-in-Ok-clause-leaf
-returns-in-Ok-clause-leaf g c =
+pub returns-clause-leaf : goal.returns-clause-leaf
+returns-clause-leaf g c =
     let same = g.K.PartialEq.eq in
+    let code = g.K.HashKey.code in
     let after_is = after g.V.PartialEq.eq g.F.Remap.remapped g.F.Remap.merged in
-    IsLeaf-at same after_is g.K.HashKey.code c.args.self.now c.args.place.now c.in-Ok.bin c.in-Ok.role
-    (AreAt-live same after_is c.args.place.now c.in_ok-state.field-0.state c.in-Ok.bin c.in-Ok.role c.in_ok-state.ensures.2 c.in-Ok.ensures)
-    c.requires c.lawful.ensures.lawful
+    let held = c.in_ok-try_hold.field-0 in
+    let leaf = IsLeaf-at same after_is code c.args.self.now c.args.place.now held.bin held.role c.in_ok-try_hold.ensures.at c.requires c.in_ok-try_hold.ensures.lawful in
+    subst (λ (b : BinView _ _ _). IsLeaf same code after_is c.args.self.now b c.take.result.1) (sym c.take.ensures.bin)
+    (subst (λ (r : RoleView _ _ _). IsLeaf same code after_is c.args.self.now held.bin r) (sym c.take.ensures.role) leaf)

@@ -1,0 +1,33 @@
+//! Calls as contracts know them.
+ghost use Rattle.std.specs.Prelude.{◌≡◌, option_copied};
+ghost use Rattle.bin_history.specs.Readiness.{value_seen};
+
+use crate::call::Call;
+use crate::op::Op;
+use std::snapshot::Snapshot;
+
+/// A call in contracts alone: whole, or its key and what is left of it. Nothing of it is stored.
+#[derive(Drop)]
+pub(crate) enum SeenCall<K, V, F> {
+    Whole(Snapshot<Call<K, V, F>>),
+    Parts(Snapshot<K>, Snapshot<Op<V, F>>),
+}
+
+/// A call, and the values just before it and just after it, where there are any. Of the values it stores whether there
+/// are any; what they are, and the call, is in contracts alone.
+#[derive(Drop)]
+pub(crate) struct Seen<K, V, F> {
+    pub(crate) call: SeenCall<K, V, F>,
+    pub(crate) before: Option<Snapshot<V>>,
+    pub(crate) after: Option<Snapshot<V>>,
+}
+
+/// A value, if there is one, in contracts alone.
+pub(crate) fn value_seen<V>(value: Option<&V>) -> Option<Snapshot<V>>
+    ensures { value_seen result ≡ option_copied value.entry }
+{
+    match value {
+        Some(inner) => Some(Snapshot::of(inner)),
+        None => None,
+    }
+}

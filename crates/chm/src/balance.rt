@@ -1,0 +1,22 @@
+//! What a client's calls came to.
+ghost use Rattle.std.specs.Prelude.{◌≡◌};
+ghost use Rattle.bin_history.specs.Deltas.{sum_of_deltas};
+ghost use Rattle.count_ledger.specs.Words.{word_of};
+
+use crate::map::Map;
+use bin_history::Remap;
+use count_ledger::Pass;
+use hashkeys::HashKey;
+use std::alloc::Allocator;
+
+impl<K: HashKey, V: Clone + Eq, F: Remap<K, V> + Clone, A: Allocator> Map<K, V, F, A> {
+    /// How many keys the calls of this pass added, less how many they took away, as a 64-bit two's complement number. It is exact,
+    /// whatever other clients do meanwhile, and waits for nobody.
+    pub fn balance(&self, pass: &mut Pass<K, V, F>) -> u64
+        requires { pass.old.ledger ≡ self.now.ledger.id }
+        ensures sum { result ≡ word_of (sum_of_deltas pass.old.made) }
+        ensures same { pass.new ≡ pass.old }
+    {
+        self.ledger.share(pass)
+    }
+}

@@ -1,0 +1,12 @@
+pub mod Devices
+pub mod Failures
+pub mod Choices
+pub mod Outcomes
+pub mod Played
+pub mod Texts
+pub mod Greater
+pub mod Above
+pub mod Determined
+pub mod CommandLine
+pub mod Statuses
+pub mod Runs

@@ -1,0 +1,57 @@
+-- What the calls of the clients do to a map.
+use Rattle.std.specs.Prelude.{◌≡◌, ℕ, ℤ, ◌<◌, ◌≤◌, None, IfSome, List, [], length, map, slice_index_or}
+use Rattle.std.specs.List.{zip}
+use Rattle.std.specs.declared.vec.Vec.{Vec}
+use Rattle.bin_history.specs.Records.{RecordView}
+use Rattle.bin_history.specs.declared.call.Reply.{Reply}
+use Rattle.chm.specs.Quiets.{QuietView, entries_of}
+use Rattle.count_ledger.specs.Views.{LedgerId, PassView}
+use Rattle.script.specs.Grammar.{ScriptCall}
+use Rattle.script.specs.declared.function.Function.{Function}
+use Rattle.facing_cli.specs.Outcomes.{Outcome, told}
+use Rattle.facing_cli.specs.declared.client.Client.{Client}
+
+abbrev pub ScriptRecord : Type 0
+ScriptRecord = RecordView (List ℕ) ℤ Function
+
+abbrev pub ScriptPass : Type 0
+ScriptPass = PassView (List ℕ) ℤ Function
+
+abbrev pub ScriptQuiet : Type 0
+ScriptQuiet = QuietView (List ℕ) ℤ Function
+
+-- a vector of vectors as a list of lists
+abbrev pub lists_of : {X Y Z : Type 0} → Vec (Vec X Y) Z → List (List X)
+lists_of v = map (λ b. b.items) v.items
+
+-- the records are of just these calls, in their order, and replied this
+abbrev pub HasMade : List ScriptCall → List (Reply ℤ) → List ScriptRecord → Type 0
+HasMade calls replies made = (map told made ≡ zip calls replies) × (length replies ≡ length calls)
+
+-- a client with a pass of this ledger, before its calls
+pub record IsSeated {A : Type 0} (id : LedgerId) (c : Client A) : Type 0 where
+  pub ledger : c.pass.ledger ≡ id
+  pub fresh : c.pass.made ≡ []
+  pub short : IfSome c.calls (λ calls. length calls.items ≤ 1000000)
+  pub none : c.replies ≡ None
+
+-- the client after its calls: it has its own pass, and where it has replies they are those of its calls
+pub record HasEnded {A : Type 0} (before after : Client A) : Type 0 where
+  pub ledger : after.pass.ledger ≡ before.pass.ledger
+  pub client : after.pass.client ≡ before.pass.client
+  pub made : IfSome before.calls (λ calls. IfSome after.replies (λ replies. HasMade calls.items replies.items after.pass.made))
+
+-- the passes of clients, in their order
+abbrev pub passes_of : {A : Type 0} → List (Client A) → List ScriptPass
+passes_of clients = map (λ c. c.pass) clients
+
+-- client after client, the passes made the calls of the blocks, with these replies
+pub record ArePlayed (blocks : List (List ScriptCall)) (replies : List (List (Reply ℤ))) (passes : List ScriptPass) : Type 0 where
+  pub as_many : length passes ≡ length blocks
+  pub answered : map length replies ≡ map length blocks
+  pub clients : (c : ℕ) (p : ScriptPass) → c < length blocks → (slice_index_or passes c p).client ≡ c
+  pub made : (c : ℕ) (p : ScriptPass) → c < length blocks → HasMade (slice_index_or blocks c []) (slice_index_or replies c []) (slice_index_or passes c p).made
+
+-- the outcome of replies and a closed map
+abbrev pub outcome_of : {X Y : Type 0} → Vec (Vec (Reply ℤ) X) Y → ScriptQuiet → Outcome
+outcome_of replies q = record { replies = lists_of replies; pairs = entries_of q.bins }

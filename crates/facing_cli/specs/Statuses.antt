@@ -1,0 +1,44 @@
+-- How the program tells of the end of a run, and how a command line may end it.
+use Rattle.std.specs.Prelude.{ℕ, Bool, true, false, List, ◌++◌, codes, string_bytes}
+use Rattle.script.specs.Kinds.{fault_text}
+use Rattle.facing_cli.specs.Texts.{ended}
+use Rattle.facing_cli.specs.declared.fault.Fault.{Fault}
+use Rattle.facing_cli.specs.declared.fault.Fault.TheVariants.{NoMemory, BadCapacity, BadWorkers, ScriptFault, Device, BinMissing, Usage, Help}
+
+-- 0 where help was asked, 1 for a script's fault, 2 for a wrong command line, 3 for what went wrong outside
+abbrev pub status_of : Fault → ℕ
+status_of (Help text) = 0
+status_of (ScriptFault line kind) = 1
+status_of (Usage text) = 2
+status_of BadCapacity = 2
+status_of BadWorkers = 2
+status_of NoMemory = 3
+status_of Device = 3
+status_of BinMissing = 3
+
+-- a command line ends a run by its own text, or where memory runs out
+abbrev pub EndsWords : Fault → Type 0
+EndsWords (Usage text) = Unit {0}
+EndsWords (Help text) = Unit {0}
+EndsWords NoMemory = Unit {0}
+EndsWords (ScriptFault line kind) = ⊥
+EndsWords BadCapacity = ⊥
+EndsWords BadWorkers = ⊥
+EndsWords Device = ⊥
+EndsWords BinMissing = ⊥
+
+-- what is told of an end: a command line's own text as it stands, and else one line
+abbrev pub line_of : Fault → List ℕ
+line_of (Usage text) = string_bytes text
+line_of (Help text) = string_bytes text
+line_of (ScriptFault line kind) = ended (codes "mapcli: " ++ fault_text line kind)
+line_of NoMemory = ended (codes "mapcli: no memory")
+line_of Device = ended (codes "mapcli: device")
+line_of BinMissing = ended (codes "mapcli: bins missing")
+line_of BadCapacity = ended (codes "mapcli: the capacity is not 1 to 4096")
+line_of BadWorkers = ended (codes "mapcli: the workers are not 1 to 16")
+
+-- help was asked
+abbrev pub is_help : Fault → Bool
+is_help (Help text) = true
+is_help _ = false

@@ -1,0 +1,67 @@
+//! One client of a script: its pass, and the calls of its block.
+ghost use Rattle.std.specs.Prelude.{◌≡◌, ◌≤◌, [], length, IfOk};
+ghost use Rattle.facing_cli.specs.Played.{HasMade, IsSeated, HasEnded};
+
+use crate::gate::ClientGate;
+use bin_history::Reply;
+use chm::{Fault, Map, Quiet};
+use count_ledger::Pass;
+use hashkeys::Key;
+use script::{Function, ScriptCall};
+use std::alloc::{AllocError, Allocator};
+use std::sync::Wait;
+
+/// A map of the program's keys and values.
+pub(crate) type ScriptMap<A> = Map<Key, i64, Function, A>;
+
+/// Such a map, closed.
+pub(crate) type ScriptQuiet<A> = Quiet<Key, i64, Function, A>;
+
+/// The right of one client to make calls of it.
+pub(crate) type ScriptPass = Pass<Key, i64, Function>;
+
+/// A client: its calls until they are made, and the replies once all were.
+pub(crate) struct Client<A: Allocator> {
+    pub(crate) pass: ScriptPass,
+    pub(crate) calls: Option<Vec<ScriptCall, A>>,
+    pub(crate) replies: Option<Vec<Reply<i64>, A>>,
+}
+
+/// Makes the calls of one client, and answers their replies. It is refused for want of memory alone.
+fn make_calls<R: Wait, G: ClientGate, A: Allocator + Clone>(
+    rt: &R,
+    map: &ScriptMap<A>,
+    gate: &G,
+    pass: &mut ScriptPass,
+    calls: Vec<ScriptCall, A>,
+) -> Result<Vec<Reply<i64>, A>, AllocError>
+    requires pass { pass.old.ledger ≡ map.now.ledger.id }
+    requires fresh { pass.old.made ≡ [] }
+    requires short { length calls.items ≤ 1000000 }
+    ensures ledger { pass.new.ledger ≡ pass.old.ledger }
+    ensures client { pass.new.client ≡ pass.old.client }
+    ensures made { IfOk result (λ replies. HasMade calls.items replies.items pass.new.made) }
+{
+    let mut replies = Vec::with_capacity(calls.allocator().clone()?, calls.len())?;
+    for call in calls {
+        gate.call(pass.client() as usize, pass.made());
+        match map.call(rt, pass, call) {
+            Ok(reply) => replies.push_reserved(reply),
+            Err(Fault::NoMemory) => return Err(AllocError),
+            Err(_) => unreachable!(),
+        }
+    }
+    Ok(replies)
+}
+
+impl<A: Allocator + Clone> Client<A> {
+    /// Makes the client's calls.
+    pub(crate) fn play<R: Wait, G: ClientGate>(&mut self, rt: &R, map: &ScriptMap<A>, gate: &G)
+        requires { IsSeated map.now.ledger.id self.old }
+        ensures { HasEnded self.old self.new }
+    {
+        if let Some(calls) = self.calls.take() {
+            self.replies = make_calls(rt, map, gate, &mut self.pass, calls).ok();
+        }
+    }
+}

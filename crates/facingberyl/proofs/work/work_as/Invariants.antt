@@ -1,4 +1,0 @@
-use Rattle.facingberyl.proofs.work.work_as.Given as goal
-
-abbrev pub ghosts-work_seated : goal.ghosts-work_seated
-ghosts-work_seated g a = record { ledger = a.map.now.ledger.id; lent = a.pass.ghost_name }

@@ -1,0 +1,147 @@
+//! The calls that may use a function, or not.
+ghost use Rattle.std.specs.Prelude.{◌≡◌, ◌≤◌, ◌↔◌, length, IfOk, IfErr, IsErrOf, OnErr};
+ghost use Rattle.bin_history.specs.Copies.{IsExact};
+ghost use Rattle.bin_history.specs.Deltas.{sum_of_deltas};
+ghost use Rattle.bin_history.specs.declared.call.Call.TheVariants.{ComputeIfAbsent, ComputeIfPresent, Merge};
+ghost use Rattle.bin_history.specs.declared.call.Reply.TheVariants.{Value};
+ghost use Rattle.count_ledger.specs.Limits.{most_calls};
+ghost use Rattle.count_ledger.specs.Words.{word_of};
+ghost use Rattle.chm.specs.Called.{IsCalled};
+ghost use Rattle.chm.specs.Refusals.{IsOfCall};
+ghost use Rattle.facingberyl.specs.Computed.{IsTold};
+
+use crate::client::{Client, Seat};
+use crate::typed::value_in;
+use bin_history::Remap;
+use chm::Fault;
+use hashkeys::HashKey;
+use std::alloc::Allocator;
+use std::sync::Wait;
+
+/// What a call with a function answers.
+#[derive(Debug, Drop, PartialEq, Eq)]
+pub struct Computed<V> {
+    /// The value at the key after the call.
+    pub value: Option<V>,
+    /// Whether the function was used.
+    pub used: bool,
+}
+
+impl<S: Seat, K: HashKey, V: Clone + Eq, F: Remap<K, V> + Clone, A: Allocator> Client<
+    '_,
+    S,
+    K,
+    V,
+    F,
+    A,
+> {
+    /// How many keys the client's calls added, less how many they took away, as a 64-bit two's complement number.
+    ///
+    ///     client.remove(rt, 1)?;
+    ///     let before = client.balance();
+    ///     client.put(rt, 1, 5)?;
+    ///     client.balance() == before.wrapping_add(1)
+    pub fn balance(&mut self) -> u64
+        ensures sum { result ≡ word_of (sum_of_deltas self.old.pass.now.made) }
+        ensures same { self.new.pass.now ≡ self.old.pass.now }
+        ensures map { self.new.map.now ≡ self.old.map.now }
+    {
+        self.map.balance(self.pass)
+    }
+}
+
+impl<
+    S: Seat,
+    K: HashKey + Drop,
+    V: Clone + Eq + Drop,
+    F: Remap<K, V> + Clone + Drop,
+    A: Allocator + Clone,
+> Client<'_, S, K, V, F, A> {
+    /// Gives a key without a value what the function makes of none. It answers the value after, and whether the
+    /// function was used.
+    ///
+    ///     client.put(rt, 1, 5)?;
+    ///     client.compute_if_absent(rt, 1, Add)? == Computed { value: Some(5), used: false }
+    pub fn compute_if_absent<R: Wait>(
+        &mut self,
+        rt: &R,
+        key: K,
+        function: F,
+    ) -> Result<Computed<V>, Fault>
+        requires keys { IsExact K.is_clone }
+        requires values { IsExact V.is_clone }
+        requires functions { IsExact F.is_clone }
+        ensures called { IfOk result (λ answer. IsCalled K.eq K.code V.eq F.remapped F.merged self.old.map.now.ledger (ComputeIfAbsent key function) self.old.pass.now self.new.pass.now (Value answer.value)) }
+        ensures used { IfOk result (λ answer. IsTold (ComputeIfAbsent key function) self.old.pass.now self.new.pass.now answer.used) }
+        ensures refused { OnErr result (self.new.pass.now ≡ self.old.pass.now) }
+        ensures full { IsErrOf result Fault.PassFull ↔ (most_calls self.old.map.now.ledger.form ≤ length self.old.pass.now.made) }
+        ensures faults { IfErr result IsOfCall }
+        ensures map { self.new.map.now ≡ self.old.map.now }
+    {
+        let before = self.map.balance(self.pass);
+        let reply = self.map.compute_if_absent(rt, self.pass, key, function)?;
+        let value = value_in(reply);
+        let changed = self.map.balance(self.pass) != before;
+        let used = value.is_none() | changed;
+        Ok(Computed { value, used })
+    }
+
+    /// Gives a key with a value what the function makes of it. It answers the value after, and whether the
+    /// function was used.
+    ///
+    ///     client.put(rt, 1, 5)?;
+    ///     client.compute_if_present(rt, 1, Add)? == Computed { value: Some(5), used: true }
+    pub fn compute_if_present<R: Wait>(
+        &mut self,
+        rt: &R,
+        key: K,
+        function: F,
+    ) -> Result<Computed<V>, Fault>
+        requires keys { IsExact K.is_clone }
+        requires values { IsExact V.is_clone }
+        requires functions { IsExact F.is_clone }
+        ensures called { IfOk result (λ answer. IsCalled K.eq K.code V.eq F.remapped F.merged self.old.map.now.ledger (ComputeIfPresent key function) self.old.pass.now self.new.pass.now (Value answer.value)) }
+        ensures used { IfOk result (λ answer. IsTold (ComputeIfPresent key function) self.old.pass.now self.new.pass.now answer.used) }
+        ensures refused { OnErr result (self.new.pass.now ≡ self.old.pass.now) }
+        ensures full { IsErrOf result Fault.PassFull ↔ (most_calls self.old.map.now.ledger.form ≤ length self.old.pass.now.made) }
+        ensures faults { IfErr result IsOfCall }
+        ensures map { self.new.map.now ≡ self.old.map.now }
+    {
+        let before = self.map.balance(self.pass);
+        let reply = self.map.compute_if_present(rt, self.pass, key, function)?;
+        let value = value_in(reply);
+        let changed = self.map.balance(self.pass) != before;
+        let used = value.is_some() | changed;
+        Ok(Computed { value, used })
+    }
+
+    /// Gives a key without a value this one, and a key with a value what the function makes of both. It answers the value
+    /// after, and whether the function was used.
+    ///
+    ///     client.put(rt, 1, 5)?;
+    ///     client.merge(rt, 1, 2, Add)? == Computed { value: Some(7), used: true }
+    pub fn merge<R: Wait>(
+        &mut self,
+        rt: &R,
+        key: K,
+        value: V,
+        function: F,
+    ) -> Result<Computed<V>, Fault>
+        requires keys { IsExact K.is_clone }
+        requires values { IsExact V.is_clone }
+        requires functions { IsExact F.is_clone }
+        ensures called { IfOk result (λ answer. IsCalled K.eq K.code V.eq F.remapped F.merged self.old.map.now.ledger (Merge key value function) self.old.pass.now self.new.pass.now (Value answer.value)) }
+        ensures used { IfOk result (λ answer. IsTold (Merge key value function) self.old.pass.now self.new.pass.now answer.used) }
+        ensures refused { OnErr result (self.new.pass.now ≡ self.old.pass.now) }
+        ensures full { IsErrOf result Fault.PassFull ↔ (most_calls self.old.map.now.ledger.form ≤ length self.old.pass.now.made) }
+        ensures faults { IfErr result IsOfCall }
+        ensures map { self.new.map.now ≡ self.old.map.now }
+    {
+        let before = self.map.balance(self.pass);
+        let reply = self.map.merge(rt, self.pass, key, value, function)?;
+        let value = value_in(reply);
+        let changed = self.map.balance(self.pass) != before;
+        let used = value.is_none() | !changed;
+        Ok(Computed { value, used })
+    }
+}

@@ -1,0 +1,94 @@
+-- Places in a table by their index, and tables by their exponent.
+use Rattle.std.proofs.Common.{◌≡◌, ◌⊎◌, inl, inr, ℕ, zero, suc, ◌+◌, ◌-◌, ◌<◌, ◌≤◌, ◌%◌, ◌^◌, true, List, [], ◌∷◌, ◌++◌, length, get_or, map, sym, ap, subst, refl, ◌∙◌, arith}
+use Rattle.std.specs.Int.Bits.{bit_and}
+use Rattle.std.specs.Int.Count.{count_trailing_zeros}
+use Rattle.std.specs.List.{range_with_len}
+use Rattle.std.proofs.Math.Nat.{mod-lt}
+use Rattle.std.proofs.Math.Seq.{get_or-append_seam}
+use Rattle.std.proofs.lemmas.Bool.{cases_lt, eq-eqb}
+use Rattle.std.proofs.lemmas.List.{get_or_append_left}
+use Rattle.std.proofs.lemmas.List.FromFn.{get_or-map-range_with_len}
+use Rattle.std.proofs.lemmas.Nat.{and_mask, pow_pos}
+use Rattle.boxcar.specs.Slot.{Named}
+use Rattle.hashkeys.specs.Classes.{IsTableSize, covers}
+use Rattle.generations.specs.Inside.{IsTable, IsSlotOf, map_named, size_named}
+use Rattle.generations.specs.Views.{GenerationsView, IsOfMap, place_of}
+use Rattle.generations.specs.declared.state.PlaceTag.{PlaceTag}
+
+-- the map's place at an index of its table of n places
+abbrev pub tag_at : GenerationsView → ℕ → ℕ → PlaceTag
+tag_at m n i = place_of m (record { n = n; index = i })
+
+pub IsTable-all : (m : GenerationsView) (n : ℕ) (places : List PlaceTag) → IsTableSize n → m.n ≤ n → length places ≡ n → places ≡ map (tag_at m n) (range_with_len 0 n) → IsTable m n places
+IsTable-all m n places size least count is = record {
+  size = size;
+  least = least;
+  count = count;
+  by_index = λ i d lt. ap (λ (l : List PlaceTag). get_or l i d) is ∙ get_or-map-range_with_len (tag_at m n) 0 n i i d lt (omega arith);
+}
+
+-- the remainder by a table's size, as a mask
+pub mask_is : (hash n : ℕ) → IsTableSize n → bit_and hash (n - 1) ≡ hash % n
+mask_is hash n (e, le, is) = subst (λ (x : ℕ). bit_and hash (x - 1) ≡ hash % x) (sym is) (and_mask hash e)
+
+pub size_pos : (n : ℕ) → IsTableSize n → 0 < n
+size_pos n (e, le, is) = omega (arith, is, pow_pos e)
+
+-- the place of a table at a hash's remainder is of the map, and covers the hash
+module _ (m : GenerationsView) (n : ℕ) (places : List PlaceTag) (table : IsTable m n places) (hash index : ℕ) (at : index ≡ bit_and hash (length places - 1)) (p : PlaceTag) (is : p ≡ get_or places index p) where
+  index_is : index ≡ hash % n
+  index_is = at ∙ ap (λ (x : ℕ). bit_and hash (x - 1)) table.count ∙ mask_is hash n table.size
+
+  below : index < n
+  below = (let some = size_pos n table.size in let less = mod-lt hash some in omega (arith, index_is))
+
+  pub place_at : p ≡ tag_at m n index
+  place_at = is ∙ table.by_index index p below
+
+  pub place_of_map : IsOfMap m p
+  place_of_map = subst (IsOfMap m) (sym place_at) (record { form = refl; salt = refl; ledger = refl; least = table.least })
+
+  pub place_covers : covers p.class hash ≡ true
+  place_covers = subst (λ (q : PlaceTag). covers q.class hash ≡ true) (sym place_at) (eq-eqb _ _ (sym index_is))
+
+-- the exponent of a table's size
+exponent_below : (e : ℕ) → e < 17 → count_trailing_zeros 32 (2 ^ e) ≡ e
+unfolding count_trailing_zeros
+exponent_below zero lt = refl
+exponent_below (suc zero) lt = refl
+exponent_below (suc (suc zero)) lt = refl
+exponent_below (suc (suc (suc zero))) lt = refl
+exponent_below (suc (suc (suc (suc zero)))) lt = refl
+exponent_below (suc (suc (suc (suc (suc zero))))) lt = refl
+exponent_below (suc (suc (suc (suc (suc (suc zero)))))) lt = refl
+exponent_below (suc (suc (suc (suc (suc (suc (suc zero))))))) lt = refl
+exponent_below (suc (suc (suc (suc (suc (suc (suc (suc zero)))))))) lt = refl
+exponent_below (suc (suc (suc (suc (suc (suc (suc (suc (suc zero))))))))) lt = refl
+exponent_below (suc (suc (suc (suc (suc (suc (suc (suc (suc (suc zero)))))))))) lt = refl
+exponent_below (suc (suc (suc (suc (suc (suc (suc (suc (suc (suc (suc zero))))))))))) lt = refl
+exponent_below (suc (suc (suc (suc (suc (suc (suc (suc (suc (suc (suc (suc zero)))))))))))) lt = refl
+exponent_below (suc (suc (suc (suc (suc (suc (suc (suc (suc (suc (suc (suc (suc zero))))))))))))) lt = refl
+exponent_below (suc (suc (suc (suc (suc (suc (suc (suc (suc (suc (suc (suc (suc (suc zero)))))))))))))) lt = refl
+exponent_below (suc (suc (suc (suc (suc (suc (suc (suc (suc (suc (suc (suc (suc (suc (suc zero))))))))))))))) lt = refl
+exponent_below (suc (suc (suc (suc (suc (suc (suc (suc (suc (suc (suc (suc (suc (suc (suc (suc zero)))))))))))))))) lt = refl
+exponent_below (suc (suc (suc (suc (suc (suc (suc (suc (suc (suc (suc (suc (suc (suc (suc (suc (suc e))))))))))))))))) lt = absurd (omega arith)
+
+pub exponent_is : (size : ℕ) → IsTableSize size → 2 ^ count_trailing_zeros 32 size ≡ size
+exponent_is size (e, le, is) = ap (λ (x : ℕ). 2 ^ count_trailing_zeros 32 x) is ∙ ap (λ (x : ℕ). 2 ^ x) (exponent_below e (omega arith)) ∙ sym is
+
+-- what a slot of the map's tables keeps is a table of the map
+pub table_in_slot : (m : GenerationsView) (e : ℕ) (slot : Named) (places : List PlaceTag) → IsSlotOf m e slot → IsTable (map_named slot.tag) (size_named slot.tag) places → IsTable m (2 ^ e) places
+table_in_slot m e slot places of table = subst (λ (x : GenerationsView). IsTable x (2 ^ e) places) of.of_map (subst (λ (n : ℕ). IsTable (map_named slot.tag) n places) of.of_size table)
+
+-- and a table of the map may be put into its slot
+pub table_for_slot : (m : GenerationsView) (e : ℕ) (slot : Named) (places : List PlaceTag) → IsSlotOf m e slot → IsTable m (2 ^ e) places → IsTable (map_named slot.tag) (size_named slot.tag) places
+table_for_slot m e slot places of table = subst (λ (n : ℕ). IsTable (map_named slot.tag) n places) (sym of.of_size) (subst (λ (x : GenerationsView). IsTable x (2 ^ e) places) (sym of.of_map) table)
+
+-- one more slot
+pub slots_push : (m : GenerationsView) (slots more : List Named) (slot : Named) → more ≡ slots ++ slot ∷ [] → IsSlotOf m (length slots) slot
+    → ((e : ℕ) (d : Named) → e < length slots → IsSlotOf m e (get_or slots e d)) → (e : ℕ) (d : Named) → e < length slots + 1 → IsSlotOf m e (get_or more e d)
+slots_push m slots more slot is of all e d lt = subst (λ (l : List Named). IsSlotOf m e (get_or l e d)) (sym is)
+    (elim (cases_lt e (length slots)) [
+      | inl l ↦ subst (IsSlotOf m e) (sym (get_or_append_left slots (slot ∷ []) d e l)) (all e d l)
+      | inr ge ↦ (let same : e ≡ length slots = omega arith in subst (λ (x : ℕ). IsSlotOf m x (get_or (slots ++ slot ∷ []) x d)) (sym same) (subst (IsSlotOf m (length slots)) (sym (get_or-append_seam slots slot [] d)) of))
+    ])

@@ -1,0 +1,70 @@
+//! Tables by size: which place a hash is found at, and a table that is made before its move.
+use crate::maps::{KeyMap, open_quiet};
+use bin_history::Form;
+use generations::Moved;
+use hashkeys::Class;
+use refusing_alloc::Refusing;
+use std::alloc::{AllocError, Allocator, Global};
+use std::sync::Wait;
+use std::test::Fail;
+
+/// The size and the index of the class of the bin that is shown for the hash.
+fn shown_at<R: Wait, A: Allocator + Clone>(rt: &R, map: &KeyMap<A>, hash: u32) -> (u32, u32) {
+    let shown = map.read(rt, hash);
+    let class = shown.bin().class();
+    shown.release();
+    (class.n(), class.index())
+}
+
+/// The same for the hashes 4 to 7.
+fn shown<R: Wait, A: Allocator + Clone>(rt: &R, map: &KeyMap<A>) -> [(u32, u32); 4] {
+    [
+        shown_at(rt, map, 4),
+        shown_at(rt, map, 5),
+        shown_at(rt, map, 6),
+        shown_at(rt, map, 7),
+    ]
+}
+
+#[test]
+fn the_widest_place_of_a_hash_is_found(rt: HostRuntime) -> Result<(), Fail> {
+    let (map, ledger) = open_quiet(rt.alloc(), Form::Recorded, 1)?;
+    let before = shown(&rt, &map);
+    let first = map.forward(&rt, &ledger, Class::new(1, 0));
+    let between = shown(&rt, &map);
+    let second = map.forward(&rt, &ledger, Class::new(2, 1));
+    let after = shown(&rt, &map);
+    drop(map);
+    drop(ledger);
+    assert_eq!(rt; (first?, second?), (Moved::Yes, Moved::Yes));
+    assert_eq!(rt; before, [(1, 0); 4]);
+    assert_eq!(rt; between, [(2, 0), (2, 1), (2, 0), (2, 1)]);
+    assert_eq!(rt; after, [(2, 0), (4, 1), (2, 0), (4, 3)]);
+    Ok(())
+}
+
+/// Makes the table of two places under an allocator that refuses the request after so many, and then moves the one bin,
+/// which is empty, with no request granted. Answers both.
+fn widened<R: Wait>(
+    rt: &R,
+    alloc: &Refusing<Global>,
+    granted: u64,
+) -> Result<(bool, bool), AllocError> {
+    let (map, ledger) = open_quiet(alloc, Form::Lean, 1)?;
+    alloc.refuse_after(granted);
+    let made = map.widen(rt, 2).is_ok();
+    alloc.refuse_after(0);
+    let moved = map.forward(rt, &ledger, Class::new(1, 0)).is_ok();
+    alloc.refuse_after(u64::MAX);
+    drop(map);
+    drop(ledger);
+    Ok((made, moved))
+}
+
+#[test]
+fn a_table_that_is_there_is_not_made_again(rt: HostRuntime) -> Result<(), Fail> {
+    let alloc = Refusing::new(rt.alloc());
+    assert_eq!(rt; widened(&rt, &alloc, 0)?, (false, false));
+    assert_eq!(rt; widened(&rt, &alloc, 1)?, (true, true));
+    Ok(())
+}

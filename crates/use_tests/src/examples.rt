@@ -1,0 +1,145 @@
+//! The examples of the calls of a client, each as it stands with its call.
+use facingberyl::{Add, Client, Computed, Fault, Seat, Team, Work};
+use std::alloc::Global;
+use std::sync::Wait;
+use std::sync::atomic::AtomicU64;
+use std::sync::atomic::Ordering::SeqCst;
+use std::test::Fail;
+
+/// A client of the examples.
+type Numbers<'a, S> = Client<'a, S, u64, u64, Add, Global>;
+
+fn get<S: Seat, R: Wait>(rt: &R, client: &mut Numbers<'_, S>) -> Result<bool, Fault> {
+    client.put(rt, 1, 5)?;
+    Ok(client.get(rt, 1)? == Some(5))
+}
+
+fn look_up<S: Seat, R: Wait>(rt: &R, client: &mut Numbers<'_, S>) -> Result<bool, Fault> {
+    client.put(rt, 1, 5)?;
+    Ok(client.look_up(rt, &1)? == Some(5))
+}
+
+fn contains_key<S: Seat, R: Wait>(rt: &R, client: &mut Numbers<'_, S>) -> Result<bool, Fault> {
+    client.put(rt, 1, 5)?;
+    Ok(client.contains_key(rt, 1)?)
+}
+
+fn put<S: Seat, R: Wait>(rt: &R, client: &mut Numbers<'_, S>) -> Result<bool, Fault> {
+    client.put(rt, 1, 5)?;
+    Ok(client.put(rt, 1, 6)? == Some(5))
+}
+
+fn put_if_absent<S: Seat, R: Wait>(rt: &R, client: &mut Numbers<'_, S>) -> Result<bool, Fault> {
+    client.put(rt, 1, 5)?;
+    Ok(client.put_if_absent(rt, 1, 6)? == Some(5))
+}
+
+fn remove<S: Seat, R: Wait>(rt: &R, client: &mut Numbers<'_, S>) -> Result<bool, Fault> {
+    client.put(rt, 1, 5)?;
+    Ok(client.remove(rt, 1)? == Some(5))
+}
+
+fn remove_if<S: Seat, R: Wait>(rt: &R, client: &mut Numbers<'_, S>) -> Result<bool, Fault> {
+    client.put(rt, 1, 5)?;
+    Ok(!client.remove_if(rt, 1, 6)?)
+}
+
+fn replace<S: Seat, R: Wait>(rt: &R, client: &mut Numbers<'_, S>) -> Result<bool, Fault> {
+    client.remove(rt, 1)?;
+    Ok(client.replace(rt, 1, 6)? == None)
+}
+
+fn replace_if<S: Seat, R: Wait>(rt: &R, client: &mut Numbers<'_, S>) -> Result<bool, Fault> {
+    client.put(rt, 1, 5)?;
+    Ok(client.replace_if(rt, 1, 5, 6)?)
+}
+
+fn compute<S: Seat, R: Wait>(rt: &R, client: &mut Numbers<'_, S>) -> Result<bool, Fault> {
+    client.put(rt, 1, 5)?;
+    Ok(client.compute(rt, 1, Add)? == Some(5))
+}
+
+fn compute_if_absent<S: Seat, R: Wait>(rt: &R, client: &mut Numbers<'_, S>) -> Result<bool, Fault> {
+    client.put(rt, 1, 5)?;
+    Ok(
+        client.compute_if_absent(rt, 1, Add)?
+            == Computed {
+                value: Some(5),
+                used: false,
+            },
+    )
+}
+
+fn compute_if_present<S: Seat, R: Wait>(
+    rt: &R,
+    client: &mut Numbers<'_, S>,
+) -> Result<bool, Fault> {
+    client.put(rt, 1, 5)?;
+    Ok(
+        client.compute_if_present(rt, 1, Add)?
+            == Computed {
+                value: Some(5),
+                used: true,
+            },
+    )
+}
+
+fn merge<S: Seat, R: Wait>(rt: &R, client: &mut Numbers<'_, S>) -> Result<bool, Fault> {
+    client.put(rt, 1, 5)?;
+    Ok(
+        client.merge(rt, 1, 2, Add)?
+            == Computed {
+                value: Some(7),
+                used: true,
+            },
+    )
+}
+
+fn balance<S: Seat, R: Wait>(rt: &R, client: &mut Numbers<'_, S>) -> Result<bool, Fault> {
+    client.remove(rt, 1)?;
+    let before = client.balance();
+    client.put(rt, 1, 5)?;
+    Ok(client.balance() == before.wrapping_add(1))
+}
+
+/// Runs the examples, and counts those that are right.
+#[derive(Clone, Copy)]
+struct Examples<'a> {
+    right: &'a AtomicU64,
+}
+
+impl Work<u64, u64, Add, Global> for Examples<'_> {
+    fn work<S: Seat, R: Wait>(&self, rt: &R, client: &mut Numbers<'_, S>) {
+        let told = [
+            get(rt, client),
+            look_up(rt, client),
+            contains_key(rt, client),
+            put(rt, client),
+            put_if_absent(rt, client),
+            remove(rt, client),
+            remove_if(rt, client),
+            replace(rt, client),
+            replace_if(rt, client),
+            compute(rt, client),
+            compute_if_absent(rt, client),
+            compute_if_present(rt, client),
+            merge(rt, client),
+            balance(rt, client),
+        ];
+        for right in told {
+            if right == Ok(true) {
+                self.right.fetch_add(1, SeqCst);
+            }
+        }
+    }
+}
+
+#[test]
+fn each_example_is_as_it_says(rt: HostRuntime) -> Result<(), Fail> {
+    let right = AtomicU64::new(0);
+    let mut team = Team::new(rt.alloc(), 1, 1)?;
+    team.work(&rt, &Examples { right: &right });
+    drop(team);
+    assert_eq!(rt; right.load(SeqCst), 14);
+    Ok(())
+}
