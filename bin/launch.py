@@ -19,8 +19,8 @@ import sys
 import time
 
 TOP = os.path.dirname(os.path.dirname(os.path.realpath(__file__)))
-# A first check of 1,000 lines took a processor 0.9 to 1.4 minutes, and one over kept work takes much less.
-MINUTES_A_LINE, KEPT_SHARE = 1.2 / 1000, 0.2
+# A first check of 1,000 lines took a processor 0.4 to 3.3 minutes, by the crate, and one over kept work takes much less.
+MINUTES_A_LINE, KEPT_SHARE = 2 / 1000, 0.2
 # The programs' own status where the machine is at fault.
 NOT_BUILT = 3
 # So long a trial run may take.
@@ -139,12 +139,16 @@ class Build:
         if not os.access(self.program, os.X_OK) or os.path.exists(self.before):
             return False
         told = text_of(self.mark(self.name))
-        # (rt ci builds each program, and leaves no mark)
-        is_by_ci = told is None and os.stat(self.program).st_mtime > self.sources.newest()
-        if is_by_ci or told == self.sources.sum(self.name):
+        built = os.stat(self.program).st_mtime
+        if told is None:
+            # (rt ci builds each program, and leaves no mark)
+            is_current = built > self.sources.newest()
+        else:
+            # (a program that is newer than its mark was built by hand, from files of which nothing is told)
+            is_current = built <= os.stat(self.mark(self.name)).st_mtime and told == self.sources.sum(self.name)
+        if is_current:
             self.write_mark(self.name, self.sources.sum(self.name))
-            return True
-        return False
+        return is_current
 
     def write_mark(self, crate, its_sum):
         with contextlib.suppress(OSError), open(self.mark(crate), "w", encoding="utf-8") as it:
@@ -261,7 +265,8 @@ def try_unproved(name, words):
     data, given, before = [], [], "--"
     for word in words:
         # Each option of the programs takes a value; any other word may name a file, of which the trial run gets a copy.
-        is_plain = not word.startswith("-") and (before == "--" or not before.startswith("--"))
+        is_value = before.startswith("--") and before != "--" and "=" not in before
+        is_plain = not word.startswith("-") and not is_value
         before = word
         if is_plain and os.path.isfile(word):
             copy = re.sub(r"[^\w.]", "_", os.path.basename(word)) + ".copy"

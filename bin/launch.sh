@@ -3,7 +3,7 @@
 top=$(dirname -- "$here")
 out=$top/crates/$name/out
 if [ "${1-}" != --unproved ] && [ -x "$out/$name" ] && [ -f "$out/proved_from" ]; then
-    newer=$(cd "$top" && find crates.txt crates/*/src crates/*/specs crates/*/proofs -newer "$out/proved_from" -print -quit 2>/dev/null)
+    newer=$(cd "$top" && find "$out/$name" crates.txt crates/*/src crates/*/specs crates/*/proofs -newer "$out/proved_from" -print -quit 2>/dev/null)
     [ -n "$newer" ] || exec "$out/$name" "$@"
 fi
 exec python3 "$here/launch.py" "$name" "$@"

@@ -10,7 +10,7 @@ It proves nothing. It looks whether
   a file that is named is there;
   a function that a page names with its file, or with its clauses, is there and has them;
   a definition that a page names with its file is there;
-  each line of an example that stands with a call of a client stands in the tests that run it;
+  each line of an example that stands with a call of a client, of a map or of a closed one stands in the tests that run it;
   each crate of crates.txt has a README and a line in ARCHITECTURE.md, and each stored edit a line in TRIED.md;
   each test that TRIED.md names is there.
 It prints a line for each fault, and ends with status 1 where there is one."""
@@ -23,12 +23,18 @@ TOP = os.path.dirname(os.path.dirname(os.path.realpath(__file__)))
 COLUMNS = 120
 PATH = r"[a-z_]+/(?:src|specs)/\w+\.(?:rt|antt)"
 TRIED = "docs/TRIED.md"
-EXAMPLES = "crates/use_tests/src/examples.rt"
+EXAMPLES = {
+    "crates/facingberyl/src/*.rt": "crates/use_tests/src/*examples.rt",
+    "crates/chm/src/*.rt": "crates/map_tests/src/*examples.rt",
+}
 
 
 def text_of(path):
     with open(f"{TOP}/{path}", encoding="utf-8") as it:
         return it.read()
+
+
+SPECS = "\n".join(text_of(os.path.relpath(it, TOP)) for it in sorted(glob.glob(f"{TOP}/crates/*/specs/*.antt")))
 
 
 def words_of(text):
@@ -120,8 +126,19 @@ def sources_of(crate):
     return "\n".join(text_of(os.path.relpath(it, TOP)) for it in sorted(glob.glob(f"{TOP}/crates/{crate}/src/*.rt")))
 
 
+def fields_of(head):
+    """The fields of the records of specs that a function's clauses name: parts of what it ensures, as clauses are."""
+    fields, names = set(), set(re.findall(r"\b[A-Z]\w+", "".join(re.findall(r"(?m)^\s*ensures .*$", head))))
+    for name in list(names):
+        names.update(*(re.findall(r"\b[A-Z]\w+", it) for it in re.findall(rf"(?m)^ *abbrev pub {name} : .*\n *{name} .*=(.*)$", SPECS)))
+    for name in names:
+        for body in re.findall(rf"(?m)^ *pub record {name} .*\n((?: +(?:pub|--) .*\n?)+)", SPECS):
+            fields.update(re.findall(r"(?m)^ +pub ([a-z_]+) :", body))
+    return fields
+
+
 def lost_clauses(page, flat, home="", kinds="ensures"):
-    """Functions that stand with clauses, as `chm::Map::call` (`called`, `refused`); without its crate where the page is about one."""
+    """Functions that stand with clauses, or with parts of one that is a record, as `chm::Map::call` (`called`, `refused`); without its crate where the page is about one."""
     for name, clauses in re.findall(r"`([A-Za-z_:]+)` \(((?:`[a-z_]+`(?:, )?)+)\)", flat):
         parts = name.split("::")
         crate = parts[0] if len(parts) > 1 and parts[0][0].islower() else home
@@ -132,7 +149,7 @@ def lost_clauses(page, flat, home="", kinds="ensures"):
             yield f"{page}: {crate} has no function {parts[-1]}"
             continue
         for clause in re.findall(r"`([a-z_]+)`", clauses):
-            if not any(re.search(rf"\b(?:{kinds}) {clause} \{{", it) for it in heads):
+            if not any(re.search(rf"\b(?:{kinds}) {clause} \{{", it) or clause in fields_of(it) for it in heads):
                 yield f"{page}: {name} has no clause {clause}"
 
 
@@ -148,15 +165,19 @@ def lost_definitions(page, flat):
                 yield f"{page}: crates/{path} defines no {name}"
 
 
-def wrong_client_examples():
-    """Examples in the comments of the calls of a client, which EXAMPLES runs."""
-    run = "".join(text_of(EXAMPLES).split()).replace(",}", "}")
-    for name in ("typed", "computed"):
-        page = f"crates/facingberyl/src/{name}.rt"
-        for number, line in enumerate(text_of(page).splitlines(), 1):
-            shown = re.match(r"\s*///     (.*)$", line)
-            if shown and "".join(shown[1].split()) not in run:
-                yield f"{page}:{number}: {EXAMPLES} has not: {shown[1]}"
+def squeezed(code):
+    return re.sub(r",([)}])", r"\1", "".join(code.split()))
+
+
+def wrong_call_examples():
+    """Examples in the comments of calls, each of which the tests of EXAMPLES run."""
+    for pages, tests in EXAMPLES.items():
+        run = squeezed("\n".join(text_of(os.path.relpath(it, TOP)) for it in sorted(glob.glob(f"{TOP}/{tests}"))))
+        for page in sorted(os.path.relpath(it, TOP) for it in glob.glob(f"{TOP}/{pages}")):
+            for number, line in enumerate(text_of(page).splitlines(), 1):
+                shown = re.match(r"\s*///     (.*)$", line)
+                if shown and squeezed(shown[1]).rstrip(",") not in run:
+                    yield f"{page}:{number}: {tests} has not: {shown[1].strip()}"
 
 
 def crates():
@@ -204,7 +225,7 @@ def main():
             faults += look(page, flat)
         if page != TRIED:
             faults += lost_clauses(page, flat)
-    faults += wrong_client_examples()
+    faults += wrong_call_examples()
     faults += lost_crates()
     faults += lost_edits()
     for fault in faults:

@@ -194,7 +194,7 @@ impl<K: HashKey, V: Clone + Eq, F: Remap<K, V> + Clone, A: Allocator + Clone> Bi
 }
 
 impl<K: HashKey, V: Clone + Eq, F: Remap<K, V> + Clone, A: Allocator + Clone> Bin<K, V, F, A> {
-    ghost use Rattle.std.specs.Prelude.{true, ◌<◌, ◌^◌, ◌∷◌, [], IfOk, OnOk, OnErr};
+    ghost use Rattle.std.specs.Prelude.{true, ◌+◌, ◌<◌, ◌^◌, ◌∷◌, [], length, IfOk, OnOk, OnErr};
     ghost use Rattle.hashkeys.specs.Classes.{is_of};
     ghost use Rattle.bin_history.specs.Calls.{after, key_of, reply};
     ghost use Rattle.bin_history.specs.Copies.{IsExact};
@@ -261,7 +261,8 @@ impl<K: HashKey, V: Clone + Eq, F: Remap<K, V> + Clone, A: Allocator + Clone> Bi
 
     /// Makes a call that was prepared on this bin, since when nothing was applied, as the call of this client,
     /// below 64, after so many others of it, fewer than 2^58. It answers the reply and what the books need. A
-    /// recorded bin keeps the record; a lean one keeps the entries alone.
+    /// recorded bin keeps the record; a lean one keeps the entries alone. It takes no memory: what it keeps goes into
+    /// the room that there is.
     pub fn apply(
         &mut self,
         ready: Ready<K, V, F>,
@@ -276,6 +277,8 @@ impl<K: HashKey, V: Clone + Eq, F: Remap<K, V> + Clone, A: Allocator + Clone> Bi
         ensures entries { self.new.entries ≡ store K.eq self.old.entries (key_of ready.call) ready.after }
         ensures records { self.new.records ≡ with_one_more self.old.form self.old.records (recorded client ordinal ready) }
         ensures base { self.old.form ≡ Recorded → self.new.base ≡ self.old.base }
+        ensures record_room { self.old.form ≡ Recorded → self.new.record_room + 1 ≡ self.old.record_room }
+        ensures entry_room { length self.new.entries + self.new.entry_room ≡ length self.old.entries + self.old.entry_room }
         ensures history { GoesOn K.eq (after V.eq F.remapped F.merged) self.old (recorded client ordinal ready ∷ []) self.new }
         ensures form { self.new.form ≡ self.old.form }
         ensures class { self.new.class ≡ self.old.class }

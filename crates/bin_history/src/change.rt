@@ -120,7 +120,7 @@ impl<K: Drop, V: Drop> Change<K, V> {
         ensures taken { result ≡ taken_from entries.old.items self }
         ensures items { entries.new.items ≡ changed entries.old.items self }
         ensures len { vec_len entries.new ≤ vec_len entries.old + 1 }
-        ensures capacity { vec_capacity entries.old ≤ vec_capacity entries.new }
+        ensures capacity { vec_capacity entries.new ≡ vec_capacity entries.old }
     {
         match self {
             Change::Stay => None,

@@ -1,5 +1,5 @@
 //! What a recorded bin stores beside its entries.
-ghost use Rattle.std.specs.Prelude.{◌≡◌, ◌<◌, ◌≤◌, ◌^◌, Option, List, [], length, IfOk, OnOk};
+ghost use Rattle.std.specs.Prelude.{◌≡◌, ◌+◌, ◌<◌, ◌≤◌, ◌^◌, Option, List, [], length, IfOk, OnOk};
 ghost use Rattle.hashkeys.specs.Classes.{is_of};
 ghost use Rattle.bin_history.specs.Copies.{IsExact};
 ghost use Rattle.bin_history.specs.Logs.{form_of, base_of, records_of, record_room_of, CanFold, IsKeptOrFolded, with_one_more};
@@ -136,6 +136,8 @@ pub(crate) fn add_to<K: Drop, V: Drop, F: Drop, A: Allocator>(
     ensures base { (es : List (K × V)) → base_of log.new es ≡ base_of log.old es }
     ensures records { (call : Call K V F) (before after : Option V) → kept ≡ kept_in (form_of log.old) call before after
         → records_of log.new ≡ with_one_more (form_of log.old) (records_of log.old) (record { client = client; ordinal = ordinal; call = call; before = before; after = after }) }
+    ensures less_room { (call : Call K V F) (before after : Option V) → kept ≡ kept_in (form_of log.old) call before after
+        → form_of log.old ≡ Recorded → record_room_of log.new + 1 ≡ record_room_of log.old }
 {
     if let (Some(log), Some(kept)) = (log, kept) {
         let Kept {

@@ -7,7 +7,7 @@ ghost use Rattle.bin_history.specs.Readiness.{IsWorkedOut, kept_in};
 
 use crate::call::{Call, Remap};
 use crate::change::{Change, value_at};
-use crate::copies::{copy_of, copy_of_option};
+use crate::copies::copy_of_option;
 use crate::effect::Answer;
 use crate::form::Form;
 use crate::given::Given;
@@ -76,14 +76,16 @@ pub(crate) fn work_out<K: HashKey, V: Clone + Eq, F: Remap<K, V> + Drop>(
         before: value_seen(before),
         after: value_seen(after),
     };
-    let (value, kept) = match form {
+    let (change, kept) = match form {
         Form::Recorded => {
             let value = work.effect.copy_given(&op)?;
             let before = copy_of_option(before)?;
             let after = copy_of_option(after)?;
-            let call = Call::on(copy_of(key.get())?, op);
+            let key = key.into_owned()?;
+            let change = Change::by(Given::Lent(&key), found, work.effect, value)?;
+            let call = Call::on(key, op);
             (
-                value,
+                change,
                 Some(Kept {
                     call,
                     before,
@@ -91,12 +93,15 @@ pub(crate) fn work_out<K: HashKey, V: Clone + Eq, F: Remap<K, V> + Drop>(
                 }),
             )
         }
-        Form::Lean => (op.into_value(), None),
+        Form::Lean => {
+            let value = op.into_value();
+            (Change::by(key, found, work.effect, value)?, None)
+        }
     };
     Ok(Ready {
         seen,
         answer: work.answer,
-        change: Change::by(key, found, work.effect, value)?,
+        change,
         kept,
     })
 }

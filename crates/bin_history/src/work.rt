@@ -50,9 +50,7 @@ impl<V> Work<V> {
             answer: Answer::Taken,
         }
     }
-}
 
-impl<V> Work<V> {
     /// A call that takes the key away where something is so, and answers whether it is.
     fn clearing_if(so: bool) -> Work<V>
         ensures { result ≡ record { effect = cond so (Set None) Keep; answer = Known (Truth so) } }

@@ -98,7 +98,7 @@ module _ {K V F : Type 0} (same : K → K → Bool) (code : K → ℕ) (after : 
   pub IsVisit-later : (old new : PassView K V F) (class : ClassView) (v : VisitView K V) → HasRemovedIn code ledger.salt class old new → ((hash : ℕ) → covers class hash ≡ true → covers v.class hash ≡ false)
       → IsVisit same code after ledger old v → IsVisit same code after ledger new v
   IsVisit-later old new class v (rs, each, of, is) other visit =
-      let (kept, history, entries) = visit.made in
+      let (kept, history, entries) = visit.history in
       let In : RecordView K V F → Type 0 = λ r. is_of code ledger.salt class (key_of r.call) ≡ true in
       let Out : RecordView K V F → Type 0 = λ r. is_of code ledger.salt v.class (key_of r.call) ≡ false in
       let none : part_of_records (is_of code ledger.salt v.class) rs ≡ [] = filter-none (λ (r : RecordView K V F). is_of code ledger.salt v.class (key_of r.call)) rs (All-weaker In Out (λ r i. other (hash_of ledger.salt (code (key_of r.call))) i) rs of) in
@@ -106,7 +106,7 @@ module _ {K V F : Type 0} (same : K → K → Bool) (code : K → ℕ) (after : 
       filter-append (λ (r : RecordView K V F). is_of code ledger.salt v.class (key_of r.call)) old.made rs ∙ ap (λ (l : List (RecordView K V F)). part_of_records (is_of code ledger.salt v.class) old.made ++ l) none ∙ append-nil (part_of_records (is_of code ledger.salt v.class) old.made)
       in
       let later : IsHistory same code after ledger (record old { made = old.made ++ rs }) v.class kept = record { client = history.client; legal = history.legal; clients = history.clients; of_class = history.of_class; own = history.own ∙ sym grown } in
-      record { distinct = visit.distinct; of_class = visit.of_class; made = (kept, subst (λ (p : PassView K V F). IsHistory same code after ledger p v.class kept) (sym is) later, entries) }
+      record { distinct = visit.distinct; of_class = visit.of_class; history = (kept, subst (λ (p : PassView K V F). IsHistory same code after ledger p v.class kept) (sym is) later, entries) }
 
   -- the same of all visits of a walk that goes on by that class
   pub visits-later : (old new : PassView K V F) (class : ClassView) (vs : List (VisitView K V)) → HasRemovedIn code ledger.salt class old new → ((hash : ℕ) → covering (classes_of vs ++ class ∷ []) hash ≤ 1)

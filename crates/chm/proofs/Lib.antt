@@ -12,3 +12,4 @@ pub mod Reopening
 pub mod Shared
 pub mod Finding
 pub mod Passes
+pub mod Limits

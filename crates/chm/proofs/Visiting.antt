@@ -38,7 +38,7 @@ module _ {K V F : Type 0} (same : K → K → Bool) (code : K → ℕ) (after : 
       sym (only_client pass.client kept mine few) ∙ h.own
 
   pub IsOwn-visit : (v : VisitView K V) → ledger.clients ≡ 1 → IsVisit same code after ledger pass v → IsOwn same code ledger pass v
-  IsOwn-visit v one visit = let (kept, h, is) = visit.made in is ∙ ap (λ (rs : List (RecordView K V F)). replay same (opening_in code ledger v.class) rs) (own_history v.class kept one h)
+  IsOwn-visit v one visit = let (kept, h, is) = visit.history in is ∙ ap (λ (rs : List (RecordView K V F)). replay same (opening_in code ledger v.class) rs) (own_history v.class kept one h)
 
   -- no key comes twice in the visits of a walk
   pub distinct_visits : (tells : (x y : K) → Decides (same x y) (x ≡ y)) (n : ℕ) (visits : List (VisitView K V)) → AreVisits same code after n ledger pass visits → HasDistinctKeys same (shown_by visits)

@@ -1,8 +1,10 @@
 pub mod Views
 pub mod Met
 pub mod Called
+pub mod Answered
 pub mod Sizes
 pub mod Refusals
+pub mod Opened
 pub mod Visits
 pub mod Quiets
 pub mod Orders

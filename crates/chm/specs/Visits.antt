@@ -36,7 +36,7 @@ module _ {K V F : Type 0} (same_key : K → K → Bool) (code : K → ℕ) (afte
   pub record IsVisit (ledger : LedgerView K V) (pass : PassView K V F) (v : VisitView K V) : Type 0 where
     pub distinct : HasDistinctKeys same_key v.entries
     pub of_class : All (λ e. is_of code ledger.salt v.class e.0 ≡ true) v.entries
-    pub made : (kept : List (RecordView K V F)) × IsHistory same_key code after ledger pass v.class kept × (v.entries ≡ replay same_key (opening_in code ledger v.class) kept)
+    pub history : (kept : List (RecordView K V F)) × IsHistory same_key code after ledger pass v.class kept × (v.entries ≡ replay same_key (opening_in code ledger v.class) kept)
 
   -- visits of a whole table that opened with n bins: in walk order, and every hash is of one of them
   pub record AreVisits (n : ℕ) (ledger : LedgerView K V) (pass : PassView K V F) (visits : List (VisitView K V)) : Type 0 where

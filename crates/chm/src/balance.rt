@@ -12,6 +12,10 @@ use std::alloc::Allocator;
 impl<K: HashKey, V: Clone + Eq, F: Remap<K, V> + Clone, A: Allocator> Map<K, V, F, A> {
     /// How many keys the calls of this pass added, less how many they took away, as a 64-bit two's complement number. It is exact,
     /// whatever other clients do meanwhile, and waits for nobody.
+    ///
+    ///     let before = map.balance(pass);
+    ///     map.put(rt, pass, 1, 5)?;
+    ///     map.balance(pass) == before.wrapping_add(1)
     pub fn balance(&self, pass: &mut Pass<K, V, F>) -> u64
         requires { pass.old.ledger ≡ self.now.ledger.id }
         ensures sum { result ≡ word_of (sum_of_deltas pass.old.made) }

@@ -1,12 +1,11 @@
 //! The twelve calls.
-ghost use Rattle.std.specs.Prelude.{◌≡◌, ◌<◌, ◌≤◌, ◌↔◌, ◌++◌, ◌∷◌, [], true, length, IfOk, IfErr, IsErrOf, OnErr};
-ghost use Rattle.hashkeys.specs.Classes.{is_of};
+ghost use Rattle.std.specs.Prelude.{◌≡◌, ◌<◌, length, IfOk, OnErr};
 ghost use Rattle.bin_history.specs.Ops.{call_on, key_in};
 ghost use Rattle.bin_history.specs.Copies.{IsExact};
 ghost use Rattle.bin_history.specs.declared.call.Call.TheVariants.{Get, Contains, Put, PutIfAbsent, Remove, RemoveIf, Replace, ReplaceIf, ComputeIfAbsent, ComputeIfPresent, Compute, Merge};
 ghost use Rattle.count_ledger.specs.Limits.{most_calls};
+ghost use Rattle.chm.specs.Answered.{AreExact, IsAnswered};
 ghost use Rattle.chm.specs.Called.{IsCalled};
-ghost use Rattle.chm.specs.Refusals.{IsOfCall};
 
 use crate::fault::Fault;
 use crate::map::Map;
@@ -56,20 +55,18 @@ impl<
 
     /// Makes a call, whichever of the twelve it is. It posts the call, and then does the call's part for the table. The pass is full after 1,000,000
     /// calls in a recorded map, and after 2^57 in a lean one.
+    ///
+    ///     map.call(rt, pass, Call::Put(1, 5))?;
+    ///     map.call(rt, pass, Call::Get(1))? == Reply::Value(Some(5))
     pub fn call<'a, R: Wait>(
         &'a self,
         rt: &R,
         pass: &mut Pass<K, V, F>,
         call: Call<K, V, F>,
     ) -> Result<Reply<V>, Fault>
-        requires keys { IsExact K.is_clone }
-        requires values { IsExact V.is_clone }
-        requires functions { IsExact F.is_clone }
+        requires exact { AreExact K.is_clone V.is_clone F.is_clone }
         requires pass { pass.old.ledger ≡ self.now.ledger.id }
-        ensures called { IfOk result (λ reply. IsCalled K.eq K.code V.eq F.remapped F.merged self.now.ledger call pass.old pass.new reply) }
-        ensures refused { OnErr result (pass.new ≡ pass.old) }
-        ensures full { IsErrOf result Fault.PassFull ↔ (most_calls self.now.ledger.form ≤ length pass.old.made) }
-        ensures faults { IfErr result IsOfCall }
+        ensures { IsAnswered K.eq K.code V.eq F.remapped F.merged self.now.ledger call pass.old pass.new result }
     {
         let (key, op) = call.into_parts();
         let key: Given<'a, K> = Given::Owned(key);
@@ -78,6 +75,9 @@ impl<
 
     /// The same of a call whose key is given beside it, handed over or lent. A lent key is copied where an entry is made of
     /// it, and for the record in a recorded map.
+    ///
+    ///     map.call_on(rt, pass, Given::Owned(1), Op::Put(5))?;
+    ///     map.call_on(rt, pass, Given::Lent(&1), Op::Get)? == Reply::Value(Some(5))
     pub fn call_on<R: Wait>(
         &self,
         rt: &R,
@@ -85,14 +85,9 @@ impl<
         key: Given<'_, K>,
         op: Op<V, F>,
     ) -> Result<Reply<V>, Fault>
-        requires keys { IsExact K.is_clone }
-        requires values { IsExact V.is_clone }
-        requires functions { IsExact F.is_clone }
+        requires exact { AreExact K.is_clone V.is_clone F.is_clone }
         requires pass { pass.old.ledger ≡ self.now.ledger.id }
-        ensures called { IfOk result (λ reply. IsCalled K.eq K.code V.eq F.remapped F.merged self.now.ledger (call_on (key_in key.entry) op) pass.old pass.new reply) }
-        ensures refused { OnErr result (pass.new ≡ pass.old) }
-        ensures full { IsErrOf result Fault.PassFull ↔ (most_calls self.now.ledger.form ≤ length pass.old.made) }
-        ensures faults { IfErr result IsOfCall }
+        ensures { IsAnswered K.eq K.code V.eq F.remapped F.merged self.now.ledger (call_on (key_in key.entry) op) pass.old pass.new result }
     {
         if pass.made() >= self.ledger.most_calls() {
             return Err(Fault::PassFull);
@@ -103,39 +98,41 @@ impl<
     }
 
     /// The value at the key.
+    ///
+    ///     map.put(rt, pass, 1, 5)?;
+    ///     map.get(rt, pass, 1)? == Reply::Value(Some(5))
+    ///     map.get(rt, pass, 2)? == Reply::Value(None)
     pub fn get<R: Wait>(&self, rt: &R, pass: &mut Pass<K, V, F>, key: K) -> Result<Reply<V>, Fault>
-        requires keys { IsExact K.is_clone }
-        requires values { IsExact V.is_clone }
-        requires functions { IsExact F.is_clone }
+        requires exact { AreExact K.is_clone V.is_clone F.is_clone }
         requires pass { pass.old.ledger ≡ self.now.ledger.id }
-        ensures called { IfOk result (λ reply. IsCalled K.eq K.code V.eq F.remapped F.merged self.now.ledger (Get key) pass.old pass.new reply) }
-        ensures refused { OnErr result (pass.new ≡ pass.old) }
-        ensures full { IsErrOf result Fault.PassFull ↔ (most_calls self.now.ledger.form ≤ length pass.old.made) }
-        ensures faults { IfErr result IsOfCall }
+        ensures { IsAnswered K.eq K.code V.eq F.remapped F.merged self.now.ledger (Get key) pass.old pass.new result }
     {
         self.call(rt, pass, Call::Get(key))
     }
 
     /// Whether the key has a value.
+    ///
+    ///     map.put(rt, pass, 1, 5)?;
+    ///     map.contains_key(rt, pass, 1)? == Reply::Truth(true)
+    ///     map.contains_key(rt, pass, 2)? == Reply::Truth(false)
     pub fn contains_key<R: Wait>(
         &self,
         rt: &R,
         pass: &mut Pass<K, V, F>,
         key: K,
     ) -> Result<Reply<V>, Fault>
-        requires keys { IsExact K.is_clone }
-        requires values { IsExact V.is_clone }
-        requires functions { IsExact F.is_clone }
+        requires exact { AreExact K.is_clone V.is_clone F.is_clone }
         requires pass { pass.old.ledger ≡ self.now.ledger.id }
-        ensures called { IfOk result (λ reply. IsCalled K.eq K.code V.eq F.remapped F.merged self.now.ledger (Contains key) pass.old pass.new reply) }
-        ensures refused { OnErr result (pass.new ≡ pass.old) }
-        ensures full { IsErrOf result Fault.PassFull ↔ (most_calls self.now.ledger.form ≤ length pass.old.made) }
-        ensures faults { IfErr result IsOfCall }
+        ensures { IsAnswered K.eq K.code V.eq F.remapped F.merged self.now.ledger (Contains key) pass.old pass.new result }
     {
         self.call(rt, pass, Call::Contains(key))
     }
 
     /// Gives the key this value. It replies the value before.
+    ///
+    ///     map.put(rt, pass, 1, 5)? == Reply::Value(None)
+    ///     map.put(rt, pass, 1, 6)? == Reply::Value(Some(5))
+    ///     map.get(rt, pass, 1)? == Reply::Value(Some(6))
     pub fn put<R: Wait>(
         &self,
         rt: &R,
@@ -143,19 +140,18 @@ impl<
         key: K,
         value: V,
     ) -> Result<Reply<V>, Fault>
-        requires keys { IsExact K.is_clone }
-        requires values { IsExact V.is_clone }
-        requires functions { IsExact F.is_clone }
+        requires exact { AreExact K.is_clone V.is_clone F.is_clone }
         requires pass { pass.old.ledger ≡ self.now.ledger.id }
-        ensures called { IfOk result (λ reply. IsCalled K.eq K.code V.eq F.remapped F.merged self.now.ledger (Put key value) pass.old pass.new reply) }
-        ensures refused { OnErr result (pass.new ≡ pass.old) }
-        ensures full { IsErrOf result Fault.PassFull ↔ (most_calls self.now.ledger.form ≤ length pass.old.made) }
-        ensures faults { IfErr result IsOfCall }
+        ensures { IsAnswered K.eq K.code V.eq F.remapped F.merged self.now.ledger (Put key value) pass.old pass.new result }
     {
         self.call(rt, pass, Call::Put(key, value))
     }
 
     /// Gives the key this value where it has none. It replies the value before.
+    ///
+    ///     map.put_if_absent(rt, pass, 1, 5)? == Reply::Value(None)
+    ///     map.put_if_absent(rt, pass, 1, 6)? == Reply::Value(Some(5))
+    ///     map.get(rt, pass, 1)? == Reply::Value(Some(5))
     pub fn put_if_absent<R: Wait>(
         &self,
         rt: &R,
@@ -163,38 +159,36 @@ impl<
         key: K,
         value: V,
     ) -> Result<Reply<V>, Fault>
-        requires keys { IsExact K.is_clone }
-        requires values { IsExact V.is_clone }
-        requires functions { IsExact F.is_clone }
+        requires exact { AreExact K.is_clone V.is_clone F.is_clone }
         requires pass { pass.old.ledger ≡ self.now.ledger.id }
-        ensures called { IfOk result (λ reply. IsCalled K.eq K.code V.eq F.remapped F.merged self.now.ledger (PutIfAbsent key value) pass.old pass.new reply) }
-        ensures refused { OnErr result (pass.new ≡ pass.old) }
-        ensures full { IsErrOf result Fault.PassFull ↔ (most_calls self.now.ledger.form ≤ length pass.old.made) }
-        ensures faults { IfErr result IsOfCall }
+        ensures { IsAnswered K.eq K.code V.eq F.remapped F.merged self.now.ledger (PutIfAbsent key value) pass.old pass.new result }
     {
         self.call(rt, pass, Call::PutIfAbsent(key, value))
     }
 
     /// Takes the key away. It replies the value before.
+    ///
+    ///     map.put(rt, pass, 1, 5)?;
+    ///     map.remove(rt, pass, 1)? == Reply::Value(Some(5))
+    ///     map.remove(rt, pass, 1)? == Reply::Value(None)
     pub fn remove<R: Wait>(
         &self,
         rt: &R,
         pass: &mut Pass<K, V, F>,
         key: K,
     ) -> Result<Reply<V>, Fault>
-        requires keys { IsExact K.is_clone }
-        requires values { IsExact V.is_clone }
-        requires functions { IsExact F.is_clone }
+        requires exact { AreExact K.is_clone V.is_clone F.is_clone }
         requires pass { pass.old.ledger ≡ self.now.ledger.id }
-        ensures called { IfOk result (λ reply. IsCalled K.eq K.code V.eq F.remapped F.merged self.now.ledger (Remove key) pass.old pass.new reply) }
-        ensures refused { OnErr result (pass.new ≡ pass.old) }
-        ensures full { IsErrOf result Fault.PassFull ↔ (most_calls self.now.ledger.form ≤ length pass.old.made) }
-        ensures faults { IfErr result IsOfCall }
+        ensures { IsAnswered K.eq K.code V.eq F.remapped F.merged self.now.ledger (Remove key) pass.old pass.new result }
     {
         self.call(rt, pass, Call::Remove(key))
     }
 
     /// Takes the key away where it has this value. It replies whether it had.
+    ///
+    ///     map.put(rt, pass, 1, 5)?;
+    ///     map.remove_if(rt, pass, 1, 6)? == Reply::Truth(false)
+    ///     map.remove_if(rt, pass, 1, 5)? == Reply::Truth(true)
     pub fn remove_if<R: Wait>(
         &self,
         rt: &R,
@@ -202,19 +196,18 @@ impl<
         key: K,
         value: V,
     ) -> Result<Reply<V>, Fault>
-        requires keys { IsExact K.is_clone }
-        requires values { IsExact V.is_clone }
-        requires functions { IsExact F.is_clone }
+        requires exact { AreExact K.is_clone V.is_clone F.is_clone }
         requires pass { pass.old.ledger ≡ self.now.ledger.id }
-        ensures called { IfOk result (λ reply. IsCalled K.eq K.code V.eq F.remapped F.merged self.now.ledger (RemoveIf key value) pass.old pass.new reply) }
-        ensures refused { OnErr result (pass.new ≡ pass.old) }
-        ensures full { IsErrOf result Fault.PassFull ↔ (most_calls self.now.ledger.form ≤ length pass.old.made) }
-        ensures faults { IfErr result IsOfCall }
+        ensures { IsAnswered K.eq K.code V.eq F.remapped F.merged self.now.ledger (RemoveIf key value) pass.old pass.new result }
     {
         self.call(rt, pass, Call::RemoveIf(key, value))
     }
 
     /// Gives the key this value where it has one. It replies the value before.
+    ///
+    ///     map.replace(rt, pass, 1, 6)? == Reply::Value(None)
+    ///     map.put(rt, pass, 1, 5)?;
+    ///     map.replace(rt, pass, 1, 6)? == Reply::Value(Some(5))
     pub fn replace<R: Wait>(
         &self,
         rt: &R,
@@ -222,19 +215,18 @@ impl<
         key: K,
         value: V,
     ) -> Result<Reply<V>, Fault>
-        requires keys { IsExact K.is_clone }
-        requires values { IsExact V.is_clone }
-        requires functions { IsExact F.is_clone }
+        requires exact { AreExact K.is_clone V.is_clone F.is_clone }
         requires pass { pass.old.ledger ≡ self.now.ledger.id }
-        ensures called { IfOk result (λ reply. IsCalled K.eq K.code V.eq F.remapped F.merged self.now.ledger (Replace key value) pass.old pass.new reply) }
-        ensures refused { OnErr result (pass.new ≡ pass.old) }
-        ensures full { IsErrOf result Fault.PassFull ↔ (most_calls self.now.ledger.form ≤ length pass.old.made) }
-        ensures faults { IfErr result IsOfCall }
+        ensures { IsAnswered K.eq K.code V.eq F.remapped F.merged self.now.ledger (Replace key value) pass.old pass.new result }
     {
         self.call(rt, pass, Call::Replace(key, value))
     }
 
     /// Gives the key the new value where it has the old one. It replies whether it had.
+    ///
+    ///     map.put(rt, pass, 1, 5)?;
+    ///     map.replace_if(rt, pass, 1, 5, 6)? == Reply::Truth(true)
+    ///     map.get(rt, pass, 1)? == Reply::Value(Some(6))
     pub fn replace_if<R: Wait>(
         &self,
         rt: &R,
@@ -243,19 +235,17 @@ impl<
         old: V,
         new: V,
     ) -> Result<Reply<V>, Fault>
-        requires keys { IsExact K.is_clone }
-        requires values { IsExact V.is_clone }
-        requires functions { IsExact F.is_clone }
+        requires exact { AreExact K.is_clone V.is_clone F.is_clone }
         requires pass { pass.old.ledger ≡ self.now.ledger.id }
-        ensures called { IfOk result (λ reply. IsCalled K.eq K.code V.eq F.remapped F.merged self.now.ledger (ReplaceIf key old new) pass.old pass.new reply) }
-        ensures refused { OnErr result (pass.new ≡ pass.old) }
-        ensures full { IsErrOf result Fault.PassFull ↔ (most_calls self.now.ledger.form ≤ length pass.old.made) }
-        ensures faults { IfErr result IsOfCall }
+        ensures { IsAnswered K.eq K.code V.eq F.remapped F.merged self.now.ledger (ReplaceIf key old new) pass.old pass.new result }
     {
         self.call(rt, pass, Call::ReplaceIf(key, old, new))
     }
 
     /// Gives a key without a value what the function makes of none. It replies the value after. Nothing but the key's bin is held while the function runs.
+    ///
+    ///     map.compute_if_absent(rt, pass, 1, Plus(5))? == Reply::Value(Some(5))
+    ///     map.compute_if_absent(rt, pass, 1, Plus(2))? == Reply::Value(Some(5))
     pub fn compute_if_absent<R: Wait>(
         &self,
         rt: &R,
@@ -263,19 +253,18 @@ impl<
         key: K,
         function: F,
     ) -> Result<Reply<V>, Fault>
-        requires keys { IsExact K.is_clone }
-        requires values { IsExact V.is_clone }
-        requires functions { IsExact F.is_clone }
+        requires exact { AreExact K.is_clone V.is_clone F.is_clone }
         requires pass { pass.old.ledger ≡ self.now.ledger.id }
-        ensures called { IfOk result (λ reply. IsCalled K.eq K.code V.eq F.remapped F.merged self.now.ledger (ComputeIfAbsent key function) pass.old pass.new reply) }
-        ensures refused { OnErr result (pass.new ≡ pass.old) }
-        ensures full { IsErrOf result Fault.PassFull ↔ (most_calls self.now.ledger.form ≤ length pass.old.made) }
-        ensures faults { IfErr result IsOfCall }
+        ensures { IsAnswered K.eq K.code V.eq F.remapped F.merged self.now.ledger (ComputeIfAbsent key function) pass.old pass.new result }
     {
         self.call(rt, pass, Call::ComputeIfAbsent(key, function))
     }
 
     /// Gives a key with a value what the function makes of it. It replies the value after. Nothing but the key's bin is held while the function runs.
+    ///
+    ///     map.compute_if_present(rt, pass, 1, Plus(2))? == Reply::Value(None)
+    ///     map.put(rt, pass, 1, 5)?;
+    ///     map.compute_if_present(rt, pass, 1, Plus(2))? == Reply::Value(Some(7))
     pub fn compute_if_present<R: Wait>(
         &self,
         rt: &R,
@@ -283,19 +272,17 @@ impl<
         key: K,
         function: F,
     ) -> Result<Reply<V>, Fault>
-        requires keys { IsExact K.is_clone }
-        requires values { IsExact V.is_clone }
-        requires functions { IsExact F.is_clone }
+        requires exact { AreExact K.is_clone V.is_clone F.is_clone }
         requires pass { pass.old.ledger ≡ self.now.ledger.id }
-        ensures called { IfOk result (λ reply. IsCalled K.eq K.code V.eq F.remapped F.merged self.now.ledger (ComputeIfPresent key function) pass.old pass.new reply) }
-        ensures refused { OnErr result (pass.new ≡ pass.old) }
-        ensures full { IsErrOf result Fault.PassFull ↔ (most_calls self.now.ledger.form ≤ length pass.old.made) }
-        ensures faults { IfErr result IsOfCall }
+        ensures { IsAnswered K.eq K.code V.eq F.remapped F.merged self.now.ledger (ComputeIfPresent key function) pass.old pass.new result }
     {
         self.call(rt, pass, Call::ComputeIfPresent(key, function))
     }
 
     /// Gives the key what the function makes of its value, or of none. It replies the value after. Nothing but the key's bin is held while the function runs.
+    ///
+    ///     map.compute(rt, pass, 1, Plus(5))? == Reply::Value(Some(5))
+    ///     map.compute(rt, pass, 1, Plus(2))? == Reply::Value(Some(7))
     pub fn compute<R: Wait>(
         &self,
         rt: &R,
@@ -303,19 +290,17 @@ impl<
         key: K,
         function: F,
     ) -> Result<Reply<V>, Fault>
-        requires keys { IsExact K.is_clone }
-        requires values { IsExact V.is_clone }
-        requires functions { IsExact F.is_clone }
+        requires exact { AreExact K.is_clone V.is_clone F.is_clone }
         requires pass { pass.old.ledger ≡ self.now.ledger.id }
-        ensures called { IfOk result (λ reply. IsCalled K.eq K.code V.eq F.remapped F.merged self.now.ledger (Compute key function) pass.old pass.new reply) }
-        ensures refused { OnErr result (pass.new ≡ pass.old) }
-        ensures full { IsErrOf result Fault.PassFull ↔ (most_calls self.now.ledger.form ≤ length pass.old.made) }
-        ensures faults { IfErr result IsOfCall }
+        ensures { IsAnswered K.eq K.code V.eq F.remapped F.merged self.now.ledger (Compute key function) pass.old pass.new result }
     {
         self.call(rt, pass, Call::Compute(key, function))
     }
 
     /// Gives a key without a value this one, and a key with a value what the function makes of both. It replies the value after. Nothing but the key's bin is held while the function runs.
+    ///
+    ///     map.merge(rt, pass, 1, 5, Plus(0))? == Reply::Value(Some(5))
+    ///     map.merge(rt, pass, 1, 2, Plus(0))? == Reply::Value(Some(7))
     pub fn merge<R: Wait>(
         &self,
         rt: &R,
@@ -324,14 +309,9 @@ impl<
         value: V,
         function: F,
     ) -> Result<Reply<V>, Fault>
-        requires keys { IsExact K.is_clone }
-        requires values { IsExact V.is_clone }
-        requires functions { IsExact F.is_clone }
+        requires exact { AreExact K.is_clone V.is_clone F.is_clone }
         requires pass { pass.old.ledger ≡ self.now.ledger.id }
-        ensures called { IfOk result (λ reply. IsCalled K.eq K.code V.eq F.remapped F.merged self.now.ledger (Merge key value function) pass.old pass.new reply) }
-        ensures refused { OnErr result (pass.new ≡ pass.old) }
-        ensures full { IsErrOf result Fault.PassFull ↔ (most_calls self.now.ledger.form ≤ length pass.old.made) }
-        ensures faults { IfErr result IsOfCall }
+        ensures { IsAnswered K.eq K.code V.eq F.remapped F.merged self.now.ledger (Merge key value function) pass.old pass.new result }
     {
         self.call(rt, pass, Call::Merge(key, value, function))
     }

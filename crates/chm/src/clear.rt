@@ -121,6 +121,10 @@ impl<
     /// Takes all entries away, bin by bin in walk order, each bin under one hold, by a remove of each entry that it meets. Others may put new ones
     /// into bins that were left; with one client the map is then empty. Where a remove is refused, those made before it stand; a full pass refuses none but
     /// where an entry is left.
+    ///
+    ///     map.put(rt, pass, 1, 5)?;
+    ///     map.clear(rt, pass)?;
+    ///     map.get(rt, pass, 1)? == Reply::Value(None)
     pub fn clear<R: Wait>(&self, rt: &R, pass: &mut Pass<K, V, F>) -> Result<(), Fault>
         requires keys { IsExact K.is_clone }
         requires values { IsExact V.is_clone }

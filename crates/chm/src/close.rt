@@ -50,6 +50,14 @@ impl<
 > Map<K, V, F, A> {
     /// Closes the map, with the passes of all clients. The closed map knows that the role of each bin kept just the calls that the clients made on
     /// its keys, each once and in its client's order. Where a pass is missing, or for want of memory, map and passes come back.
+    ///
+    ///     match map.close(rt, passes) {
+    ///         Ok(quiet) => Ok(quiet),
+    ///         Err(NotClosed { fault, map: _, passes }) => {
+    ///             retire_all(passes);
+    ///             Err(fault)
+    ///         }
+    ///     }
     pub fn close<R: Wait>(
         self,
         rt: &R,

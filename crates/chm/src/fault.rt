@@ -17,7 +17,7 @@ pub enum Fault {
     /// There are 0 or more than 32 clients.
     #[error("the clients are not 1 to 32")]
     BadClients,
-    /// The pass has made 1,000,000 calls.
+    /// The pass has made all calls that it can: 1,000,000 in a recorded map, 2^57 in a lean one.
     #[error("the pass is full")]
     PassFull,
     /// A map was to be closed with fewer passes than it has clients.

@@ -1,10 +1,7 @@
 //! Calls that borrow their key.
-ghost use Rattle.std.specs.Prelude.{◌≡◌, ◌≤◌, ◌↔◌, length, IfOk, IfErr, IsErrOf, OnErr};
-ghost use Rattle.bin_history.specs.Copies.{IsExact};
+ghost use Rattle.std.specs.Prelude.{◌≡◌};
 ghost use Rattle.bin_history.specs.declared.call.Call.TheVariants.{Get, Contains, Remove, Replace};
-ghost use Rattle.count_ledger.specs.Limits.{most_calls};
-ghost use Rattle.chm.specs.Called.{IsCalled};
-ghost use Rattle.chm.specs.Refusals.{IsOfCall};
+ghost use Rattle.chm.specs.Answered.{AreExact, IsAnswered};
 
 use crate::fault::Fault;
 use crate::map::Map;
@@ -21,63 +18,62 @@ impl<
     A: Allocator + Clone,
 > Map<K, V, F, A> {
     /// The same as `get`, with the key borrowed. The value at the key.
+    ///
+    ///     map.put(rt, pass, 1, 5)?;
+    ///     map.get_by(rt, pass, &1)? == Reply::Value(Some(5))
     pub fn get_by<R: Wait>(
         &self,
         rt: &R,
         pass: &mut Pass<K, V, F>,
         key: &K,
     ) -> Result<Reply<V>, Fault>
-        requires keys { IsExact K.is_clone }
-        requires values { IsExact V.is_clone }
-        requires functions { IsExact F.is_clone }
+        requires exact { AreExact K.is_clone V.is_clone F.is_clone }
         requires pass { pass.old.ledger ≡ self.now.ledger.id }
-        ensures called { IfOk result (λ reply. IsCalled K.eq K.code V.eq F.remapped F.merged self.now.ledger (Get key.now) pass.old pass.new reply) }
-        ensures refused { OnErr result (pass.new ≡ pass.old) }
-        ensures full { IsErrOf result Fault.PassFull ↔ (most_calls self.now.ledger.form ≤ length pass.old.made) }
-        ensures faults { IfErr result IsOfCall }
+        ensures { IsAnswered K.eq K.code V.eq F.remapped F.merged self.now.ledger (Get key.now) pass.old pass.new result }
     {
         self.call_on(rt, pass, Given::Lent(key), Op::Get)
     }
 
     /// The same as `contains_key`, with the key borrowed. Whether the key has a value.
+    ///
+    ///     map.put(rt, pass, 1, 5)?;
+    ///     map.contains_key_by(rt, pass, &1)? == Reply::Truth(true)
     pub fn contains_key_by<R: Wait>(
         &self,
         rt: &R,
         pass: &mut Pass<K, V, F>,
         key: &K,
     ) -> Result<Reply<V>, Fault>
-        requires keys { IsExact K.is_clone }
-        requires values { IsExact V.is_clone }
-        requires functions { IsExact F.is_clone }
+        requires exact { AreExact K.is_clone V.is_clone F.is_clone }
         requires pass { pass.old.ledger ≡ self.now.ledger.id }
-        ensures called { IfOk result (λ reply. IsCalled K.eq K.code V.eq F.remapped F.merged self.now.ledger (Contains key.now) pass.old pass.new reply) }
-        ensures refused { OnErr result (pass.new ≡ pass.old) }
-        ensures full { IsErrOf result Fault.PassFull ↔ (most_calls self.now.ledger.form ≤ length pass.old.made) }
-        ensures faults { IfErr result IsOfCall }
+        ensures { IsAnswered K.eq K.code V.eq F.remapped F.merged self.now.ledger (Contains key.now) pass.old pass.new result }
     {
         self.call_on(rt, pass, Given::Lent(key), Op::Contains)
     }
 
     /// The same as `remove`, with the key borrowed. Takes the key away, and replies the value before.
+    ///
+    ///     map.put(rt, pass, 1, 5)?;
+    ///     map.remove_by(rt, pass, &1)? == Reply::Value(Some(5))
+    ///     map.get_by(rt, pass, &1)? == Reply::Value(None)
     pub fn remove_by<R: Wait>(
         &self,
         rt: &R,
         pass: &mut Pass<K, V, F>,
         key: &K,
     ) -> Result<Reply<V>, Fault>
-        requires keys { IsExact K.is_clone }
-        requires values { IsExact V.is_clone }
-        requires functions { IsExact F.is_clone }
+        requires exact { AreExact K.is_clone V.is_clone F.is_clone }
         requires pass { pass.old.ledger ≡ self.now.ledger.id }
-        ensures called { IfOk result (λ reply. IsCalled K.eq K.code V.eq F.remapped F.merged self.now.ledger (Remove key.now) pass.old pass.new reply) }
-        ensures refused { OnErr result (pass.new ≡ pass.old) }
-        ensures full { IsErrOf result Fault.PassFull ↔ (most_calls self.now.ledger.form ≤ length pass.old.made) }
-        ensures faults { IfErr result IsOfCall }
+        ensures { IsAnswered K.eq K.code V.eq F.remapped F.merged self.now.ledger (Remove key.now) pass.old pass.new result }
     {
         self.call_on(rt, pass, Given::Lent(key), Op::Remove)
     }
 
     /// The same as `replace`, with the key borrowed. Gives the key this value where it has one, and replies the value before.
+    ///
+    ///     map.put(rt, pass, 1, 5)?;
+    ///     map.replace_by(rt, pass, &1, 6)? == Reply::Value(Some(5))
+    ///     map.get_by(rt, pass, &1)? == Reply::Value(Some(6))
     pub fn replace_by<R: Wait>(
         &self,
         rt: &R,
@@ -85,14 +81,9 @@ impl<
         key: &K,
         value: V,
     ) -> Result<Reply<V>, Fault>
-        requires keys { IsExact K.is_clone }
-        requires values { IsExact V.is_clone }
-        requires functions { IsExact F.is_clone }
+        requires exact { AreExact K.is_clone V.is_clone F.is_clone }
         requires pass { pass.old.ledger ≡ self.now.ledger.id }
-        ensures called { IfOk result (λ reply. IsCalled K.eq K.code V.eq F.remapped F.merged self.now.ledger (Replace key.now value) pass.old pass.new reply) }
-        ensures refused { OnErr result (pass.new ≡ pass.old) }
-        ensures full { IsErrOf result Fault.PassFull ↔ (most_calls self.now.ledger.form ≤ length pass.old.made) }
-        ensures faults { IfErr result IsOfCall }
+        ensures { IsAnswered K.eq K.code V.eq F.remapped F.merged self.now.ledger (Replace key.now value) pass.old pass.new result }
     {
         self.call_on(rt, pass, Given::Lent(key), Op::Replace(value))
     }

@@ -1,5 +1,5 @@
 //! A map that many threads share, and how it is opened.
-ghost use Rattle.std.specs.Prelude.{◌≡◌, ◌≤◌, ◌<◌, ◌^◌, ◌↔◌, ℤ, pos, ◌+ℤ◌, [], length, flat_map, replicate, All, IfOk, IsOk, IsErrOf, IfErr};
+ghost use Rattle.std.specs.Prelude.{◌≡◌, ◌≤◌, ◌<◌, ◌^◌, pos, ◌+ℤ◌, [], length, flat_map, replicate, All, IfOk};
 ghost use Rattle.std.specs.Int.{w64, int_max, cast_signed};
 ghost use Rattle.hashkeys.specs.Classes.{IsTableSize};
 ghost use Rattle.bin_history.specs.Copies.{IsExact};
@@ -7,8 +7,8 @@ ghost use Rattle.bin_history.specs.Entries.{HasDistinctKeys};
 ghost use Rattle.count_ledger.specs.Opening.{AreOfTheirClasses, lists_of, new_passes};
 ghost use Rattle.count_ledger.specs.Words.{total_made};
 ghost use Rattle.bin_history.specs.declared.form.Form.TheVariants.{Recorded, Lean};
-ghost use Rattle.chm.specs.Sizes.{IsSizeFor};
-ghost use Rattle.chm.specs.Refusals.{AreClients, IsCapacity, IsMaking};
+ghost use Rattle.chm.specs.Opened.{IsLimited, IsNew};
+ghost use Rattle.chm.specs.Refusals.{AreClients, IsCapacity};
 
 use crate::fault::Fault;
 use crate::growth::Growth;
@@ -22,6 +22,10 @@ use std::marker::Model;
 
 /// A map of keys to values that many threads call at once. Each thread calls with a pass of its own, which is one client's right
 /// to make calls; when all passes are back the map can be closed. Contracts see its books and the number of bins that it opened with.
+///
+/// In the examples of its calls the map has keys and values of type `u64`, one client, whose pass is `pass`, and no
+/// entries yet. `Plus(n)` is a function that adds n to a value, or to 0 where there is none; a merge adds n to the sum
+/// of both.
 #[derive(Drop)]
 pub struct Map<K: HashKey, V: Clone + Eq, F: Remap<K, V> + Clone, A: Allocator> {
     pub(crate) ledger: Ledger<K, V, F, A>,
@@ -69,25 +73,22 @@ impl<
     /// A map without entries, and a pass for each client. Its table begins with the least power of two of bins that is at
     /// least the capacity, which is 1 to 4,096; there are 1 to 32 clients. The salt of its hashes is 0. Its bins store the records of calls, and a pass
     /// makes 1,000,000 calls; `lean` opens a map without either.
+    ///
+    ///     let (map, passes): Opened<u64, u64, Plus, Global> = Map::new(alloc, 16, 4)?;
+    ///     map.clients() == 4 && passes.len() == 4
     pub fn new(alloc: A, capacity: usize, clients: u32) -> Result<Opened<K, V, F, A>, Fault>
         requires keys { IsExact K.is_clone }
         requires values { IsExact V.is_clone }
-        ensures ok { IsOk result → IsCapacity capacity × AreClients clients }
-        ensures form { IfOk result (λ r. r.0.ledger.form ≡ Recorded) }
-        ensures salt { IfOk result (λ r. r.0.ledger.salt ≡ record { 0 = 0 }) }
-        ensures clients { IfOk result (λ r. r.0.ledger.clients ≡ clients) }
-        ensures opening { IfOk result (λ r. r.0.ledger.opening ≡ []) }
-        ensures size { IfOk result (λ r. IsSizeFor capacity r.0.n) }
-        ensures passes { IfOk result (λ r. r.1.items ≡ new_passes r.0.ledger.id clients) }
-        ensures own { IfOk result (λ r. All (λ p. p.ledger ≡ r.0.ledger.id) r.1.items) }
-        ensures capacity { IsErrOf result Fault.BadCapacity ↔ (¬ IsCapacity capacity) }
-        ensures some { IsErrOf result Fault.BadClients ↔ (IsCapacity capacity × (¬ AreClients clients)) }
-        ensures faults { IfErr result IsMaking }
+        ensures new { IfOk result (λ r. IsNew Recorded (record { 0 = 0 }) capacity clients r.0 r.1.items) }
+        ensures limits { IsLimited (IsCapacity capacity) clients result }
     {
         Map::with_salt(alloc, capacity, clients, Salt(0))
     }
 
     /// The same with a salt, with which the codes of keys are mixed.
+    ///
+    ///     let (map, passes): Opened<u64, u64, Plus, Global> = Map::with_salt(alloc, 16, 4, Salt(7))?;
+    ///     map.salt() == Salt(7)
     pub fn with_salt(
         alloc: A,
         capacity: usize,
@@ -96,23 +97,17 @@ impl<
     ) -> Result<Opened<K, V, F, A>, Fault>
         requires keys { IsExact K.is_clone }
         requires values { IsExact V.is_clone }
-        ensures ok { IsOk result → IsCapacity capacity × AreClients clients }
-        ensures form { IfOk result (λ r. r.0.ledger.form ≡ Recorded) }
-        ensures salt { IfOk result (λ r. r.0.ledger.salt ≡ salt) }
-        ensures clients { IfOk result (λ r. r.0.ledger.clients ≡ clients) }
-        ensures opening { IfOk result (λ r. r.0.ledger.opening ≡ []) }
-        ensures size { IfOk result (λ r. IsSizeFor capacity r.0.n) }
-        ensures passes { IfOk result (λ r. r.1.items ≡ new_passes r.0.ledger.id clients) }
-        ensures own { IfOk result (λ r. All (λ p. p.ledger ≡ r.0.ledger.id) r.1.items) }
-        ensures capacity { IsErrOf result Fault.BadCapacity ↔ (¬ IsCapacity capacity) }
-        ensures some { IsErrOf result Fault.BadClients ↔ (IsCapacity capacity × (¬ AreClients clients)) }
-        ensures faults { IfErr result IsMaking }
+        ensures new { IfOk result (λ r. IsNew Recorded salt capacity clients r.0 r.1.items) }
+        ensures limits { IsLimited (IsCapacity capacity) clients result }
     {
         Map::with_form(alloc, Form::Recorded, capacity, clients, salt)
     }
 
     /// The same as `with_salt`, but the map is lean: its bins store no records of calls, and a pass makes 2^57 calls. What is
     /// proved of its calls is the same.
+    ///
+    ///     let (map, passes): Opened<u64, u64, Plus, Global> = Map::lean(alloc, 16, 4, Salt(0))?;
+    ///     map.form() == Form::Lean
     pub fn lean(
         alloc: A,
         capacity: usize,
@@ -121,17 +116,8 @@ impl<
     ) -> Result<Opened<K, V, F, A>, Fault>
         requires keys { IsExact K.is_clone }
         requires values { IsExact V.is_clone }
-        ensures ok { IsOk result → IsCapacity capacity × AreClients clients }
-        ensures form { IfOk result (λ r. r.0.ledger.form ≡ Lean) }
-        ensures salt { IfOk result (λ r. r.0.ledger.salt ≡ salt) }
-        ensures clients { IfOk result (λ r. r.0.ledger.clients ≡ clients) }
-        ensures opening { IfOk result (λ r. r.0.ledger.opening ≡ []) }
-        ensures size { IfOk result (λ r. IsSizeFor capacity r.0.n) }
-        ensures passes { IfOk result (λ r. r.1.items ≡ new_passes r.0.ledger.id clients) }
-        ensures own { IfOk result (λ r. All (λ p. p.ledger ≡ r.0.ledger.id) r.1.items) }
-        ensures capacity { IsErrOf result Fault.BadCapacity ↔ (¬ IsCapacity capacity) }
-        ensures some { IsErrOf result Fault.BadClients ↔ (IsCapacity capacity × (¬ AreClients clients)) }
-        ensures faults { IfErr result IsMaking }
+        ensures new { IfOk result (λ r. IsNew Lean salt capacity clients r.0 r.1.items) }
+        ensures limits { IsLimited (IsCapacity capacity) clients result }
     {
         Map::with_form(alloc, Form::Lean, capacity, clients, salt)
     }
@@ -146,17 +132,8 @@ impl<
     ) -> Result<Opened<K, V, F, A>, Fault>
         requires keys { IsExact K.is_clone }
         requires values { IsExact V.is_clone }
-        ensures ok { IsOk result → IsCapacity capacity × AreClients clients }
-        ensures form { IfOk result (λ r. r.0.ledger.form ≡ form) }
-        ensures salt { IfOk result (λ r. r.0.ledger.salt ≡ salt) }
-        ensures clients { IfOk result (λ r. r.0.ledger.clients ≡ clients) }
-        ensures opening { IfOk result (λ r. r.0.ledger.opening ≡ []) }
-        ensures size { IfOk result (λ r. IsSizeFor capacity r.0.n) }
-        ensures passes { IfOk result (λ r. r.1.items ≡ new_passes r.0.ledger.id clients) }
-        ensures own { IfOk result (λ r. All (λ p. p.ledger ≡ r.0.ledger.id) r.1.items) }
-        ensures capacity { IsErrOf result Fault.BadCapacity ↔ (¬ IsCapacity capacity) }
-        ensures some { IsErrOf result Fault.BadClients ↔ (IsCapacity capacity × (¬ AreClients clients)) }
-        ensures faults { IfErr result IsMaking }
+        ensures new { IfOk result (λ r. IsNew form salt capacity clients r.0 r.1.items) }
+        ensures limits { IsLimited (IsCapacity capacity) clients result }
     {
         if capacity < 1 || capacity > 4096 {
             return Err(Fault::BadCapacity);
@@ -225,6 +202,9 @@ fn count_of(word: u64) -> u64
 impl<K: HashKey, V: Clone + Eq, F: Remap<K, V> + Clone, A: Allocator> Map<K, V, F, A> {
     /// How many keys there are, as far as a look at one client's count after the other tells: while other threads
     /// call, it is the number at no one moment, and nothing but its range is promised.
+    ///
+    ///     map.put(rt, pass, 1, 5)?;
+    ///     map.mapping_count() == 1
     pub fn mapping_count(&self) -> u64
         ensures { result < 2 ^ 63 }
     {
@@ -232,6 +212,8 @@ impl<K: HashKey, V: Clone + Eq, F: Remap<K, V> + Clone, A: Allocator> Map<K, V, 
     }
 
     /// How many keys there are, by the passes of all clients: those at the opening, and the sum of all deltas.
+    ///
+    ///     map.mapping_count_all(&mut passes) == 0
     pub fn mapping_count_all(&self, passes: &mut [Pass<K, V, F>]) -> u64
         requires own { All (λ p. p.ledger ≡ self.now.ledger.id) passes.old }
         requires all { length passes.old ≡ self.now.ledger.clients }

@@ -1,7 +1,7 @@
 //! What calls do for the table once their own work is done. No refusal here is an error of the call.
 ghost use Rattle.std.specs.Prelude.{◌≡◌, ◌≤◌};
 ghost use Rattle.hashkeys.specs.Classes.{IsTableSize};
-ghost use Rattle.bin_history.specs.Copies.{IsExact};
+ghost use Rattle.chm.specs.Answered.{AreExact};
 ghost use Rattle.transfer.specs.Views.{IsUnfinished};
 
 use crate::growth::Table;
@@ -29,9 +29,7 @@ impl<
 > Map<K, V, F, A> {
     /// Forwards a bin that the table has outgrown, helps an open move with one stride, and opens a move where there are too many keys.
     pub(crate) fn after_call<R: Wait>(&self, rt: &R, landed: &Landed)
-        requires keys { IsExact K.is_clone }
-        requires values { IsExact V.is_clone }
-        requires functions { IsExact F.is_clone }
+        requires exact { AreExact K.is_clone V.is_clone F.is_clone }
     {
         let table = self.growth.table();
         if landed.class.n() < table.n() {
@@ -48,9 +46,7 @@ impl<
 
     /// Forwards one bin. For want of memory, or under a wider bin, it stays.
     fn move_bin<R: Wait>(&self, rt: &R, class: Class)
-        requires keys { IsExact K.is_clone }
-        requires values { IsExact V.is_clone }
-        requires functions { IsExact F.is_clone }
+        requires exact { AreExact K.is_clone V.is_clone F.is_clone }
     {
         if self.bins.n() <= class.n() && class.n() < MOST_BINS {
             let _ = self.bins.forward(rt, &self.ledger, class);
@@ -66,9 +62,7 @@ impl<
         mover: &mut Mover,
         range: Range,
     )
-        requires keys { IsExact K.is_clone }
-        requires values { IsExact V.is_clone }
-        requires functions { IsExact F.is_clone }
+        requires exact { AreExact K.is_clone V.is_clone F.is_clone }
         requires table { table.exponent ≤ 16 }
         requires mover { mover.old.strides ≡ strides.now }
         requires range { IsUnfinished mover.old range }
@@ -86,9 +80,7 @@ impl<
 
     /// Takes part in the open move with one stride, if there is a mover left.
     fn help<R: Wait>(&self, rt: &R, table: Table)
-        requires keys { IsExact K.is_clone }
-        requires values { IsExact V.is_clone }
-        requires functions { IsExact F.is_clone }
+        requires exact { AreExact K.is_clone V.is_clone F.is_clone }
         requires table { table.exponent ≤ 16 }
     {
         let Some(strides) = self.growth.strides(table) else {
@@ -116,9 +108,7 @@ impl<
 
     /// Tries to open a move, and then moves strides until none is left. For want of memory for its places or its strides there is no move.
     fn grow<R: Wait>(&self, rt: &R, table: Table)
-        requires keys { IsExact K.is_clone }
-        requires values { IsExact V.is_clone }
-        requires functions { IsExact F.is_clone }
+        requires exact { AreExact K.is_clone V.is_clone F.is_clone }
         requires table { table.exponent ≤ 16 }
     {
         let Some(cell) = self.growth.cell(table) else {

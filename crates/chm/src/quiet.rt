@@ -14,6 +14,7 @@ use std::marker::Model;
 use std::snapshot::Snapshot;
 
 /// A map that nobody calls any more: its bins do not change. Contracts see its bins beside the books that it was closed with.
+/// In the examples of its calls it has one key, 1, with the value 5.
 #[derive(Drop)]
 pub struct Quiet<K: HashKey, V: Clone + Eq, F: Remap<K, V> + Clone, A: Allocator> {
     pub(crate) bins: Vec<Bin<K, V, F, A>, A>,
@@ -51,6 +52,10 @@ impl<K: HashKey, V: Clone + Eq, F: Remap<K, V> + Clone, A: Allocator> Quiet<K, V
     }
 
     /// The pairs of the bins, bin by bin.
+    ///
+    ///     let mut pairs = quiet.entries();
+    ///     pairs.next().copied() == Some((1, 5))
+    ///     pairs.next().is_none()
     pub fn entries(&self) -> Entries<'_, K, V, F, A>
         ensures { result ≡ entries_of self.now.bins }
     {
@@ -61,6 +66,8 @@ impl<K: HashKey, V: Clone + Eq, F: Remap<K, V> + Clone, A: Allocator> Quiet<K, V
     }
 
     /// The number of keys.
+    ///
+    ///     quiet.mapping_count() == 1
     pub fn mapping_count(&self) -> u64
         ensures { result ≡ length (entries_of self.now.bins) }
     {

@@ -1,13 +1,11 @@
 //! Opening a map again with the pairs of a closed one.
-ghost use Rattle.std.specs.Prelude.{◌≡◌, ◌≤◌, ◌<◌, ◌^◌, ◌↔◌, length, flat_map, All, IfOk, IsOk, IsErrOf, IfErr};
+ghost use Rattle.std.specs.Prelude.{◌≡◌, ◌≤◌, length, flat_map, IfOk};
 ghost use Rattle.hashkeys.specs.Classes.{IsTableSize};
 ghost use Rattle.bin_history.specs.Copies.{IsExact};
-ghost use Rattle.bin_history.specs.Entries.{lookup};
-ghost use Rattle.count_ledger.specs.Opening.{lists_of, new_passes};
+ghost use Rattle.count_ledger.specs.Opening.{lists_of};
 ghost use Rattle.chm.specs.Quiets.{entries_of};
-ghost use Rattle.chm.specs.Refusals.{AreClients, IsMaking};
-ghost use Rattle.chm.specs.Reopened.{dealt, in_classes};
-ghost use Rattle.chm.specs.Sizes.{IsSizeFrom};
+ghost use Rattle.chm.specs.Opened.{IsLimited};
+ghost use Rattle.chm.specs.Reopened.{dealt, IsReopened};
 
 use crate::fault::Fault;
 use crate::map::{Map, Opened, no_bases};
@@ -50,41 +48,27 @@ impl<
 > Quiet<K, V, F, A> {
     /// Opens a map with copies of the pairs, which go into their bins in walk order, and with passes that made nothing for 1 to 32 clients. It has this map's form, and its table
     /// is the least from this map's opening one on that has room for them. The closed map stays as it is.
+    ///
+    ///     let (map, passes) = quiet.reopen(2)?;
+    ///     map.clients() == 2 && map.mapping_count() == 1
     pub fn reopen(&self, clients: u32) -> Result<Opened<K, V, F, A>, Fault>
         requires keys { IsExact K.is_clone }
         requires values { IsExact V.is_clone }
-        ensures ok { IsOk result → (length (entries_of self.now.bins) ≤ 4294967295) × AreClients clients }
-        ensures form { IfOk result (λ r. r.0.ledger.form ≡ self.now.ledger.form) }
-        ensures salt { IfOk result (λ r. r.0.ledger.salt ≡ self.now.ledger.salt) }
-        ensures clients { IfOk result (λ r. r.0.ledger.clients ≡ clients) }
-        ensures opening { IfOk result (λ r. r.0.ledger.opening ≡ in_classes K.code self.now.ledger.salt r.0.n (entries_of self.now.bins)) }
-        ensures same_map { IfOk result (λ r. (k : K) → lookup K.eq r.0.ledger.opening k ≡ lookup K.eq (entries_of self.now.bins) k) }
-        ensures size { IfOk result (λ r. IsSizeFrom self.now.n (length (entries_of self.now.bins)) r.0.n) }
-        ensures passes { IfOk result (λ r. r.1.items ≡ new_passes r.0.ledger.id clients) }
-        ensures own { IfOk result (λ r. All (λ p. p.ledger ≡ r.0.ledger.id) r.1.items) }
-        ensures capacity { IsErrOf result Fault.BadCapacity ↔ (4294967295 < length (entries_of self.now.bins)) }
-        ensures some { IsErrOf result Fault.BadClients ↔ ((length (entries_of self.now.bins) ≤ 4294967295) × (¬ AreClients clients)) }
-        ensures faults { IfErr result IsMaking }
+        ensures new { IfOk result (λ r. IsReopened K.eq K.code self.now self.now.ledger.salt clients r.0 r.1.items) }
+        ensures limits { IsLimited (length (entries_of self.now.bins) ≤ 4294967295) clients result }
     {
         self.reopen_with(clients, self.salt)
     }
 
     /// The same with another salt.
+    ///
+    ///     let (map, passes) = quiet.reopen_with(2, Salt(7))?;
+    ///     map.salt() == Salt(7)
     pub fn reopen_with(&self, clients: u32, salt: Salt) -> Result<Opened<K, V, F, A>, Fault>
         requires keys { IsExact K.is_clone }
         requires values { IsExact V.is_clone }
-        ensures ok { IsOk result → (length (entries_of self.now.bins) ≤ 4294967295) × AreClients clients }
-        ensures form { IfOk result (λ r. r.0.ledger.form ≡ self.now.ledger.form) }
-        ensures salt { IfOk result (λ r. r.0.ledger.salt ≡ salt) }
-        ensures clients { IfOk result (λ r. r.0.ledger.clients ≡ clients) }
-        ensures opening { IfOk result (λ r. r.0.ledger.opening ≡ in_classes K.code salt r.0.n (entries_of self.now.bins)) }
-        ensures same_map { IfOk result (λ r. (k : K) → lookup K.eq r.0.ledger.opening k ≡ lookup K.eq (entries_of self.now.bins) k) }
-        ensures size { IfOk result (λ r. IsSizeFrom self.now.n (length (entries_of self.now.bins)) r.0.n) }
-        ensures passes { IfOk result (λ r. r.1.items ≡ new_passes r.0.ledger.id clients) }
-        ensures own { IfOk result (λ r. All (λ p. p.ledger ≡ r.0.ledger.id) r.1.items) }
-        ensures capacity { IsErrOf result Fault.BadCapacity ↔ (4294967295 < length (entries_of self.now.bins)) }
-        ensures some { IsErrOf result Fault.BadClients ↔ ((length (entries_of self.now.bins) ≤ 4294967295) × (¬ AreClients clients)) }
-        ensures faults { IfErr result IsMaking }
+        ensures new { IfOk result (λ r. IsReopened K.eq K.code self.now salt clients r.0 r.1.items) }
+        ensures limits { IsLimited (length (entries_of self.now.bins) ≤ 4294967295) clients result }
     {
         let count = self.mapping_count();
         if count > MOST_PAIRS {

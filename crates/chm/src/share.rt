@@ -32,6 +32,11 @@ impl<K: HashKey, V: Clone + Eq, F: Remap<K, V> + Clone, A: Allocator> Map<K, V, 
     /// Lends each pass to a thread of its own, in which the work makes calls of the map, all at the same time; where a thread cannot be
     /// started its client works in a thread that there is, after others, so no client may wait for another. All have ended when this
     /// returns. Each pass is then of the map still, and as the work left it.
+    ///
+    /// Where each of four clients adds 1 at 1, as `map.merge(rt, pass, 1, 1, Plus(0))` does:
+    ///
+    ///     map.share(rt, &mut passes, &AddOne);
+    ///     map.glance(rt, &1) == Ok(Some(4))
     pub fn share<R: Threads + Wait + Sync, W: Sharing<K, V, F, A> + Sync>(
         &self,
         rt: &R,

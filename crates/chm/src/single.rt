@@ -25,6 +25,9 @@ fn value_in<'a, K: HashKey, V: Clone + Eq, F: Remap<K, V> + Clone, A: Allocator 
 
 impl<K: HashKey, V: Clone + Eq, F: Remap<K, V> + Clone, A: Allocator + Clone> Quiet<K, V, F, A> {
     /// The value at the key. It looks through the bins, so the time grows with their number.
+    ///
+    ///     quiet.get(&1).copied() == Some(5)
+    ///     quiet.get(&2).is_none()
     pub fn get(&self, key: &K) -> Option<&V>
         ensures { MatchOption result (lookup K.eq (entries_of self.now.bins) key.now ≡ None) (λ value. lookup K.eq (entries_of self.now.bins) key.now ≡ Some value.now) }
     {

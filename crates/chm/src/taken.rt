@@ -45,6 +45,11 @@ impl<
 
     /// The pairs, bin by bin, as `entries` goes over them, taken out of the map by value: no key and no value is copied. It asks
     /// for the memory of one list. Where that is refused the closed map comes back as it was.
+    ///
+    ///     match quiet.into_entries() {
+    ///         Ok(pairs) => pairs.as_slice() == [(1, 5)].as_slice(),
+    ///         Err(_) => false,
+    ///     }
     pub fn into_entries(self) -> Result<Vec<(K, V), A>, Quiet<K, V, F, A>>
         ensures entries { IfOk result (λ list. list.items ≡ entries_of self.bins) }
         ensures distinct { IfOk result (λ list. HasDistinctKeys K.eq list.items) }

@@ -89,6 +89,10 @@ impl<
     /// Shows the entries of each bin in walk order, one bin after the other, each as it was while it was held. No key comes twice. Calls of others may come
     /// between two bins; calls of the pass's own client do not, so with one client the walk shows the map. A walk does not promise that other
     /// clients really made the calls it shows; `close` does. For want of memory nothing is shown.
+    ///
+    ///     map.put(rt, pass, 1, 5)?;
+    ///     let visits = map.walk(rt, pass)?;
+    ///     visits.iter().any(|visit| visit.entries.as_slice() == [(1, 5)].as_slice())
     pub fn walk<R: Wait>(
         &self,
         rt: &R,
@@ -121,6 +125,10 @@ impl<
 
     /// A copy of the value at a key, which is the one that a call of the pass's client would find now. It waits for the key's bin as a call does, but it is no
     /// call: nothing is posted, the pass stays as it was, and a full pass may look as well. For want of memory nothing is told.
+    ///
+    ///     map.put(rt, pass, 1, 5)?;
+    ///     map.look_up(rt, pass, &1)? == Some(5)
+    ///     map.look_up(rt, pass, &2)? == None
     pub fn look_up<R: Wait>(
         &self,
         rt: &R,
@@ -144,6 +152,9 @@ impl<
     }
 
     /// A copy of the value at a key, read beside others that read the bin. It is no call: nothing is posted, and which moment it shows is not said.
+    ///
+    ///     map.put(rt, pass, 1, 5)?;
+    ///     map.glance(rt, &1)? == Some(5)
     pub fn glance<R: Wait>(&self, rt: &R, key: &K) -> Result<Option<V>, Fault>
         requires values { IsExact V.is_clone }
         ensures shown { IfOk result (IsShown K.eq K.code (after V.eq F.remapped F.merged) self.now key.now) }

@@ -1,3 +1,4 @@
 pub mod Passes
 mod Computing
+mod Replies
 pub mod Tallies

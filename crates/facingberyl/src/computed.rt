@@ -1,13 +1,10 @@
 //! The calls that may use a function, or not.
-ghost use Rattle.std.specs.Prelude.{◌≡◌, ◌≤◌, ◌↔◌, length, IfOk, IfErr, IsErrOf, OnErr};
-ghost use Rattle.bin_history.specs.Copies.{IsExact};
+ghost use Rattle.std.specs.Prelude.{◌≡◌, IfOk};
+ghost use Rattle.chm.specs.Answered.{AreExact, IsAnsweredAs};
 ghost use Rattle.bin_history.specs.Deltas.{sum_of_deltas};
 ghost use Rattle.bin_history.specs.declared.call.Call.TheVariants.{ComputeIfAbsent, ComputeIfPresent, Merge};
 ghost use Rattle.bin_history.specs.declared.call.Reply.TheVariants.{Value};
-ghost use Rattle.count_ledger.specs.Limits.{most_calls};
 ghost use Rattle.count_ledger.specs.Words.{word_of};
-ghost use Rattle.chm.specs.Called.{IsCalled};
-ghost use Rattle.chm.specs.Refusals.{IsOfCall};
 ghost use Rattle.facingberyl.specs.Computed.{IsTold};
 
 use crate::client::{Client, Seat};
@@ -68,14 +65,9 @@ impl<
         key: K,
         function: F,
     ) -> Result<Computed<V>, Fault>
-        requires keys { IsExact K.is_clone }
-        requires values { IsExact V.is_clone }
-        requires functions { IsExact F.is_clone }
-        ensures called { IfOk result (λ answer. IsCalled K.eq K.code V.eq F.remapped F.merged self.old.map.now.ledger (ComputeIfAbsent key function) self.old.pass.now self.new.pass.now (Value answer.value)) }
+        requires exact { AreExact K.is_clone V.is_clone F.is_clone }
+        ensures answered { IsAnsweredAs K.eq K.code V.eq F.remapped F.merged (λ answer. Value answer.value) self.old.map.now.ledger (ComputeIfAbsent key function) self.old.pass.now self.new.pass.now result }
         ensures used { IfOk result (λ answer. IsTold (ComputeIfAbsent key function) self.old.pass.now self.new.pass.now answer.used) }
-        ensures refused { OnErr result (self.new.pass.now ≡ self.old.pass.now) }
-        ensures full { IsErrOf result Fault.PassFull ↔ (most_calls self.old.map.now.ledger.form ≤ length self.old.pass.now.made) }
-        ensures faults { IfErr result IsOfCall }
         ensures map { self.new.map.now ≡ self.old.map.now }
     {
         let before = self.map.balance(self.pass);
@@ -97,14 +89,9 @@ impl<
         key: K,
         function: F,
     ) -> Result<Computed<V>, Fault>
-        requires keys { IsExact K.is_clone }
-        requires values { IsExact V.is_clone }
-        requires functions { IsExact F.is_clone }
-        ensures called { IfOk result (λ answer. IsCalled K.eq K.code V.eq F.remapped F.merged self.old.map.now.ledger (ComputeIfPresent key function) self.old.pass.now self.new.pass.now (Value answer.value)) }
+        requires exact { AreExact K.is_clone V.is_clone F.is_clone }
+        ensures answered { IsAnsweredAs K.eq K.code V.eq F.remapped F.merged (λ answer. Value answer.value) self.old.map.now.ledger (ComputeIfPresent key function) self.old.pass.now self.new.pass.now result }
         ensures used { IfOk result (λ answer. IsTold (ComputeIfPresent key function) self.old.pass.now self.new.pass.now answer.used) }
-        ensures refused { OnErr result (self.new.pass.now ≡ self.old.pass.now) }
-        ensures full { IsErrOf result Fault.PassFull ↔ (most_calls self.old.map.now.ledger.form ≤ length self.old.pass.now.made) }
-        ensures faults { IfErr result IsOfCall }
         ensures map { self.new.map.now ≡ self.old.map.now }
     {
         let before = self.map.balance(self.pass);
@@ -127,14 +114,9 @@ impl<
         value: V,
         function: F,
     ) -> Result<Computed<V>, Fault>
-        requires keys { IsExact K.is_clone }
-        requires values { IsExact V.is_clone }
-        requires functions { IsExact F.is_clone }
-        ensures called { IfOk result (λ answer. IsCalled K.eq K.code V.eq F.remapped F.merged self.old.map.now.ledger (Merge key value function) self.old.pass.now self.new.pass.now (Value answer.value)) }
+        requires exact { AreExact K.is_clone V.is_clone F.is_clone }
+        ensures answered { IsAnsweredAs K.eq K.code V.eq F.remapped F.merged (λ answer. Value answer.value) self.old.map.now.ledger (Merge key value function) self.old.pass.now self.new.pass.now result }
         ensures used { IfOk result (λ answer. IsTold (Merge key value function) self.old.pass.now self.new.pass.now answer.used) }
-        ensures refused { OnErr result (self.new.pass.now ≡ self.old.pass.now) }
-        ensures full { IsErrOf result Fault.PassFull ↔ (most_calls self.old.map.now.ledger.form ≤ length self.old.pass.now.made) }
-        ensures faults { IfErr result IsOfCall }
         ensures map { self.new.map.now ≡ self.old.map.now }
     {
         let before = self.map.balance(self.pass);

@@ -1,11 +1,8 @@
 //! Calls of a client that borrow their key, each with an answer of its own type.
-ghost use Rattle.std.specs.Prelude.{◌≡◌, ◌≤◌, ◌↔◌, length, IfOk, IfErr, IsErrOf, OnErr};
-ghost use Rattle.bin_history.specs.Copies.{IsExact};
+ghost use Rattle.std.specs.Prelude.{◌≡◌};
+ghost use Rattle.chm.specs.Answered.{AreExact, IsAnsweredAs};
 ghost use Rattle.bin_history.specs.declared.call.Call.TheVariants.{Get, Contains, Remove, Replace};
 ghost use Rattle.bin_history.specs.declared.call.Reply.TheVariants.{Value, Truth};
-ghost use Rattle.count_ledger.specs.Limits.{most_calls};
-ghost use Rattle.chm.specs.Called.{IsCalled};
-ghost use Rattle.chm.specs.Refusals.{IsOfCall};
 
 use crate::client::{Client, Seat};
 use crate::typed::{truth_in, value_in};
@@ -24,13 +21,8 @@ impl<
 > Client<'_, S, K, V, F, A> {
     /// The same as `get`, with the key borrowed. The value at the key.
     pub fn get_by<R: Wait>(&mut self, rt: &R, key: &K) -> Result<Option<V>, Fault>
-        requires keys { IsExact K.is_clone }
-        requires values { IsExact V.is_clone }
-        requires functions { IsExact F.is_clone }
-        ensures called { IfOk result (λ answer. IsCalled K.eq K.code V.eq F.remapped F.merged self.old.map.now.ledger (Get key.now) self.old.pass.now self.new.pass.now (Value answer)) }
-        ensures refused { OnErr result (self.new.pass.now ≡ self.old.pass.now) }
-        ensures full { IsErrOf result Fault.PassFull ↔ (most_calls self.old.map.now.ledger.form ≤ length self.old.pass.now.made) }
-        ensures faults { IfErr result IsOfCall }
+        requires exact { AreExact K.is_clone V.is_clone F.is_clone }
+        ensures answered { IsAnsweredAs K.eq K.code V.eq F.remapped F.merged Value self.old.map.now.ledger (Get key.now) self.old.pass.now self.new.pass.now result }
         ensures map { self.new.map.now ≡ self.old.map.now }
     {
         let reply = self.map.get_by(rt, self.pass, key)?;
@@ -39,13 +31,8 @@ impl<
 
     /// The same as `contains_key`, with the key borrowed. Whether the key has a value.
     pub fn contains_key_by<R: Wait>(&mut self, rt: &R, key: &K) -> Result<bool, Fault>
-        requires keys { IsExact K.is_clone }
-        requires values { IsExact V.is_clone }
-        requires functions { IsExact F.is_clone }
-        ensures called { IfOk result (λ answer. IsCalled K.eq K.code V.eq F.remapped F.merged self.old.map.now.ledger (Contains key.now) self.old.pass.now self.new.pass.now (Truth answer)) }
-        ensures refused { OnErr result (self.new.pass.now ≡ self.old.pass.now) }
-        ensures full { IsErrOf result Fault.PassFull ↔ (most_calls self.old.map.now.ledger.form ≤ length self.old.pass.now.made) }
-        ensures faults { IfErr result IsOfCall }
+        requires exact { AreExact K.is_clone V.is_clone F.is_clone }
+        ensures answered { IsAnsweredAs K.eq K.code V.eq F.remapped F.merged Truth self.old.map.now.ledger (Contains key.now) self.old.pass.now self.new.pass.now result }
         ensures map { self.new.map.now ≡ self.old.map.now }
     {
         let reply = self.map.contains_key_by(rt, self.pass, key)?;
@@ -54,13 +41,8 @@ impl<
 
     /// The same as `remove`, with the key borrowed. Takes the key away, and answers the value before.
     pub fn remove_by<R: Wait>(&mut self, rt: &R, key: &K) -> Result<Option<V>, Fault>
-        requires keys { IsExact K.is_clone }
-        requires values { IsExact V.is_clone }
-        requires functions { IsExact F.is_clone }
-        ensures called { IfOk result (λ answer. IsCalled K.eq K.code V.eq F.remapped F.merged self.old.map.now.ledger (Remove key.now) self.old.pass.now self.new.pass.now (Value answer)) }
-        ensures refused { OnErr result (self.new.pass.now ≡ self.old.pass.now) }
-        ensures full { IsErrOf result Fault.PassFull ↔ (most_calls self.old.map.now.ledger.form ≤ length self.old.pass.now.made) }
-        ensures faults { IfErr result IsOfCall }
+        requires exact { AreExact K.is_clone V.is_clone F.is_clone }
+        ensures answered { IsAnsweredAs K.eq K.code V.eq F.remapped F.merged Value self.old.map.now.ledger (Remove key.now) self.old.pass.now self.new.pass.now result }
         ensures map { self.new.map.now ≡ self.old.map.now }
     {
         let reply = self.map.remove_by(rt, self.pass, key)?;
@@ -69,13 +51,8 @@ impl<
 
     /// The same as `replace`, with the key borrowed. Gives the key this value where it has one, and answers the value before.
     pub fn replace_by<R: Wait>(&mut self, rt: &R, key: &K, value: V) -> Result<Option<V>, Fault>
-        requires keys { IsExact K.is_clone }
-        requires values { IsExact V.is_clone }
-        requires functions { IsExact F.is_clone }
-        ensures called { IfOk result (λ answer. IsCalled K.eq K.code V.eq F.remapped F.merged self.old.map.now.ledger (Replace key.now value) self.old.pass.now self.new.pass.now (Value answer)) }
-        ensures refused { OnErr result (self.new.pass.now ≡ self.old.pass.now) }
-        ensures full { IsErrOf result Fault.PassFull ↔ (most_calls self.old.map.now.ledger.form ≤ length self.old.pass.now.made) }
-        ensures faults { IfErr result IsOfCall }
+        requires exact { AreExact K.is_clone V.is_clone F.is_clone }
+        ensures answered { IsAnsweredAs K.eq K.code V.eq F.remapped F.merged Value self.old.map.now.ledger (Replace key.now value) self.old.pass.now self.new.pass.now result }
         ensures map { self.new.map.now ≡ self.old.map.now }
     {
         let reply = self.map.replace_by(rt, self.pass, key, value)?;

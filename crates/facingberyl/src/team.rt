@@ -1,14 +1,12 @@
 //! A map with the passes of all its clients.
-ghost use Rattle.std.specs.Prelude.{◌≡◌, ◌≤◌, ◌<◌, ◌⊎◌, ℕ, [], length, All, IfOk, IfErr, IsOk, IsErrOf, ◌↔◌, slice_index_or};
+ghost use Rattle.std.specs.Prelude.{◌≡◌, ◌≤◌, ◌<◌, ◌⊎◌, ℕ, length, All, IfOk, IfErr, slice_index_or};
 ghost use Rattle.bin_history.specs.Copies.{IsExact};
-ghost use Rattle.count_ledger.specs.Opening.{new_passes};
 ghost use Rattle.count_ledger.specs.Views.{PassView};
-ghost use Rattle.bin_history.specs.Entries.{lookup};
 ghost use Rattle.bin_history.specs.declared.form.Form.TheVariants.{Lean};
+ghost use Rattle.chm.specs.Opened.{IsLimited, IsNew};
 ghost use Rattle.chm.specs.Quiets.{entries_of};
-ghost use Rattle.chm.specs.Reopened.{in_classes};
-ghost use Rattle.chm.specs.Refusals.{AreClients, IsCapacity, IsMaking};
-ghost use Rattle.chm.specs.Sizes.{IsSizeFor, IsSizeFrom};
+ghost use Rattle.chm.specs.Refusals.{IsCapacity};
+ghost use Rattle.chm.specs.Reopened.{IsReopened};
 
 use crate::work::{Lent, Work};
 use bin_history::Remap;
@@ -55,16 +53,8 @@ impl<
     pub fn new(alloc: A, capacity: usize, clients: u32) -> Result<Team<K, V, F, A>, Fault>
         requires keys { IsExact K.is_clone }
         requires values { IsExact V.is_clone }
-        ensures ok { IsOk result → IsCapacity capacity × AreClients clients }
-        ensures form { IfOk result (λ t. t.map.ledger.form ≡ Lean) }
-        ensures salt { IfOk result (λ t. t.map.ledger.salt ≡ record { 0 = 0 }) }
-        ensures clients { IfOk result (λ t. t.map.ledger.clients ≡ clients) }
-        ensures opening { IfOk result (λ t. t.map.ledger.opening ≡ []) }
-        ensures size { IfOk result (λ t. IsSizeFor capacity t.map.n) }
-        ensures passes { IfOk result (λ t. t.passes ≡ new_passes t.map.ledger.id clients) }
-        ensures capacity { IsErrOf result Fault.BadCapacity ↔ (¬ IsCapacity capacity) }
-        ensures some { IsErrOf result Fault.BadClients ↔ (IsCapacity capacity × (¬ AreClients clients)) }
-        ensures faults { IfErr result IsMaking }
+        ensures new { IfOk result (λ t. IsNew Lean (record { 0 = 0 }) capacity clients t.map t.passes) }
+        ensures limits { IsLimited (IsCapacity capacity) clients result }
     {
         Team::with_salt(alloc, capacity, clients, Salt(0))
     }
@@ -78,16 +68,8 @@ impl<
     ) -> Result<Team<K, V, F, A>, Fault>
         requires keys { IsExact K.is_clone }
         requires values { IsExact V.is_clone }
-        ensures ok { IsOk result → IsCapacity capacity × AreClients clients }
-        ensures form { IfOk result (λ t. t.map.ledger.form ≡ Lean) }
-        ensures salt { IfOk result (λ t. t.map.ledger.salt ≡ salt) }
-        ensures clients { IfOk result (λ t. t.map.ledger.clients ≡ clients) }
-        ensures opening { IfOk result (λ t. t.map.ledger.opening ≡ []) }
-        ensures size { IfOk result (λ t. IsSizeFor capacity t.map.n) }
-        ensures passes { IfOk result (λ t. t.passes ≡ new_passes t.map.ledger.id clients) }
-        ensures capacity { IsErrOf result Fault.BadCapacity ↔ (¬ IsCapacity capacity) }
-        ensures some { IsErrOf result Fault.BadClients ↔ (IsCapacity capacity × (¬ AreClients clients)) }
-        ensures faults { IfErr result IsMaking }
+        ensures new { IfOk result (λ t. IsNew Lean salt capacity clients t.map t.passes) }
+        ensures limits { IsLimited (IsCapacity capacity) clients result }
     {
         let (map, passes) = Map::lean(alloc, capacity, clients, salt)?;
         Ok(Team { map, passes })
@@ -98,17 +80,8 @@ impl<
     pub fn reopen(closed: &Quiet<K, V, F, A>, clients: u32) -> Result<Team<K, V, F, A>, Fault>
         requires keys { IsExact K.is_clone }
         requires values { IsExact V.is_clone }
-        ensures ok { IsOk result → (length (entries_of closed.now.bins) ≤ 4294967295) × AreClients clients }
-        ensures form { IfOk result (λ t. t.map.ledger.form ≡ closed.now.ledger.form) }
-        ensures salt { IfOk result (λ t. t.map.ledger.salt ≡ closed.now.ledger.salt) }
-        ensures clients { IfOk result (λ t. t.map.ledger.clients ≡ clients) }
-        ensures opening { IfOk result (λ t. t.map.ledger.opening ≡ in_classes K.code closed.now.ledger.salt t.map.n (entries_of closed.now.bins)) }
-        ensures same_map { IfOk result (λ t. (k : K) → lookup K.eq t.map.ledger.opening k ≡ lookup K.eq (entries_of closed.now.bins) k) }
-        ensures size { IfOk result (λ t. IsSizeFrom closed.now.n (length (entries_of closed.now.bins)) t.map.n) }
-        ensures passes { IfOk result (λ t. t.passes ≡ new_passes t.map.ledger.id clients) }
-        ensures capacity { IsErrOf result Fault.BadCapacity ↔ (4294967295 < length (entries_of closed.now.bins)) }
-        ensures some { IsErrOf result Fault.BadClients ↔ ((length (entries_of closed.now.bins) ≤ 4294967295) × (¬ AreClients clients)) }
-        ensures faults { IfErr result IsMaking }
+        ensures new { IfOk result (λ t. IsReopened K.eq K.code closed.now closed.now.ledger.salt clients t.map t.passes) }
+        ensures limits { IsLimited (length (entries_of closed.now.bins) ≤ 4294967295) clients result }
     {
         let (map, passes) = closed.reopen(clients)?;
         Ok(Team { map, passes })

@@ -1,12 +1,11 @@
 //! The calls of a client, each with an answer of its own type.
-ghost use Rattle.std.specs.Prelude.{◌≡◌, ◌≤◌, ◌↔◌, Bool, Option, length, IfOk, IfErr, IsErrOf, OnErr};
+ghost use Rattle.std.specs.Prelude.{◌≡◌, Bool, Option, IfOk, IfErr};
 ghost use Rattle.bin_history.specs.Calls.{after};
 ghost use Rattle.bin_history.specs.Copies.{IsExact};
+ghost use Rattle.chm.specs.Answered.{AreExact, IsAnsweredAs};
 ghost use Rattle.bin_history.specs.declared.call.Call.TheVariants.{Get, Contains, Put, PutIfAbsent, Remove, RemoveIf, Replace, ReplaceIf, Compute};
 ghost use Rattle.bin_history.specs.declared.call.Reply.TheVariants.{Value, Truth};
-ghost use Rattle.count_ledger.specs.Limits.{most_calls};
-ghost use Rattle.chm.specs.Called.{IsCalled, IsFound};
-ghost use Rattle.chm.specs.Refusals.{IsOfCall};
+ghost use Rattle.chm.specs.Called.{IsFound};
 
 use crate::client::{Client, Seat};
 use bin_history::{Remap, Reply};
@@ -49,13 +48,8 @@ impl<
     ///     client.put(rt, 1, 5)?;
     ///     client.get(rt, 1)? == Some(5)
     pub fn get<R: Wait>(&mut self, rt: &R, key: K) -> Result<Option<V>, Fault>
-        requires keys { IsExact K.is_clone }
-        requires values { IsExact V.is_clone }
-        requires functions { IsExact F.is_clone }
-        ensures called { IfOk result (λ answer. IsCalled K.eq K.code V.eq F.remapped F.merged self.old.map.now.ledger (Get key) self.old.pass.now self.new.pass.now (Value answer)) }
-        ensures refused { OnErr result (self.new.pass.now ≡ self.old.pass.now) }
-        ensures full { IsErrOf result Fault.PassFull ↔ (most_calls self.old.map.now.ledger.form ≤ length self.old.pass.now.made) }
-        ensures faults { IfErr result IsOfCall }
+        requires exact { AreExact K.is_clone V.is_clone F.is_clone }
+        ensures answered { IsAnsweredAs K.eq K.code V.eq F.remapped F.merged Value self.old.map.now.ledger (Get key) self.old.pass.now self.new.pass.now result }
         ensures map { self.new.map.now ≡ self.old.map.now }
     {
         let reply = self.map.get(rt, self.pass, key)?;
@@ -82,13 +76,8 @@ impl<
     ///     client.put(rt, 1, 5)?;
     ///     client.contains_key(rt, 1)?
     pub fn contains_key<R: Wait>(&mut self, rt: &R, key: K) -> Result<bool, Fault>
-        requires keys { IsExact K.is_clone }
-        requires values { IsExact V.is_clone }
-        requires functions { IsExact F.is_clone }
-        ensures called { IfOk result (λ answer. IsCalled K.eq K.code V.eq F.remapped F.merged self.old.map.now.ledger (Contains key) self.old.pass.now self.new.pass.now (Truth answer)) }
-        ensures refused { OnErr result (self.new.pass.now ≡ self.old.pass.now) }
-        ensures full { IsErrOf result Fault.PassFull ↔ (most_calls self.old.map.now.ledger.form ≤ length self.old.pass.now.made) }
-        ensures faults { IfErr result IsOfCall }
+        requires exact { AreExact K.is_clone V.is_clone F.is_clone }
+        ensures answered { IsAnsweredAs K.eq K.code V.eq F.remapped F.merged Truth self.old.map.now.ledger (Contains key) self.old.pass.now self.new.pass.now result }
         ensures map { self.new.map.now ≡ self.old.map.now }
     {
         let reply = self.map.contains_key(rt, self.pass, key)?;
@@ -100,13 +89,8 @@ impl<
     ///     client.put(rt, 1, 5)?;
     ///     client.put(rt, 1, 6)? == Some(5)
     pub fn put<R: Wait>(&mut self, rt: &R, key: K, value: V) -> Result<Option<V>, Fault>
-        requires keys { IsExact K.is_clone }
-        requires values { IsExact V.is_clone }
-        requires functions { IsExact F.is_clone }
-        ensures called { IfOk result (λ answer. IsCalled K.eq K.code V.eq F.remapped F.merged self.old.map.now.ledger (Put key value) self.old.pass.now self.new.pass.now (Value answer)) }
-        ensures refused { OnErr result (self.new.pass.now ≡ self.old.pass.now) }
-        ensures full { IsErrOf result Fault.PassFull ↔ (most_calls self.old.map.now.ledger.form ≤ length self.old.pass.now.made) }
-        ensures faults { IfErr result IsOfCall }
+        requires exact { AreExact K.is_clone V.is_clone F.is_clone }
+        ensures answered { IsAnsweredAs K.eq K.code V.eq F.remapped F.merged Value self.old.map.now.ledger (Put key value) self.old.pass.now self.new.pass.now result }
         ensures map { self.new.map.now ≡ self.old.map.now }
     {
         let reply = self.map.put(rt, self.pass, key, value)?;
@@ -118,13 +102,8 @@ impl<
     ///     client.put(rt, 1, 5)?;
     ///     client.put_if_absent(rt, 1, 6)? == Some(5)
     pub fn put_if_absent<R: Wait>(&mut self, rt: &R, key: K, value: V) -> Result<Option<V>, Fault>
-        requires keys { IsExact K.is_clone }
-        requires values { IsExact V.is_clone }
-        requires functions { IsExact F.is_clone }
-        ensures called { IfOk result (λ answer. IsCalled K.eq K.code V.eq F.remapped F.merged self.old.map.now.ledger (PutIfAbsent key value) self.old.pass.now self.new.pass.now (Value answer)) }
-        ensures refused { OnErr result (self.new.pass.now ≡ self.old.pass.now) }
-        ensures full { IsErrOf result Fault.PassFull ↔ (most_calls self.old.map.now.ledger.form ≤ length self.old.pass.now.made) }
-        ensures faults { IfErr result IsOfCall }
+        requires exact { AreExact K.is_clone V.is_clone F.is_clone }
+        ensures answered { IsAnsweredAs K.eq K.code V.eq F.remapped F.merged Value self.old.map.now.ledger (PutIfAbsent key value) self.old.pass.now self.new.pass.now result }
         ensures map { self.new.map.now ≡ self.old.map.now }
     {
         let reply = self.map.put_if_absent(rt, self.pass, key, value)?;
@@ -136,13 +115,8 @@ impl<
     ///     client.put(rt, 1, 5)?;
     ///     client.remove(rt, 1)? == Some(5)
     pub fn remove<R: Wait>(&mut self, rt: &R, key: K) -> Result<Option<V>, Fault>
-        requires keys { IsExact K.is_clone }
-        requires values { IsExact V.is_clone }
-        requires functions { IsExact F.is_clone }
-        ensures called { IfOk result (λ answer. IsCalled K.eq K.code V.eq F.remapped F.merged self.old.map.now.ledger (Remove key) self.old.pass.now self.new.pass.now (Value answer)) }
-        ensures refused { OnErr result (self.new.pass.now ≡ self.old.pass.now) }
-        ensures full { IsErrOf result Fault.PassFull ↔ (most_calls self.old.map.now.ledger.form ≤ length self.old.pass.now.made) }
-        ensures faults { IfErr result IsOfCall }
+        requires exact { AreExact K.is_clone V.is_clone F.is_clone }
+        ensures answered { IsAnsweredAs K.eq K.code V.eq F.remapped F.merged Value self.old.map.now.ledger (Remove key) self.old.pass.now self.new.pass.now result }
         ensures map { self.new.map.now ≡ self.old.map.now }
     {
         let reply = self.map.remove(rt, self.pass, key)?;
@@ -154,13 +128,8 @@ impl<
     ///     client.put(rt, 1, 5)?;
     ///     !client.remove_if(rt, 1, 6)?
     pub fn remove_if<R: Wait>(&mut self, rt: &R, key: K, value: V) -> Result<bool, Fault>
-        requires keys { IsExact K.is_clone }
-        requires values { IsExact V.is_clone }
-        requires functions { IsExact F.is_clone }
-        ensures called { IfOk result (λ answer. IsCalled K.eq K.code V.eq F.remapped F.merged self.old.map.now.ledger (RemoveIf key value) self.old.pass.now self.new.pass.now (Truth answer)) }
-        ensures refused { OnErr result (self.new.pass.now ≡ self.old.pass.now) }
-        ensures full { IsErrOf result Fault.PassFull ↔ (most_calls self.old.map.now.ledger.form ≤ length self.old.pass.now.made) }
-        ensures faults { IfErr result IsOfCall }
+        requires exact { AreExact K.is_clone V.is_clone F.is_clone }
+        ensures answered { IsAnsweredAs K.eq K.code V.eq F.remapped F.merged Truth self.old.map.now.ledger (RemoveIf key value) self.old.pass.now self.new.pass.now result }
         ensures map { self.new.map.now ≡ self.old.map.now }
     {
         let reply = self.map.remove_if(rt, self.pass, key, value)?;
@@ -172,13 +141,8 @@ impl<
     ///     client.remove(rt, 1)?;
     ///     client.replace(rt, 1, 6)? == None
     pub fn replace<R: Wait>(&mut self, rt: &R, key: K, value: V) -> Result<Option<V>, Fault>
-        requires keys { IsExact K.is_clone }
-        requires values { IsExact V.is_clone }
-        requires functions { IsExact F.is_clone }
-        ensures called { IfOk result (λ answer. IsCalled K.eq K.code V.eq F.remapped F.merged self.old.map.now.ledger (Replace key value) self.old.pass.now self.new.pass.now (Value answer)) }
-        ensures refused { OnErr result (self.new.pass.now ≡ self.old.pass.now) }
-        ensures full { IsErrOf result Fault.PassFull ↔ (most_calls self.old.map.now.ledger.form ≤ length self.old.pass.now.made) }
-        ensures faults { IfErr result IsOfCall }
+        requires exact { AreExact K.is_clone V.is_clone F.is_clone }
+        ensures answered { IsAnsweredAs K.eq K.code V.eq F.remapped F.merged Value self.old.map.now.ledger (Replace key value) self.old.pass.now self.new.pass.now result }
         ensures map { self.new.map.now ≡ self.old.map.now }
     {
         let reply = self.map.replace(rt, self.pass, key, value)?;
@@ -190,13 +154,8 @@ impl<
     ///     client.put(rt, 1, 5)?;
     ///     client.replace_if(rt, 1, 5, 6)?
     pub fn replace_if<R: Wait>(&mut self, rt: &R, key: K, old: V, new: V) -> Result<bool, Fault>
-        requires keys { IsExact K.is_clone }
-        requires values { IsExact V.is_clone }
-        requires functions { IsExact F.is_clone }
-        ensures called { IfOk result (λ answer. IsCalled K.eq K.code V.eq F.remapped F.merged self.old.map.now.ledger (ReplaceIf key old new) self.old.pass.now self.new.pass.now (Truth answer)) }
-        ensures refused { OnErr result (self.new.pass.now ≡ self.old.pass.now) }
-        ensures full { IsErrOf result Fault.PassFull ↔ (most_calls self.old.map.now.ledger.form ≤ length self.old.pass.now.made) }
-        ensures faults { IfErr result IsOfCall }
+        requires exact { AreExact K.is_clone V.is_clone F.is_clone }
+        ensures answered { IsAnsweredAs K.eq K.code V.eq F.remapped F.merged Truth self.old.map.now.ledger (ReplaceIf key old new) self.old.pass.now self.new.pass.now result }
         ensures map { self.new.map.now ≡ self.old.map.now }
     {
         let reply = self.map.replace_if(rt, self.pass, key, old, new)?;
@@ -209,13 +168,8 @@ impl<
     ///     client.put(rt, 1, 5)?;
     ///     client.compute(rt, 1, Add)? == Some(5)
     pub fn compute<R: Wait>(&mut self, rt: &R, key: K, function: F) -> Result<Option<V>, Fault>
-        requires keys { IsExact K.is_clone }
-        requires values { IsExact V.is_clone }
-        requires functions { IsExact F.is_clone }
-        ensures called { IfOk result (λ answer. IsCalled K.eq K.code V.eq F.remapped F.merged self.old.map.now.ledger (Compute key function) self.old.pass.now self.new.pass.now (Value answer)) }
-        ensures refused { OnErr result (self.new.pass.now ≡ self.old.pass.now) }
-        ensures full { IsErrOf result Fault.PassFull ↔ (most_calls self.old.map.now.ledger.form ≤ length self.old.pass.now.made) }
-        ensures faults { IfErr result IsOfCall }
+        requires exact { AreExact K.is_clone V.is_clone F.is_clone }
+        ensures answered { IsAnsweredAs K.eq K.code V.eq F.remapped F.merged Value self.old.map.now.ledger (Compute key function) self.old.pass.now self.new.pass.now result }
         ensures map { self.new.map.now ≡ self.old.map.now }
     {
         let reply = self.map.compute(rt, self.pass, key, function)?;

@@ -3,9 +3,15 @@
 #![tactic(auto)]
 
 #[cfg(test)]
+mod call_examples;
+#[cfg(test)]
 mod calls;
 #[cfg(test)]
+mod examples;
+#[cfg(test)]
 mod growth;
+#[cfg(test)]
+mod helping;
 #[cfg(test)]
 mod lent;
 #[cfg(test)]

@@ -1,7 +1,7 @@
 //! Maps at the program's keys, and calls on them.
 ghost use Rattle.std.specs.Prelude.{◌≡◌, ◌∷◌, ◌++◌, [], All, IfOk};
 ghost use Rattle.bin_history.specs.Copies.{IsExact};
-ghost use Rattle.count_ledger.specs.Opening.{new_passes};
+ghost use Rattle.chm.specs.Opened.{IsNew};
 
 use bin_history::{Call, Form, Remap, Reply};
 use chm::{Entries, Fault, Map, NotClosed, Opened, Quiet};
@@ -92,7 +92,7 @@ pub(crate) fn try_open<
 ) -> Result<Opened<K, V, F, A>, Fault>
     requires keys { IsExact K.is_clone }
     requires values { IsExact V.is_clone }
-    ensures { IfOk result (λ r. r.1.items ≡ new_passes r.0.ledger.id clients) }
+    ensures { IfOk result (λ r. IsNew form salt capacity clients r.0 r.1.items) }
 {
     match form {
         Form::Recorded => Map::with_salt(alloc, capacity, clients, salt),

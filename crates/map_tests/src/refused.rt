@@ -2,8 +2,8 @@
 ghost use Rattle.std.specs.Prelude.{◌≡◌, All};
 
 use crate::maps::{
-    Single, assert_entries, close, close_all, get_often, key, numbered, one_client, open,
-    opening_fault, put_back, put_numbers, put_texts,
+    Single, assert_entries, assert_pairs, close, close_all, get_often, key, numbered, one_client,
+    open, opening_fault, put_back, put_numbers, put_texts,
 };
 use bin_history::{Form, Reply};
 use chm::{Fault, NotClosed};
@@ -22,6 +22,7 @@ enum Refused {
     Walk,
     Close,
     Reopening,
+    Taking,
 }
 
 /// Three keys of two bins.
@@ -233,6 +234,36 @@ fn refuse_reopening<R: Wait + Abort>(
     refused
 }
 
+/// Takes the pairs out by value. Where the request of their list is refused the closed map comes back as it was, and the
+/// next try takes them.
+fn refuse_taking<R: Wait + Abort>(
+    rt: &R,
+    alloc: &Refusing<Global>,
+    form: Form,
+    granted: u64,
+) -> bool {
+    let Single { map, pass, place } = three_keys(rt, alloc, form);
+    let closed = close(rt, map, pass, place);
+    alloc.refuse_after(granted);
+    let result = closed.into_entries();
+    let refused = alloc.has_refused();
+    alloc.refuse_after(u64::MAX);
+    let pairs = match result {
+        Ok(pairs) => {
+            assert!(rt; !refused);
+            pairs
+        }
+        Err(closed) => {
+            assert!(rt; refused);
+            assert_eq!(rt; closed.mapping_count(), 3);
+            assert_entries(rt, closed.entries(), &IN_ORDER);
+            closed.into_entries().ok().expect(rt, "memory")
+        }
+    };
+    assert_pairs(rt, &pairs, &IN_ORDER);
+    refused
+}
+
 /// Makes a map of two bins and two clients.
 fn refuse_opening(rt: &impl Abort, alloc: &Refusing<Global>, form: Form, granted: u64) -> bool {
     alloc.refuse_after(granted);
@@ -257,6 +288,7 @@ fn refuse<R: Wait + Abort>(
         Refused::Walk => refuse_walk(rt, alloc, form, granted),
         Refused::Close => refuse_close(rt, alloc, form, granted),
         Refused::Reopening => refuse_reopening(rt, alloc, form, granted),
+        Refused::Taking => refuse_taking(rt, alloc, form, granted),
     }
 }
 
@@ -281,6 +313,7 @@ fn each_request_is_refused_in_turn(rt: HostRuntime) -> Result<(), Fail> {
         (Refused::Walk, (3, 999), (3, 999)),
         (Refused::Close, (2, 999), (2, 999)),
         (Refused::Reopening, (5, 999), (5, 999)),
+        (Refused::Taking, (1, 1), (1, 1)),
     ];
     for (call, recorded, lean) in rows {
         for (form, (least, most)) in [(Form::Recorded, recorded), (Form::Lean, lean)] {

@@ -18,13 +18,13 @@ use std::thread::{self, Threads};
 
 /// What threads wait for: how often it has been done, and how many waits for it were given up.
 #[derive(Drop)]
-struct Event {
+pub(crate) struct Event {
     done: AtomicU64,
     given_up: AtomicU64,
 }
 
 impl Event {
-    fn new() -> Event {
+    pub(crate) fn new() -> Event {
         Event {
             done: AtomicU64::new(0),
             given_up: AtomicU64::new(0),
@@ -32,7 +32,7 @@ impl Event {
     }
 
     /// Waits until it has been done so often, but not for ever.
-    fn wait(&self, times: u64) {
+    pub(crate) fn wait(&self, times: u64) {
         let backoff = Backoff::new();
         for _turn in 0..10_000_000u32 {
             if self.done.load(SeqCst) >= times {
@@ -47,7 +47,7 @@ impl Event {
         self.done.fetch_add(1, SeqCst);
     }
 
-    fn given_up(&self) -> u64 {
+    pub(crate) fn given_up(&self) -> u64 {
         self.given_up.load(SeqCst)
     }
 }
@@ -124,15 +124,23 @@ fn a_function_waits_for_a_put_on_another_bin(rt: HostRuntime) -> Result<(), Fail
 }
 
 /// What the copies of a value are told to do: nothing, to wait for one another, or to be refused.
-const WAIT: u64 = 1;
+pub(crate) const WAIT: u64 = 1;
 
 const REFUSE: u64 = 2;
 
 /// A value whose copies wait for one another, or are refused, once they are told to. Any two are equal.
 #[derive(Drop)]
-struct Paired<'a> {
+pub(crate) struct Paired<'a> {
     event: &'a Event,
     told: &'a AtomicU64,
+}
+
+impl<'a> Paired<'a> {
+    pub(crate) fn new(event: &'a Event, told: &'a AtomicU64) -> Paired<'a>
+        ensures { result ≡ record { event = event.entry; told = told.entry } }
+    {
+        Paired { event, told }
+    }
 }
 
 impl<'a> Clone for Paired<'a> {
@@ -149,10 +157,7 @@ impl<'a> Clone for Paired<'a> {
             self.event.done();
             self.event.wait(2);
         }
-        Ok(Paired {
-            event: self.event,
-            told: self.told,
-        })
+        Ok(Paired::new(self.event, self.told))
     }
 }
 
@@ -224,10 +229,7 @@ fn glance_together<R: Threads + Wait + Abort + Sync>(
     let event = Event::new();
     let told = AtomicU64::new(0);
     let (map, mut passes) = open::<Key, Paired, (), Global>(rt, alloc, form, 16, 1);
-    let value = Paired {
-        event: &event,
-        told: &told,
-    };
+    let value = Paired::new(&event, &told);
     let put = put_a(rt, &map, &mut passes, value);
     told.store(WAIT, SeqCst);
     let glance = || matches!(map.glance(rt, &key(rt, b"a")), Ok(Some(_)));
@@ -256,10 +258,7 @@ fn glance_in_vain<R: Wait + Abort>(
     let event = Event::new();
     let told = AtomicU64::new(0);
     let (map, mut passes) = open::<Key, Paired, (), Global>(rt, alloc, form, 16, 1);
-    let value = Paired {
-        event: &event,
-        told: &told,
-    };
+    let value = Paired::new(&event, &told);
     let put = put_a(rt, &map, &mut passes, value);
     told.store(REFUSE, SeqCst);
     let refused = map.glance(rt, &key(rt, b"a")).map(|shown| shown.is_some());

@@ -84,10 +84,12 @@ fn end<O: Output, E: Output>(
     errors: &mut E,
     fault: &Fault,
 ) -> ExitCode {
-    let told = tell(alloc, output, errors, fault);
-    match fault {
-        // help that could not be written
-        Fault::Help(_) if told.is_err() => ExitCode::from(status(&Fault::Device)),
+    match tell(alloc, output, errors, fault) {
+        // help, the one end of status 0, that could not be written
+        Err(unwritten) if status(fault) == 0 => {
+            let _ = tell(alloc, output, errors, &unwritten);
+            ExitCode::from(status(&unwritten))
+        }
         _ => ExitCode::from(status(fault)),
     }
 }

@@ -1,14 +1,13 @@
 -- The words of functions.
-use Rattle.std.proofs.Common.{◌≡◌, ◌≢◌, ℕ, ℤ, ◌<◌, ◌++◌, inl, inr, List, [], ◌∷◌, Contains, slice_index_or, refl, sym, ap, ◌∙◌, subst, arith}
+use Rattle.std.proofs.Common.{◌≡◌, ◌≢◌, ℕ, ℤ, ◌<◌, inl, inr, List, [], ◌∷◌, Contains, slice_index_or, refl, sym, ◌∙◌, subst, arith}
 use Rattle.std.specs.Prelude.{codes}
 use Rattle.script.specs.Functions.{with_number}
 use Rattle.script.specs.Lines.{Word, IsNumber}
 use Rattle.script.specs.Grammar.{IsFunction, IsMerger}
-use Rattle.script.specs.Faults.{Slot, a_function, a_merger, a_number, function_words, Fits, following, IsWrong, FailsFirst, FailsAt}
+use Rattle.script.specs.Faults.{Slot, a_function, a_merger, a_number, function_words, Fits, IsWrong, FailsFirst, FailsAt}
 use Rattle.script.specs.declared.function.Function.{Function}
 use Rattle.script.specs.declared.function.Function.TheVariants.{Sum, Max, Set, Drop}
 use Rattle.script.specs.declared.fault.Kind.{Kind}
-use Rattle.script.proofs.Parts.{IsWrong-later}
 
 -- a word of the list of functions' words, by its place there
 pub named : (k : ℕ) (w : Word) → k < 4 → slice_index_or function_words k w ≡ w → Contains function_words w
@@ -51,15 +50,3 @@ FailsFirst-function (w ∷ ws) kind h = λ ss. inl h
 pub FailsFirst-merger : (ws : List Word) (kind : Kind) → FailsFirst a_function ws kind → FailsAt a_merger ws kind
 FailsFirst-merger [] kind h = λ ss. h
 FailsFirst-merger (w ∷ ws) kind h = λ ss. inl h
-
-wrong_number : (name : Word) (k : ℕ) (x : Word) (n : ℤ) (ws rest : List Word) (kind : Kind) → k < 4 → slice_index_or function_words k name ≡ name → following a_function name ≡ a_number ∷ [] → IsNumber x n → ws ≡ name ∷ x ∷ rest → IsWrong [] rest kind → IsWrong (a_function ∷ []) ws kind
-wrong_number name k x n ws rest kind l e f is parts wrong =
-    IsWrong-later a_function [] ws name (x ∷ rest) kind parts (named k name l e) (rw f (IsWrong-later a_number [] (x ∷ rest) x rest kind refl (n, is) wrong))
-
--- what follows the words of a function is wrong where nothing should
-pub IsFunction-later : (f : Function) (fs ws rest : List Word) (kind : Kind) → ws ≡ fs ++ rest → IsFunction fs f → IsWrong [] rest kind → IsWrong (a_function ∷ []) ws kind
-IsFunction-later (Sum n) fs ws rest kind e (x, is, parts) wrong = wrong_number (codes "sum") 0 x n ws rest kind (omega arith) refl refl is (e ∙ ap (λ (v : List Word). v ++ rest) parts) wrong
-IsFunction-later (Max n) fs ws rest kind e (x, is, parts) wrong = wrong_number (codes "max") 1 x n ws rest kind (omega arith) refl refl is (e ∙ ap (λ (v : List Word). v ++ rest) parts) wrong
-IsFunction-later (Set n) fs ws rest kind e (x, is, parts) wrong = wrong_number (codes "set") 2 x n ws rest kind (omega arith) refl refl is (e ∙ ap (λ (v : List Word). v ++ rest) parts) wrong
-IsFunction-later Drop fs ws rest kind e parts wrong =
-    IsWrong-later a_function [] ws (codes "drop") rest kind (e ∙ ap (λ (v : List Word). v ++ rest) parts) (named 3 (codes "drop") (omega arith) refl) wrong

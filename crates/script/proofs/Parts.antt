@@ -1,13 +1,12 @@
 -- The words of a line, cut at its first space.
-use Rattle.std.proofs.Common.{◌≡◌, ◌≢◌, ℕ, ◌+◌, ◌==◌, Bool, true, false, inr, Option, Some, None, MatchOption, Bor, List, [], ◌∷◌, ◌++◌, length, All, refl, sym, ap, ◌∙◌, subst, arith}
+use Rattle.std.proofs.Common.{◌≡◌, ◌≢◌, ℕ, ◌+◌, ◌==◌, Bool, true, false, Option, Some, None, MatchOption, Bor, List, [], ◌∷◌, ◌++◌, length, All, refl, sym, ap, ◌∙◌, arith}
 use Rattle.std.specs.List.{list_any}
 use Rattle.std.specs.Option.{option_map_or}
 use Rattle.std.proofs.lemmas.List.Elements.{All-nil, All-cons, All-head, All-tail}
 use Rattle.std.proofs.lemmas.Bool.Decides.{nat_tests}
 use Rattle.std.proofs.lemmas.List.Splits.{slice_split_none, slice_split_at, length-slice_split}
 use Rattle.script.specs.Lines.{Word, words, IsSpaced}
-use Rattle.script.specs.Faults.{Slot, Fits, following, IsWrong}
-use Rattle.script.specs.declared.fault.Kind.{Kind}
+use Rattle.script.specs.Faults.{IsWrong}
 use Rattle.script.specs.declared.fault.Kind.TheVariants as kinds
 
 no_spaces : (l : List ℕ) → All (λ b. b ≢ 32) l → All (λ b. (b == 32) ≡ false) l
@@ -25,10 +24,6 @@ some_word (w ∷ ws) n e = refl
 -- a line has a word, which may be empty
 pub words-too_many : (l : List ℕ) → IsWrong [] (words l) kinds.Count
 words-too_many l = some_word (words l) _ (length-slice_split (λ b. b == 32) l)
-
--- a word that fits leaves the fault to the words after it
-pub IsWrong-later : (s : Slot) (ss : List Slot) (ws : List Word) (w : Word) (rest : List Word) (kind : Kind) → ws ≡ w ∷ rest → Fits s w → IsWrong (following s w ++ ss) rest kind → IsWrong (s ∷ ss) ws kind
-IsWrong-later s ss ws w rest kind e fits wrong = subst (λ (v : List Word). IsWrong (s ∷ ss) v kind) (sym e) (inr (fits, wrong))
 
 abbrev is_empty : Word → Bool
 is_empty w = length w == 0

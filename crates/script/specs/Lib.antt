@@ -6,3 +6,4 @@ pub mod Faults
 pub mod Reading
 pub mod Verdicts
 pub mod Drafts
+pub mod Commands

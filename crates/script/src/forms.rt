@@ -1,12 +1,13 @@
 //! The forms of lines: what each first word asks for, and what the line then says.
-ghost use Rattle.std.specs.Prelude.{◌≡◌, ℕ, ℤ, [], ◌∷◌, List, OnOk, IfOk, IfErr, nat_eq};
-ghost use Rattle.std.specs.Cmp.Lexicographic.{pointwise};
-ghost use Rattle.script.specs.Lines.{Word, IsThreshold};
-ghost use Rattle.script.specs.Grammar.{ScriptCall, client, call, ask, key, key_number, key_numbers, key_function, key_merger, sum_or_max, above, start_forms, computing_forms, replacing_forms, call_forms, block_forms, query_forms, Says, Reads};
-ghost use Rattle.script.specs.Faults.{a_key, a_number, a_threshold, a_function, a_merger, a_sum_or_max, the_above, IsWrong, AreWrong};
+ghost use Rattle.std.specs.Prelude.{◌≡◌, [], ◌∷◌, OnOk, IfOk, IfErr};
+ghost use Rattle.script.specs.Lines.{Word, IsNumber, IsThreshold};
+ghost use Rattle.script.specs.Grammar.{client, call, ask, sum_or_max, above, start_forms, call_forms, block_forms, query_forms, IsFunction, IsMerger, Says, Reads};
+ghost use Rattle.script.specs.Faults.{a_number, a_threshold, a_function, a_merger, a_sum_or_max, the_above, slots_of, IsWrong, AreWrong};
+ghost use Rattle.script.specs.Commands.{form};
 ghost use Rattle.script.specs.Drafts.{line_of};
-ghost use Rattle.script.specs.declared.function.Function.{Function};
 
+use crate::bytes::is;
+use crate::command::{Command, command_of};
 use crate::fault::Kind;
 use crate::function::Function;
 use crate::script::{Query, ScriptCall};
@@ -24,13 +25,6 @@ pub(crate) enum BlockLine {
     Call(ScriptCall),
 }
 
-/// Whether a first word is this one.
-fn is(name: &[u8], first: &[u8]) -> bool
-    ensures { result ≡ pointwise nat_eq name.now first.now }
-{
-    name.len() == first.len() && name == first
-}
-
 /// Reads the first line of a script, which opens the first block.
 pub(crate) fn read_start(first: &[u8], rest: Words<'_>) -> Result<(), Kind>
     ensures ok { OnOk result (Reads start_forms (first.now ∷ rest.entry) client) }
@@ -44,6 +38,7 @@ pub(crate) fn read_start(first: &[u8], rest: Words<'_>) -> Result<(), Kind>
 }
 
 /// Reads a line of a client's block, or one that ends it.
+#[inline(always)]
 pub(crate) fn read_in_block(first: &[u8], rest: Words<'_>) -> Result<BlockLine, Kind>
     ensures ok { IfOk result (λ line. Reads block_forms (first.now ∷ rest.entry) (line_of line)) }
     ensures err { IfErr result (AreWrong block_forms (first.now ∷ rest.entry)) }
@@ -61,120 +56,103 @@ pub(crate) fn read_in_block(first: &[u8], rest: Words<'_>) -> Result<BlockLine, 
 }
 
 /// Reads a call.
+#[inline(always)]
 fn read_call(first: &[u8], rest: Words<'_>) -> Result<ScriptCall, Kind>
     ensures ok { IfOk result (λ c. Reads call_forms (first.now ∷ rest.entry) (call c)) }
     ensures err { IfErr result (AreWrong call_forms (first.now ∷ rest.entry)) }
 {
-    if is(b"get", first) {
-        let key = read_key(rest)?;
-        Ok(Call::Get(key))
-    } else if is(b"contains", first) {
-        let key = read_key(rest)?;
-        Ok(Call::Contains(key))
-    } else if is(b"put", first) {
-        let (key, value) = key_and_number(rest)?;
-        Ok(Call::Put(key, value))
-    } else if is(b"put_if_absent", first) {
-        let (key, value) = key_and_number(rest)?;
-        Ok(Call::PutIfAbsent(key, value))
-    } else {
-        read_replacement(first, rest)
+    match command_of(first) {
+        Some(command) => read_arguments(command, rest),
+        None => Err(Kind::Word),
     }
 }
 
-/// Reads a call that removes or replaces, or one that asks a function.
-fn read_replacement(first: &[u8], rest: Words<'_>) -> Result<ScriptCall, Kind>
-    ensures ok { IfOk result (λ c. Reads replacing_forms (first.now ∷ rest.entry) (call c)) }
-    ensures err { IfErr result (AreWrong replacing_forms (first.now ∷ rest.entry)) }
+/// Reads the words after the first word of a call. All calls have a key in front: it is read in one place, and moved
+/// into the call from there.
+#[inline(always)]
+fn read_arguments(command: Command, mut words: Words<'_>) -> Result<ScriptCall, Kind>
+    ensures ok { IfOk result (λ c. Says (form command) words.entry (call c)) }
+    ensures err { IfErr result (IsWrong (slots_of (form command)) words.entry) }
 {
-    if is(b"remove", first) {
-        let key = read_key(rest)?;
-        Ok(Call::Remove(key))
-    } else if is(b"remove_if", first) {
-        let (key, value) = key_and_number(rest)?;
-        Ok(Call::RemoveIf(key, value))
-    } else if is(b"replace", first) {
-        let (key, value) = key_and_number(rest)?;
-        Ok(Call::Replace(key, value))
-    } else if is(b"replace_if", first) {
-        let (key, old, new) = key_and_numbers(rest)?;
-        Ok(Call::ReplaceIf(key, old, new))
-    } else {
-        read_computation(first, rest)
-    }
+    let word = words.word()?;
+    let Some(key) = Key::read(word) else {
+        return Err(Kind::Key);
+    };
+    Ok(match command {
+        Command::Get => {
+            words.end()?;
+            Call::Get(key)
+        }
+        Command::Contains => {
+            words.end()?;
+            Call::Contains(key)
+        }
+        Command::Put => Call::Put(key, last_number(words)?),
+        Command::PutIfAbsent => Call::PutIfAbsent(key, last_number(words)?),
+        Command::Remove => {
+            words.end()?;
+            Call::Remove(key)
+        }
+        Command::RemoveIf => Call::RemoveIf(key, last_number(words)?),
+        Command::Replace => Call::Replace(key, last_number(words)?),
+        Command::ReplaceIf => {
+            let (old, new) = last_numbers(words)?;
+            Call::ReplaceIf(key, old, new)
+        }
+        Command::ComputeIfAbsent => Call::ComputeIfAbsent(key, last_function(words)?),
+        Command::ComputeIfPresent => Call::ComputeIfPresent(key, last_function(words)?),
+        Command::Compute => Call::Compute(key, last_function(words)?),
+        Command::Merge => {
+            let (value, function) = last_merger(words)?;
+            Call::Merge(key, value, function)
+        }
+    })
 }
 
-/// Reads a call that asks a function.
-fn read_computation(first: &[u8], rest: Words<'_>) -> Result<ScriptCall, Kind>
-    ensures ok { IfOk result (λ c. Reads computing_forms (first.now ∷ rest.entry) (call c)) }
-    ensures err { IfErr result (AreWrong computing_forms (first.now ∷ rest.entry)) }
+/// The one word that is left, which is to be a number.
+#[inline(always)]
+fn last_number(mut words: Words<'_>) -> Result<i64, Kind>
+    ensures ok { IfOk result (λ n. (w : Word) × IsNumber w n × (words.entry ≡ w ∷ [])) }
+    ensures err { IfErr result (IsWrong (a_number ∷ []) words.entry) }
 {
-    if is(b"compute_if_absent", first) {
-        let (key, function) = key_and_function(rest)?;
-        Ok(Call::ComputeIfAbsent(key, function))
-    } else if is(b"compute_if_present", first) {
-        let (key, function) = key_and_function(rest)?;
-        Ok(Call::ComputeIfPresent(key, function))
-    } else if is(b"compute", first) {
-        let (key, function) = key_and_function(rest)?;
-        Ok(Call::Compute(key, function))
-    } else if is(b"merge", first) {
-        let (key, value, function) = key_and_merger(rest)?;
-        Ok(Call::Merge(key, value, function))
-    } else {
-        Err(Kind::Word)
-    }
-}
-
-fn read_key(mut words: Words<'_>) -> Result<Key, Kind>
-    ensures ok { IfOk result (λ k. (made : List ℕ → ScriptCall) → Says (key made) words.entry (call (made k))) }
-    ensures err { IfErr result (IsWrong (a_key ∷ []) words.entry) }
-{
-    let key = words.key()?;
-    words.end()?;
-    Ok(key)
-}
-
-fn key_and_number(mut words: Words<'_>) -> Result<(Key, i64), Kind>
-    ensures ok { IfOk result (λ r. (made : List ℕ → ℤ → ScriptCall) → Says (key_number made) words.entry (call (made r.0 r.1))) }
-    ensures err { IfErr result (IsWrong (a_key ∷ a_number ∷ []) words.entry) }
-{
-    let key = words.key()?;
     let number = words.number()?;
     words.end()?;
-    Ok((key, number))
+    Ok(number)
 }
 
-fn key_and_numbers(mut words: Words<'_>) -> Result<(Key, i64, i64), Kind>
-    ensures ok { IfOk result (λ r. (made : List ℕ → ℤ → ℤ → ScriptCall) → Says (key_numbers made) words.entry (call (made r.0 r.1 r.2))) }
-    ensures err { IfErr result (IsWrong (a_key ∷ a_number ∷ a_number ∷ []) words.entry) }
+/// The two words that are left, which are to be numbers.
+#[inline(always)]
+fn last_numbers(mut words: Words<'_>) -> Result<(i64, i64), Kind>
+    ensures ok { IfOk result (λ r. (w x : Word) × IsNumber w r.0 × IsNumber x r.1 × (words.entry ≡ w ∷ x ∷ [])) }
+    ensures err { IfErr result (IsWrong (a_number ∷ a_number ∷ []) words.entry) }
 {
-    let key = words.key()?;
     let first = words.number()?;
     let second = words.number()?;
     words.end()?;
-    Ok((key, first, second))
+    Ok((first, second))
 }
 
-fn key_and_function(mut words: Words<'_>) -> Result<(Key, Function), Kind>
-    ensures ok { IfOk result (λ r. (made : List ℕ → Function → ScriptCall) → Says (key_function made) words.entry (call (made r.0 r.1))) }
-    ensures err { IfErr result (IsWrong (a_key ∷ a_function ∷ []) words.entry) }
+/// The function whose words are left.
+#[inline(always)]
+fn last_function(mut words: Words<'_>) -> Result<Function, Kind>
+    ensures ok { IfOk result (λ f. IsFunction words.entry f) }
+    ensures err { IfErr result (IsWrong (a_function ∷ []) words.entry) }
 {
-    let key = words.key()?;
     let function = words.function()?;
     words.end()?;
-    Ok((key, function))
+    Ok(function)
 }
 
-fn key_and_merger(mut words: Words<'_>) -> Result<(Key, i64, Function), Kind>
-    ensures ok { IfOk result (λ r. (made : List ℕ → ℤ → Function → ScriptCall) → Says (key_merger made) words.entry (call (made r.0 r.1 r.2))) }
-    ensures err { IfErr result (IsWrong (a_key ∷ a_number ∷ a_merger ∷ []) words.entry) }
+/// The value and the function of a merge, whose words are left.
+#[inline(always)]
+fn last_merger(mut words: Words<'_>) -> Result<(i64, Function), Kind>
+    ensures ok { IfOk result (λ r. (w m : Word) × IsNumber w r.0 × IsMerger m r.0 r.1 × (words.entry ≡ w ∷ m ∷ [])) }
+    ensures err { IfErr result (IsWrong (a_number ∷ a_merger ∷ []) words.entry) }
 {
-    let key = words.key()?;
     let number = words.number()?;
     let function = words.merger(number)?;
     words.end()?;
-    Ok((key, number, function))
+    Ok((number, function))
 }
 
 /// Reads a query.

@@ -2,6 +2,7 @@
 #![tactic(auto)]
 
 mod bytes;
+mod command;
 mod draft;
 mod fault;
 mod forms;

@@ -6,6 +6,7 @@ ghost use Rattle.script.specs.Lines.{IsNumber, IsThreshold};
 use itoa::Buffer;
 
 /// The value of at most 19 digits, or none where a byte is no digit.
+#[inline(always)]
 fn value_of(digits: &[u8]) -> Option<u64>
     requires { length digits.now ≤ 19 }
     ensures { MatchOption result (AllDigits 10 digits.now → ⊥) (λ n. AllDigits 10 digits.now × (n ≡ digits_value 10 digits.now)) }
@@ -21,6 +22,7 @@ fn value_of(digits: &[u8]) -> Option<u64>
 }
 
 /// The number from 0 on, below 10^19, that the word is, or none.
+#[inline(always)]
 fn read_size(word: &[u8]) -> Option<u64>
     ensures { MatchOption result ((n : ℕ) → n < 10 ^ 19 → word.now ≢ decimal n) (λ n. (n < 10 ^ 19) × (word.now ≡ decimal n)) }
 {
@@ -41,6 +43,7 @@ fn read_size(word: &[u8]) -> Option<u64>
 const BELOW_ZERO: u64 = 1 << 63;
 
 /// The signed number that the word is, or none.
+#[inline(always)]
 pub(crate) fn read_number(word: &[u8]) -> Option<i64>
     ensures { MatchOption result ((n : ℤ) → IsNumber word.now n → ⊥) (λ n. IsNumber word.now n) }
 {

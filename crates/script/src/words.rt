@@ -1,15 +1,13 @@
 //! The words of a line, read from left to right.
-ghost use Rattle.std.specs.Prelude.{◌≡◌, pos, [], ◌∷◌, ◌++◌, List, true, codes, if◌then◌else◌, OnOk, IfOk, IfErr};
-ghost use Rattle.hashkeys.specs.Text.{is_key};
+ghost use Rattle.std.specs.Prelude.{◌≡◌, pos, [], ◌∷◌, ◌++◌, List, codes, if◌then◌else◌, OnOk, IfOk, IfErr};
 ghost use Rattle.script.specs.Lines.{Word, words, IsNumber, IsThreshold};
 ghost use Rattle.script.specs.Grammar.{IsFunction, IsMerger};
-ghost use Rattle.script.specs.Faults.{a_key, a_number, a_threshold, a_function, a_merger, a_sum_or_max, the_above, IsWrong, FailsFirst, FailsAt};
+ghost use Rattle.script.specs.Faults.{a_number, a_threshold, a_function, a_merger, a_sum_or_max, the_above, IsWrong, FailsFirst, FailsAt};
 
 use crate::bytes::split_at_byte;
 use crate::fault::Kind;
 use crate::function::Function;
 use crate::number::{read_number, read_threshold};
-use hashkeys::Key;
 use std::marker::Model;
 
 /// The words of a line that are still to be read. Contracts see them as a list.
@@ -29,6 +27,7 @@ impl<'a> Model for Words<'a> {
 }
 
 /// The first word of a line, and the others.
+#[inline(always)]
 pub(crate) fn first_word(line: &[u8]) -> (&[u8], Words<'_>)
     ensures { words line.now ≡ result.0.now ∷ result.1 }
 {
@@ -38,7 +37,8 @@ pub(crate) fn first_word(line: &[u8]) -> (&[u8], Words<'_>)
 
 impl<'a> Words<'a> {
     /// The next word.
-    fn word(&mut self) -> Result<&'a [u8], Kind>
+    #[inline(always)]
+    pub(crate) fn word(&mut self) -> Result<&'a [u8], Kind>
         ensures ok { IfOk result (λ w. self.old ≡ w.now ∷ self.new) }
         ensures err { IfErr result (λ kind. (kind ≡ Kind.Count) × (self.old ≡ [])) }
     {
@@ -49,6 +49,7 @@ impl<'a> Words<'a> {
     }
 
     /// Whether no word is left, which is an error where one is.
+    #[inline(always)]
     pub(crate) fn end(&self) -> Result<(), Kind>
         ensures ok { OnOk result (self.now ≡ []) }
         ensures err { IfErr result (IsWrong [] self.now) }
@@ -59,15 +60,8 @@ impl<'a> Words<'a> {
         }
     }
 
-    /// The next word, which is to be a key.
-    pub(crate) fn key(&mut self) -> Result<Key, Kind>
-        ensures ok { IfOk result (λ k. (is_key k ≡ true) × (self.old ≡ k ∷ self.new)) }
-        ensures err { IfErr result (FailsAt a_key self.old) }
-    {
-        Key::read(self.word()?).ok_or(Kind::Key)
-    }
-
     /// The next word, which is to be a number.
+    #[inline(always)]
     pub(crate) fn number(&mut self) -> Result<i64, Kind>
         ensures ok { IfOk result (λ n. (w : Word) × IsNumber w n × (self.old ≡ w ∷ self.new)) }
         ensures err { IfErr result (FailsAt a_number self.old) }
@@ -84,6 +78,7 @@ impl<'a> Words<'a> {
     }
 
     /// The word of a function, whose number is still to come.
+    #[inline(always)]
     fn function_word(&mut self) -> Result<Function, Kind>
         ensures ok { IfOk result (λ f. (w : Word) × IsMerger w (pos 0) f × (self.old ≡ w ∷ self.new)) }
         ensures err { IfErr result (FailsFirst a_function self.old) }
@@ -98,6 +93,7 @@ impl<'a> Words<'a> {
     }
 
     /// A function, with the number that follows its word.
+    #[inline(always)]
     pub(crate) fn function(&mut self) -> Result<Function, Kind>
         ensures ok { IfOk result (λ f. (fs : List Word) × IsFunction fs f × (self.old ≡ fs ++ self.new)) }
         ensures err { IfErr result (FailsAt a_function self.old) }
@@ -112,6 +108,7 @@ impl<'a> Words<'a> {
     }
 
     /// The function of a merge, whose number is the given value.
+    #[inline(always)]
     pub(crate) fn merger(&mut self, given: i64) -> Result<Function, Kind>
         ensures ok { IfOk result (λ f. (w : Word) × IsMerger w given f × (self.old ≡ w ∷ self.new)) }
         ensures err { IfErr result (FailsAt a_merger self.old) }

@@ -2,3 +2,4 @@ pub mod Moves
 pub mod Halves
 pub mod Seating
 pub mod Sums
+pub mod Shapes

@@ -1,33 +1,20 @@
 -- What the members count, when one of them changes.
-use Rattle.std.proofs.Common.{◌≡◌, ℕ, ◌+◌, ◌<◌, List, [], ◌∷◌, ◌++◌, length, get_or, set, sum_by, refl, ap, arith}
+use Rattle.std.proofs.Common.{◌≡◌, ℕ, ◌+◌, ◌<◌, List, [], ◌∷◌, ◌++◌, length, get_or, set, sum_by, ap, arith}
 use Rattle.std.proofs.lemmas.List.Sums.{sum_by-set, sum_by_push}
 
-pub kept : {X : Type 0} (f : X → ℕ) (xs : List X) (i : ℕ) (x d : X) → i < length xs → d ≡ get_or xs i d → f x ≡ f d
+pub kept : {X : Type 0} (f : X → ℕ) (xs : List X) (i : ℕ) (x d : X) → i < length xs → f x ≡ f (get_or xs i d)
     → sum_by f (set xs i x) ≡ sum_by f xs
-kept f xs i x d lt at same =
-    let s = sum_by-set f xs i x d lt in
-    let a : f d ≡ f (get_or xs i d) = ap f at in
-    omega arith
-
-pub nothing : {X : Type 0} (f : X → ℕ) (xs : List X) → length xs ≡ 0 → sum_by f xs ≡ 0
-nothing f [] none = refl
-nothing f (x ∷ xs) none = absurd (omega arith)
+kept f xs i x d lt same = omega (arith, sum_by-set f xs i x d lt)
 
 -- one member gives away some of what it counts
-pub lent : {X : Type 0} (f : X → ℕ) (xs : List X) (i : ℕ) (x d : X) (n : ℕ) → i < length xs → d ≡ get_or xs i d → f x + n ≡ f d
+pub lent : {X : Type 0} (f : X → ℕ) (xs : List X) (i : ℕ) (x d : X) (n : ℕ) → i < length xs → f x + n ≡ f (get_or xs i d)
     → sum_by f (set xs i x) + n ≡ sum_by f xs
-lent f xs i x d n lt at less =
-    let s = sum_by-set f xs i x d lt in
-    let a : f d ≡ f (get_or xs i d) = ap f at in
-    omega arith
+lent f xs i x d n lt less = omega (arith, sum_by-set f xs i x d lt)
 
 -- one member counts more
-pub gained : {X : Type 0} (f : X → ℕ) (xs : List X) (i : ℕ) (x d : X) (n : ℕ) → i < length xs → d ≡ get_or xs i d → f x ≡ f d + n
+pub gained : {X : Type 0} (f : X → ℕ) (xs : List X) (i : ℕ) (x d : X) (n : ℕ) → i < length xs → f x ≡ f (get_or xs i d) + n
     → sum_by f (set xs i x) ≡ sum_by f xs + n
-gained f xs i x d n lt at more =
-    let s = sum_by-set f xs i x d lt in
-    let a : f d ≡ f (get_or xs i d) = ap f at in
-    omega arith
+gained f xs i x d n lt more = omega (arith, sum_by-set f xs i x d lt)
 
 -- the last member is settled, v of its tasks are left, and w of those before
 pub settled : {X : Type 0} (p t : X → ℕ) (xs rest : List X) (y : X) (pushed taken w v : ℕ) → xs ≡ rest ++ y ∷ [] → p y ≡ t y + v

@@ -1,8 +1,9 @@
 //! What a worker does with its deque and those of the others.
-ghost use Rattle.std.specs.Prelude.{◌≡◌, ◌+◌, ◌<◌, ◌≤◌, ℕ, IfErr, IfOk, vec_len, All};
+ghost use Rattle.std.specs.Prelude.{◌≡◌, ◌+◌, ◌<◌, ◌≤◌, ℕ, [], IfErr, IfOk, MatchResult, vec_len, All};
 ghost use Rattle.crossbeam_deque.specs.Handles.{view, worker_deque};
 ghost use Rattle.steal_pool.specs.Seating.{AreSeated, IsUnshared};
 ghost use Rattle.steal_pool.specs.Books.{brought, put, stolen, pushed_by, taken_by};
+ghost use Rattle.steal_pool.specs.Shapes.{shape, shapes, targets, AreCrew};
 ghost use Rattle.steal_pool.specs.Logs.{weigh};
 
 use crate::deque::{Own, cut_share, pop, push, steal};
@@ -19,7 +20,8 @@ pub(crate) fn members<T: Drop, S: Seats>(
     requires few { vec_len deques ≤ 16 }
     requires deques { All IsUnshared deques.items }
     requires seats { AreSeated worker_deque S.deque deques.items }
-    ensures { IfOk result (λ v. vec_len v ≡ vec_len deques) }
+    ensures len { IfOk result (λ v. vec_len v ≡ vec_len deques) }
+    ensures crew { IfOk result (λ v. AreCrew [] (shapes v.items)) }
 {
     let mut deques = deques;
     let workers = deques.len();
@@ -50,7 +52,8 @@ pub(crate) fn members<T: Drop, S: Seats>(
 impl<T: Drop, S: Seats> Member<T, S> {
     /// A way into this member's deque.
     pub(crate) fn way(&mut self) -> Result<Way<T, S>, AllocError>
-        ensures { self.new.number ≡ self.old.number }
+        ensures to { IfOk result (λ w. w.to ≡ self.old.number) }
+        ensures shape { MatchResult result (λ _. shape self.new ≡ record (shape self.old) { out = self.old.out + 1 }) (λ _. shape self.new ≡ shape self.old) }
     {
         let stealer = self.own.stealer()?;
         if self.out >= 31 {
@@ -69,7 +72,7 @@ impl<T: Drop, S: Seats> Member<T, S> {
     /// Pushes a task, or hands it back.
     #[tactic(auto, using(crate::proofs::Moves::weigh_snoc))]
     pub(crate) fn push(&mut self, task: T) -> Result<(), T>
-        ensures number { self.new.number ≡ self.old.number }
+        ensures shape { shape self.new ≡ shape self.old }
         ensures back { IfErr result (λ x. x ≡ task) }
         ensures pushed { (h : T → ℕ) → pushed_by h self.new ≡ pushed_by h self.old + put h task result }
         ensures taken { (h : T → ℕ) → taken_by h self.new ≡ taken_by h self.old }
@@ -83,7 +86,7 @@ impl<T: Drop, S: Seats> Member<T, S> {
     /// Its own newest task, or else the oldest of another member.
     #[tactic(auto, using(crate::proofs::Moves::weigh_snoc))]
     pub(crate) fn take(&mut self) -> Option<T>
-        ensures number { self.new.number ≡ self.old.number }
+        ensures shape { shape self.new ≡ shape self.old }
         ensures pushed { (h : T → ℕ) → pushed_by h self.new ≡ pushed_by h self.old }
         ensures taken { (h : T → ℕ) → taken_by h self.new ≡ taken_by h self.old + brought h result }
     {
@@ -96,7 +99,8 @@ impl<T: Drop, S: Seats> Member<T, S> {
 
 // The oldest task of the first deque that has one.
 fn steal_any<T: Drop, S: Seats>(ways: &mut [Way<T, S>]) -> Option<T>
-    ensures { (h : T → ℕ) → stolen h ways.new ≡ stolen h ways.old + brought h result }
+    ensures ways { targets ways.new ≡ targets ways.old }
+    ensures taken { (h : T → ℕ) → stolen h ways.new ≡ stolen h ways.old + brought h result }
 {
     let Some((first, others)) = ways.split_first_mut() else {
         return None;
@@ -110,7 +114,8 @@ fn steal_any<T: Drop, S: Seats>(ways: &mut [Way<T, S>]) -> Option<T>
 impl<T, S: Seats> Way<T, S> {
     #[tactic(auto, using(crate::proofs::Moves::weigh_snoc))]
     fn steal(&mut self) -> Option<T>
-        ensures { (h : T → ℕ) → weigh h (view self.new.pass).taken ≡ weigh h (view self.old.pass).taken + brought h result }
+        ensures way { self.new.to ≡ self.old.to }
+        ensures taken { (h : T → ℕ) → weigh h (view self.new.pass).taken ≡ weigh h (view self.old.pass).taken + brought h result }
     {
         match steal(&self.stealer, &mut self.pass) {
             Steal::Success(task) => Some(task),

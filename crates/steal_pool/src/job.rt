@@ -1,8 +1,10 @@
 //! What a worker of a run does.
 ghost use Rattle.std.specs.Prelude.{◌≡◌, ◌+◌, ◌^◌, ◌<◌, ◌≤◌, ℕ, IfSome};
+ghost use Rattle.steal_pool.specs.Shapes.{shape};
 
 use crate::body::Body;
 use crate::gate::Gate;
+use crate::labor::Labor;
 use crate::member::{Member, Seats};
 use crate::task::{Task, Work};
 use completers::{Arrival, Node, Partial, Supply, Ticket, Tree};
@@ -82,7 +84,8 @@ impl<B: Body, G: Gate, W: Work> Job<'_, B, G, W> {
         requires tree { node.tree ≡ W.tree }
         requires range { node.hi ≤ W.bins }
         requires room { (batch < 2 ^ node.level) × (node.forks + node.level ≤ 7) }
-        ensures { IfSome result (B.relates self.now.body.now 0 W.bins) }
+        ensures part { IfSome result (B.relates self.now.body.now 0 W.bins) }
+        ensures shape { shape me.new ≡ shape me.old }
     {
         let mut node = node;
         let mut batch = batch;
@@ -115,15 +118,37 @@ impl<B: Body, G: Gate, W: Work> Job<'_, B, G, W> {
         let part = self.body.leaf(lo, hi);
         self.climb(ticket, part)
     }
+}
 
-    /// Takes tasks until the run is done.
-    pub(crate) fn serve<S: Seats, Rt: Wait>(
+impl<B: Body, G: Gate, W: Work, S: Seats, Rt: Wait> Labor<
+    Member<Task<B::Part, W>, S>,
+    Supply<B::Part>,
+    B::Part,
+    Rt,
+> for Job<'_, B, G, W> {
+    ghost fits = { λ job root. (root.tree ≡ W.tree) × (job.batch < 2 ^ root.level) × (root.level ≤ 7) };
+
+    ghost gives = { λ job part. B.relates job.body.now 0 W.bins part };
+
+    ghost shape = { λ m. shape m };
+
+    fn lead(
         &self,
         rt: &Rt,
+        root: &mut Option<Supply<B::Part>>,
         me: &mut Member<Task<B::Part, W>, S>,
-    ) -> Option<B::Part>
-        ensures { IfSome result (B.relates self.now.body.now 0 W.bins) }
-    {
+    ) -> Option<B::Part> {
+        if let Some(root) = root.take() {
+            let node = self.tree.open(root, None, 0, self.bins);
+            let found = self.work(rt, me, node, self.batch);
+            if found.is_some() {
+                return found;
+            }
+        }
+        self.help(rt, me)
+    }
+
+    fn help(&self, rt: &Rt, me: &mut Member<Task<B::Part, W>, S>) -> Option<B::Part> {
         let backoff = Backoff::new();
         for _ in rt.forever() {
             if self.done.load(SeqCst) {
@@ -141,24 +166,5 @@ impl<B: Body, G: Gate, W: Work> Job<'_, B, G, W> {
             }
         }
         None
-    }
-
-    /// Works on the root, and then takes tasks as the others do.
-    pub(crate) fn lead<S: Seats, Rt: Wait>(
-        &self,
-        rt: &Rt,
-        me: &mut Member<Task<B::Part, W>, S>,
-        root: Supply<B::Part>,
-    ) -> Option<B::Part>
-        requires tree { root.tree ≡ W.tree }
-        requires room { (self.now.batch < 2 ^ root.level) × (root.level ≤ 7) }
-        ensures { IfSome result (B.relates self.now.body.now 0 W.bins) }
-    {
-        let node = self.tree.open(root, None, 0, self.bins);
-        let found = self.work(rt, me, node, self.batch);
-        if found.is_some() {
-            return found;
-        }
-        self.serve(rt, me)
     }
 }

@@ -8,6 +8,7 @@ mod crew;
 mod deque;
 mod gate;
 mod job;
+mod labor;
 mod log;
 mod member;
 mod pool;

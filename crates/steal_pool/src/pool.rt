@@ -1,4 +1,4 @@
-//! A run: the tree, the deques, and the threads.
+//! A run: the tree, the deques, and the settlement.
 ghost use Rattle.std.specs.Prelude.{◌≡◌, ◌+◌, ◌*◌, ◌^◌, ◌<◌, ◌≤◌, ℕ, List, All, IfOk, IfSome, vec_len};
 ghost use Rattle.crossbeam_deque.specs.Handles.{worker_deque};
 ghost use Rattle.steal_pool.specs.Seating.{AreSeated, IsUnshared};
@@ -8,7 +8,8 @@ use crate::crew::members;
 use crate::deque::{Own, new_deque};
 use crate::gate::Gate;
 use crate::job::Job;
-use crate::member::{Member, Seats};
+use crate::labor::crew;
+use crate::member::Seats;
 use crate::settle::close;
 use crate::task::{Task, Work};
 use completers::{Supply, Tree};
@@ -16,7 +17,7 @@ use std::alloc::{AllocError, Global};
 use std::marker::{Brand, PhantomData};
 use std::sync::Wait;
 use std::sync::atomic::AtomicBool;
-use std::thread::{Threads, join};
+use std::thread::Threads;
 
 /// How many tasks a deque has room for at first.
 const CAPACITY: usize = 4;
@@ -37,69 +38,6 @@ fn nodes_for(batch: usize) -> usize
         32..=63 => 64,
         _ => 128,
     }
-}
-
-// Members serve, and start threads for each other by halves.
-fn help<
-    B: Body + Sync,
-    G: Gate + Sync,
-    W: Work + Send + Sync,
-    S: Seats + Send,
-    Rt: Threads + Wait + Sync,
->(rt: &Rt, job: &Job<'_, B, G, W>, members: &mut [Member<Task<B::Part, W>, S>]) -> Option<B::Part>
-where
-    B::Part: Send,
-    ensures { IfSome result (B.relates job.now.body.now 0 W.bins) }
-{
-    if members.len() < 2 {
-        let Some(one) = members.first_mut() else {
-            return None;
-        };
-        return job.serve(rt, one);
-    }
-    let (front, back) = members.split_at_mut(members.len() / 2);
-    let theirs = move || -> Option<B::Part>
-        ensures { IfSome result (B.relates job.entry.now.body.now 0 W.bins) }
-    { help(rt, job, front) };
-    let ours = move || -> Option<B::Part>
-        ensures { IfSome result (B.relates job.entry.now.body.now 0 W.bins) }
-    { help(rt, job, back) };
-    let (theirs, ours) = join(rt, theirs, ours);
-    ours.or(theirs)
-}
-
-// The others serve in threads of their own, and the caller leads. Where no thread can be started they serve after the caller, when nothing is left to do.
-fn crew<
-    B: Body + Sync,
-    G: Gate + Sync,
-    W: Work + Send + Sync,
-    S: Seats + Send,
-    Rt: Threads + Wait + Sync,
->(
-    rt: &Rt,
-    job: &Job<'_, B, G, W>,
-    others: &mut [Member<Task<B::Part, W>, S>],
-    me: &mut Member<Task<B::Part, W>, S>,
-    root: Supply<B::Part>,
-) -> Option<B::Part>
-where
-    B::Part: Send,
-    requires tree { root.tree ≡ W.tree }
-    requires room { (job.now.batch < 2 ^ root.level) × (root.level ≤ 7) }
-    ensures { IfSome result (B.relates job.now.body.now 0 W.bins) }
-{
-    if others.is_empty() {
-        return job.lead(rt, me, root);
-    }
-    let theirs = move || -> Option<B::Part>
-        ensures { IfSome result (B.relates job.entry.now.body.now 0 W.bins) }
-    { help(rt, job, others) };
-    let ours = move || -> Option<B::Part>
-        requires { (root.tree ≡ W.tree) × (job.now.batch < 2 ^ root.level) × (root.level ≤ 7) }
-        ensures { IfSome result (B.relates job.entry.now.body.now 0 W.bins) }
-    { job.lead(rt, me, root) };
-    let (theirs, ours) = join(rt, theirs, ours);
-    ours.or(theirs)
 }
 
 // An empty deque for each worker.
@@ -138,7 +76,7 @@ pub(crate) struct Order<'a, B: Body, G> {
 }
 
 // The part of all bins, where somebody came to the root, and how many tasks the settlement found left.
-type Outcome<P> = (Option<P>, Option<usize>);
+type Outcome<P> = (Option<P>, u128);
 
 // A run whose deques have numbers in contracts. When it ends all members are back.
 fn run_seated<
@@ -165,11 +103,7 @@ where
     ensures { IfOk result (λ out. IfSome out.0 (B.relates job.now.body.now 0 W.bins)) }
 {
     let mut members = members::<Task<B::Part, W>, S>(alloc, deques)?;
-    let Some((me, others)) = members.split_last_mut() else {
-        return Ok((None, None));
-    };
-    let spare = others.len().saturating_sub(threads);
-    let found = crew(rt, job, &mut others[spare..], me, root);
+    let found = crew(rt, job, threads, root, members.as_mut_slice());
     Ok((found, close(members)))
 }
 
@@ -222,22 +156,23 @@ where
     run_tree::<B, G, Brand, Rt>(rt, alloc, order, &tree, root)
 }
 
-// A run, or one leaf over everything. How many tasks the settlement found left, where there was one.
+// A run, or one leaf over everything. How many tasks the settlement found left. None: no settlement was made, since memory was refused.
 pub(crate) fn run_order<B: Body + Sync, G: Gate + Sync, Rt: Threads + Wait + Sync>(
     rt: &Rt,
     alloc: Global,
     order: &Order<'_, B, G>,
-) -> (B::Part, Option<usize>)
+) -> (B::Part, Option<u128>)
 where
     B::Part: Send,
     ensures { B.relates order.now.body.now 0 order.now.bins result.0 }
 {
-    if let Ok((found, left)) = try_run(rt, alloc, order) {
-        if let Some(part) = found {
-            return (part, left);
-        }
+    let Ok((found, left)) = try_run(rt, alloc, order) else {
+        return (order.body.leaf(0, order.bins), None);
+    };
+    match found {
+        Some(part) => (part, Some(left)),
+        None => (order.body.leaf(0, order.bins), Some(left)),
     }
-    (order.body.leaf(0, order.bins), None)
 }
 
 /// The part of the bins from 0 up to `bins`, of which there is at least one. There are 1 to 16 `workers`, of which the caller is number 0; the others have threads of their own, which

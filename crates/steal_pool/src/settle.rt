@@ -1,29 +1,33 @@
 //! The settlement of a run, with all members back.
-ghost use Rattle.std.specs.Prelude.{◌≡◌, ◌+◌, ◌<◌, ℕ, List, length, IfSome, MatchResult, sum_by, vec_len};
+ghost use Rattle.std.specs.Prelude.{◌≡◌, ◌+◌, ◌<◌, ℕ, [], List, All, length, sum_by};
 ghost use Rattle.steal_pool.specs.Books.{brought_by, stolen, pushed_by, taken_by, IsSettled};
+ghost use Rattle.steal_pool.specs.Shapes.{shape, shapes, targets, own_ways, AreCrew, IsHome};
 ghost use Rattle.steal_pool.specs.Logs.{weigh};
 
 use crate::deque::{settle, take_share};
 use crate::member::{Member, Seats, Way};
+use std::mem;
 
 impl<T: Drop, S: Seats> Member<T, S> {
-    // One of its ways.
-    fn pop_way(&mut self) -> Option<Way<T, S>>
+    // All its ways.
+    fn take_ways(&mut self) -> Vec<Way<T, S>>
+        ensures shape { (shape self.new ≡ record (shape self.old) { ways = [] }) × (targets result.items ≡ (shape self.old).ways) }
         ensures pushed { (h : T → ℕ) → pushed_by h self.new ≡ pushed_by h self.old }
-        ensures taken { IfSome result (λ w. (h : T → ℕ) → taken_by h self.new + brought_by h w ≡ taken_by h self.old) }
+        ensures taken { (h : T → ℕ) → taken_by h self.new + stolen h result.items ≡ taken_by h self.old }
     {
-        let way = self.ways.pop()?;
-        Some(way)
+        let alloc = *self.ways.allocator();
+        mem::replace(&mut self.ways, Vec::new(alloc))
     }
 
-    // Takes a way into its deque back. One into another deque is handed back.
+    // Takes a way into its deque back.
     #[tactic(auto, using(crate::proofs::Moves::weigh_both))]
-    fn take_back(&mut self, way: Way<T, S>) -> Result<(), Way<T, S>>
-        ensures { MatchResult result (λ _. ((h : T → ℕ) → pushed_by h self.new ≡ pushed_by h self.old) × ((h : T → ℕ) → taken_by h self.new ≡ taken_by h self.old + brought_by h way)) (λ w. w ≡ way) }
+    fn take_back(&mut self, way: Way<T, S>)
+        requires to { way.to ≡ self.old.number }
+        requires out { 0 < self.old.out }
+        ensures shape { (shape self.new).number ≡ self.old.number × (self.new.out + 1 ≡ self.old.out) × ((shape self.new).ways ≡ (shape self.old).ways) }
+        ensures pushed { (h : T → ℕ) → pushed_by h self.new ≡ pushed_by h self.old }
+        ensures taken { (h : T → ℕ) → taken_by h self.new ≡ taken_by h self.old + brought_by h way }
     {
-        if way.to != self.number || self.out == 0 {
-            return Err(way);
-        }
         let Way {
             to: _,
             stealer: _,
@@ -32,73 +36,67 @@ impl<T: Drop, S: Seats> Member<T, S> {
         } = way;
         self.out -= 1;
         take_share(&mut self.own, pass);
-        Ok(())
     }
 
     // With all ways into its deque and its own ways back: what it pushed is what it took and what is left, of which it says how many.
-    fn settle(self) -> Option<usize>
-        ensures { IfSome result (λ n. (left : List T) × (length left ≡ n) × ((h : T → ℕ) → pushed_by h self ≡ taken_by h self + weigh h left)) }
+    fn settle(self) -> usize
+        requires { IsHome self }
+        ensures { (left : List T) × (length left ≡ result) × ((h : T → ℕ) → pushed_by h self ≡ taken_by h self + weigh h left) }
     {
         let mut me = self;
-        if me.out > 0 || me.ways.len() > 0 {
-            return None;
-        }
-        Some(settle(&mut me.own))
+        settle(&mut me.own)
     }
 }
 
-// Gives each way of the member at a place back to the member whose deque it leads into. None: one led to nobody.
-fn give_back<T: Drop, S: Seats>(members: &mut Vec<Member<T, S>>, place: usize) -> Option<()>
-    requires { place < vec_len members.old }
-    ensures len { IfSome result (λ _. vec_len members.new ≡ vec_len members.old) }
-    ensures pushed { IfSome result (λ _. (h : T → ℕ) → sum_by (pushed_by h) members.new.items ≡ sum_by (pushed_by h) members.old.items) }
-    ensures taken { IfSome result (λ _. (h : T → ℕ) → sum_by (taken_by h) members.new.items ≡ sum_by (taken_by h) members.old.items) }
+// Gives each way back to the member whose deque it leads into.
+fn give_back<T: Drop, S: Seats>(members: &mut [Member<T, S>], ways: Vec<Way<T, S>>)
+    requires { AreCrew (targets ways.items) (shapes members.old) }
+    ensures crew { AreCrew [] (shapes members.new) }
+    ensures ways { own_ways (shapes members.new) ≡ own_ways (shapes members.old) }
+    ensures pushed { (h : T → ℕ) → sum_by (pushed_by h) members.new ≡ sum_by (pushed_by h) members.old }
+    ensures taken { (h : T → ℕ) → sum_by (taken_by h) members.new ≡ sum_by (taken_by h) members.old + stolen h ways.items }
 {
-    let count = members.len();
-    for _way in 0..members[place].ways.len() {
-        let way = members[place].pop_way()?;
-        if way.to >= count {
-            return None;
-        }
+    let mut ways = ways;
+    while let Some(way) = ways.pop() {
         // The last member is number 0.
-        let home = count - 1 - way.to;
-        let Ok(()) = members[home].take_back(way) else {
-            return None;
-        };
+        let home = members.len() - 1 - way.to;
+        members[home].take_back(way);
     }
-    Some(())
 }
 
 // Gives all ways of all members back.
-fn give_all_back<T: Drop, S: Seats>(members: &mut Vec<Member<T, S>>) -> Option<()>
-    ensures pushed { IfSome result (λ _. (h : T → ℕ) → sum_by (pushed_by h) members.new.items ≡ sum_by (pushed_by h) members.old.items) }
-    ensures taken { IfSome result (λ _. (h : T → ℕ) → sum_by (taken_by h) members.new.items ≡ sum_by (taken_by h) members.old.items) }
+fn give_all_back<T: Drop, S: Seats>(members: &mut [Member<T, S>])
+    requires { AreCrew [] (shapes members.old) }
+    ensures home { All IsHome members.new }
+    ensures pushed { (h : T → ℕ) → sum_by (pushed_by h) members.new ≡ sum_by (pushed_by h) members.old }
+    ensures taken { (h : T → ℕ) → sum_by (taken_by h) members.new ≡ sum_by (taken_by h) members.old }
 {
     for place in 0..members.len() {
-        give_back(members, place)?;
+        let ways = members[place].take_ways();
+        give_back(members, ways);
     }
-    Some(())
 }
 
 // How many tasks are left in all deques, once each way is back.
-fn settle_all<T: Drop, S: Seats>(members: Vec<Member<T, S>>) -> Option<usize>
-    ensures { IfSome result (IsSettled members.items) }
+fn settle_all<T: Drop, S: Seats>(members: Vec<Member<T, S>>) -> u128
+    requires { All IsHome members.items }
+    ensures { IsSettled members.items result }
 {
     let mut members = members;
-    let mut left = 0usize;
+    let mut left = 0u128;
     while let Some(member) = members.pop() {
-        let more = member.settle()?;
-        left = left.checked_add(more)?;
+        let more = member.settle();
+        left += more as u128;
     }
-    Some(left)
+    left
 }
 
 /// Ends a pool, whose members are all back: each task that one of them took was pushed by one of them, and each task that was pushed was taken once, or is left. How many are left.
-/// None: a way is missing.
-pub(crate) fn close<T: Drop, S: Seats>(members: Vec<Member<T, S>>) -> Option<usize>
-    ensures { IfSome result (IsSettled members.items) }
+pub(crate) fn close<T: Drop, S: Seats>(members: Vec<Member<T, S>>) -> u128
+    requires { AreCrew [] (shapes members.items) }
+    ensures { IsSettled members.items result }
 {
     let mut members = members;
-    give_all_back(&mut members)?;
+    give_all_back(members.as_mut_slice());
     settle_all(members)
 }

@@ -3,10 +3,11 @@ ghost use Rattle.std.specs.Prelude.{◌≡◌, ◌+◌, ◌<◌, ◌≤◌, ℕ,
 ghost use Rattle.completers.specs.Parts.{AreParts};
 ghost use Rattle.crossbeam_deque.specs.Handles.{worker_deque};
 ghost use Rattle.steal_pool.specs.Seating.{AreSeated, IsUnshared};
+ghost use Rattle.steal_pool.specs.Shapes.{shape, shapes};
 
 use crate::crew::members;
 use crate::deque::Own;
-use crate::member::Seats;
+use crate::member::{Member, Seats};
 use crate::pool::{Order, Refused, new_deques, run_order};
 use crate::settle::close;
 use crate::{Body, OpenGate};
@@ -62,7 +63,7 @@ fn run_refused<Rt: Threads + Wait + Sync + Abort>(
     alloc: Global,
     threads: usize,
     refused: Refused,
-) -> (u64, Option<usize>) {
+) -> (u64, Option<u128>) {
     let body = Count {
         leaves: AtomicU64::new(0),
     };
@@ -102,31 +103,45 @@ fn a_run_without_memory_is_one_leaf(rt: HostRuntime) {
     assert_eq!(rt; done, (1, None));
 }
 
-// Member 0 pushes three tasks and takes the newest, and member 2 takes the oldest. How many are left, once the members are back.
+// Pushes three tasks, and takes the newest.
+fn push_three<S: Seats>(me: &mut Member<u64, S>) -> Option<u64>
+    ensures { shape me.new ≡ shape me.old }
+{
+    for task in [10, 11, 12] {
+        let _refused = me.push(task);
+    }
+    me.take()
+}
+
+// Member 0 pushes three tasks and takes the newest, and member 2 takes the oldest.
+fn two_take<S: Seats>(members: &mut [Member<u64, S>]) -> (Option<u64>, Option<u64>)
+    ensures { shapes members.new ≡ shapes members.old }
+{
+    let Some((first, others)) = members.split_last_mut() else {
+        return (None, None);
+    };
+    let newest = push_three(first);
+    let Some(thief) = others.first_mut() else {
+        return (newest, None);
+    };
+    (newest, thief.take())
+}
+
+// What members 0 and 2 of three take, and how many tasks are left, once the members are back.
 fn seated_take_two<S: Seats>(
     alloc: Global,
     deques: Vec<Own<u64>>,
-) -> Result<(Option<u64>, Option<u64>, Option<usize>), AllocError>
+) -> Result<(Option<u64>, Option<u64>, u128), AllocError>
     requires few { vec_len deques ≤ 16 }
     requires deques { All IsUnshared deques.items }
     requires seats { AreSeated worker_deque S.deque deques.items }
 {
     let mut members = members::<u64, S>(alloc, deques)?;
-    let mut newest = None;
-    if let Some(first) = members.last_mut() {
-        for task in [10, 11, 12] {
-            let _refused = first.push(task);
-        }
-        newest = first.take();
-    }
-    let oldest = match members.first_mut() {
-        Some(thief) => thief.take(),
-        None => None,
-    };
+    let (newest, oldest) = two_take(members.as_mut_slice());
     Ok((newest, oldest, close(members)))
 }
 
-fn take_two(alloc: Global) -> Result<(Option<u64>, Option<u64>, Option<usize>), AllocError> {
+fn take_two(alloc: Global) -> Result<(Option<u64>, Option<u64>, u128), AllocError> {
     let deques = new_deques(alloc, 3)?;
     seated_take_two::<Brand>(alloc, deques)
 }
@@ -136,7 +151,7 @@ fn what_is_left_is_what_nobody_took(rt: HostRuntime) -> Result<(), Fail> {
     let (newest, oldest, left) = take_two(rt.alloc())?;
     assert_eq!(rt; newest, Some(12));
     assert_eq!(rt; oldest, Some(10));
-    assert_eq!(rt; left, Some(1));
+    assert_eq!(rt; left, 1);
     Ok(())
 }
 

@@ -1,11 +1,16 @@
-use Rattle.std.proofs.Common.{rules, arith, ◌≡◌, ◌+◌, ◌<◌, ◌≤◌, ◌∷◌, [], length, ap, sym, ◌∙◌, subst}
-use Rattle.std.proofs.lemmas.List.{length-append}
+use Rattle.std.proofs.Common.{rules, arith, ◌≡◌, ℕ, ◌+◌, ◌<◌, ◌≤◌, List, ◌∷◌, [], ◌++◌, length, map, set, vec_len, refl, ap, sym, ◌∙◌, subst}
+use Rattle.std.proofs.lemmas.List.{length-append, length-set, map_push}
 use Rattle.std.specs.Prelude.{Some}
 use Rattle.std.proofs.lemmas.List.Elements.{All-pop}
 use Rattle.crossbeam_deque.specs.Handles.{worker_deque}
 use Rattle.steal_pool.specs.Seating.{AreSeated, IsUnshared}
 use Rattle.steal_pool.proofs.Seating.{last_seat, other_seats}
+use Rattle.steal_pool.specs.declared.member.Member.{Member}
+use Rattle.steal_pool.specs.declared.member.Way.{Way}
+use Rattle.steal_pool.specs.Shapes.{Shape, shape, targets}
+use Rattle.steal_pool.proofs.Shapes.{hands, one_alone, one_numbered}
 use Rattle.steal_pool.proofs.crew.members.Goals as goal
+use Rattle.steal_pool.proofs.crew.members.Goals.{then-before-place, else-before-place}
 
 pub invariant_of-push : goal.invariant_of-push
 invariant_of-push g c =
@@ -29,10 +34,35 @@ loop-own-preserved g c =
     let longer : length c.loop-own.deques.items ≡ length c.pop.new.self.items + 1 = ap length c.in-Some.ensures.items
     ∙ length-append c.pop.new.self.items (c.in-Some.own ∷ []) in
     let most : length c.loop-own.deques.items ≤ 16 = omega (arith, c.loop-own.deques.ok.0, c.loop-own.invariant.few) in
+    let of : Member g.row.T.Denot g.row.S.Denot g.S.Seats → Shape = shape in
     record {
       count = search rules;
       few = omega (arith, longer, most, c.pop.new.self.ok.0);
       shares = (All-pop IsUnshared c.loop-own.deques.items c.pop.new.self.items
           (Some c.in-Some.own) c.in-Some.ensures.items c.loop-own.invariant.shares).0;
       seats = other_seats worker_deque g.S.Seats.deque c.pop.new.self.items c.in-Some.own all;
+      numbered = one_numbered of c.loop-own.all.items c.push.new.self.items _ c.in_ok-push.ensures.items c.len-workers.result
+          (vec_len c.loop-own.deques) (vec_len c.pop.new.self) (omega (arith, longer, c.loop-own.deques.ok.0, c.pop.new.self.ok.0)) (omega (arith, c.pop.new.self.ok.0)) c.loop-own.invariant.numbered;
+      ways = one_alone of c.loop-own.all.items c.push.new.self.items _ c.in_ok-push.ensures.items refl (ap targets c.new.ensures.items) c.loop-own.invariant.ways;
     }
+
+pub loop-before-preserved : goal.loop-before-preserved
+loop-before-preserved g c =
+    let of : Member g.row.T.Denot g.row.S.Denot g.S.Seats → Shape = shape in
+    let to : Way g.row.T.Denot g.row.S.Denot g.S.Seats → ℕ = λ w. w.to in
+    let all = c.loop-before.all.items in
+    let one = c.index_mut.result.now in
+    let two = c.index_mut-in-loop-before.result.now in
+    let before = set all c.if-before-place.other c.way.new.self in
+    let long : length all ≡ c.len-workers.result = omega (arith, c.loop-before.all.ok.0, c.loop-before.invariant.0) in
+    let other : c.if-before-place.other < length all =
+    elim c.if-before-place.branch [ then-before-place w ↦ omega arith | else-before-place w ↦ omega arith ] in
+    let same : length before ≡ length all = length-set all c.if-before-place.other c.way.new.self in
+    let mine : c.loop-place.place < length before = omega arith in
+    let more : map to c.push-in-loop-before.new.self.items ≡ map to two.ways.items ++ to c.in_ok-way.way ∷ [] =
+    ap (map to) c.in_ok-push-2.ensures.items ∙ map_push to two.ways.items c.in_ok-way.way in (
+      c.loop-before.invariant.0,
+      hands of all c.if-before-place.other c.way.new.self one c.loop-place.place _ two (to c.in_ok-way.way) c.loop-before.invariant.1 other
+          c.index_mut.ensures.value c.in_ok-way.ensures.shape c.in_ok-way.ensures.to mine c.index_mut-in-loop-before.ensures.value
+          (ap (λ (l : List ℕ). record (of two) { ways = l }) more),
+    )

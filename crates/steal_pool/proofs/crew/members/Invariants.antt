@@ -1,7 +1,8 @@
-use Rattle.std.proofs.Common.{◌≡◌, ◌+◌, ◌≤◌, vec_len}
+use Rattle.std.proofs.Common.{◌≡◌, ◌+◌, ◌++◌, ◌≤◌, [], ℕ, vec_len}
 use Rattle.std.specs.Prelude.{All}
 use Rattle.crossbeam_deque.specs.Handles.{worker_deque}
 use Rattle.steal_pool.specs.Seating.{AreSeated, IsUnshared}
+use Rattle.steal_pool.specs.Shapes.{AreCrew, countdown, led, numbers, out_by, shapes}
 use Rattle.steal_pool.proofs.crew.members.Given as goal
 
 abbrev pub invariant-loop-own : goal.invariant-loop-own
@@ -11,13 +12,15 @@ invariant-loop-own g l =
       few : vec_len l.deques ≤ 16;
       shares : All IsUnshared l.deques.items;
       seats : AreSeated worker_deque g.S.Seats.deque l.deques.items;
+      numbered : numbers (shapes l.all.items) ++ countdown (vec_len l.deques) ≡ countdown l.workers;
+      ways : (f : ℕ → ℕ) → (led f (shapes l.all.items) ≡ 0) × (out_by f (shapes l.all.items) ≡ 0);
     }
 
 abbrev pub decreases-loop-own : goal.decreases-loop-own
 decreases-loop-own g l = vec_len l.deques
 
 abbrev pub invariant-loop-place : goal.invariant-loop-place
-invariant-loop-place g l = vec_len l.all ≡ l.workers
+invariant-loop-place g l = (vec_len l.all ≡ l.workers) × AreCrew [] (shapes l.all.items)
 
 abbrev pub invariant-loop-before : goal.invariant-loop-before
-invariant-loop-before g l = vec_len l.all ≡ l.workers
+invariant-loop-before g l = (vec_len l.all ≡ l.workers) × AreCrew [] (shapes l.all.items)

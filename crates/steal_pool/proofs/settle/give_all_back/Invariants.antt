@@ -1,11 +1,14 @@
-use Rattle.std.proofs.Common.{◌≡◌, ℕ, sum_by, vec_len}
+use Rattle.std.proofs.Common.{◌≡◌, ℕ, [], take, sum_by}
+use Rattle.std.specs.Prelude.{All}
 use Rattle.steal_pool.specs.Books.{pushed_by, taken_by}
+use Rattle.steal_pool.specs.Shapes.{shapes, own_ways, AreCrew}
 use Rattle.steal_pool.proofs.settle.give_all_back.Given as goal
 
 abbrev pub invariant-loop-place : goal.invariant-loop-place
 invariant-loop-place g l =
     record {
-      len : vec_len l.members ≡ vec_len l.fn.members;
-      pushed : (h : g.row.T.Denot → ℕ) → sum_by (pushed_by h) l.members.items ≡ sum_by (pushed_by h) l.fn.members.items;
-      taken : (h : g.row.T.Denot → ℕ) → sum_by (taken_by h) l.members.items ≡ sum_by (taken_by h) l.fn.members.items;
+      crew : AreCrew [] (shapes l.members);
+      none : All (λ ws. ws ≡ []) (take l.place (own_ways (shapes l.members)));
+      pushed : (h : g.row.T.Denot → ℕ) → sum_by (pushed_by h) l.members ≡ sum_by (pushed_by h) l.fn.members;
+      taken : (h : g.row.T.Denot → ℕ) → sum_by (taken_by h) l.members ≡ sum_by (taken_by h) l.fn.members;
     }

@@ -1,30 +1,58 @@
-use Rattle.std.proofs.Common.{◌-◌, ◌<◌, ◌≡◌, ◌∙◌, length, set, arith}
-use Rattle.std.proofs.lemmas.List.{length-set}
+use Rattle.std.proofs.Common.{◌≡◌, ℕ, ◌+◌, ◌-◌, ◌<◌, ◌∙◌, length, sum_by, sym, ap, arith}
+use Rattle.std.proofs.lemmas.List.Sums.{sum_by_push}
+use Rattle.steal_pool.specs.declared.member.Member.{Member}
+use Rattle.steal_pool.specs.declared.member.Way.{Way}
 use Rattle.steal_pool.specs.Books.{brought_by, pushed_by, taken_by}
-use Rattle.steal_pool.proofs.Sums.{kept, lent, gained}
+use Rattle.steal_pool.specs.Shapes.{Shape, shape}
+use Rattle.steal_pool.proofs.Sums.{kept, gained}
+use Rattle.steal_pool.proofs.Shapes.{home, popped, same_ways, takes_back}
 use Rattle.steal_pool.proofs.settle.give_back.Goals as goal
+
+pub overflow_sub-home : goal.overflow_sub-home
+overflow_sub-home g c =
+    let crew = popped (λ w. w.to) _ _ _ _ c.in-Some.ensures.items c.loop-way.invariant.crew in
+    let h = (home (shape {T = g.row.T.Denot} {S = g.row.S.Denot} {g = g.S.Seats}) _ _ c.loop-way.members crew).0 in omega arith
+
+pub overflow_sub-home-in-Some : goal.overflow_sub-home-in-Some
+overflow_sub-home-in-Some g c =
+    let crew = popped (λ w. w.to) _ _ _ _ c.in-Some.ensures.items c.loop-way.invariant.crew in
+    let h = (home (shape {T = g.row.T.Denot} {S = g.row.S.Denot} {g = g.S.Seats}) _ _ c.loop-way.members crew).0 in omega arith
+
+pub bounds-members-home : goal.bounds-members-home
+bounds-members-home g c =
+    let crew = popped (λ w. w.to) _ _ _ _ c.in-Some.ensures.items c.loop-way.invariant.crew in
+    let h = (home (shape {T = g.row.T.Denot} {S = g.row.S.Denot} {g = g.S.Seats}) _ _ c.loop-way.members crew).0 in omega arith
+
+pub take_back-requires-clause-to : goal.take_back-requires-clause-to
+take_back-requires-clause-to g c =
+    let crew = popped (λ w. w.to) _ _ _ _ c.in-Some.ensures.items c.loop-way.invariant.crew in
+    sym ((home (shape {T = g.row.T.Denot} {S = g.row.S.Denot} {g = g.S.Seats}) _ _ c.loop-way.members crew).1 c.index-members-home.result).1
+
+pub take_back-requires-clause-out : goal.take_back-requires-clause-out
+take_back-requires-clause-out g c =
+    let crew = popped (λ w. w.to) _ _ _ _ c.in-Some.ensures.items c.loop-way.invariant.crew in
+    ((home (shape {T = g.row.T.Denot} {S = g.row.S.Denot} {g = g.S.Seats}) _ _ c.loop-way.members crew).1 c.index-members-home.result).0
 
 pub loop-way-preserved : goal.loop-way-preserved
 loop-way-preserved g c =
-    let before = c.loop-way.members.items in
-    let after = set before c.args.place c.pop_way.new.self in
-    let at : c.args.place < length before = omega (arith, c.loop-way.members.ok.0, c.requires, c.loop-way.invariant.len) in
-    let same : length after ≡ length before = length-set before c.args.place c.pop_way.new.self in
-    let home : c.len-count.result - 1 - c.in_ok-way.way.to < length after =
-    omega (arith, c.loop-way.members.ok.0, c.loop-way.invariant.len) in
-    let p = c.in_ok-way.ensures.pushed in
-    let t = c.in_ok-way.ensures.taken in
+    let of : Member g.row.T.Denot g.row.S.Denot g.S.Seats → Shape = shape in
+    let ms = c.loop-way.members in
+    let at = length ms - 1 - c.in-Some.way.to in
+    let one = c.index-members-home.result in
+    let crew = popped (λ w. w.to) _ _ _ _ c.in-Some.ensures.items c.loop-way.invariant.crew in
+    let it = home of _ _ ms crew in
+    let here : at < length ms = omega (arith, it.0) in
+    let e = c.take_back.ensures in
     record {
-      len = c.loop-way.invariant.len;
+      crew = takes_back of _ _ ms at c.take_back.new.self one crew here (it.1 one).1 e.shape.0 e.shape.1 e.shape.2;
+      ways = same_ways of ms at c.take_back.new.self one here e.shape.2 ∙ c.loop-way.invariant.ways;
       pushed = λ h.
-          kept (pushed_by {S = g.row.S.Denot} {g = g.S.Seats} h) after _ _ _ home c.index_mut-in-loop-way.ensures.value
-          (c.in-Ok.ensures.0 h)
-          ∙ (kept (pushed_by {S = g.row.S.Denot} {g = g.S.Seats} h) before _ _ _ at c.index_mut.ensures.value (p h)
-          ∙ c.loop-way.invariant.pushed h);
+          kept (pushed_by {S = g.row.S.Denot} {g = g.S.Seats} h) ms at c.take_back.new.self one here (e.pushed h)
+          ∙ c.loop-way.invariant.pushed h;
       taken = λ h.
-          gained (taken_by {S = g.row.S.Denot} {g = g.S.Seats} h) after _ _ _
-          (brought_by {S = g.row.S.Denot} {g = g.S.Seats} h c.in_ok-way.way) home c.index_mut-in-loop-way.ensures.value
-          (c.in-Ok.ensures.1 h)
-          ∙ (lent (taken_by {S = g.row.S.Denot} {g = g.S.Seats} h) before _ _ _ _ at c.index_mut.ensures.value (t h)
-          ∙ c.loop-way.invariant.taken h);
+          let brought : Way g.row.T.Denot g.row.S.Denot g.S.Seats → ℕ = brought_by h in
+          let more = gained (taken_by {S = g.row.S.Denot} {g = g.S.Seats} h) ms at c.take_back.new.self one (brought c.in-Some.way) here (e.taken h) in
+          let less : sum_by brought c.loop-way.ways.items ≡ sum_by brought c.pop.new.self.items + brought c.in-Some.way =
+          ap (sum_by brought) c.in-Some.ensures.items ∙ sum_by_push brought c.pop.new.self.items c.in-Some.way in
+          omega (arith, c.loop-way.invariant.taken h);
     }

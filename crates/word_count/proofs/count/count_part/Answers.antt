@@ -8,7 +8,7 @@ pub loop-word-preserved : goal.loop-word-preserved
 loop-word-preserved g c =
     let before : WordPass = c.loop-word.client.pass.now in
     let after : WordPass = c.merge.new.self.pass.now in
-    let (r, called, found) = c.in-Ok.ensures.called in
+    let (r, called, found) = c.in-Ok.ensures.answered.called in
     let made : after.made ≡ before.made ++ r ∷ [] = ap (λ (p : WordPass). p.made) called.pass in (
       ap (λ (p : WordPass). p.client) called.pass ∙ c.loop-word.invariant.0,
       λ fresh.

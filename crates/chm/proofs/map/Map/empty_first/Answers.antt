@@ -37,7 +37,7 @@ returns-clause-visit g c =
     IsVisit g.K.PartialEq.eq g.K.HashKey.code (after g.V.PartialEq.eq g.F.Remap.remapped g.F.Remap.merged) c.args.self.now.ledger pass (record { class = class; entries = [] }) in
     subst (Visited c.class-class.result) (sym c.meet_under.ensures.same_pass)
     (subst (λ (class : ClassView). Visited class c.empty-done.new.pass) (sym (c.class-class.ensures ∙ sym c.empty-done.ensures.class))
-    (record { distinct = tt; of_class = All-nil (λ (e : _ × _). is_of g.K.HashKey.code c.args.self.now.ledger.salt c.empty-done.new.bin.class e.0 ≡ true); made = (c.empty-done.new.role.kept, met.history, sym c.in_ok-done.ensures.empty ∙ met.entries) }))
+    (record { distinct = tt; of_class = All-nil (λ (e : _ × _). is_of g.K.HashKey.code c.args.self.now.ledger.salt c.empty-done.new.bin.class e.0 ≡ true); history = (c.empty-done.new.role.kept, met.history, sym c.in_ok-done.ensures.empty ∙ met.entries) }))
 
 pub returns-in_err-done-clause-left : goal.returns-in_err-done-clause-left
 returns-in_err-done-clause-left g c = λ full.
@@ -47,5 +47,5 @@ returns-in_err-done-clause-left g c = λ full.
     let salt = c.empty-done.ensures.salt ∙ c.hold_first-held.ensures.salt in
     let some = c.in_err-done.ensures.left (passed_on c.from_residual.result c.in_err-done.field-0.0 PassFull c.from_residual.ensures.1 full) in
     let visit : IsVisit g.K.PartialEq.eq g.K.HashKey.code (after g.V.PartialEq.eq g.F.Remap.remapped g.F.Remap.merged) c.args.self.now.ledger c.empty-done.new.pass (record { class = bin.class; entries = bin.entries }) =
-    record { distinct = lawful.distinct; of_class = subst (λ (s : Salt). All (λ (e : _ × _). is_of g.K.HashKey.code s bin.class e.0 ≡ true) bin.entries) salt lawful.of_class; made = (c.empty-done.new.role.kept, met.history, met.entries) } in
+    record { distinct = lawful.distinct; of_class = subst (λ (s : Salt). All (λ (e : _ × _). is_of g.K.HashKey.code s bin.class e.0 ≡ true) bin.entries) salt lawful.of_class; history = (c.empty-done.new.role.kept, met.history, met.entries) } in
     (record { class = bin.class; entries = bin.entries }, subst (λ (p : PassView _ _ _). IsVisit g.K.PartialEq.eq g.K.HashKey.code (after g.V.PartialEq.eq g.F.Remap.remapped g.F.Remap.merged) c.args.self.now.ledger p (record { class = bin.class; entries = bin.entries })) (sym c.meet_under.ensures.same_pass) visit, some)

@@ -22,5 +22,5 @@ returns-clause-visit g c =
     subst Visited (sym c.class-class.ensures) (record {
       distinct = subst (HasDistinctKeys g.K.PartialEq.eq) (sym c.in_ok-entries.ensures) lawful.distinct;
       of_class = subst (λ (s : Salt). Of s c.in_ok-entries.field-0.items) c.hold_first-held.ensures.salt (subst (Of c.hold_first-held.result.bin.salt) (sym c.in_ok-entries.ensures) lawful.of_class);
-      made = (c.hold_first-held.result.role.kept, c.meet_under.ensures.met.history, c.in_ok-entries.ensures ∙ c.meet_under.ensures.met.entries);
+      history = (c.hold_first-held.result.role.kept, c.meet_under.ensures.met.history, c.in_ok-entries.ensures ∙ c.meet_under.ensures.met.entries);
     })

@@ -1,6 +1,7 @@
 use Rattle.std.proofs.Common.{◌≡◌, ℕ, List, length, flat_map, sym, ap, subst, ◌∙◌, arith}
 use Rattle.std.proofs.lemmas.List.{length-map}
 use Rattle.hashkeys.specs.Classes.{IsTableSize}
+use Rattle.hashkeys.specs.Hashing.{hash_of}
 use Rattle.bin_history.proofs.Keys.{key_tells}
 use Rattle.bin_history.specs.Calls.{after}
 use Rattle.bin_history.specs.Entries.{HasDistinctKeys, lookup}
@@ -9,8 +10,10 @@ use Rattle.chm.specs.Quiets.{QuietView, entries_of}
 use Rattle.chm.specs.Reopened.{in_classes}
 use Rattle.chm.specs.Sizes.{IsSizeFrom}
 use Rattle.chm.proofs.Dealing.{positive, length-dealt, distinct-dealt, of_class-dealt}
+use Rattle.chm.proofs.Limits.{IsLimited-ok, IsLimited-refused}
 use Rattle.chm.proofs.Passes.{new_passes-ledger}
-use Rattle.chm.proofs.Reopening.{distinct_of_leaves, lookup-in_classes}
+use Rattle.chm.proofs.Homes.{distinct}
+use Rattle.chm.proofs.Reopening.{lookup-in_classes}
 use Rattle.chm.proofs.quiet.Quiet.reopen_with.Goals as goal
 
 pub open-requires-clause-size : goal.open-requires-clause-size
@@ -25,34 +28,56 @@ open-requires-clause-distinct g c =
     let leaves = c.lawful.ensures.leaves in
     let walk = c.lawful.ensures.walk in
     let pairs : HasDistinctKeys g.K.PartialEq.eq (entries_of c.args.self.now.bins) =
-    distinct_of_leaves g.K.PartialEq.eq tells g.K.HashKey.code (after g.V.PartialEq.eq g.F.Remap.remapped g.F.Remap.merged) _ c.args.self.now.bins c.args.self.now.roles leaves (λ hash. (let one = walk.each_hash hash in omega arith)) in
+    distinct g.K.PartialEq.eq tells g.K.HashKey.code (after g.V.PartialEq.eq g.F.Remap.remapped g.F.Remap.merged) _ c.args.self.now.bins c.args.self.now.roles leaves
+    (λ k. (let one = walk.each_hash (hash_of c.args.self.now.ledger.salt (g.K.HashKey.code k)) in omega arith)) in
     distinct-dealt g.K.PartialEq.eq tells g.K.HashKey.code c.args.salt c.size_from-n.result c.entries.result c.in_ok-bases.bases (subst (HasDistinctKeys g.K.PartialEq.eq) (sym c.entries.ensures) pairs) c.in_ok-bases.ensures.dealt
 
 pub open-requires-clause-of_class : goal.open-requires-clause-of_class
 open-requires-clause-of_class g c = of_class-dealt g.K.HashKey.code c.args.salt c.size_from-n.result c.entries.result (lists_of c.in_ok-bases.bases) c.in_ok-bases.ensures.dealt
 
-pub returns-clause-opening : goal.returns-clause-opening
-returns-clause-opening g c =
-    let len : length c.in_ok-bases.bases.items ≡ c.size_from-n.result =
-    sym (length-map c.in_ok-bases.bases.items (λ b. b.items)) ∙ ap (λ (l : List (List _)). length l) c.in_ok-bases.ensures.dealt ∙ length-dealt g.K.HashKey.code c.args.salt c.size_from-n.result c.entries.result in
-    c.in_ok-open.ensures.opening ∙ ap (λ (ls : List (List _)). flat_map (λ l. l) ls) c.in_ok-bases.ensures.dealt
-    ∙ (λ i. in_classes g.K.HashKey.code c.args.salt (sym (c.in_ok-open.ensures.n ∙ len) i) (c.entries.ensures i))
-
-pub returns-clause-size : goal.returns-clause-size
-returns-clause-size g c =
-    let len : length c.in_ok-bases.bases.items ≡ c.size_from-n.result =
-    sym (length-map c.in_ok-bases.bases.items (λ b. b.items)) ∙ ap (λ (l : List (List _)). length l) c.in_ok-bases.ensures.dealt ∙ length-dealt g.K.HashKey.code c.args.salt c.size_from-n.result c.entries.result in
-    let own : c.self.inside.n ≡ c.args.self.now.n = ap (λ (q : QuietView _ _ _). q.n) c.self.view_is in
-    subst (IsSizeFrom c.args.self.now.n (length (entries_of c.args.self.now.bins))) (sym (c.in_ok-open.ensures.n ∙ len))
-    (subst (λ (k : ℕ). IsSizeFrom c.args.self.now.n k c.size_from-n.result) c.mapping_count-count.ensures (subst (λ (m : ℕ). IsSizeFrom m c.mapping_count-count.result c.size_from-n.result) own c.size_from-n.ensures))
-
-pub returns-clause-same_map : goal.returns-clause-same_map
-returns-clause-same_map g c k =
+pub returns-clause-new : goal.returns-clause-new
+returns-clause-new g c =
     let pairs = entries_of c.args.self.now.bins in
     let n = c.in_ok-open.field-0.0.n in
-    let size = (returns-clause-size g c).size in
-    ap (λ (es : List (_ × _)). lookup g.K.PartialEq.eq es k) (returns-clause-opening g c)
-    ∙ lookup-in_classes g.K.PartialEq.eq (key_tells g.met.K.Eq.laws g.met.K.HashKey.equal_is_same) g.K.HashKey.code c.args.salt n pairs k (positive n size)
+    let len : length c.in_ok-bases.bases.items ≡ c.size_from-n.result =
+    sym (length-map c.in_ok-bases.bases.items (λ b. b.items))
+    ∙ ap (λ (l : List (List _)). length l) c.in_ok-bases.ensures.dealt
+    ∙ length-dealt g.K.HashKey.code c.args.salt c.size_from-n.result c.entries.result
+    in
+    let n_is = c.in_ok-open.ensures.n ∙ len in
+    let own : c.self.inside.n ≡ c.args.self.now.n = ap (λ (q : QuietView _ _ _). q.n) c.self.view_is in
+    let opening : c.in_ok-open.field-0.0.ledger.opening ≡ in_classes g.K.HashKey.code c.args.salt n pairs =
+    c.in_ok-open.ensures.opening
+    ∙ ap (λ (ls : List (List _)). flat_map (λ l. l) ls) c.in_ok-bases.ensures.dealt
+    ∙ (λ i. in_classes g.K.HashKey.code c.args.salt (sym n_is i) (c.entries.ensures i))
+    in
+    let size : IsSizeFrom c.args.self.now.n (length pairs) n =
+    subst (IsSizeFrom c.args.self.now.n (length pairs)) (sym n_is)
+    (subst (λ (k : ℕ). IsSizeFrom c.args.self.now.n k c.size_from-n.result) c.mapping_count-count.ensures
+    (subst (λ (m : ℕ). IsSizeFrom m c.mapping_count-count.result c.size_from-n.result) own c.size_from-n.ensures))
+    in
+    let tells = key_tells g.met.K.Eq.laws g.met.K.HashKey.equal_is_same in
+    record {
+      form = c.in_ok-open.ensures.form ∙ c.self.invariant.3 ∙ ap (λ (q : QuietView _ _ _). q.ledger.form) c.self.view_is;
+      salt = c.in_ok-open.ensures.salt;
+      clients = c.in_ok-open.ensures.clients;
+      opening = opening;
+      same_map = λ k.
+          ap (λ (es : List (_ × _)). lookup g.K.PartialEq.eq es k) opening
+          ∙ lookup-in_classes g.K.PartialEq.eq tells g.K.HashKey.code c.args.salt n pairs k (positive n size.size);
+      size = size;
+      passes = c.in_ok-open.ensures.passes;
+      own = new_passes-ledger _ _ _ c.in_ok-open.ensures.passes;
+    }
 
-pub returns-clause-own : goal.returns-clause-own
-returns-clause-own g c = new_passes-ledger _ _ _ c.in_ok-open.ensures.passes
+pub returns-in_err-bases-clause-limits : goal.returns-in_err-bases-clause-limits
+returns-in_err-bases-clause-limits g c = IsLimited-refused _ _ _ c.from_residual-in_err-bases.ensures.1 (let count = c.mapping_count-count.ensures in let few = c.if-count-gt-MOST_PAIRS.false in omega (arith, count, few)) (search)
+
+pub returns-in_err-clone-2-clause-limits : goal.returns-in_err-clone-2-clause-limits
+returns-in_err-clone-2-clause-limits g c = IsLimited-refused _ _ _ c.from_residual-in_err-clone-2.ensures.1 (let count = c.mapping_count-count.ensures in let few = c.if-count-gt-MOST_PAIRS.false in omega (arith, count, few)) (search)
+
+pub returns-in_err-open-clause-limits : goal.returns-in_err-open-clause-limits
+returns-in_err-open-clause-limits g c = IsLimited-refused _ _ _ c.from_residual-in_err-open.ensures.1 (let count = c.mapping_count-count.ensures in let few = c.if-count-gt-MOST_PAIRS.false in omega (arith, count, few)) (search)
+
+pub returns-clause-limits : goal.returns-clause-limits
+returns-clause-limits g c = IsLimited-ok _ _ _ (let count = c.mapping_count-count.ensures in let few = c.if-count-gt-MOST_PAIRS.false in omega (arith, count, few)) (search)

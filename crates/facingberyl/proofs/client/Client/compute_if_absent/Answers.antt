@@ -1,8 +1,9 @@
+use Rattle.facingberyl.proofs.Replies.{stands_for}
 use Rattle.facingberyl.proofs.Computing.{told-absent}
 use Rattle.facingberyl.proofs.client.Client.compute_if_absent.Goals as goal
 
-pub returns-clause-called : goal.returns-clause-called
-returns-clause-called g c = rw (c.value_in-value.ensures, c.balance-before.ensures.same) at (rw (← c.balance.ensures.same) at c.in_ok-reply.ensures.called)
+pub returns-clause-answered : goal.returns-clause-answered
+returns-clause-answered g c = stands_for g.K.PartialEq.eq g.K.HashKey.code g.V.PartialEq.eq g.F.Remap.remapped g.F.Remap.merged _ _ _ _ _ _ _ c.value_in-value.ensures (rw c.balance-before.ensures.same at (rw (← c.balance.ensures.same) at c.in_ok-reply.ensures))
 
 pub returns-clause-used : goal.returns-clause-used
 returns-clause-used g c =

@@ -1,4 +1,5 @@
 use Rattle.std.proofs.Common.{◌≡◌, ◌+◌, ◌-◌, ◌^◌, ◌<◌, ◌≤◌}
+use Rattle.steal_pool.specs.Shapes.{shape}
 use Rattle.steal_pool.proofs.job.Job.+work.Given as goal
 
 abbrev pub decreases-work : goal.decreases-work
@@ -13,6 +14,7 @@ invariant-loop-batch g l =
       bins : l.node.hi ≤ g.W.Work.bins;
       batch : l.batch < 2 ^ l.node.level;
       slots : l.node.forks + l.node.level ≤ 7;
+      shape : shape l.me ≡ shape l.fn.me;
     }
 
 abbrev pub decreases-loop-batch : goal.decreases-loop-batch

@@ -1,0 +1,294 @@
+//! The examples of the calls of a map, each as it stands with its call.
+ghost use Rattle.std.specs.Prelude.{◌≡◌};
+
+use crate::examples::{NumberPass, Numbers, Plus};
+use bin_history::{Call, Given, Op, Reply};
+use chm::Fault;
+use std::sync::Wait;
+
+fn call<R: Wait>(rt: &R, map: &Numbers, pass: &mut NumberPass) -> Result<bool, Fault>
+    requires { pass.old.ledger ≡ map.now.ledger.id }
+    ensures { pass.new.ledger ≡ map.now.ledger.id }
+{
+    map.remove(rt, pass, 1)?;
+    map.call(rt, pass, Call::Put(1, 5))?;
+    Ok(map.call(rt, pass, Call::Get(1))? == Reply::Value(Some(5)))
+}
+
+fn call_on<R: Wait>(rt: &R, map: &Numbers, pass: &mut NumberPass) -> Result<bool, Fault>
+    requires { pass.old.ledger ≡ map.now.ledger.id }
+    ensures { pass.new.ledger ≡ map.now.ledger.id }
+{
+    map.remove(rt, pass, 1)?;
+    map.call_on(rt, pass, Given::Owned(1), Op::Put(5))?;
+    Ok(map.call_on(rt, pass, Given::Lent(&1), Op::Get)? == Reply::Value(Some(5)))
+}
+
+fn get<R: Wait>(rt: &R, map: &Numbers, pass: &mut NumberPass) -> Result<bool, Fault>
+    requires { pass.old.ledger ≡ map.now.ledger.id }
+    ensures { pass.new.ledger ≡ map.now.ledger.id }
+{
+    map.remove(rt, pass, 1)?;
+    map.put(rt, pass, 1, 5)?;
+    let first = map.get(rt, pass, 1)? == Reply::Value(Some(5));
+    let second = map.get(rt, pass, 2)? == Reply::Value(None);
+    Ok(first && second)
+}
+
+fn contains_key<R: Wait>(rt: &R, map: &Numbers, pass: &mut NumberPass) -> Result<bool, Fault>
+    requires { pass.old.ledger ≡ map.now.ledger.id }
+    ensures { pass.new.ledger ≡ map.now.ledger.id }
+{
+    map.remove(rt, pass, 1)?;
+    map.put(rt, pass, 1, 5)?;
+    let first = map.contains_key(rt, pass, 1)? == Reply::Truth(true);
+    let second = map.contains_key(rt, pass, 2)? == Reply::Truth(false);
+    Ok(first && second)
+}
+
+fn put<R: Wait>(rt: &R, map: &Numbers, pass: &mut NumberPass) -> Result<bool, Fault>
+    requires { pass.old.ledger ≡ map.now.ledger.id }
+    ensures { pass.new.ledger ≡ map.now.ledger.id }
+{
+    map.remove(rt, pass, 1)?;
+    let first = map.put(rt, pass, 1, 5)? == Reply::Value(None);
+    let second = map.put(rt, pass, 1, 6)? == Reply::Value(Some(5));
+    let third = map.get(rt, pass, 1)? == Reply::Value(Some(6));
+    Ok(first && second && third)
+}
+
+fn put_if_absent<R: Wait>(rt: &R, map: &Numbers, pass: &mut NumberPass) -> Result<bool, Fault>
+    requires { pass.old.ledger ≡ map.now.ledger.id }
+    ensures { pass.new.ledger ≡ map.now.ledger.id }
+{
+    map.remove(rt, pass, 1)?;
+    let first = map.put_if_absent(rt, pass, 1, 5)? == Reply::Value(None);
+    let second = map.put_if_absent(rt, pass, 1, 6)? == Reply::Value(Some(5));
+    let third = map.get(rt, pass, 1)? == Reply::Value(Some(5));
+    Ok(first && second && third)
+}
+
+fn remove<R: Wait>(rt: &R, map: &Numbers, pass: &mut NumberPass) -> Result<bool, Fault>
+    requires { pass.old.ledger ≡ map.now.ledger.id }
+    ensures { pass.new.ledger ≡ map.now.ledger.id }
+{
+    map.remove(rt, pass, 1)?;
+    map.put(rt, pass, 1, 5)?;
+    let first = map.remove(rt, pass, 1)? == Reply::Value(Some(5));
+    let second = map.remove(rt, pass, 1)? == Reply::Value(None);
+    Ok(first && second)
+}
+
+fn remove_if<R: Wait>(rt: &R, map: &Numbers, pass: &mut NumberPass) -> Result<bool, Fault>
+    requires { pass.old.ledger ≡ map.now.ledger.id }
+    ensures { pass.new.ledger ≡ map.now.ledger.id }
+{
+    map.remove(rt, pass, 1)?;
+    map.put(rt, pass, 1, 5)?;
+    let first = map.remove_if(rt, pass, 1, 6)? == Reply::Truth(false);
+    let second = map.remove_if(rt, pass, 1, 5)? == Reply::Truth(true);
+    Ok(first && second)
+}
+
+fn replace<R: Wait>(rt: &R, map: &Numbers, pass: &mut NumberPass) -> Result<bool, Fault>
+    requires { pass.old.ledger ≡ map.now.ledger.id }
+    ensures { pass.new.ledger ≡ map.now.ledger.id }
+{
+    map.remove(rt, pass, 1)?;
+    let first = map.replace(rt, pass, 1, 6)? == Reply::Value(None);
+    map.put(rt, pass, 1, 5)?;
+    let second = map.replace(rt, pass, 1, 6)? == Reply::Value(Some(5));
+    Ok(first && second)
+}
+
+fn replace_if<R: Wait>(rt: &R, map: &Numbers, pass: &mut NumberPass) -> Result<bool, Fault>
+    requires { pass.old.ledger ≡ map.now.ledger.id }
+    ensures { pass.new.ledger ≡ map.now.ledger.id }
+{
+    map.remove(rt, pass, 1)?;
+    map.put(rt, pass, 1, 5)?;
+    let first = map.replace_if(rt, pass, 1, 5, 6)? == Reply::Truth(true);
+    let second = map.get(rt, pass, 1)? == Reply::Value(Some(6));
+    Ok(first && second)
+}
+
+fn compute_if_absent<R: Wait>(rt: &R, map: &Numbers, pass: &mut NumberPass) -> Result<bool, Fault>
+    requires { pass.old.ledger ≡ map.now.ledger.id }
+    ensures { pass.new.ledger ≡ map.now.ledger.id }
+{
+    map.remove(rt, pass, 1)?;
+    let first = map.compute_if_absent(rt, pass, 1, Plus(5))? == Reply::Value(Some(5));
+    let second = map.compute_if_absent(rt, pass, 1, Plus(2))? == Reply::Value(Some(5));
+    Ok(first && second)
+}
+
+fn compute_if_present<R: Wait>(rt: &R, map: &Numbers, pass: &mut NumberPass) -> Result<bool, Fault>
+    requires { pass.old.ledger ≡ map.now.ledger.id }
+    ensures { pass.new.ledger ≡ map.now.ledger.id }
+{
+    map.remove(rt, pass, 1)?;
+    let first = map.compute_if_present(rt, pass, 1, Plus(2))? == Reply::Value(None);
+    map.put(rt, pass, 1, 5)?;
+    let second = map.compute_if_present(rt, pass, 1, Plus(2))? == Reply::Value(Some(7));
+    Ok(first && second)
+}
+
+fn compute<R: Wait>(rt: &R, map: &Numbers, pass: &mut NumberPass) -> Result<bool, Fault>
+    requires { pass.old.ledger ≡ map.now.ledger.id }
+    ensures { pass.new.ledger ≡ map.now.ledger.id }
+{
+    map.remove(rt, pass, 1)?;
+    let first = map.compute(rt, pass, 1, Plus(5))? == Reply::Value(Some(5));
+    let second = map.compute(rt, pass, 1, Plus(2))? == Reply::Value(Some(7));
+    Ok(first && second)
+}
+
+fn merge<R: Wait>(rt: &R, map: &Numbers, pass: &mut NumberPass) -> Result<bool, Fault>
+    requires { pass.old.ledger ≡ map.now.ledger.id }
+    ensures { pass.new.ledger ≡ map.now.ledger.id }
+{
+    map.remove(rt, pass, 1)?;
+    let first = map.merge(rt, pass, 1, 5, Plus(0))? == Reply::Value(Some(5));
+    let second = map.merge(rt, pass, 1, 2, Plus(0))? == Reply::Value(Some(7));
+    Ok(first && second)
+}
+
+fn get_by<R: Wait>(rt: &R, map: &Numbers, pass: &mut NumberPass) -> Result<bool, Fault>
+    requires { pass.old.ledger ≡ map.now.ledger.id }
+    ensures { pass.new.ledger ≡ map.now.ledger.id }
+{
+    map.remove(rt, pass, 1)?;
+    map.put(rt, pass, 1, 5)?;
+    Ok(map.get_by(rt, pass, &1)? == Reply::Value(Some(5)))
+}
+
+fn contains_key_by<R: Wait>(rt: &R, map: &Numbers, pass: &mut NumberPass) -> Result<bool, Fault>
+    requires { pass.old.ledger ≡ map.now.ledger.id }
+    ensures { pass.new.ledger ≡ map.now.ledger.id }
+{
+    map.remove(rt, pass, 1)?;
+    map.put(rt, pass, 1, 5)?;
+    Ok(map.contains_key_by(rt, pass, &1)? == Reply::Truth(true))
+}
+
+fn remove_by<R: Wait>(rt: &R, map: &Numbers, pass: &mut NumberPass) -> Result<bool, Fault>
+    requires { pass.old.ledger ≡ map.now.ledger.id }
+    ensures { pass.new.ledger ≡ map.now.ledger.id }
+{
+    map.remove(rt, pass, 1)?;
+    map.put(rt, pass, 1, 5)?;
+    let first = map.remove_by(rt, pass, &1)? == Reply::Value(Some(5));
+    let second = map.get_by(rt, pass, &1)? == Reply::Value(None);
+    Ok(first && second)
+}
+
+fn replace_by<R: Wait>(rt: &R, map: &Numbers, pass: &mut NumberPass) -> Result<bool, Fault>
+    requires { pass.old.ledger ≡ map.now.ledger.id }
+    ensures { pass.new.ledger ≡ map.now.ledger.id }
+{
+    map.remove(rt, pass, 1)?;
+    map.put(rt, pass, 1, 5)?;
+    let first = map.replace_by(rt, pass, &1, 6)? == Reply::Value(Some(5));
+    let second = map.get_by(rt, pass, &1)? == Reply::Value(Some(6));
+    Ok(first && second)
+}
+
+fn walk<R: Wait>(rt: &R, map: &Numbers, pass: &mut NumberPass) -> Result<bool, Fault>
+    requires { pass.old.ledger ≡ map.now.ledger.id }
+    ensures { pass.new.ledger ≡ map.now.ledger.id }
+{
+    map.remove(rt, pass, 1)?;
+    map.put(rt, pass, 1, 5)?;
+    let visits = map.walk(rt, pass)?;
+    Ok(
+        visits
+            .iter()
+            .any(|visit| visit.entries.as_slice() == [(1, 5)].as_slice()),
+    )
+}
+
+fn look_up<R: Wait>(rt: &R, map: &Numbers, pass: &mut NumberPass) -> Result<bool, Fault>
+    requires { pass.old.ledger ≡ map.now.ledger.id }
+    ensures { pass.new.ledger ≡ map.now.ledger.id }
+{
+    map.remove(rt, pass, 1)?;
+    map.put(rt, pass, 1, 5)?;
+    let first = map.look_up(rt, pass, &1)? == Some(5);
+    let second = map.look_up(rt, pass, &2)? == None;
+    Ok(first && second)
+}
+
+fn glance<R: Wait>(rt: &R, map: &Numbers, pass: &mut NumberPass) -> Result<bool, Fault>
+    requires { pass.old.ledger ≡ map.now.ledger.id }
+    ensures { pass.new.ledger ≡ map.now.ledger.id }
+{
+    map.remove(rt, pass, 1)?;
+    map.put(rt, pass, 1, 5)?;
+    Ok(map.glance(rt, &1)? == Some(5))
+}
+
+fn clear<R: Wait>(rt: &R, map: &Numbers, pass: &mut NumberPass) -> Result<bool, Fault>
+    requires { pass.old.ledger ≡ map.now.ledger.id }
+    ensures { pass.new.ledger ≡ map.now.ledger.id }
+{
+    map.remove(rt, pass, 1)?;
+    map.put(rt, pass, 1, 5)?;
+    map.clear(rt, pass)?;
+    Ok(map.get(rt, pass, 1)? == Reply::Value(None))
+}
+
+fn mapping_count<R: Wait>(rt: &R, map: &Numbers, pass: &mut NumberPass) -> Result<bool, Fault>
+    requires { pass.old.ledger ≡ map.now.ledger.id }
+    ensures { pass.new.ledger ≡ map.now.ledger.id }
+{
+    map.remove(rt, pass, 1)?;
+    map.put(rt, pass, 1, 5)?;
+    Ok(map.mapping_count() == 1)
+}
+
+fn balance<R: Wait>(rt: &R, map: &Numbers, pass: &mut NumberPass) -> Result<bool, Fault>
+    requires { pass.old.ledger ≡ map.now.ledger.id }
+    ensures { pass.new.ledger ≡ map.now.ledger.id }
+{
+    map.remove(rt, pass, 1)?;
+    let before = map.balance(pass);
+    map.put(rt, pass, 1, 5)?;
+    Ok(map.balance(pass) == before.wrapping_add(1))
+}
+
+/// Whether each example is as it says.
+pub(crate) fn told_by_calls<R: Wait>(
+    rt: &R,
+    map: &Numbers,
+    pass: &mut NumberPass,
+) -> [Result<bool, Fault>; 24]
+    requires { pass.old.ledger ≡ map.now.ledger.id }
+    ensures { pass.new.ledger ≡ map.now.ledger.id }
+{
+    [
+        call(rt, map, pass),
+        call_on(rt, map, pass),
+        get(rt, map, pass),
+        contains_key(rt, map, pass),
+        put(rt, map, pass),
+        put_if_absent(rt, map, pass),
+        remove(rt, map, pass),
+        remove_if(rt, map, pass),
+        replace(rt, map, pass),
+        replace_if(rt, map, pass),
+        compute_if_absent(rt, map, pass),
+        compute_if_present(rt, map, pass),
+        compute(rt, map, pass),
+        merge(rt, map, pass),
+        get_by(rt, map, pass),
+        contains_key_by(rt, map, pass),
+        remove_by(rt, map, pass),
+        replace_by(rt, map, pass),
+        walk(rt, map, pass),
+        look_up(rt, map, pass),
+        glance(rt, map, pass),
+        clear(rt, map, pass),
+        mapping_count(rt, map, pass),
+        balance(rt, map, pass),
+    ]
+}

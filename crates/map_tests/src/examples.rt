@@ -1,0 +1,222 @@
+//! The examples of opening, sharing and closing a map, and of a closed one, each as it stands with its call.
+ghost use Rattle.std.specs.Prelude.{◌≡◌, All};
+
+use crate::call_examples::told_by_calls;
+use crate::maps::open;
+use bin_history::{Form, Remap};
+use chm::{Fault, Map, NotClosed, Opened, Quiet, Sharing};
+use count_ledger::{Pass, retire_all};
+use hashkeys::Salt;
+use std::alloc::{AllocError, Global};
+use std::process::Abort;
+use std::sync::Wait;
+use std::sync::atomic::AtomicU64;
+use std::sync::atomic::Ordering::SeqCst;
+use std::test::Fail;
+use std::thread::Threads;
+
+/// Adds a number to a value, or to 0 where there is none; a merge adds it to the sum of both.
+#[derive(Drop)]
+pub(crate) struct Plus(pub(crate) u64);
+
+impl Clone for Plus {
+    ghost use Rattle.std.specs.Prelude.{◌≡◌};
+
+    ghost is_clone = { λ x y. y ≡ x };
+
+    fn clone(&self) -> Result<Plus, AllocError> {
+        Ok(Plus(self.0))
+    }
+}
+
+impl Remap<u64, u64> for Plus {
+    ghost use Rattle.std.specs.Prelude.{Some, unwrap_or, min, ◌+◌, ◌-◌, ◌^◌};
+
+    ghost remapped = { λ f _ value. Some (min (unwrap_or value 0 + f.0) (2 ^ 64 - 1)) };
+
+    ghost merged = { λ f old given. Some (min (min (old + given) (2 ^ 64 - 1) + f.0) (2 ^ 64 - 1)) };
+
+    fn remap(&self, _key: &u64, value: Option<&u64>) -> Result<Option<u64>, AllocError> {
+        let old = value.copied().unwrap_or(0);
+        Ok(Some(old.saturating_add(self.0)))
+    }
+
+    fn merge(&self, old: &u64, given: &u64) -> Result<Option<u64>, AllocError> {
+        let both = old.saturating_add(*given);
+        Ok(Some(both.saturating_add(self.0)))
+    }
+}
+
+/// A map of the examples.
+pub(crate) type Numbers = Map<u64, u64, Plus, Global>;
+
+/// The right of a client to call it.
+pub(crate) type NumberPass = Pass<u64, u64, Plus>;
+
+/// Such a map, closed.
+type NumberQuiet = Quiet<u64, u64, Plus, Global>;
+
+/// How many examples are right.
+fn count_right(told: &[Result<bool, Fault>], right: &AtomicU64) {
+    for one in told {
+        if *one == Ok(true) {
+            right.fetch_add(1, SeqCst);
+        }
+    }
+}
+
+/// Runs the examples of the calls of a map of one client, and leaves 5 at 1.
+#[derive(Clone, Copy)]
+struct Examples<'a> {
+    right: &'a AtomicU64,
+}
+
+impl Sharing<u64, u64, Plus, Global> for Examples<'_> {
+    fn work<R: Wait>(&self, rt: &R, map: &Numbers, pass: &mut NumberPass) {
+        let told = told_by_calls(rt, map, pass);
+        count_right(&told, self.right);
+        let _ = map.put(rt, pass, 1, 5);
+    }
+}
+
+fn new(alloc: Global) -> Result<bool, Fault> {
+    let (map, passes): Opened<u64, u64, Plus, Global> = Map::new(alloc, 16, 4)?;
+    let told = map.clients() == 4 && passes.len() == 4;
+    retire_all(passes);
+    Ok(told)
+}
+
+fn with_salt(alloc: Global) -> Result<bool, Fault> {
+    let (map, passes): Opened<u64, u64, Plus, Global> = Map::with_salt(alloc, 16, 4, Salt(7))?;
+    let told = map.salt() == Salt(7);
+    retire_all(passes);
+    Ok(told)
+}
+
+fn lean(alloc: Global) -> Result<bool, Fault> {
+    let (map, passes): Opened<u64, u64, Plus, Global> = Map::lean(alloc, 16, 4, Salt(0))?;
+    let told = map.form() == Form::Lean;
+    retire_all(passes);
+    Ok(told)
+}
+
+fn close<R: Wait>(
+    rt: &R,
+    map: Numbers,
+    passes: Vec<NumberPass, Global>,
+) -> Result<NumberQuiet, Fault>
+    requires { All (λ p. p.ledger ≡ map.ledger.id) passes.items }
+{
+    match map.close(rt, passes) {
+        Ok(quiet) => Ok(quiet),
+        Err(
+            NotClosed {
+                fault,
+                map: _,
+                passes,
+            },
+        ) => {
+            retire_all(passes);
+            Err(fault)
+        }
+    }
+}
+
+/// Adds 1 at 1.
+#[derive(Clone, Copy)]
+struct AddOne;
+
+impl Sharing<u64, u64, Plus, Global> for AddOne {
+    fn work<R: Wait>(&self, rt: &R, map: &Numbers, pass: &mut NumberPass) {
+        let _ = map.merge(rt, pass, 1, 1, Plus(0));
+    }
+}
+
+fn share<R: Threads + Wait + Abort + Sync>(rt: &R, alloc: Global) -> bool {
+    let (map, mut passes): Opened<u64, u64, Plus, Global> = open(rt, alloc, Form::Lean, 16, 4);
+    map.share(rt, &mut passes, &AddOne);
+    let told = map.glance(rt, &1) == Ok(Some(4));
+    retire_all(passes);
+    told
+}
+
+fn mapping_count_all(rt: &impl Abort, alloc: Global) -> bool {
+    let (map, mut passes): Opened<u64, u64, Plus, Global> = open(rt, alloc, Form::Lean, 16, 4);
+    assert!(rt; passes.len() == map.clients() as usize);
+    let told = map.mapping_count_all(&mut passes) == 0;
+    retire_all(passes);
+    told
+}
+
+fn quiet_get(quiet: &NumberQuiet) -> bool {
+    quiet.get(&1).copied() == Some(5) && quiet.get(&2).is_none()
+}
+
+fn entries(quiet: &NumberQuiet) -> bool {
+    let mut pairs = quiet.entries();
+    let first = pairs.next().copied() == Some((1, 5));
+    first && pairs.next().is_none()
+}
+
+fn reopen(quiet: &NumberQuiet) -> Result<bool, Fault> {
+    let (map, passes) = quiet.reopen(2)?;
+    let told = map.clients() == 2 && map.mapping_count() == 1;
+    retire_all(passes);
+    Ok(told)
+}
+
+fn reopen_with(quiet: &NumberQuiet) -> Result<bool, Fault> {
+    let (map, passes) = quiet.reopen_with(2, Salt(7))?;
+    let told = map.salt() == Salt(7);
+    retire_all(passes);
+    Ok(told)
+}
+
+fn into_entries(quiet: NumberQuiet) -> bool {
+    match quiet.into_entries() {
+        Ok(pairs) => pairs.as_slice() == [(1, 5)].as_slice(),
+        Err(_) => false,
+    }
+}
+
+/// The closed map of the examples of calls.
+fn closed<R: Threads + Wait + Abort + Sync>(
+    rt: &R,
+    alloc: Global,
+    right: &AtomicU64,
+) -> Result<NumberQuiet, Fault> {
+    let (map, mut passes) = open(rt, alloc, Form::Lean, 16, 1);
+    map.share(rt, &mut passes, &Examples { right });
+    close(rt, map, passes)
+}
+
+#[test]
+fn each_example_of_a_call_is_as_it_says(rt: HostRuntime) -> Result<(), Fail> {
+    let right = AtomicU64::new(0);
+    let quiet = closed(&rt, rt.alloc(), &right)?;
+    drop(quiet);
+    assert_eq!(rt; right.load(SeqCst), 24);
+    Ok(())
+}
+
+#[test]
+fn each_example_of_opening_and_sharing_is_as_it_says(rt: HostRuntime) -> Result<(), Fail> {
+    let told = [new(rt.alloc()), with_salt(rt.alloc()), lean(rt.alloc())];
+    assert!(rt; told == [Ok(true), Ok(true), Ok(true)]);
+    assert!(rt; share(&rt, rt.alloc()));
+    assert!(rt; mapping_count_all(&rt, rt.alloc()));
+    Ok(())
+}
+
+#[test]
+fn each_example_of_a_closed_map_is_as_it_says(rt: HostRuntime) -> Result<(), Fail> {
+    let right = AtomicU64::new(0);
+    let quiet = closed(&rt, rt.alloc(), &right)?;
+    assert!(rt; quiet_get(&quiet));
+    assert!(rt; quiet.mapping_count() == 1);
+    assert!(rt; entries(&quiet));
+    assert!(rt; reopen(&quiet) == Ok(true));
+    assert!(rt; reopen_with(&quiet) == Ok(true));
+    assert!(rt; into_entries(quiet));
+    Ok(())
+}
