@@ -114,6 +114,7 @@ impl<K: Clone + Drop, V: Drop> Change<K, V> {
 
 impl<K: Drop, V: Drop> Change<K, V> {
     /// Makes the change. It gives back the value that it takes away.
+    #[inline(always)]
     pub(crate) fn carry_out<A: Allocator>(self, entries: &mut Vec<(K, V), A>) -> Option<V>
         requires place { HasPlace entries.old.items self }
         requires room { Fits (vec_capacity entries.old - vec_len entries.old) self }

@@ -38,19 +38,14 @@ impl<
         ensures refused { OnErr result (pass.new ≡ pass.old) }
     {
         let mut held = self.bins.hold(rt, self.salt().hash_of(key.get()));
-        let class = held.bin.class();
-        let passed_forwarded = self.bins.n() < class.n();
-        let mut role = held.role;
-        let made = self.call_under(pass, &mut held.bin, &mut role, key, op);
-        held.role = role;
+        let lent = &mut held;
+        let bin = lent.bin.as_mut();
+        let class = bin.class();
+        let _ = class.n();
+        let made = self.call_under(pass, bin, &mut lent.role, key, op);
         held.release();
         let (reply, grew) = made?;
-        let landed = Landed {
-            class,
-            passed_forwarded,
-            grew,
-        };
-        Ok((reply, landed))
+        Ok((reply, Landed { class, grew }))
     }
 
     /// Makes a call, whichever of the twelve it is. It posts the call, and then does the call's part for the table. The pass is full after 1,000,000

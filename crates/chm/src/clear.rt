@@ -105,14 +105,12 @@ impl<
         ensures faults { IfErr result IsOfCall }
     {
         let mut held = self.hold_first(rt, class);
-        let class = held.bin.class();
-        let mut bin = held.bin;
-        let mut role = held.role;
-        let done = self.empty(pass, &mut bin, &mut role);
+        let lent = &mut held;
+        let bin = lent.bin.as_mut();
+        let class = bin.class();
+        let done = self.empty(pass, bin, &mut lent.role);
         bin.lawful();
-        self.meet_under(pass, &bin, &mut role);
-        held.bin = bin;
-        held.role = role;
+        self.meet_under(pass, bin, &mut lent.role);
         held.release();
         done?;
         Ok(class)

@@ -17,7 +17,6 @@ use transfer::{Finish, Mover, Range, Strides};
 #[derive(Drop)]
 pub(crate) struct Landed {
     pub(crate) class: Class,
-    pub(crate) passed_forwarded: bool,
     pub(crate) grew: bool,
 }
 
@@ -35,7 +34,7 @@ impl<
         if landed.class.n() < table.n() {
             self.move_bin(rt, landed.class);
         }
-        if landed.passed_forwarded {
+        if self.bins.n() < landed.class.n() {
             self.help(rt, table);
         }
         let n = table.n();

@@ -41,10 +41,10 @@ impl<
 > Map<K, V, F, A> {
     /// Waits for the first of the bins of a class. A bin of a wider class has hashes that were passed before, so it is given back and asked for again.
     pub(crate) fn hold_first<R: Wait>(&self, rt: &R, class: Class) -> Held<'_, K, V, F, A>
-        ensures at { AreAt K.eq (after V.eq F.remapped F.merged) result.place.now result.bin result.role }
-        ensures first { IsFirstOf class result.bin.class }
+        ensures at { AreAt K.eq (after V.eq F.remapped F.merged) result.place.now result.bin.value result.role }
+        ensures first { IsFirstOf class result.bin.value.class }
         ensures ledger { result.role.ledger ≡ self.now.ledger.id }
-        ensures salt { result.bin.salt ≡ self.now.ledger.salt }
+        ensures salt { result.bin.value.salt ≡ self.now.ledger.salt }
     {
         let backoff = Backoff::new();
         for _ in rt.forever() {
@@ -73,12 +73,12 @@ impl<
         ensures same { pass.new ≡ pass.old }
     {
         let mut held = self.hold_first(rt, class);
-        held.bin.lawful();
-        let class = held.bin.class();
-        let entries = held.bin.copy_entries();
-        let mut role = held.role;
-        self.meet_under(pass, &held.bin, &mut role);
-        held.role = role;
+        let lent = &mut held;
+        let bin = lent.bin.as_ref();
+        bin.lawful();
+        let class = bin.class();
+        let entries = bin.copy_entries();
+        self.meet_under(pass, bin, &mut lent.role);
         held.release();
         Ok(Visit {
             class,
@@ -142,11 +142,11 @@ impl<
         ensures faults { IfErr result (λ fault. fault ≡ Fault.NoMemory) }
     {
         let mut held = self.bins.hold(rt, self.salt().hash_of(key));
-        let _ = held.bin.class().n();
-        let value = copied(held.bin.get(key));
-        let mut role = held.role;
-        self.meet_under(pass, &held.bin, &mut role);
-        held.role = role;
+        let lent = &mut held;
+        let bin = lent.bin.as_ref();
+        let _ = bin.class().n();
+        let value = copied(bin.get(key));
+        self.meet_under(pass, bin, &mut lent.role);
         held.release();
         Ok(value?)
     }

@@ -77,10 +77,10 @@ module _ (K V F A : RattleType) (hash : HashKey.Ghosts K.Denot) (key_eq : Eq.Gho
   bin_sync = search (sendable, bin_fields_sync) depth 30
 
   pub state_send : IsSend (State.the_row K V F A hash key_same key_clone value_clone value_same remap function_clone alloc)
-  state_send = search (sendable, bin_send, role_send) depth 30
+  state_send = search (sendable, crosses, bin_send, role_send) depth 30
 
   pub state_sync : IsSync (State.the_row K V F A hash key_same key_clone value_clone value_same remap function_clone alloc)
-  state_sync = search (sendable, bin_sync, role_sync) depth 30
+  state_sync = search (sendable, crosses, bin_sync, role_sync) depth 30
 
   place_fields_send : AllSend (shape (PlaceInside.the_type K V F A hash key_eq key_same key_clone value_clone value_eq value_same remap function_clone alloc)).fields
   place_fields_send = (search sendable depth 20, (search (sendable, counted.the_send, state_send) depth 20, tt))

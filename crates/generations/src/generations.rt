@@ -93,6 +93,18 @@ impl<K: HashKey, V: Clone + Eq, F: Remap<K, V> + Clone, A: Allocator> Generation
         self.tables.get(exponent as usize)?.get()
     }
 
+    /// The place of the hash in the widest table.
+    pub(crate) fn widest_place(&self, hash: u32) -> &Place<K, V, F, A>
+        ensures of_map { IsOfMap self.now result.now }
+        ensures covers { covers result.now.class hash ≡ true }
+    {
+        let widest = self.widest.load(SeqCst).min(u64::from(SIZES)) as u32;
+        match self.table(widest) {
+            Some(places) => place_in(places, hash),
+            None => place_in(&self.opening, hash),
+        }
+    }
+
     /// The place of the hash in the widest table where it was begun, and else its opening place.
     pub(crate) fn find(&self, hash: u32) -> &Place<K, V, F, A>
         ensures of_map { IsOfMap self.now result.now }

@@ -9,7 +9,7 @@ ghost use Rattle.generations.specs.Views.{IsOfMap};
 
 use crate::generations::Generations;
 use crate::place::{AWAY, Place};
-use crate::state::State;
+use crate::state::{State, boxed};
 use bin_history::{Bin, Remap};
 use count_ledger::{BinRole, Ledger};
 use counted_slot::{Claim, PRESENT};
@@ -20,7 +20,7 @@ use std::sync::Wait;
 
 /// A bin that is held, with its role. Nobody else has either until it is released or halved, which must happen.
 pub struct Held<'a, K: HashKey, V: Clone + Eq, F: Remap<K, V> + Clone, A: Allocator> {
-    pub bin: Bin<K, V, F, A>,
+    pub bin: Box<Bin<K, V, F, A>, A>,
     pub role: BinRole<K, V, F>,
     /// Where the bin was, and goes back to.
     pub place: &'a Place<K, V, F, A>,
@@ -39,10 +39,30 @@ impl<
     A: Allocator + Clone,
 > Generations<K, V, F, A> {
     /// Waits for the bin of the hash, and holds it.
+    #[inline(always)]
     pub fn hold<R: Wait>(&self, rt: &R, hash: u32) -> Held<'_, K, V, F, A>
-        ensures at { AreAt K.eq (after V.eq F.remapped F.merged) result.place.now result.bin result.role }
-        ensures covers { covers result.bin.class hash ≡ true }
-        ensures lawful { IsLawful K.eq K.code (after V.eq F.remapped F.merged) result.bin }
+        ensures at { AreAt K.eq (after V.eq F.remapped F.merged) result.place.now result.bin.value result.role }
+        ensures covers { covers result.bin.value.class hash ≡ true }
+        ensures lawful { IsLawful K.eq K.code (after V.eq F.remapped F.merged) result.bin.value }
+        ensures of_map { IsOfMap self.now result.place.now }
+        ensures home { result.home.now ≡ self.now }
+    {
+        let place = self.widest_place(hash);
+        if let Some(claim) = place.claim_at_once() {
+            if let Some(held) = self.take_out(rt, place, claim) {
+                return held;
+            }
+        }
+        self.wait_to_hold(rt, hash)
+    }
+
+    /// The same where the first try failed, or the place in the widest table was not begun.
+    #[cold]
+    #[inline(never)]
+    fn wait_to_hold<R: Wait>(&self, rt: &R, hash: u32) -> Held<'_, K, V, F, A>
+        ensures at { AreAt K.eq (after V.eq F.remapped F.merged) result.place.now result.bin.value result.role }
+        ensures covers { covers result.bin.value.class hash ≡ true }
+        ensures lawful { IsLawful K.eq K.code (after V.eq F.remapped F.merged) result.bin.value }
         ensures of_map { IsOfMap self.now result.place.now }
         ensures home { result.home.now ≡ self.now }
     {
@@ -63,12 +83,30 @@ impl<
         place: &'a Place<K, V, F, A>,
     ) -> Option<Held<'a, K, V, F, A>>
         requires { IsOfMap self.now place.now }
-        ensures at { IfSome result (λ h. AreAt K.eq (after V.eq F.remapped F.merged) place.now h.bin h.role) }
-        ensures lawful { IfSome result (λ h. IsLawful K.eq K.code (after V.eq F.remapped F.merged) h.bin) }
+        ensures at { IfSome result (λ h. AreAt K.eq (after V.eq F.remapped F.merged) place.now h.bin.value h.role) }
+        ensures lawful { IfSome result (λ h. IsLawful K.eq K.code (after V.eq F.remapped F.merged) h.bin.value) }
         ensures place { IfSome result (λ h. h.place.now ≡ place.now) }
         ensures home { IfSome result (λ h. h.home.now ≡ self.now) }
     {
         let claim = place.try_claim()?;
+        self.take_out(rt, place, claim)
+    }
+
+    /// The bin and the role of a place, taken out by a claim to write. There is none where they are away.
+    #[inline(always)]
+    fn take_out<'a, R: Wait>(
+        &'a self,
+        rt: &R,
+        place: &'a Place<K, V, F, A>,
+        claim: Claim<'a, State<K, V, F, A>>,
+    ) -> Option<Held<'a, K, V, F, A>>
+        requires of_map { IsOfMap self.now place.now }
+        requires claim { (claim.right ≡ 2) × (claim.tag ≡ place.now) }
+        ensures at { IfSome result (λ h. AreAt K.eq (after V.eq F.remapped F.merged) place.now h.bin.value h.role) }
+        ensures lawful { IfSome result (λ h. IsLawful K.eq K.code (after V.eq F.remapped F.merged) h.bin.value) }
+        ensures place { IfSome result (λ h. h.place.now ≡ place.now) }
+        ensures home { IfSome result (λ h. h.home.now ≡ self.now) }
+    {
         let State::Live(bin, role) = claim.put(State::Away, AWAY) else {
             return None;
         };
@@ -92,7 +130,7 @@ impl<
 > Held<'a, K, V, F, A> {
     /// Gives the bin and its role back. They agree, and are of the class and the ledger that were held. It waits for nobody.
     pub fn release(self)
-        requires { AreAt K.eq (after V.eq F.remapped F.merged) self.place.now self.bin self.role }
+        requires { AreAt K.eq (after V.eq F.remapped F.merged) self.place.now self.bin.value self.role }
     {
         let Held {
             bin,
@@ -105,7 +143,7 @@ impl<
     }
 
     /// Takes the bin and its role for good. Nothing stays in the place.
-    pub(crate) fn take(self) -> (Bin<K, V, F, A>, BinRole<K, V, F>)
+    pub(crate) fn take(self) -> (Box<Bin<K, V, F, A>, A>, BinRole<K, V, F>)
         ensures bin { result.0 ≡ self.entry.bin }
         ensures role { result.1 ≡ self.entry.role }
     {
@@ -129,9 +167,9 @@ impl<
         requires keys { IsExact K.is_clone }
         requires values { IsExact V.is_clone }
         requires functions { IsExact F.is_clone }
-        requires at { AreAt K.eq (after V.eq F.remapped F.merged) self.place.now self.bin self.role }
+        requires at { AreAt K.eq (after V.eq F.remapped F.merged) self.place.now self.bin.value self.role }
         requires ledger { self.role.ledger ≡ ledger.now.id }
-        requires size { self.bin.class.n < 65536 }
+        requires size { self.bin.value.class.n < 65536 }
         ensures bin { IfErr result (λ e. e.0.bin ≡ self.entry.bin) }
         ensures role { IfErr result (λ e. e.0.role ≡ self.entry.role) }
         ensures place { IfErr result (λ e. e.0.place.now ≡ self.entry.place.now) }
@@ -146,6 +184,12 @@ impl<
             return Err((self, AllocError));
         };
         let Ok((low, high)) = self.bin.split() else {
+            return Err((self, AllocError));
+        };
+        let Ok(low) = boxed(home.allocator(), low) else {
+            return Err((self, AllocError));
+        };
+        let Ok(high) = boxed(home.allocator(), high) else {
             return Err((self, AllocError));
         };
         let (bin, role) = self.take();

@@ -57,7 +57,8 @@ impl<
         ensures class { IfSome result (λ p. p.0.class ≡ place.now.class) }
         ensures leaf { IfSome result (λ p. IsLeaf K.eq K.code (after V.eq F.remapped F.merged) self.now p.0 p.1) }
     {
-        Some(self.try_hold(rt, place)?.take())
+        let (bin, role) = self.try_hold(rt, place)?.take();
+        Some((Box::into_inner(bin), role))
     }
 
     /// Takes all bins. False where one is missing, or there are more than there is room for.

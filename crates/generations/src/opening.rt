@@ -10,14 +10,19 @@ ghost use Rattle.count_ledger.specs.Views.{LedgerId};
 
 use crate::generations::Generations;
 use crate::place::Place;
-use crate::state::{PlaceTag, State};
+use crate::state::{PlaceTag, State, boxed};
 use bin_history::{Bin, Form, Remap};
 use count_ledger::{BinRole, LedgerName};
 use hashkeys::{Class, HashKey, Salt};
 use std::alloc::{AllocError, Allocator};
 
 /// The place of a bin of these pairs, with its role.
-fn opening_place<K: HashKey, V: Clone + Eq, F: Remap<K, V> + Clone, A: Allocator + Clone>(
+fn opening_place<
+    K: HashKey + Drop,
+    V: Clone + Eq + Drop,
+    F: Remap<K, V> + Clone + Drop,
+    A: Allocator + Clone,
+>(
     alloc: A,
     form: Form,
     salt: Salt,
@@ -38,8 +43,8 @@ fn opening_place<K: HashKey, V: Clone + Eq, F: Remap<K, V> + Clone, A: Allocator
         salt,
         ledger: LedgerName::of(&role),
     };
-    let bin = Bin::new(alloc, form, salt, class, base)?;
-    Ok(Place::new(&tag, State::Live(bin, role)))
+    let bin = Bin::new(alloc.clone()?, form, salt, class, base)?;
+    Ok(Place::new(&tag, State::Live(boxed(&alloc, bin)?, role)))
 }
 
 /// The places of the opening bins, each made of the base and the role at its place.

@@ -92,8 +92,38 @@ impl<K: HashKey, V: Clone + Eq, F: Remap<K, V> + Clone, A: Allocator> Place<K, V
         Some(claim)
     }
 
+    /// One try for the right to write where the bin was held before, without a look at the word first: a look would fetch
+    /// the word's line once to read it, and once more to write it.
+    #[inline(always)]
+    pub(crate) fn claim_at_once(&self) -> Option<Claim<'_, State<K, V, F, A>>>
+        ensures { IfSome result (λ c. (c.right ≡ 2) × (c.tag ≡ self.now)) }
+    {
+        let (found, claim) = self.lock.turn(PRESENT, TAKEN);
+        if found != PRESENT {
+            claim.done();
+            return None;
+        }
+        Some(claim)
+    }
+
     /// The right to write, from a word that nobody but the caller turns.
+    #[inline(always)]
     pub(crate) fn claim_from<R: Wait>(&self, rt: &R, word: u64) -> Claim<'_, State<K, V, F, A>>
+        requires { (word % 4 < 3) × (readers word ≡ 0) }
+        ensures { (result.right ≡ 2) × (result.tag ≡ self.now) }
+    {
+        let (found, claim) = self.lock.turn(word, TAKEN);
+        if found == word {
+            return claim;
+        }
+        claim.done();
+        self.wait_to_claim(rt, word)
+    }
+
+    /// The same where the first try failed.
+    #[cold]
+    #[inline(never)]
+    fn wait_to_claim<R: Wait>(&self, rt: &R, word: u64) -> Claim<'_, State<K, V, F, A>>
         requires { (word % 4 < 3) × (readers word ≡ 0) }
         ensures { (result.right ≡ 2) × (result.tag ≡ self.now) }
     {
@@ -117,8 +147,8 @@ impl<K: HashKey + Drop, V: Clone + Eq + Drop, F: Remap<K, V> + Clone + Drop, A: 
     A,
 > {
     /// Puts a bin into a place that is new.
-    pub(crate) fn fill<R: Wait>(&self, rt: &R, bin: Bin<K, V, F, A>, role: BinRole<K, V, F>)
-        requires { AreAt K.eq (after V.eq F.remapped F.merged) self.now bin role }
+    pub(crate) fn fill<R: Wait>(&self, rt: &R, bin: Box<Bin<K, V, F, A>, A>, role: BinRole<K, V, F>)
+        requires { AreAt K.eq (after V.eq F.remapped F.merged) self.now bin.value role }
     {
         let claim = self.claim_from(rt, FREE);
         drop(claim.put(State::Live(bin, role), PRESENT));

@@ -75,7 +75,7 @@ impl<'a, K: HashKey, V: Clone + Eq, F: Remap<K, V> + Clone, A: Allocator + Clone
         ensures { IsSomeAnd self.now (λ p. result.now ≡ p.0) }
     {
         match self.claim.get() {
-            State::Live(bin, _) => bin,
+            State::Live(bin, _) => bin.as_ref(),
             State::Away => unreachable!(),
         }
     }

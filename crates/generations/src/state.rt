@@ -1,14 +1,17 @@
 //! What lies under the lock of a place, and the fact that the lock keeps of it.
+ghost use Rattle.std.specs.Prelude.{◌≡◌, IfOk};
+
 use bin_history::{Bin, Form, Remap};
 use count_ledger::{BinRole, LedgerName};
 use counted_slot::Fits;
 use hashkeys::{Class, HashKey, Salt};
-use std::alloc::Allocator;
+use std::alloc::{AllocError, Allocator};
 
-/// A bin with its role, or neither: they were not put there yet, are held, were halved, or were taken for good.
+/// A bin with its role, or neither: they were not put there yet, are held, were halved, or were taken for good. The bin
+/// lies in room of its own, so that whoever takes it out of the lock and puts it back moves three words.
 #[derive(Drop)]
 pub(crate) enum State<K: HashKey, V: Clone + Eq, F: Remap<K, V> + Clone, A: Allocator> {
-    Live(Bin<K, V, F, A>, BinRole<K, V, F>),
+    Live(Box<Bin<K, V, F, A>, A>, BinRole<K, V, F>),
     Away,
 }
 
@@ -28,4 +31,22 @@ impl<K: HashKey, V: Clone + Eq, F: Remap<K, V> + Clone, A: Allocator> Fits for S
     type Tag = PlaceTag;
 
     ghost fits = { λ tag s. FitsPlace K.eq (after V.eq F.remapped F.merged) tag s };
+}
+
+/// The bin in room of its own.
+pub(crate) fn boxed<
+    K: HashKey + Drop,
+    V: Clone + Eq + Drop,
+    F: Remap<K, V> + Clone + Drop,
+    A: Allocator + Clone,
+>(alloc: &A, bin: Bin<K, V, F, A>) -> Result<Box<Bin<K, V, F, A>, A>, AllocError>
+    ensures { IfOk result (λ b. b.value ≡ bin) }
+{
+    match Box::new(alloc.clone()?, bin) {
+        Ok(boxed) => Ok(boxed),
+        Err(failed) => {
+            drop(failed);
+            Err(AllocError)
+        }
+    }
 }

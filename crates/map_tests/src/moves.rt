@@ -59,15 +59,17 @@ fn two_puts<R: Wait + Abort>(
 #[test]
 fn a_later_call_goes_on_with_a_refused_move(rt: HostRuntime) -> Result<(), Fail> {
     let alloc = Refusing::new(rt.alloc());
-    // The requests of the first put: room for its entry, the table of two places, three for the strides, and the list of
-    // entries of the half that has the key. Without the last the table has grown, and the bin is moved by the next call
-    // on it.
+    // The requests of the first put: room for its entry, the table of two places, three for the strides, the list of
+    // entries of the half that has the key, and a room for each half. Without one of the last three the table has grown,
+    // and the bin is moved by the next call on it.
     let rows = [
         ((false, 1), 2),
         ((true, 1), 2),
         ((true, 1), 2),
         ((true, 1), 2),
         ((true, 1), 2),
+        ((true, 1), 4),
+        ((true, 1), 4),
         ((true, 1), 4),
         ((true, 2), 4),
     ];

@@ -205,7 +205,7 @@ pub(crate) fn put<R: Wait + Abort, A: Allocator + Clone>(
     let mut held = map.hold(rt, map.salt().hash_of(&key));
     let mut bin = held.bin;
     let mut role = held.role;
-    let result = make(ledger, pass, &mut bin, &mut role, Call::Put(key, 0));
+    let result = make(ledger, pass, bin.as_mut(), &mut role, Call::Put(key, 0));
     held.bin = bin;
     held.role = role;
     held.release();

@@ -54,10 +54,10 @@ fn refused_move<R: Wait + Abort>(
 #[test]
 fn a_refused_move_leaves_the_bin(rt: HostRuntime) -> Result<(), Fail> {
     let alloc = Refusing::new(rt.alloc());
-    // The table of two places, and the list of entries of the half that has the key; of a recorded bin the list of
-    // records of that half too, and a log for each half.
-    for (form, needed) in [(Form::Recorded, 5), (Form::Lean, 2)] {
-        for granted in 0..7u64 {
+    // The table of two places, the list of entries of the half that has the key, and a room for each half; of a recorded
+    // bin the list of records of that half too, and a log for each half.
+    for (form, needed) in [(Form::Recorded, 7), (Form::Lean, 4)] {
+        for granted in 0..9u64 {
             let (moved, refused) = refused_move(&rt, &alloc, form, granted)?;
             assert_eq!(rt; (moved, refused), (granted >= needed, granted < needed));
         }
@@ -120,10 +120,10 @@ fn refused_map(rt: &impl Abort, alloc: &Refusing<Global>, form: Form, granted: u
 #[test]
 fn a_refused_map_is_made_at_the_next_try(rt: HostRuntime) -> Result<(), Fail> {
     let alloc = Refusing::new(rt.alloc());
-    // Lists of bases, passes, roles and places, the two blocks of the ledger's words, and the list of tables; of each of
-    // two recorded bins a log.
-    for (form, needed) in [(Form::Recorded, 9), (Form::Lean, 7)] {
-        for granted in 0..12u64 {
+    // Lists of bases, passes, roles and places, the two blocks of the ledger's words, the list of tables, and a room for
+    // each of two bins; of each recorded bin a log.
+    for (form, needed) in [(Form::Recorded, 11), (Form::Lean, 9)] {
+        for granted in 0..14u64 {
             let refused = refused_map(&rt, &alloc, form, granted);
             assert_eq!(rt; refused, granted < needed);
         }

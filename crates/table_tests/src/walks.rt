@@ -22,7 +22,7 @@ fn walk<R: Wait, A: Allocator + Clone>(
     for _ in rt.forever() {
         let held = map.hold(rt, next.index());
         let class = held.bin.class();
-        let added = add_texts(&mut texts, &held.bin);
+        let added = add_texts(&mut texts, held.bin.as_ref());
         held.release();
         added?;
         match next_in_walk(map.n(), class) {

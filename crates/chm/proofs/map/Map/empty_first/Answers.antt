@@ -3,6 +3,7 @@ use Rattle.std.proofs.lemmas.List.Elements.{All-nil}
 use Rattle.hashkeys.specs.Classes.{ClassView, is_of}
 use Rattle.hashkeys.specs.declared.hashing.Salt.{Salt}
 use Rattle.bin_history.specs.Calls.{after}
+use Rattle.bin_history.specs.Lawful.{BinView}
 use Rattle.count_ledger.specs.Agreement.{Agree}
 use Rattle.count_ledger.specs.Views.{PassView, RoleView}
 use Rattle.chm.specs.Cleared.{HasRemovedIn}
@@ -14,21 +15,21 @@ use Rattle.chm.proofs.map.Map.empty_first.Goals as goal
 pub release-requires : goal.release-requires
 release-requires g c =
     let at = c.hold_first-held.ensures.at in
+    let same_bin = c.as_mut-bin.ensures.value in
     let same = c.meet_under.ensures.same_role in
     record {
-      class = c.empty-done.ensures.class ∙ at.class;
-      form = c.empty-done.ensures.form ∙ at.form;
-      salt = c.empty-done.ensures.salt ∙ at.salt;
+      class = c.empty-done.ensures.class ∙ ap (λ (b : BinView _ _ _). b.class) same_bin ∙ at.class;
+      form = c.empty-done.ensures.form ∙ ap (λ (b : BinView _ _ _). b.form) same_bin ∙ at.form;
+      salt = c.empty-done.ensures.salt ∙ ap (λ (b : BinView _ _ _). b.salt) same_bin ∙ at.salt;
       ledger = ap (λ (r : RoleView _ _ _). r.ledger) same ∙ c.empty-done.ensures.ledger ∙ at.ledger;
       agree = subst (λ (r : RoleView _ _ _). Agree g.K.PartialEq.eq (after g.V.PartialEq.eq g.F.Remap.remapped g.F.Remap.merged) c.empty-done.new.bin r) (sym same) c.empty-done.ensures.agree;
     }
 
 pub returns-clause-there : goal.returns-clause-there
 returns-clause-there g c =
-    let held = c.hold_first-held in
     subst (λ (p : PassView _ _ _). HasRemovedIn g.K.HashKey.code c.args.self.now.ledger.salt c.class-class.result c.args.pass.now p) (sym c.meet_under.ensures.same_pass)
     (subst (λ (k : ClassView). HasRemovedIn g.K.HashKey.code c.args.self.now.ledger.salt k c.args.pass.now c.empty-done.new.pass) (sym c.class-class.ensures)
-    (subst (λ (s : Salt). HasRemovedIn g.K.HashKey.code s held.result.bin.class c.args.pass.now c.empty-done.new.pass) held.ensures.salt c.empty-done.ensures.removed))
+    (subst (λ (s : Salt). HasRemovedIn g.K.HashKey.code s c.as_mut-bin.result.now.class c.args.pass.now c.empty-done.new.pass) (ap (λ (b : BinView _ _ _). b.salt) c.as_mut-bin.ensures.value ∙ c.hold_first-held.ensures.salt) c.empty-done.ensures.removed))
 
 pub returns-clause-visit : goal.returns-clause-visit
 returns-clause-visit g c =
@@ -44,7 +45,7 @@ returns-in_err-done-clause-left g c = λ full.
     let met = c.meet_under.ensures.met in
     let lawful = c.lawful.ensures.lawful in
     let bin = c.empty-done.new.bin in
-    let salt = c.empty-done.ensures.salt ∙ c.hold_first-held.ensures.salt in
+    let salt = c.empty-done.ensures.salt ∙ ap (λ (b : BinView _ _ _). b.salt) c.as_mut-bin.ensures.value ∙ c.hold_first-held.ensures.salt in
     let some = c.in_err-done.ensures.left (passed_on c.from_residual.result c.in_err-done.field-0.0 PassFull c.from_residual.ensures.1 full) in
     let visit : IsVisit g.K.PartialEq.eq g.K.HashKey.code (after g.V.PartialEq.eq g.F.Remap.remapped g.F.Remap.merged) c.args.self.now.ledger c.empty-done.new.pass (record { class = bin.class; entries = bin.entries }) =
     record { distinct = lawful.distinct; of_class = subst (λ (s : Salt). All (λ (e : _ × _). is_of g.K.HashKey.code s bin.class e.0 ≡ true) bin.entries) salt lawful.of_class; history = (c.empty-done.new.role.kept, met.history, met.entries) } in

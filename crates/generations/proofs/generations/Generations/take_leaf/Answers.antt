@@ -1,4 +1,4 @@
-use Rattle.std.proofs.Common.{subst, sym}
+use Rattle.std.proofs.Common.{ap, subst, sym, ◌∙◌, Box}
 use Rattle.bin_history.specs.Calls.{after}
 use Rattle.bin_history.specs.Lawful.{BinView}
 use Rattle.count_ledger.specs.Views.{RoleView}
@@ -12,6 +12,6 @@ returns-clause-leaf g c =
     let code = g.K.HashKey.code in
     let after_is = after g.V.PartialEq.eq g.F.Remap.remapped g.F.Remap.merged in
     let held = c.in_ok-try_hold.field-0 in
-    let leaf = IsLeaf-at same after_is code c.args.self.now c.args.place.now held.bin held.role c.in_ok-try_hold.ensures.at c.requires c.in_ok-try_hold.ensures.lawful in
-    subst (λ (b : BinView _ _ _). IsLeaf same code after_is c.args.self.now b c.take.result.1) (sym c.take.ensures.bin)
-    (subst (λ (r : RoleView _ _ _). IsLeaf same code after_is c.args.self.now held.bin r) (sym c.take.ensures.role) leaf)
+    let leaf = IsLeaf-at same after_is code c.args.self.now c.args.place.now held.bin.value held.role c.in_ok-try_hold.ensures.at c.requires c.in_ok-try_hold.ensures.lawful in
+    subst (λ (b : BinView _ _ _). IsLeaf same code after_is c.args.self.now b c.take-bin.result.1) (sym (c.into_inner.ensures ∙ ap (λ (b : Box _ _). b.value) c.take-bin.ensures.bin))
+    (subst (λ (r : RoleView _ _ _). IsLeaf same code after_is c.args.self.now held.bin.value r) (sym c.take-bin.ensures.role) leaf)
