@@ -1,6 +1,6 @@
 //! Runs of scripts of two clients on two keys, against all orders in which a map of one thread could be called so.
-use crate::Options;
-use crate::tests::told;
+use crate::samples::told;
+use facing_cli::Options;
 use std::alloc::{AllocError, Global};
 use std::test::Fail;
 

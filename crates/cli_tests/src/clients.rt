@@ -1,6 +1,6 @@
 //! Runs of scripts whose clients call at the same time.
-use crate::tests::{check_with, told};
-use crate::{ClientGate, Gate, Options, Reader, Writer, run};
+use crate::samples::{check_with, told};
+use facing_cli::{ClientGate, Gate, Options, Reader, Writer, run};
 use hashkeys::Salt;
 use std::alloc::AllocGlobal;
 use std::process::Abort;

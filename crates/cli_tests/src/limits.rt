@@ -1,6 +1,6 @@
 //! Scripts at and beyond the limits of the language.
-use crate::Options;
-use crate::tests::{PUT_AND_GET, check, told};
+use crate::samples::{PUT_AND_GET, check, told};
+use facing_cli::Options;
 use std::test::Fail;
 
 #[test]

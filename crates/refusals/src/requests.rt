@@ -1,5 +1,5 @@
-//! Requests that are refused.
-use crate::Refusing;
+//! Which requests the allocator of the tests refuses.
+use refusing_alloc::Refusing;
 use std::test::Fail;
 use std::thread;
 

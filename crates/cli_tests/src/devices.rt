@@ -1,5 +1,5 @@
 //! Runs over readers and writers that fail.
-use crate::{Fault, OpenGate, Options, Reader, Writer, run};
+use facing_cli::{Fault, OpenGate, Options, Reader, Writer, run};
 use refusing_alloc::Refusing;
 use std::alloc::Global;
 use std::io::{self, ErrorKind, Read, Write};

@@ -1,5 +1,5 @@
 //! Command lines, and how the ends of runs are told.
-use crate::{Fault, Writer, line, status, tell, words};
+use facing_cli::{Fault, Writer, line, status, tell, words};
 use hashkeys::Salt;
 use script::Kind;
 use std::alloc::{AllocError, Global};

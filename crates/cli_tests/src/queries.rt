@@ -1,8 +1,7 @@
 //! Queries that a pool of workers answers.
-use crate::answers::{Crew, push_answers};
-use crate::play::play;
-use crate::{ClientGate, Gate, OpenGate, Options, Reader, Writer, parse, plain, run};
-use script::Script;
+use crate::samples::check_with;
+use facing_cli::{ClientGate, Gate, Options, Reader, Writer, run};
+use std::alloc::{AllocError, Global};
 use std::sync::atomic::AtomicU64;
 use std::sync::atomic::Ordering::SeqCst;
 use std::test::Fail;
@@ -103,10 +102,13 @@ fn a_threshold_divides_the_work_or_not(rt: HostRuntime) -> Result<(), Fail> {
     Ok(())
 }
 
-/// The answers of 1 to 16 workers, at thresholds that divide the work and that do not, are those of plain loops.
-#[test]
-fn workers_answer_as_plain_loops_do(rt: HostRuntime) -> Result<(), Fail> {
-    let mut text = String::new(rt.alloc());
+/// The keys `k0` to `k39` in byte order, each with the value that it was put with.
+const LISTED: &str =
+    "k0 -30\nk1 -23\nk10 40\nk11 -30\nk12 -23\nk13 -16\nk14 -9\nk15 -2\nk16 5\nk17 12\nk18 19\nk19 26\nk2 -16\nk20 33\nk21 40\nk22 -30\nk23 -23\nk24 -16\nk25 -9\nk26 -2\nk27 5\nk28 12\nk29 19\nk3 -9\nk30 26\nk31 33\nk32 40\nk33 -30\nk34 -23\nk35 -16\nk36 -9\nk37 -2\nk38 5\nk39 12\nk4 -2\nk5 5\nk6 12\nk7 19\nk8 26\nk9 33\n";
+
+/// Puts 40 keys, whose values are -30, -23 and so on up to 40, again and again.
+fn script_of_queries(alloc: Global) -> Result<String, AllocError> {
+    let mut text = String::new(alloc);
     text.push_str("client\n")?;
     for i in 0..40 {
         writeln!(text, "put k{i} {}", 7 * (i % 11) - 30)?;
@@ -118,25 +120,33 @@ fn workers_answer_as_plain_loops_do(rt: HostRuntime) -> Result<(), Fail> {
             "count\nreduce sum {threshold}\nreduce max {threshold}\nlist {threshold}\nsearch above 40 {threshold}"
         )?;
     }
+    Ok(text)
+}
+
+/// What it prints: 40 replies, and six times the same answers. Three rounds of eleven values make 55 each, the first
+/// seven of a fourth -63: 102 together.
+fn wanted_answers(alloc: Global) -> Result<String, AllocError> {
+    let mut text = String::new(alloc);
+    text.push_str("client 0\n")?;
+    for _ in 0..40 {
+        text.push_str("none\n")?;
+    }
+    for _ in 0..6 {
+        text.push_str("40\n102\nsome 40\n")?;
+        text.push_str(LISTED)?;
+        text.push_str("none\n")?;
+    }
+    Ok(text)
+}
+
+/// The answers of 1 to 16 workers are the same, at thresholds that divide the work and that do not.
+#[test]
+fn any_workers_answer_the_same(rt: HostRuntime) -> Result<(), Fail> {
+    let script = script_of_queries(rt.alloc())?;
+    let wanted = wanted_answers(rt.alloc())?;
     for workers in [1, 2, 4, 16] {
-        let Script { blocks, queries } = parse(rt.alloc(), text.as_bytes())?;
-        let played = play(
-            &rt,
-            rt.alloc(),
-            &Options::new(workers, 16)?,
-            blocks,
-            &OpenGate,
-        )?;
-        let crew = Crew {
-            workers,
-            gate: &OpenGate,
-        };
-        let mut answered = Vec::new(rt.alloc());
-        push_answers(&rt, rt.alloc(), &mut answered, &played.map, &crew, &queries)?;
-        let pairs = plain::pairs(rt.alloc(), &played.map)?;
-        let mut wanted = Vec::new(rt.alloc());
-        plain::push_answers(rt.alloc(), &mut wanted, &pairs, &queries)?;
-        assert_eq!(rt; answered, wanted);
+        let options = Options::new(workers, 16)?;
+        check_with(&rt, &options, script.as_bytes(), 0, &wanted)?;
     }
     Ok(())
 }
