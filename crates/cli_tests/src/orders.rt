@@ -71,7 +71,8 @@ fn push_reply(alloc: Global, text: &mut String, value: Option<i64>) -> Result<()
     }
 }
 
-/// What a map of one thread prints, where the next call is of client 1 for each bit of the order that is set, from the lowest on. None, if that is no order of these calls.
+/// What a map of one thread prints, where the next call is of client 1 for each bit of the order that is set, from the
+/// lowest on. None, if that is no order of these calls.
 fn printed(alloc: Global, blocks: [&[Line]; 2], order: u32) -> Result<Option<String>, AllocError> {
     let [first, second] = blocks;
     let (mut first_left, mut second_left) = (first.iter(), second.iter());

@@ -103,8 +103,47 @@ fn a_threshold_divides_the_work_or_not(rt: HostRuntime) -> Result<(), Fail> {
 }
 
 /// The keys `k0` to `k39` in byte order, each with the value that it was put with.
-const LISTED: &str =
-    "k0 -30\nk1 -23\nk10 40\nk11 -30\nk12 -23\nk13 -16\nk14 -9\nk15 -2\nk16 5\nk17 12\nk18 19\nk19 26\nk2 -16\nk20 33\nk21 40\nk22 -30\nk23 -23\nk24 -16\nk25 -9\nk26 -2\nk27 5\nk28 12\nk29 19\nk3 -9\nk30 26\nk31 33\nk32 40\nk33 -30\nk34 -23\nk35 -16\nk36 -9\nk37 -2\nk38 5\nk39 12\nk4 -2\nk5 5\nk6 12\nk7 19\nk8 26\nk9 33\n";
+const LISTED: &str = "k0 -30
+k1 -23
+k10 40
+k11 -30
+k12 -23
+k13 -16
+k14 -9
+k15 -2
+k16 5
+k17 12
+k18 19
+k19 26
+k2 -16
+k20 33
+k21 40
+k22 -30
+k23 -23
+k24 -16
+k25 -9
+k26 -2
+k27 5
+k28 12
+k29 19
+k3 -9
+k30 26
+k31 33
+k32 40
+k33 -30
+k34 -23
+k35 -16
+k36 -9
+k37 -2
+k38 5
+k39 12
+k4 -2
+k5 5
+k6 12
+k7 19
+k8 26
+k9 33
+";
 
 /// Puts 40 keys, whose values are -30, -23 and so on up to 40, again and again.
 fn script_of_queries(alloc: Global) -> Result<String, AllocError> {
