@@ -196,7 +196,8 @@ def lost_crates():
 
 def lost_edits():
     """Edits, and what refuses them: clauses in the sections of crates, tests in the section after them."""
-    tried, _, after = text_of(TRIED).partition("## What a test refuses")
+    tried, _, after = text_of(TRIED).partition("## Tried and not stored")
+    after = after.partition("## What a test refuses")[2]
     told = {}
     for part in re.split(r"(?m)^### ", tried)[1:]:
         crate = part.split("`")[1]

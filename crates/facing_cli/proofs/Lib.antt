@@ -1,4 +1,3 @@
-pub mod Values
 pub mod Reduced
 pub mod Shared
 pub mod Made

@@ -1,9 +1,9 @@
 -- What bulk operations on pairs answer, as queries ask it.
-use Rattle.std.proofs.Common.{◌≡◌, T, not, ℤ, pos, ◌+ℤ◌, ◌≤ℤ◌, ◌<ℤ◌, Bool, true, false, cond, Option, Some, None, List, [], ◌∷◌, ◌++◌, map, fold, Contains, refl, sym, ap, subst, ◌∙◌, arith, append_assoc}
-use Rattle.std.proofs.lemmas.Int.{ints}
+use Rattle.std.proofs.Common.{◌≡◌, T, not, ℤ, pos, ◌+ℤ◌, ◌≤ℤ◌, ◌<ℤ◌, Bool, true, false, cond, Option, Some, None, List, [], ◌∷◌, ◌++◌, map, fold, All, Contains, refl, sym, ap, subst, ◌∙◌, arith, append_assoc}
+use Rattle.std.proofs.lemmas.Int.{ints, clamps}
 use Rattle.std.proofs.Math.ListN.{get_or-map}
 use Rattle.std.proofs.lemmas.List.{append-nil, length-map}
-use Rattle.std.proofs.lemmas.List.Elements.{All-map, All-weaker}
+use Rattle.std.proofs.lemmas.List.Elements.{All-push, All-nil, All-map, All-weaker, Contains-push, Contains-append_left}
 use Rattle.std.specs.Int.{int_max}
 use Rattle.std.specs.Int.Signed.{lt_z, lt_z_yes, lt_z_no}
 use Rattle.bulk_tasks.specs.Actions.{answers}
@@ -11,11 +11,28 @@ use Rattle.bulk_tasks.specs.Folds.{fold_from, plain_fold}
 use Rattle.bulk_tasks.specs.Searches.{IsSearched}
 use Rattle.facing_cli.specs.Above.{above}
 use Rattle.facing_cli.specs.Texts.{sum_of, IsGreatest, IsAbove}
-use Rattle.facing_cli.proofs.Values.{IsGreatest-push}
 
 abbrev value_or : ℤ → Option ℤ → ℤ
 value_or d None = d
 value_or d (Some v) = v
+
+abbrev greater_of : Option ℤ → ℤ → Option ℤ
+greater_of None v = Some v
+greater_of (Some x) v = Some (int_max x v)
+
+IsGreatest-push : (vs : List ℤ) (best : Option ℤ) (v : ℤ) → IsGreatest vs best → IsGreatest (vs ++ v ∷ []) (greater_of best v)
+IsGreatest-push vs None v h = (
+  Contains-push vs v,
+  All-push (λ x. x ≤ℤ v) vs v (let P : List ℤ → Type 0 = λ xs. All (λ x. x ≤ℤ v) xs in subst P (sym h) (All-nil (λ x. x ≤ℤ v))) (omega (arith, ints)),
+)
+IsGreatest-push vs (Some x) v h =
+    let m : ℤ = int_max x v in
+    let C : ℤ → Type 0 = λ y. Contains (vs ++ v ∷ []) y in
+    let there : (b : Bool) → C (cond b x v) = elim [ true ↦ Contains-append_left vs (v ∷ []) x h.0 | false ↦ Contains-push vs v ] in
+    let over : x ≤ℤ m = omega (arith, clamps, ints) in (
+      there (lt_z v x),
+      All-push (λ y. y ≤ℤ m) vs v (All-weaker (λ y. y ≤ℤ x) (λ y. y ≤ℤ m) (λ y l. omega (arith, ints)) vs h.1) (omega (arith, clamps, ints)),
+    )
 
 contains_map : {X Y : Type 0} (f : X → Y) (xs : List X) (x : X) → Contains xs x → Contains (map f xs) (f x)
 contains_map f xs x (k, lt, is) = (k, (let same = length-map xs f in omega arith), get_or-map f xs k x ∙ ap f is)

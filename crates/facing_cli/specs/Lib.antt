@@ -4,7 +4,6 @@ pub mod Choices
 pub mod Outcomes
 pub mod Played
 pub mod Texts
-pub mod Greater
 pub mod Above
 pub mod Determined
 pub mod CommandLine

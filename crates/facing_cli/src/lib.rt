@@ -5,34 +5,18 @@
 
 mod answers;
 mod client;
-#[cfg(test)]
-mod client_tests;
 mod command;
 mod device;
-#[cfg(test)]
-mod device_tests;
 mod fault;
 mod gate;
 mod laws;
-#[cfg(test)]
-mod limit_tests;
 mod options;
-#[cfg(test)]
-mod order_tests;
-#[cfg(test)]
-mod plain;
 mod play;
-#[cfg(test)]
-mod query_tests;
 mod running;
 mod tasks;
 mod telling;
-#[cfg(test)]
-mod tests;
 mod text;
 mod whole;
-#[cfg(test)]
-mod words_tests;
 
 pub use command::words;
 pub use device::{DeviceError, Input, Output, Reader, Writer};

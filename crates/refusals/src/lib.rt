@@ -8,6 +8,8 @@ mod bins;
 #[cfg(test)]
 mod books;
 #[cfg(test)]
+mod requests;
+#[cfg(test)]
 mod trees;
 #[cfg(test)]
 mod values;

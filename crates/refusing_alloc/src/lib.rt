@@ -1,9 +1,6 @@
 //! An allocator for tests that refuses one request, so that a test can show what each refusal leaves.
 #![tactic(auto)]
 
-#[cfg(test)]
-mod tests;
-
 use std::alloc::{AllocError, Allocator};
 use std::sync::atomic::AtomicU64;
 use std::sync::atomic::Ordering::SeqCst;

@@ -1,0 +1,191 @@
+//! Queries that a pool of workers answers.
+use crate::samples::check_with;
+use facing_cli::{ClientGate, Gate, Options, Reader, Writer, run};
+use std::alloc::{AllocError, Global};
+use std::sync::atomic::AtomicU64;
+use std::sync::atomic::Ordering::SeqCst;
+use std::test::Fail;
+use std::thread;
+
+/// Holds the first leaf until a second has begun, for so many turns at most.
+#[derive(Drop)]
+struct TwoLeaves {
+    begun: AtomicU64,
+    missed: AtomicU64,
+}
+
+const MOST_TURNS: u64 = 10_000_000;
+
+impl Gate for TwoLeaves {
+    fn leaf(&self, _worker: usize, _lo: usize, _hi: usize) {
+        if self.begun.fetch_add(1, SeqCst) == 0 {
+            for _ in 0..MOST_TURNS {
+                if self.begun.load(SeqCst) > 1 {
+                    return;
+                }
+                thread::yield_now();
+            }
+            self.missed.store(1, SeqCst);
+        }
+    }
+}
+
+impl ClientGate for TwoLeaves {
+    fn call(&self, _client: usize, _ordinal: u64) {}
+}
+
+/// Workers that take one leaf after the other miss each other here.
+#[test]
+fn two_leaves_run_at_the_same_time(rt: HostRuntime) -> Result<(), Fail> {
+    let mut script = String::new(rt.alloc());
+    script.push_str("client\n")?;
+    for value in 1..=64 {
+        writeln!(script, "put k{value} {value}")?;
+    }
+    script.push_str("query\nreduce sum 1\n")?;
+    let gate = TwoLeaves {
+        begun: AtomicU64::new(0),
+        missed: AtomicU64::new(0),
+    };
+    let mut output = Writer::new(Vec::new(rt.alloc()));
+    run(
+        &rt,
+        rt.alloc(),
+        &mut Reader::new(script.as_bytes()),
+        &mut output,
+        &Options::new(2, 16)?,
+        &gate,
+    )?;
+    assert_eq!(rt; gate.missed.load(SeqCst), 0);
+    assert!(rt; output.inner.ends_with(b"none\n2080\n"));
+    Ok(())
+}
+
+/// Counts the leaves.
+#[derive(Drop)]
+struct Leaves {
+    begun: AtomicU64,
+}
+
+impl Gate for Leaves {
+    fn leaf(&self, _worker: usize, _lo: usize, _hi: usize) {
+        self.begun.fetch_add(1, SeqCst);
+    }
+}
+
+impl ClientGate for Leaves {
+    fn call(&self, _client: usize, _ordinal: u64) {}
+}
+
+/// The work of three keys is divided from a threshold of 1 on, and not where the threshold is above their number.
+#[test]
+fn a_threshold_divides_the_work_or_not(rt: HostRuntime) -> Result<(), Fail> {
+    for query in ["reduce sum", "reduce max", "search above 9", "list"] {
+        for (threshold, is_one) in [("1", false), ("4", true)] {
+            let script = format!(in rt.alloc();
+                "client\nput a 1\nput b 2\nput c 3\nquery\n{query} {threshold}\n"
+            )?;
+            let gate = Leaves {
+                begun: AtomicU64::new(0),
+            };
+            run(
+                &rt,
+                rt.alloc(),
+                &mut Reader::new(script.as_bytes()),
+                &mut Writer::new(Vec::new(rt.alloc())),
+                &Options::new(2, 16)?,
+                &gate,
+            )?;
+            assert_eq!(rt; gate.begun.load(SeqCst) == 1, is_one, "{query} {threshold}");
+        }
+    }
+    Ok(())
+}
+
+/// The keys `k0` to `k39` in byte order, each with the value that it was put with.
+const LISTED: &str = "k0 -30
+k1 -23
+k10 40
+k11 -30
+k12 -23
+k13 -16
+k14 -9
+k15 -2
+k16 5
+k17 12
+k18 19
+k19 26
+k2 -16
+k20 33
+k21 40
+k22 -30
+k23 -23
+k24 -16
+k25 -9
+k26 -2
+k27 5
+k28 12
+k29 19
+k3 -9
+k30 26
+k31 33
+k32 40
+k33 -30
+k34 -23
+k35 -16
+k36 -9
+k37 -2
+k38 5
+k39 12
+k4 -2
+k5 5
+k6 12
+k7 19
+k8 26
+k9 33
+";
+
+/// Puts 40 keys, whose values are -30, -23 and so on up to 40, again and again.
+fn script_of_queries(alloc: Global) -> Result<String, AllocError> {
+    let mut text = String::new(alloc);
+    text.push_str("client\n")?;
+    for i in 0..40 {
+        writeln!(text, "put k{i} {}", 7 * (i % 11) - 30)?;
+    }
+    text.push_str("query\n")?;
+    for threshold in ["0", "1", "5", "40", "41", "18446744073709551615"] {
+        writeln!(
+            text,
+            "count\nreduce sum {threshold}\nreduce max {threshold}\nlist {threshold}\nsearch above 40 {threshold}"
+        )?;
+    }
+    Ok(text)
+}
+
+/// What it prints: 40 replies, and six times the same answers. Three rounds of eleven values make 55 each, the first
+/// seven of a fourth -63: 102 together.
+fn wanted_answers(alloc: Global) -> Result<String, AllocError> {
+    let mut text = String::new(alloc);
+    text.push_str("client 0\n")?;
+    for _ in 0..40 {
+        text.push_str("none\n")?;
+    }
+    for _ in 0..6 {
+        text.push_str("40\n102\nsome 40\n")?;
+        text.push_str(LISTED)?;
+        text.push_str("none\n")?;
+    }
+    Ok(text)
+}
+
+/// The answers of 1 to 16 workers are the same, at thresholds that divide the work and that do not.
+#[test]
+fn any_workers_answer_the_same(rt: HostRuntime) -> Result<(), Fail> {
+    let script = script_of_queries(rt.alloc())?;
+    let wanted = wanted_answers(rt.alloc())?;
+    for workers in [1, 2, 4, 16] {
+        let options = Options::new(workers, 16)?;
+        check_with(&rt, &options, script.as_bytes(), 0, &wanted)?;
+    }
+    Ok(())
+}

@@ -1,0 +1,215 @@
+//! Command lines, and how the ends of runs are told.
+use facing_cli::{Fault, Writer, line, status, tell, words};
+use hashkeys::Salt;
+use script::Kind;
+use std::alloc::{AllocError, Global};
+use std::process::Abort;
+use std::test::Fail;
+
+fn strings(alloc: Global, given: &[&str]) -> Result<Vec<String>, AllocError> {
+    let mut strings = Vec::new(alloc);
+    for word in given {
+        strings.push(String::from_str(alloc, word)?)?;
+    }
+    Ok(strings)
+}
+
+/// The status that these words end with, and the text that is told.
+fn refusal(rt: &impl Abort, alloc: Global, given: &[&str]) -> Result<(u8, String), AllocError> {
+    match words(alloc, &strings(alloc, given)?) {
+        Ok(_) => panic!(rt; "{given:?} were taken"),
+        Err(fault) => Ok((status(&fault), line(alloc, &fault)?)),
+    }
+}
+
+#[test]
+fn words_are_taken(rt: HostRuntime) -> Result<(), Fail> {
+    let rows: [(&[&str], usize, usize, u32, &str); 5] = [
+        (&["f"], 4, 16, 0, "f"),
+        (&["-"], 4, 16, 0, "-"),
+        (&["--salt", "04", "--workers=+5", "f"], 5, 16, 4, "f"),
+        (
+            &[
+                "--workers",
+                "16",
+                "--capacity",
+                "4096",
+                "--salt",
+                "4294967295",
+                "a b",
+            ],
+            16,
+            4096,
+            4294967295,
+            "a b",
+        ),
+        (
+            &["f", "--workers=1", "--capacity=1", "--salt=7"],
+            1,
+            1,
+            7,
+            "f",
+        ),
+    ];
+    for (given, workers, capacity, salt, wanted) in rows {
+        let (options, file) = words(rt.alloc(), &strings(rt.alloc(), given)?)?;
+        assert_eq!(rt; options.workers(), workers);
+        assert_eq!(rt; options.capacity(), capacity);
+        assert_eq!(rt; options.salt(), Salt(salt));
+        assert_eq!(rt; file.as_str(), wanted);
+    }
+    Ok(())
+}
+
+#[test]
+fn wrong_words_are_told_with_their_usage(rt: HostRuntime) -> Result<(), Fail> {
+    let rows: [(&[&str], &str); 9] = [
+        (
+            &["--salt=-1", "f"],
+            "error: invalid value '-1' for '--salt <N>': -1 is not in 0..=4294967295\n\nFor more information, try '--help'.\n",
+        ),
+        (
+            &["--salt", "x", "f"],
+            "error: invalid value 'x' for '--salt <N>': invalid digit found in string\n\nFor more information, try '--help'.\n",
+        ),
+        (
+            &["--salt=", "f"],
+            "error: invalid value '' for '--salt <N>': cannot parse integer from empty string\n\nFor more information, try '--help'.\n",
+        ),
+        (
+            &["--workers", "17", "f"],
+            "error: invalid value '17' for '--workers <N>': 17 is not in 1..=16\n\nFor more information, try '--help'.\n",
+        ),
+        (
+            &["--workers", "0", "f"],
+            "error: invalid value '0' for '--workers <N>': 0 is not in 1..=16\n\nFor more information, try '--help'.\n",
+        ),
+        (
+            &["--capacity", "4097", "f"],
+            "error: invalid value '4097' for '--capacity <N>': 4097 is not in 1..=4096\n\nFor more information, try '--help'.\n",
+        ),
+        (
+            &["--salt", "4294967296", "f"],
+            "error: invalid value '4294967296' for '--salt <N>': 4294967296 is not in 0..=4294967295\n\nFor more information, try '--help'.\n",
+        ),
+        (
+            &[],
+            "error: the following required arguments were not provided:\n  <FILE>\n\nUsage: mapcli <FILE>\n\nFor more information, try '--help'.\n",
+        ),
+        (
+            &["f", "g"],
+            "error: unexpected argument 'g' found\n\nUsage: mapcli [OPTIONS] <FILE>\n\nFor more information, try '--help'.\n",
+        ),
+    ];
+    for (given, wanted) in rows {
+        let (status, text) = refusal(&rt, rt.alloc(), given)?;
+        assert_eq!(rt; text.as_str(), wanted);
+        assert_eq!(rt; status, 2);
+    }
+    Ok(())
+}
+
+const HELP: &str =
+    "Runs a script of client blocks over a concurrent hash map, and answers its queries
+
+Usage: mapcli [OPTIONS] <FILE>
+
+Arguments:
+  <FILE>  The script, or - for standard input
+
+Options:
+      --workers <N>   How many workers answer the queries, 1 to 16 [default: 4]
+      --capacity <N>  How many bins the map opens with at least, 1 to 4096 [default: 16]
+      --salt <N>      What the hashes of keys are mixed with, 0 to 4294967295 [default: 0]
+  -h, --help          Print help
+
+A script has a block for each client: the line `client`, then a line for each of
+its calls. After the blocks come the line `query` and a line for each query. An
+example, with what its lines print beside them:
+
+  client           client 0
+  put a 1          none
+  merge a 2 sum    some 3
+  query
+  count            1
+  list 1           a 3
+
+Calls:    get K, contains K, put K V, put_if_absent K V, remove K,
+          remove_if K V, replace K V, replace_if K V V, compute_if_absent K F,
+          compute_if_present K F, compute K F, merge K V M
+Queries:  count, reduce sum T, reduce max T, search above V T, list T
+
+K is a key: 1 to 32 letters, digits or _. V is a signed number of 64 bits. F is
+sum V, max V, set V or drop; M is sum, max, set or drop. T says from how many
+keys on the work may be divided, and changes no answer.
+
+The exit status is 0; or 1 for a bad line of the script, 2 for wrong words, and 3
+where memory ran out or a file could not be opened, read or written.
+";
+
+#[test]
+fn help_is_no_fault(rt: HostRuntime) -> Result<(), Fail> {
+    let (status, text) = refusal(&rt, rt.alloc(), &["--help"])?;
+    assert_eq!(rt; status, 0);
+    assert_eq!(rt; text.as_str(), HELP);
+    Ok(())
+}
+
+#[test]
+fn each_fault_has_its_status_and_its_line(rt: HostRuntime) -> Result<(), Fail> {
+    let rows = [
+        (Fault::NoMemory, 3, "mapcli: no memory\n"),
+        (Fault::Device, 3, "mapcli: device\n"),
+        (Fault::BinMissing, 3, "mapcli: bins missing\n"),
+        (
+            Fault::ScriptFault {
+                line: 1,
+                kind: Kind::Missing,
+            },
+            1,
+            "mapcli: line 1: missing\n",
+        ),
+        (
+            Fault::ScriptFault {
+                line: 1000002,
+                kind: Kind::Limit,
+            },
+            1,
+            "mapcli: line 1000002: limit\n",
+        ),
+        (
+            Fault::BadCapacity,
+            2,
+            "mapcli: the capacity is not 1 to 4096\n",
+        ),
+        (
+            Fault::BadWorkers,
+            2,
+            "mapcli: the workers are not 1 to 16\n",
+        ),
+    ];
+    for (fault, wanted_status, wanted) in rows {
+        assert_eq!(rt; line(rt.alloc(), &fault)?.as_str(), wanted);
+        assert_eq!(rt; status(&fault), wanted_status);
+    }
+    Ok(())
+}
+
+/// Help goes to the first writer, another end to the second.
+#[test]
+fn help_is_told_apart_from_faults(rt: HostRuntime) -> Result<(), Fail> {
+    let help = Fault::Help(String::from_str(rt.alloc(), "asked\n")?);
+    let rows = [
+        (help, "asked\n", ""),
+        (Fault::NoMemory, "", "mapcli: no memory\n"),
+        (Fault::Device, "", "mapcli: device\n"),
+    ];
+    for (fault, wanted_output, wanted_errors) in rows {
+        let mut output = Writer::new(Vec::new(rt.alloc()));
+        let mut errors = Writer::new(Vec::new(rt.alloc()));
+        tell(rt.alloc(), &mut output, &mut errors, &fault)?;
+        assert_eq!(rt; output.inner.as_slice(), wanted_output.as_bytes());
+        assert_eq!(rt; errors.inner.as_slice(), wanted_errors.as_bytes());
+    }
+    Ok(())
+}
