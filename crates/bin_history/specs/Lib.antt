@@ -15,3 +15,4 @@ pub mod Histories
 pub mod Copies
 pub mod Changes
 pub mod Readiness
+pub mod Sure

@@ -194,7 +194,7 @@ impl<K: HashKey, V: Clone + Eq, F: Remap<K, V> + Clone, A: Allocator + Clone> Bi
 }
 
 impl<K: HashKey, V: Clone + Eq, F: Remap<K, V> + Clone, A: Allocator + Clone> Bin<K, V, F, A> {
-    ghost use Rattle.std.specs.Prelude.{true, ◌+◌, ◌<◌, ◌^◌, ◌∷◌, [], length, IfOk, OnOk, OnErr};
+    ghost use Rattle.std.specs.Prelude.{true, ◌+◌, ◌<◌, ◌^◌, ◌∷◌, [], length, IfOk, IsOk, OnOk, OnErr};
     ghost use Rattle.hashkeys.specs.Classes.{is_of};
     ghost use Rattle.bin_history.specs.Calls.{after, key_of, reply};
     ghost use Rattle.bin_history.specs.Copies.{IsExact};
@@ -204,18 +204,21 @@ impl<K: HashKey, V: Clone + Eq, F: Remap<K, V> + Clone, A: Allocator + Clone> Bi
     ghost use Rattle.bin_history.specs.declared.form.Form.TheVariants.{Recorded};
     ghost use Rattle.bin_history.specs.Logs.{with_one_more};
     ghost use Rattle.bin_history.specs.Readiness.{IsPrepared, KeepsOrFolds, recorded};
+    ghost use Rattle.bin_history.specs.Sure.{IsSure, op_of};
 
     /// Prepares a call on a key of the bin's class: makes all growths, asks the call's function, makes all copies,
     /// and works out what the call does and replies, so that `apply` cannot fail. The entries stay; base and
     /// records stay too, but where there are 1,024 records the oldest 512 are folded into the base. For
     /// want of memory the call is dropped, and nothing else changes. Room for an entry is made only for a call
     /// that may add one, on a key that is not there.
+    /// Where clones never fail, the call asks no function and there is room in hand, it is not refused.
     pub fn prepare<'a>(&'a mut self, call: Call<K, V, F>) -> Result<Ready<K, V, F>, AllocError>
         requires keys { IsExact K.is_clone }
         requires values { IsExact V.is_clone }
         requires of_class { is_of K.code self.old.salt self.old.class (key_of call) ≡ true }
         ensures ready { IfOk result (λ r. IsPrepared K.eq K.code V.eq F.remapped F.merged r self.new) }
         ensures call { IfOk result (λ r. r.call ≡ call) }
+        ensures succeeds { IsSure K.eq K.is_infallible V.is_infallible self.old (key_of call) (op_of call) → IsOk result }
         ensures ok { OnOk result (KeepsOrFolds K.eq self.old self.new) }
         ensures records { OnErr result (self.new.records ≡ self.old.records) }
         ensures base { OnErr result (self.new.base ≡ self.old.base) }
@@ -242,6 +245,7 @@ impl<K: HashKey, V: Clone + Eq, F: Remap<K, V> + Clone, A: Allocator + Clone> Bi
         requires of_class { is_of K.code self.old.salt self.old.class (key_in key) ≡ true }
         ensures ready { IfOk result (λ r. IsPrepared K.eq K.code V.eq F.remapped F.merged r self.new) }
         ensures call { IfOk result (λ r. r.call ≡ call_on (key_in key.entry) op) }
+        ensures succeeds { IsSure K.eq K.is_infallible V.is_infallible self.old (key_in key.entry) op → IsOk result }
         ensures ok { OnOk result (KeepsOrFolds K.eq self.old self.new) }
         ensures records { OnErr result (self.new.records ≡ self.old.records) }
         ensures base { OnErr result (self.new.base ≡ self.old.base) }

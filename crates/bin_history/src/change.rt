@@ -1,5 +1,5 @@
 //! Changes of a list of entries.
-ghost use Rattle.std.specs.Prelude.{◌≡◌, ◌<◌, ◌≤◌, ◌+◌, ◌-◌, IfOk, option_copied, vec_len, vec_capacity};
+ghost use Rattle.std.specs.Prelude.{◌≡◌, ◌<◌, ◌≤◌, ◌+◌, ◌-◌, IfOk, IsOk, option_copied, vec_len, vec_capacity};
 ghost use Rattle.bin_history.specs.Entries.{lookup};
 ghost use Rattle.bin_history.specs.Changes.{IsFound, change_at, change_to, change_by, changed, taken_from, HasPlace, Fits};
 ghost use Rattle.bin_history.specs.Copies.{IsExact};
@@ -83,7 +83,8 @@ impl<K: Clone + Drop, V: Drop> Change<K, V> {
         value: Option<V>,
     ) -> Result<Change<K, V>, AllocError>
         requires { IsExact K.is_clone }
-        ensures { IfOk result (λ change. change ≡ change_to found (key_in key.entry) value) }
+        ensures change { IfOk result (λ change. change ≡ change_to found (key_in key.entry) value) }
+        ensures succeeds { K.is_infallible (key_in key.entry) → IsOk result }
     {
         match found {
             Some(i) => Ok(Change::at(i, value)),
@@ -102,7 +103,8 @@ impl<K: Clone + Drop, V: Drop> Change<K, V> {
         value: Option<V>,
     ) -> Result<Change<K, V>, AllocError>
         requires { IsExact K.is_clone }
-        ensures { IfOk result (λ change. change ≡ change_by found (key_in key.entry) effect value) }
+        ensures change { IfOk result (λ change. change ≡ change_by found (key_in key.entry) effect value) }
+        ensures succeeds { K.is_infallible (key_in key.entry) → IsOk result }
     {
         match effect {
             Effect::Keep => Ok(Change::Stay),

@@ -1,20 +1,23 @@
 //! Copies of keys, values, functions and calls.
-ghost use Rattle.std.specs.Prelude.{◌≡◌, IfOk, option_copied};
+ghost use Rattle.std.specs.Prelude.{◌≡◌, IfOk, IsOk, option_copied};
 ghost use Rattle.bin_history.specs.Copies.{IsExact};
+ghost use Rattle.bin_history.specs.Sure.{IsNeverRefused};
 
 use crate::call::Call;
 use std::alloc::{AllocError, Allocator};
 
 pub(crate) fn copy_of<T: Clone>(value: &T) -> Result<T, AllocError>
     requires { IsExact T.is_clone }
-    ensures { IfOk result (λ copy. copy ≡ value.now) }
+    ensures copy { IfOk result (λ copy. copy ≡ value.now) }
+    ensures succeeds { T.is_infallible value.now → IsOk result }
 {
     value.clone()
 }
 
 pub(crate) fn copy_of_option<T: Clone>(value: Option<&T>) -> Result<Option<T>, AllocError>
     requires { IsExact T.is_clone }
-    ensures { IfOk result (λ copy. copy ≡ option_copied value.entry) }
+    ensures copy { IfOk result (λ copy. copy ≡ option_copied value.entry) }
+    ensures succeeds { IsNeverRefused T.is_infallible → IsOk result }
 {
     match value {
         Some(inner) => Ok(Some(copy_of(inner)?)),

@@ -1,8 +1,9 @@
 //! What a call does to the value at its key, and what it answers.
-ghost use Rattle.std.specs.Prelude.{◌≡◌, IfOk, option_copied};
+ghost use Rattle.std.specs.Prelude.{◌≡◌, IfOk, IsOk, option_copied};
 ghost use Rattle.bin_history.specs.Changes.{answered, left_by};
 ghost use Rattle.bin_history.specs.Copies.{IsExact};
 ghost use Rattle.bin_history.specs.Ops.{value_of};
+ghost use Rattle.bin_history.specs.Sure.{IsNeverRefused};
 ghost use Rattle.bin_history.specs.declared.effect.Effect.TheVariants.{Give};
 
 use crate::call::Reply;
@@ -44,7 +45,8 @@ impl<V: Clone> Effect<V> {
     /// A copy of the value that the call brings, where the effect is to give it.
     pub(crate) fn copy_given<F>(&self, op: &Op<V, F>) -> Result<Option<V>, AllocError>
         requires { IsExact V.is_clone }
-        ensures { IfOk result (λ value. self.now ≡ Give → value ≡ value_of op.now) }
+        ensures value { IfOk result (λ value. self.now ≡ Give → value ≡ value_of op.now) }
+        ensures succeeds { IsNeverRefused V.is_infallible → IsOk result }
     {
         match self {
             Effect::Give => copy_of_option(op.value()),

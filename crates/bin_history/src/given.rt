@@ -1,5 +1,5 @@
 //! Keys that calls are given.
-ghost use Rattle.std.specs.Prelude.{◌≡◌, IfOk};
+ghost use Rattle.std.specs.Prelude.{◌≡◌, IfOk, IsOk};
 ghost use Rattle.bin_history.specs.Copies.{IsExact};
 ghost use Rattle.bin_history.specs.Ops.{key_in};
 
@@ -29,7 +29,8 @@ impl<'a, K: Clone> Given<'a, K> {
     /// The key itself where it was handed over, and else a copy.
     pub(crate) fn into_owned(self) -> Result<K, AllocError>
         requires { IsExact K.is_clone }
-        ensures { IfOk result (λ key. key ≡ key_in self.entry) }
+        ensures key { IfOk result (λ key. key ≡ key_in self.entry) }
+        ensures succeeds { K.is_infallible (key_in self.entry) → IsOk result }
     {
         match self {
             Given::Owned(key) => Ok(key),

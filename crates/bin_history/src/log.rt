@@ -1,5 +1,5 @@
 //! What a recorded bin stores beside its entries.
-ghost use Rattle.std.specs.Prelude.{◌≡◌, ◌+◌, ◌<◌, ◌≤◌, ◌^◌, Option, List, [], length, IfOk, OnOk};
+ghost use Rattle.std.specs.Prelude.{◌≡◌, ◌+◌, ◌<◌, ◌≤◌, ◌^◌, Option, List, [], length, IfOk, IsOk, OnOk};
 ghost use Rattle.hashkeys.specs.Classes.{is_of};
 ghost use Rattle.bin_history.specs.Copies.{IsExact};
 ghost use Rattle.bin_history.specs.Logs.{form_of, base_of, records_of, record_room_of, CanFold, IsKeptOrFolded, with_one_more};
@@ -88,6 +88,7 @@ pub(crate) fn reserve_in<K: Drop, V: Drop, F: Drop, A: Allocator + Clone>(
 ) -> Result<(), AllocError>
     requires few { length (records_of log.old) ≤ 1024 }
     ensures room { OnOk result (CanFold log.new) }
+    ensures succeeds { (form_of log.old ≡ Recorded → (length (records_of log.old) < 1024) × (0 < record_room_of log.old)) → IsOk result }
     ensures form { form_of log.new ≡ form_of log.old }
     ensures base { (es : List (K × V)) → base_of log.new es ≡ base_of log.old es }
     ensures records { records_of log.new ≡ records_of log.old }

@@ -1,5 +1,5 @@
 //! Room in lists of records and of entries.
-ghost use Rattle.std.specs.Prelude.{◌≡◌, ◌<◌, ◌≤◌, None, true, OnOk, vec_len, vec_capacity};
+ghost use Rattle.std.specs.Prelude.{◌≡◌, ◌<◌, ◌≤◌, None, true, IsOk, OnOk, vec_len, vec_capacity};
 ghost use Rattle.bin_history.specs.Ops.{may_add};
 
 use crate::op::Op;
@@ -17,6 +17,7 @@ pub(crate) fn make_room_in<T: Drop, A: Allocator + Clone>(
     ensures items { list.new.items ≡ list.old.items }
     ensures len { vec_len list.new ≡ vec_len list.old }
     ensures room { OnOk result (vec_len list.new < vec_capacity list.new) }
+    ensures succeeds { vec_len list.old < vec_capacity list.old → IsOk result }
 {
     let len = list.len();
     if len < list.capacity() {
@@ -36,6 +37,7 @@ pub(crate) fn make_room_for<K: Drop, V: Drop, F, A: Allocator>(
 ) -> Result<(), AllocError>
     ensures items { entries.new.items ≡ entries.old.items }
     ensures room { OnOk result (found ≡ None → may_add op.now ≡ true → vec_len entries.new < vec_capacity entries.new) }
+    ensures succeeds { (found ≡ None → may_add op.now ≡ true → vec_len entries.old < vec_capacity entries.old) → IsOk result }
 {
     if found.is_none() && op.may_add() {
         entries.reserve(1)

@@ -1,8 +1,9 @@
 //! A call worked out, by the value at its key.
-ghost use Rattle.std.specs.Prelude.{◌≡◌, Some, None, cond, IfOk, option_copied};
+ghost use Rattle.std.specs.Prelude.{◌≡◌, false, Some, None, cond, IfOk, IsOk, option_copied};
 ghost use Rattle.bin_history.specs.Calls.{is_value};
 ghost use Rattle.bin_history.specs.Changes.{IsWork};
 ghost use Rattle.bin_history.specs.Copies.{IsExact};
+ghost use Rattle.bin_history.specs.Sure.{IsNeverRefused, asks};
 ghost use Rattle.bin_history.specs.declared.call.Reply.TheVariants.{Value, Truth};
 ghost use Rattle.bin_history.specs.declared.effect.Answer.TheVariants.{Known, Taken};
 ghost use Rattle.bin_history.specs.declared.effect.Effect.TheVariants.{Keep, Give, Set};
@@ -72,7 +73,8 @@ impl<V: Clone> Work<V> {
     /// A call that keeps the value, and answers it.
     fn keeping(value: Option<&V>) -> Result<Work<V>, AllocError>
         requires { IsExact V.is_clone }
-        ensures { IfOk result (λ work. work ≡ record { effect = Keep; answer = Known (Value (option_copied value.entry)) }) }
+        ensures work { IfOk result (λ work. work ≡ record { effect = Keep; answer = Known (Value (option_copied value.entry)) }) }
+        ensures succeeds { IsNeverRefused V.is_infallible → IsOk result }
     {
         Ok(Work::known(Effect::Keep, Reply::Value(copy_of_option(value)?)))
     }
@@ -80,7 +82,8 @@ impl<V: Clone> Work<V> {
     /// A call that gives the value that it brings, and answers it.
     fn giving(value: &V) -> Result<Work<V>, AllocError>
         requires { IsExact V.is_clone }
-        ensures { IfOk result (λ work. work ≡ record { effect = Give; answer = Known (Value (Some value.now)) }) }
+        ensures work { IfOk result (λ work. work ≡ record { effect = Give; answer = Known (Value (Some value.now)) }) }
+        ensures succeeds { IsNeverRefused V.is_infallible → IsOk result }
     {
         Ok(Work::known(Effect::Give, Reply::Value(Some(copy_of(value)?))))
     }
@@ -125,7 +128,8 @@ pub(crate) fn work_of<K, V: Clone + Eq, F: Remap<K, V>>(
     before: Option<&V>,
 ) -> Result<Work<V>, AllocError>
     requires { IsExact V.is_clone }
-    ensures { IfOk result (λ work. IsWork V.eq F.remapped F.merged key.now op.now (option_copied before.entry) work) }
+    ensures work { IfOk result (λ work. IsWork V.eq F.remapped F.merged key.now op.now (option_copied before.entry) work) }
+    ensures succeeds { IsNeverRefused V.is_infallible → asks op.now (option_copied before.entry) ≡ false → IsOk result }
 {
     match op {
         Op::Get => Work::keeping(before),

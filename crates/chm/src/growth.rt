@@ -1,5 +1,5 @@
 //! How a map's table grows: one move at a time, from a table of n bins to one of 2n.
-ghost use Rattle.std.specs.Prelude.{◌≡◌, ◌^◌, ◌≤◌, ◌/◌, IfOk};
+ghost use Rattle.std.specs.Prelude.{◌≡◌, ◌^◌, ◌≤◌, ◌/◌, true, IfOk, IfSome};
 ghost use Rattle.hashkeys.specs.Classes.{IsTableSize};
 
 use std::alloc::{AllocError, Allocator};
@@ -61,11 +61,36 @@ fn word_of(exponent: u32, phase: Phase) -> u64
     4 * u64::from(exponent) + number
 }
 
-/// The resize word, and for each size of a table the strides of the move from it.
+/// The right of one client to open a move from a table. It is a duty too: it cannot be dropped, so who has it says that
+/// the move is `ready`, or `shut`s it for a later call to open.
+pub(crate) struct Opening {
+    table: Table,
+    ghost size: { table.exponent ≤ 16 },
+}
+
+/// A move from a table of 2 to the exponent bins to one of twice as many, with its strides.
+#[derive(Drop)]
+pub(crate) struct Doubling<A: Allocator> {
+    exponent: u32,
+    pub(crate) strides: Strides<A>,
+    ghost size: { exponent ≤ 16 },
+    ghost whole: { strides.bins ≡ 2 ^ exponent },
+}
+
+impl<A: Allocator> Doubling<A> {
+    /// The number of bins that it moves.
+    pub(crate) fn n(&self) -> u32
+        ensures { result ≡ self.now.strides.bins }
+    {
+        1 << self.exponent
+    }
+}
+
+/// The resize word, and for each size of a table the move from it.
 #[derive(Drop)]
 pub(crate) struct Growth<A: Allocator> {
     word: AtomicIn<ResizeWord>,
-    moves: Vec<OnceLock<Strides<A>>, A>,
+    moves: Vec<OnceLock<Doubling<A>>, A>,
 }
 
 impl<A: Allocator + Clone> Growth<A> {
@@ -80,12 +105,22 @@ impl<A: Allocator + Clone> Growth<A> {
         Ok(Growth { word, moves })
     }
 
-    /// The strides of a move from this table, and its opener's mover.
-    pub(crate) fn make_strides(&self, n: u32) -> Result<(Strides<A>, Mover), AllocError>
+    /// The strides of a move of `n` bins, and its opener's mover.
+    fn make_strides(&self, n: u32) -> Result<(Strides<A>, Mover), AllocError>
         requires { IsTableSize n }
-        ensures { IfOk result (λ r. r.1.strides ≡ r.0) }
+        ensures bins { IfOk result (λ r. r.0.bins ≡ n) }
+        ensures mover { IfOk result (λ r. r.1.strides ≡ r.0) }
     {
         Strides::new(self.allocator().clone()?, n as usize)
+    }
+
+    /// The move that is being opened, and its opener's mover.
+    pub(crate) fn make_move(&self, opening: &Opening) -> Result<(Doubling<A>, Mover), AllocError>
+        ensures { IfOk result (λ r. r.1.strides ≡ r.0.strides) }
+    {
+        let exponent = opening.table.exponent;
+        let (strides, mover) = self.make_strides(opening.table.n())?;
+        Ok((Doubling { exponent, strides }, mover))
     }
 }
 
@@ -112,47 +147,50 @@ impl<A: Allocator> Growth<A> {
     }
 
     /// Tries once to open a move from this table.
-    pub(crate) fn open(&self, table: Table) -> bool
+    pub(crate) fn open(&self, table: Table) -> Option<Opening>
         requires { table.exponent ≤ 16 }
+        ensures { IfSome result (λ opening. opening.table ≡ table) }
     {
         let still = word_of(table.exponent, Phase::Still);
         let opening = word_of(table.exponent, Phase::Opening);
-        self.word
-            .compare_exchange(still, opening, SeqCst, SeqCst)
-            .is_ok()
+        match self.word.compare_exchange(still, opening, SeqCst, SeqCst) {
+            Ok(_) => Some(Opening { table }),
+            Err(_) => None,
+        }
     }
 
     /// Says that the strides of the move are ready.
-    pub(crate) fn ready(&self, table: Table)
-        requires { table.exponent ≤ 16 }
-    {
+    pub(crate) fn ready(&self, opening: Opening) {
+        let Opening { table } = opening;
         self.word
             .store(word_of(table.exponent, Phase::Moving), SeqCst);
     }
 
-    /// Shuts a move whose strides could not be made.
-    pub(crate) fn shut(&self, table: Table)
-        requires { table.exponent ≤ 16 }
-    {
+    /// Shuts a move whose table or strides could not be made.
+    pub(crate) fn shut(&self, opening: Opening) {
+        let Opening { table } = opening;
         self.word
             .store(word_of(table.exponent, Phase::Still), SeqCst);
     }
 
-    /// Makes the table of twice the size the one that calls go by.
-    pub(crate) fn publish(&self, table: Table)
-        requires { table.exponent ≤ 16 }
+    /// Makes the table of twice the size the one that calls go by. The mover was told that all bins of the move are
+    /// finished, which one is.
+    pub(crate) fn publish(&self, doubling: &Doubling<A>, mover: &Mover)
+        requires mover { mover.now.strides ≡ doubling.now.strides }
+        requires last { mover.now.last ≡ true }
     {
-        let exponent = (table.exponent + 1).min(MOST_EXPONENT);
+        let _ = mover;
+        let exponent = (doubling.exponent + 1).min(MOST_EXPONENT);
         self.word.store(word_of(exponent, Phase::Still), SeqCst);
     }
 
-    /// Where the strides of a move from this table are kept.
-    pub(crate) fn cell(&self, table: Table) -> Option<&OnceLock<Strides<A>>> {
+    /// Where the move from this table is kept.
+    pub(crate) fn cell(&self, table: Table) -> Option<&OnceLock<Doubling<A>>> {
         self.moves.get(table.exponent as usize)
     }
 
-    /// The strides of the move that is open, once they are ready.
-    pub(crate) fn strides(&self, table: Table) -> Option<&Strides<A>> {
+    /// The move that is open, once its strides are ready.
+    pub(crate) fn open_move(&self, table: Table) -> Option<&Doubling<A>> {
         if table.phase == Phase::Moving {
             self.cell(table)?.get()
         } else {

@@ -4,14 +4,14 @@ ghost use Rattle.hashkeys.specs.Classes.{IsTableSize};
 ghost use Rattle.chm.specs.Answered.{AreExact};
 ghost use Rattle.transfer.specs.Views.{IsUnfinished};
 
-use crate::growth::Table;
+use crate::growth::{Doubling, Table};
 use crate::map::Map;
 use crate::size::{MOST_BINS, threshold};
 use bin_history::Remap;
 use hashkeys::{Class, HashKey};
 use std::alloc::{AllocError, Allocator};
 use std::sync::Wait;
-use transfer::{Finish, Mover, Range, Strides};
+use transfer::{Finish, Mover, Range};
 
 /// What a call met, and whether it made its key present.
 #[derive(Drop)]
@@ -53,43 +53,35 @@ impl<
     }
 
     /// Moves the bins of a range that the mover claimed, and publishes the wider table where it was the last.
-    fn move_range<R: Wait>(
-        &self,
-        rt: &R,
-        table: Table,
-        strides: &Strides<A>,
-        mover: &mut Mover,
-        range: Range,
-    )
+    fn move_range<R: Wait>(&self, rt: &R, doubling: &Doubling<A>, mover: &mut Mover, range: Range)
         requires exact { AreExact K.is_clone V.is_clone F.is_clone }
-        requires table { table.exponent ≤ 16 }
-        requires mover { mover.old.strides ≡ strides.now }
+        requires mover { mover.old.strides ≡ doubling.now.strides }
         requires range { IsUnfinished mover.old range }
         ensures mover { mover.new.strides ≡ mover.old.strides }
         ensures claimed { mover.new.claimed ≡ mover.old.claimed }
     {
-        let n = table.n();
+        let n = doubling.n();
         for index in range.lo..range.hi.min(n as usize) {
             self.move_bin(rt, Class::new(n, index as u32));
         }
-        if strides.finish(mover, range) == Finish::Last {
-            self.growth.publish(table);
+        if doubling.strides.finish(mover, range) == Finish::Last {
+            self.growth.publish(doubling, mover);
         }
     }
 
     /// Takes part in the open move with one stride, if there is a mover left.
     fn help<R: Wait>(&self, rt: &R, table: Table)
         requires exact { AreExact K.is_clone V.is_clone F.is_clone }
-        requires table { table.exponent ≤ 16 }
     {
-        let Some(strides) = self.growth.strides(table) else {
+        let Some(doubling) = self.growth.open_move(table) else {
             return;
         };
+        let strides = &doubling.strides;
         let Some(mut mover) = strides.enter() else {
             return;
         };
         if let Some(range) = strides.claim(&mut mover) {
-            self.move_range(rt, table, strides, &mut mover, range);
+            self.move_range(rt, doubling, &mut mover, range);
         }
         strides.leave(mover);
     }
@@ -113,26 +105,26 @@ impl<
         let Some(cell) = self.growth.cell(table) else {
             return;
         };
-        if !self.growth.open(table) {
+        let Some(opening) = self.growth.open(table) else {
             return;
-        }
+        };
         if self.widen(rt, table.n()).is_err() {
-            self.growth.shut(table);
+            self.growth.shut(opening);
             return;
         }
-        let Ok((strides, mut mover)) = self.growth.make_strides(table.n()) else {
-            self.growth.shut(table);
+        let Ok((doubling, mut mover)) = self.growth.make_move(&opening) else {
+            self.growth.shut(opening);
             return;
         };
-        let Ok(token) = cell.try_set(strides) else {
-            self.growth.shut(table);
+        let Ok(token) = cell.try_set(doubling) else {
+            self.growth.shut(opening);
             return;
         };
-        self.growth.ready(table);
-        let strides = cell.value(&token);
-        while let Some(range) = strides.claim(&mut mover) {
-            self.move_range(rt, table, strides, &mut mover, range);
+        self.growth.ready(opening);
+        let doubling = cell.value(&token);
+        while let Some(range) = doubling.strides.claim(&mut mover) {
+            self.move_range(rt, doubling, &mut mover, range);
         }
-        strides.leave(mover);
+        doubling.strides.leave(mover);
     }
 }

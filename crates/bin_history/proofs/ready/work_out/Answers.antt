@@ -18,10 +18,10 @@ told g c =
     elim c.match-form.branch [
       | in-Recorded+in_ok-value-in-Recorded+in_ok-before-in-Recorded+in_ok-after-in-Recorded+in_ok-key-in-Recorded+in_ok-change-in-Recorded w ↦ (
         w.in_ok-value-in-Recorded.value,
-        w.in_ok-value-in-Recorded.ensures,
-        ap (λ (x : _ × _). x.0) w.change-is ∙ w.in_ok-change-in-Recorded.ensures ∙ ap (λ k. change_by c.args.found k c.in_ok-work.work.effect w.in_ok-value-in-Recorded.value) w.in_ok-key-in-Recorded.ensures,
+        w.in_ok-value-in-Recorded.ensures.value,
+        ap (λ (x : _ × _). x.0) w.change-is ∙ w.in_ok-change-in-Recorded.ensures.change ∙ ap (λ k. change_by c.args.found k c.in_ok-work.work.effect w.in_ok-value-in-Recorded.value) w.in_ok-key-in-Recorded.ensures.key,
       )
-      | in-Lean+in_ok-by-in-Lean w ↦ (w.into_value-value.result, (λ give. w.into_value-value.ensures), ap (λ (x : _ × _). x.0) w.change-is ∙ w.in_ok-by-in-Lean.ensures)
+      | in-Lean+in_ok-by-in-Lean w ↦ (w.into_value-value.result, (λ give. w.into_value-value.ensures), ap (λ (x : _ × _). x.0) w.change-is ∙ w.in_ok-by-in-Lean.ensures.change)
     ]
 
 -- what is answered is as it was worked out
@@ -37,7 +37,7 @@ found_before : (g : _) (c : goal.Joined-form g) → option_copied c.value_at-bef
 found_before g c = rw c.get.ensures at c.value_at-before.ensures
 
 work_is : (g : _) (c : goal.Joined-form g) → IsWork g.V.PartialEq.eq g.F.Remap.remapped g.F.Remap.merged (key_in c.args.key) c.args.op (lookup g.K.PartialEq.eq c.args.entries.now (key_in c.args.key)) c.in_ok-work.work
-work_is g c = rw (c.get-2.ensures, found_before g c) at c.in_ok-work.ensures
+work_is g c = rw (c.get-2.ensures, found_before g c) at c.in_ok-work.ensures.work
 
 pub returns-clause-ready : goal.returns-clause-ready
 returns-clause-ready g c =

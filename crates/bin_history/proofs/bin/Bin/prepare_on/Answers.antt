@@ -1,7 +1,9 @@
-use Rattle.std.proofs.Common.{◌≡◌, ◌-◌, List, vec_len, vec_capacity, subst, sym, ◌∙◌, arith}
+use Rattle.std.proofs.Common.{◌≡◌, ◌-◌, ℕ, Option, List, vec_len, vec_capacity, subst, sym, ◌∙◌, arith}
+use Rattle.std.proofs.lemmas.Bool.{true≢false}
 use Rattle.bin_history.specs.Logs.{form_of, base_of, records_of, IsKeptOrFolded}
 use Rattle.bin_history.specs.Ops.{key_in}
-use Rattle.bin_history.proofs.Changes.{key-call_on}
+use Rattle.bin_history.specs.Changes.{IsFound}
+use Rattle.bin_history.proofs.Changes.{key-call_on, lookup_absent}
 use Rattle.bin_history.proofs.Keys.{key_tells}
 use Rattle.bin_history.proofs.Lawful.{IsReplayed-kept, KeepsOrFolds-of}
 use Rattle.bin_history.proofs.bin.Bin.prepare_on.Goals as goal
@@ -13,6 +15,29 @@ kept g c es =
     let B : List _ → Type 0 = λ base. IsKeptOrFolded g.K.PartialEq.eq base (records_of log) (base_of after es) (records_of after) in
     let R : List _ → Type 0 = λ rs. IsKeptOrFolded g.K.PartialEq.eq (base_of c.self.inside.log es) rs (base_of after es) (records_of after) in
     subst R c.in_ok-reserve_in.ensures.records (subst B (c.in_ok-reserve_in.ensures.base es) (c.fold_in.ensures.kept es))
+
+-- room for what the call may add was in hand
+pub returns-in_err-make_room_for-clause-succeeds : goal.returns-in_err-make_room_for-clause-succeeds
+returns-in_err-make_room_for-clause-succeeds g c sure =
+    let tells = key_tells g.met.K.Eq.laws g.met.K.HashKey.equal_is_same in
+    let has = rw (← c.self.view_is) at sure in
+    let es = c.self.inside.entries.items in
+    let k = key_in c.args.key in
+    let Found : Option ℕ → Type 0 = IsFound g.K.PartialEq.eq es k in
+    let found : Found c.find-found.result = rw (c.deref.ensures.value, c.get.ensures) at c.find-found.ensures in
+    absurd (true≢false (sym (c.in_err-make_room_for.ensures.succeeds (λ none adds. let more = has.entry_room (lookup_absent g.K.PartialEq.eq tells es k (subst Found none found)) adds in omega arith))))
+
+pub invariant_of-self-in_err-reserve_in : goal.invariant_of-self-in_err-reserve_in
+invariant_of-self-in_err-reserve_in g c =
+    rw (c.in_err-reserve_in.ensures.base c.make_room_for.new.entries.items, c.in_err-reserve_in.ensures.records, c.in_ok-make_room_for.ensures.items) c.self.invariant
+
+pub invariant_of-self-2 : goal.invariant_of-self-2
+invariant_of-self-2 g c =
+    rw (c.in_ok-reserve_in.ensures.base c.make_room_for.new.entries.items, c.in_ok-reserve_in.ensures.records, c.in_ok-make_room_for.ensures.items) c.self.invariant
+
+pub invariant_of-self-in_err-ready : goal.invariant_of-self-in_err-ready
+invariant_of-self-in_err-ready g c =
+    rw (c.in_ok-reserve_in.ensures.base c.make_room_for.new.entries.items, c.in_ok-reserve_in.ensures.records, c.in_ok-make_room_for.ensures.items) c.self.invariant
 
 pub invariant_of-self-3 : goal.invariant_of-self-3
 invariant_of-self-3 g c =

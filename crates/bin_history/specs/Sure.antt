@@ -1,0 +1,52 @@
+-- Calls of which nothing can be refused.
+use Rattle.std.specs.Prelude.{◌≡◌, ℕ, ◌<◌, Bool, true, false, Option, None, is_some, is_none, length}
+use Rattle.bin_history.specs.Entries.{lookup}
+use Rattle.bin_history.specs.Lawful.{BinView}
+use Rattle.bin_history.specs.Ops.{may_add}
+use Rattle.bin_history.specs.declared.call.Call.{Call}
+use Rattle.bin_history.specs.declared.call.Call.TheVariants.{Get, Contains, Put, PutIfAbsent, Remove, RemoveIf, Replace, ReplaceIf, ComputeIfAbsent, ComputeIfPresent, Compute, Merge}
+use Rattle.bin_history.specs.declared.form.Form.TheVariants.{Recorded}
+use Rattle.bin_history.specs.declared.op.Op.{Op}
+use Rattle.bin_history.specs.declared.op.Op.TheVariants as op
+
+-- no clone is refused
+abbrev pub IsNeverRefused : {X : Type 0} → (X → Type 0) → Type 0
+IsNeverRefused {X} is_infallible = (x : X) → is_infallible x
+
+-- a call without its key
+abbrev pub op_of : {K V F : Type 0} → Call K V F → Op V F
+op_of (Get _) = op.Get
+op_of (Contains _) = op.Contains
+op_of (Put _ v) = op.Put v
+op_of (PutIfAbsent _ v) = op.PutIfAbsent v
+op_of (Remove _) = op.Remove
+op_of (RemoveIf _ v) = op.RemoveIf v
+op_of (Replace _ v) = op.Replace v
+op_of (ReplaceIf _ old new) = op.ReplaceIf old new
+op_of (ComputeIfAbsent _ f) = op.ComputeIfAbsent f
+op_of (ComputeIfPresent _ f) = op.ComputeIfPresent f
+op_of (Compute _ f) = op.Compute f
+op_of (Merge _ v f) = op.Merge v f
+
+-- whether the call asks its function, by the value before it
+abbrev pub asks : {V F : Type 0} → Op V F → Option V → Bool
+asks op.Get before = false
+asks op.Contains before = false
+asks (op.Put _) before = false
+asks (op.PutIfAbsent _) before = false
+asks op.Remove before = false
+asks (op.RemoveIf _) before = false
+asks (op.Replace _) before = false
+asks (op.ReplaceIf _ _) before = false
+asks (op.ComputeIfAbsent _) before = is_none before
+asks (op.ComputeIfPresent _) before = is_some before
+asks (op.Compute _) before = true
+asks (op.Merge _ _) before = is_some before
+
+-- nothing that the call on the key needs of this bin can be refused: no copy is, it asks no function, and there is room
+pub record IsSure {K V F : Type 0} (same_key : K → K → Bool) (key_copies : K → Type 0) (value_copies : V → Type 0) (b : BinView K V F) (k : K) (op : Op V F) : Type 0 where
+  pub key : key_copies k
+  pub values : IsNeverRefused value_copies
+  pub asks_none : asks op (lookup same_key b.entries k) ≡ false
+  pub record_room : b.form ≡ Recorded → (length b.records < 1024) × (0 < b.record_room)
+  pub entry_room : lookup same_key b.entries k ≡ None → may_add op ≡ true → 0 < b.entry_room
