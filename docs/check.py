@@ -110,8 +110,8 @@ def lost_files(page, text):
 
 
 def head_of(function, text):
-    """Returns the heads of the functions of this name, from `fn` up to the brace of the body."""
-    return re.findall(rf"(?ms)\bfn {re.escape(function)}\b(?:.*?)(?:^\s*\{{\s*$|\{{\}}|;$)", text)
+    """Returns the heads of the functions of this name, from `fn` up to the brace of the body, or the `;` where there is none: that of a field ends no head."""
+    return re.findall(rf"(?ms)\bfn {re.escape(function)}\b(?:.*?)(?:^\s*\{{\s*$|\{{\}}|^(?![^\n]* = )[^\n]*;$)", text)
 
 
 def lost_functions(page, flat):
