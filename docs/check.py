@@ -110,8 +110,8 @@ def lost_files(page, text):
 
 
 def head_of(function, text):
-    """Returns the heads of the functions of this name, from `fn` up to the brace of the body."""
-    return re.findall(rf"(?ms)\bfn {re.escape(function)}\b(?:.*?)(?:^\s*\{{\s*$|\{{\}}|;$)", text)
+    """Returns the heads of the functions of this name, from `fn` up to the brace of the body, or the `;` where there is none: that of a field ends no head."""
+    return re.findall(rf"(?ms)\bfn {re.escape(function)}\b(?:.*?)(?:^\s*\{{\s*$|\{{\}}|^(?![^\n]* = )[^\n]*;$)", text)
 
 
 def lost_functions(page, flat):
@@ -128,11 +128,12 @@ def sources_of(crate):
 
 def fields_of(head):
     """The fields of the records of specs that a function's clauses name: parts of what it ensures, as clauses are."""
-    fields, names = set(), set(re.findall(r"\b[A-Z]\w+", "".join(re.findall(r"(?m)^\s*ensures .*$", head))))
+    ensured = re.findall(r"(?ms)^\s*ensures (.*?)(?=^\s*(?:requires|ensures) |\Z)", head)
+    fields, names = set(), set(re.findall(r"\b[A-Z]\w+", "".join(ensured)))
     for name in list(names):
-        names.update(*(re.findall(r"\b[A-Z]\w+", it) for it in re.findall(rf"(?m)^ *abbrev pub {name} : .*\n *{name} .*=(.*)$", SPECS)))
+        names.update(*(re.findall(r"\b[A-Z]\w+", it) for it in re.findall(rf"(?ms)^ *abbrev pub {name} :[^=]*\n *{name} [^=]*=(.*?)(?=\n\s*\n|\Z)", SPECS)))
     for name in names:
-        for body in re.findall(rf"(?m)^ *pub record {name} .*\n((?: +(?:pub|--) .*\n?)+)", SPECS):
+        for body in re.findall(rf"(?ms)^ *pub record {name} .*?\bwhere\n(.*?)(?=\n\s*\n|\Z)", SPECS):
             fields.update(re.findall(r"(?m)^ +pub ([a-z_]+) :", body))
     return fields
 

@@ -1,5 +1,6 @@
 pub mod Calls
 pub mod Ops
+pub mod Limits
 pub mod Clients
 pub mod Plain
 pub mod Cells

@@ -32,10 +32,6 @@ is_true : (b : Bool) → ¬ (b ≡ false) → b ≡ true
 is_true true n = refl
 is_true false n = absurd (n refl)
 
-given_dec : (b : Bool) → (b ≡ true → ⊥) → b ≡ false
-given_dec true n = absurd (n refl)
-given_dec false n = refl
-
 sound_after : (p : Position) (e : Event) → Sound p → Allowed p e → Sound (after p e)
 sound_after p fork s a = λ g. at_longer p.arrived (false ∷ []) 0 false (s g)
 sound_after p own s a = λ g. absurd (false≢true (sym g))

@@ -39,9 +39,6 @@ tiled_set lo top (p ∷ ps) zero a b st st' e d = let is : p ≡ piece a b st = 
     (sym (ap (λ (x : Piece). x.lo) is) ∙ d.0, subst (λ (x : Piece). lo < x.hi) is d.1, subst (λ (x : Piece). Down x.hi top ps) is d.2)
 tiled_set lo top (p ∷ ps) (suc i) a b st st' e d = (d.0, d.1, down_set p.hi top ps i a b st st' e d.2)
 
-flag : Piece → Bool
-flag p = has_arrived p.stage
-
 given_set : (ps : List Piece) (i : ℕ) (p q : Piece) → get_elem? ps i ≡ some p → is_given q.stage ≡ is_given p.stage
     → given (set ps i q) ≡ given ps
 given_set [] i p q e g = refl

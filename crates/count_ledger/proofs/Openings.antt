@@ -20,6 +20,7 @@ use Rattle.count_ledger.specs.Terms.{TermsView}
 use Rattle.count_ledger.specs.Opening.{AreOfTheirClasses, base_at, class_at}
 use Rattle.count_ledger.specs.Rule.{Among, AmongSeats, IsSound, AreTogether, Holds, new_pass_book, new_role_book, first_books}
 use Rattle.count_ledger.specs.Tokens.{IsPass}
+use Rattle.count_ledger.proofs.Filters.{filter_none}
 use Rattle.count_ledger.proofs.Together.{Among-append}
 
 pub range_next : (i n : ℕ) → i < n → range_with_len i (n - i) ≡ i ∷ range_with_len (i + 1) (n - (i + 1))
@@ -45,17 +46,11 @@ module _ {X : Type 0} (p : X → Bool) where
       ap (λ (b : Bool). cond b (x ∷ filter p xs) (filter p xs)) (All-head (λ (y : X). p y ≡ true) x xs a)
       ∙ ap (λ (l : List X). x ∷ l) (filter_all xs (All-tail (λ (y : X). p y ≡ true) x xs a))
 
-  filter_none : (xs : List X) → All (λ x. p x ≡ false) xs → filter p xs ≡ []
-  filter_none [] a = refl
-  filter_none (x ∷ xs) a =
-      ap (λ (b : Bool). cond b (x ∷ filter p xs) (filter p xs)) (All-head (λ (y : X). p y ≡ false) x xs a)
-      ∙ filter_none xs (All-tail (λ (y : X). p y ≡ false) x xs a)
-
   filter_no_list : (ls : List (List X)) → ((j : ℕ) → j < length ls → All (λ x. p x ≡ false) (get_or ls j [])) → filter p (flat_map (λ l. l) ls) ≡ []
   filter_no_list [] n = refl
   filter_no_list (l ∷ ls) n =
       filter-append p l (flat_map (λ k. k) ls)
-      ∙ ap (λ (k : List X). k ++ filter p (flat_map (λ k. k) ls)) (filter_none l (n 0 (omega arith)))
+      ∙ ap (λ (k : List X). k ++ filter p (flat_map (λ k. k) ls)) (filter_none p l (n 0 (omega arith)))
       ∙ filter_no_list ls (λ j lt. n (suc j) (omega arith))
 
   -- a test that the members of one list pass, and those of no other
@@ -68,7 +63,7 @@ module _ {X : Type 0} (p : X → Bool) where
       ∙ append-nil l
   filter_one_list (l ∷ ls) (suc i) lt y n =
       filter-append p l (flat_map (λ k. k) ls)
-      ∙ ap (λ (k : List X). k ++ filter p (flat_map (λ k. k) ls)) (filter_none l (n 0 (omega arith) (λ e. omega (arith, e))))
+      ∙ ap (λ (k : List X). k ++ filter p (flat_map (λ k. k) ls)) (filter_none p l (n 0 (omega arith) (λ e. omega (arith, e))))
       ∙ filter_one_list ls i (omega arith) y (λ j lt' ne. n (suc j) (omega arith) (λ e. ne (omega (arith, e))))
 
 only_one : (n h i j : ℕ) → i ≢ j → ((h % n == i) && (h % n == j)) ≡ false

@@ -1,9 +1,8 @@
 -- What the rule says of all books together.
-use Rattle.std.proofs.Common.{◌≡◌, ◌≢◌, ℕ, ◌<◌, ◌≤◌, ◌==◌, ◌&&◌, Bool, true, false, cond, List, [], ◌∷◌, ◌++◌, length, map, sum_by, refl, sym, ap, subst, ◌∙◌, arith, All}
+use Rattle.std.proofs.Common.{◌≡◌, ◌≢◌, ℕ, ◌<◌, ◌≤◌, ◌==◌, ◌&&◌, Bool, true, false, cond, List, [], ◌∷◌, ◌++◌, length, map, sym, ap, subst, ◌∙◌, arith, All}
 use Rattle.std.specs.List.{AllByRecursion as Each}
 use Rattle.std.proofs.lemmas.Bool.Decides.{nat_tests}
 use Rattle.std.proofs.lemmas.List.Elements.{All-from_recursion, All-weaker, filter_passes}
-use Rattle.std.proofs.lemmas.List.Sums.{sum_by-cons}
 use Rattle.hashkeys.specs.Classes.{AreApart, is_of}
 use Rattle.bin_history.specs.Calls.{key_of}
 use Rattle.bin_history.specs.Clients.{by_client}
@@ -15,6 +14,7 @@ use Rattle.count_ledger.specs.Books.{BooksAgree, IsPassOf, IsRoleOf, classes_of}
 use Rattle.count_ledger.specs.Rule.{Among, IsSound, AreTogether, ledger_of}
 use Rattle.count_ledger.specs.Settled.{AllAgree}
 use Rattle.count_ledger.specs.Tokens.{pass_book, role_book, AreWide}
+use Rattle.count_ledger.proofs.Filters.{eqb_turn, length_is_sum}
 use Rattle.count_ledger.proofs.Together.{Among-left, Among-right}
 use Rattle.count_ledger.proofs.Tallies.{upto, upto-same, upto-one, hit_once}
 use Rattle.count_ledger.proofs.Covering.{CoverOnce-wide}
@@ -49,15 +49,8 @@ module _ {A : Type 0} (P : A → Type 0) (R : A → A → Type 0) where
     go [] e = tt
     go (y ∷ ys) e = (f x y e.0, go ys e.1)
 
-ones : {X : Type 0} (xs : List X) → sum_by (λ _. 1) xs ≡ length xs
-ones {X} [] = refl
-ones {X} (x ∷ xs) = sum_by-cons (λ (_ : X). 1) x xs ∙ (let ih = ones xs in omega arith)
-
 two_clients : (a b k : ℕ) → a ≢ b → ((a == k) && (b == k)) ≡ false
 two_clients a b k ne = grind (arith, nat_tests)
-
-eqb_turn : (a b : ℕ) → (a == b) ≡ (b == a)
-eqb_turn a b = grind (arith, nat_tests)
 
 one_client : (c n : ℕ) → c < n → upto (λ k. cond (c == k) 1 0) n ≡ 1
 one_client c n lt = upto-same (λ k. cond (c == k) 1 0) (λ k. cond (k == c) 1 0) n (λ k l. ap (λ (b : Bool). cond b 1 0) (eqb_turn c k)) ∙ upto-one c n lt
@@ -85,7 +78,7 @@ module _ {K V F : Type 0} (code : K → ℕ) (id : LedgerId) (t : TermsView K V)
       let apart = Among-weaker (λ p. P (pass_book p)) (λ p q. R (pass_book p) (pass_book q)) (λ p q. (k : ℕ) → ((p.client == k) && (q.client == k)) ≡ false) (λ p q ne k. two_clients p.client q.client k ne) ps passes in
       record {
         each_pass = All-from_recursion (IsPassOf (ledger_of id t)) ps (Each-from_among (λ p. P (pass_book p)) (λ p q. R (pass_book p) (pass_book q)) (IsPassOf (ledger_of id t)) IsPassOf-sound ps passes);
-        each_client = hit_once (λ p k. p.client == k) (λ p. P (pass_book p)) (λ _. 1) t.clients ps apart (All-from_recursion (λ p. upto (λ k. cond (p.client == k) 1 0) t.clients ≡ 1) ps (Each-from_among (λ p. P (pass_book p)) (λ p q. R (pass_book p) (pass_book q)) (λ p. upto (λ k. cond (p.client == k) 1 0) t.clients ≡ 1) (λ p s. one_client p.client t.clients s.0) ps passes)) (let n = ones ps in omega arith);
+        each_client = hit_once (λ p k. p.client == k) (λ p. P (pass_book p)) (λ _. 1) t.clients ps apart (All-from_recursion (λ p. upto (λ k. cond (p.client == k) 1 0) t.clients ≡ 1) ps (Each-from_among (λ p. P (pass_book p)) (λ p q. R (pass_book p) (pass_book q)) (λ p. upto (λ k. cond (p.client == k) 1 0) t.clients ≡ 1) (λ p s. one_client p.client t.clients s.0) ps passes)) (let n = length_is_sum ps in omega arith);
         each_role = All-from_recursion (IsRoleOf code (ledger_of id t)) rs (Each-from_among (λ r. P (role_book r)) (λ r s. R (role_book r) (role_book s)) (IsRoleOf code (ledger_of id t)) IsRoleOf-sound rs roles);
         each_hash = CoverOnce-wide (λ _. Unit {0}) (classes_of rs) wide (Among-map (λ r. r.class) (λ r. P (role_book r)) AreApart rs roles);
         agree = All-weaker (λ r. part_of_records (is_of code r.salt r.class) calls ≡ r.kept) (λ r. All (λ p. BooksAgree code p r) ps)

@@ -6,6 +6,7 @@ use Rattle.std.proofs.lemmas.List.Elements.{All-head, All-tail}
 use Rattle.std.proofs.lemmas.List.Sums.{sum_by-cons}
 use Rattle.std.proofs.Math.Nat.{add-zero, add-suc, eq-or-lt_of_le}
 use Rattle.count_ledger.specs.Rule.{Among}
+use Rattle.count_ledger.proofs.Filters.{count_by-cons}
 
 equal_or_below : (r n : ℕ) → r ≤ n → (r ≡ n) ⊎ (r < n)
 equal_or_below r n le = eq-or-lt_of_le le
@@ -69,9 +70,6 @@ upto-full f (suc n) e full r lt =
     ⊎_elim (λ is. subst (λ (q : ℕ). f q ≡ 1) (sym is) (omega arith)) (λ l. upto-full f n (λ q l'. e q (omega arith)) (omega arith) r l) (equal_or_below r n (omega arith))
 
 module _ {X : Type 0} (hits : X → ℕ → Bool) where
-  count_by-cons : (p : X → Bool) (x : X) (xs : List X) → count_by p (x ∷ xs) ≡ cond (p x) 1 0 + count_by p xs
-  count_by-cons p = sum_by-cons (λ y. cond (p y) 1 0)
-
   -- how many numbers below n are hit, each as often as it is
   pub upto-count : (width : X → ℕ) (n : ℕ) (xs : List X) → All (λ x. upto (λ h. cond (hits x h) 1 0) n ≡ width x) xs → upto (λ h. count_by (λ x. hits x h) xs) n ≡ sum_by width xs
   upto-count width n [] w = upto-zero n

@@ -1,9 +1,7 @@
 -- What all clients made and what all roles keep have one sum of deltas.
 use Rattle.std.proofs.Common.{◌≡◌, ℕ, ◌+◌, ◌<◌, ◌==◌, Bool, true, false, cond, ℤ, pos, ◌+ℤ◌, List, [], ◌∷◌, length, filter, count_by, refl, sym, ap, ◌∙◌, arith, All}
-use Rattle.std.proofs.lemmas.Bool.Decides.{nat_tests}
 use Rattle.std.proofs.lemmas.Int.{ints}
 use Rattle.std.proofs.lemmas.List.Elements.{All-head, All-tail, All-weaker}
-use Rattle.std.proofs.lemmas.List.Sums.{sum_by-cons}
 use Rattle.hashkeys.specs.Classes.{covers, covering, is_of}
 use Rattle.hashkeys.specs.Hashing.{hash_of}
 use Rattle.bin_history.specs.Calls.{key_of}
@@ -15,6 +13,7 @@ use Rattle.bin_history.specs.Clients.{by_client}
 use Rattle.count_ledger.specs.Books.{BooksAgree, IsRoleOf, classes_of}
 use Rattle.count_ledger.specs.Settled.{AllAgree}
 use Rattle.count_ledger.specs.Words.{total_of, total_made, total_kept}
+use Rattle.count_ledger.proofs.Filters.{count_by-cons, eqb_turn}
 
 module _ {X : Type 0} where
   total_of-same : (f g : X → ℤ) (xs : List X) → All (λ x. f x ≡ g x) xs → total_of f xs ≡ total_of g xs
@@ -32,9 +31,6 @@ module _ {X : Type 0} where
   total_of-one : (xs : List X) → total_of (λ _. pos 1) xs ≡ pos (length xs)
   total_of-one [] = refl
   total_of-one (x ∷ xs) = let ih = total_of-one xs in omega (arith, ints)
-
-  count_by-cons : (p : X → Bool) (x : X) (xs : List X) → count_by p (x ∷ xs) ≡ cond (p x) 1 0 + count_by p xs
-  count_by-cons p = sum_by-cons (λ y. cond (p y) 1 0)
 
   total_of-none : (p : X → Bool) (z : ℤ) (xs : List X) → count_by p xs ≡ 0 → total_of (λ x. cond (p x) z (pos 0)) xs ≡ pos 0
   total_of-none p z [] e = refl
@@ -71,9 +67,6 @@ total_of-cut {X} {T} passes f ts (x ∷ xs) a =
 sum_of_deltas_is : {K V F : Type 0} (rs : List (RecordView K V F)) → sum_of_deltas rs ≡ total_of delta rs
 sum_of_deltas_is [] = refl
 sum_of_deltas_is (r ∷ rs) = ap (λ z. delta r +ℤ z) (sum_of_deltas_is rs)
-
-eqb_turn : (a b : ℕ) → (a == b) ≡ (b == a)
-eqb_turn a b = grind (arith, nat_tests)
 
 module _ {K V F : Type 0} (code : K → ℕ) (ledger : LedgerView K V) where
   -- each key is of one role's class

@@ -1,9 +1,2 @@
 -- How many calls a pass makes at most.
-use Rattle.std.specs.Prelude.{ℕ}
-use Rattle.bin_history.specs.declared.form.Form.{Form}
-use Rattle.bin_history.specs.declared.form.Form.TheVariants.{Recorded, Lean}
-
--- by the form of the map's bins: a million, or 2^57, so that the deltas of 32 clients add up to less than 2^63
-abbrev pub most_calls : Form → ℕ
-most_calls Recorded = 1000000
-most_calls Lean = 144115188075855872
+pub use Rattle.bin_history.specs.Limits.{most_calls}

@@ -3,7 +3,9 @@ use Rattle.std.specs.Prelude.{◌≡◌, ℕ, ◌+◌, ◌*◌, ◌/◌, ◌<◌
 use Rattle.atomic_table.specs.Table.{Me}
 use Rattle.hashkeys.specs.Classes.{ClassView, IsClass}
 use Rattle.hashkeys.specs.declared.hashing.Salt.{Salt}
+use Rattle.bin_history.specs.Limits.{most_calls}
 use Rattle.bin_history.specs.Records.{RecordView}
+use Rattle.bin_history.specs.declared.form.Form.TheVariants.{Lean}
 use Rattle.count_ledger.specs.Views.{PassView, RoleView}
 use Rattle.count_ledger.specs.declared.books.Book.{Book}
 use Rattle.count_ledger.specs.declared.books.Book.TheVariants.{Pass, Role}
@@ -32,7 +34,7 @@ module _ {K V F : Type 0} where
     pub word : 8 * (client + 1) < words
     pub book : me ≡ (Pass client (made_in me.0) ∷ [], [])
     pub counted : calls ≡ length (made_in me.0)
-    pub at_most : calls ≤ 144115188075855872
+    pub at_most : calls ≤ most_calls Lean
     pub few : client < 32
 
   -- a badge with the book of a role of this class

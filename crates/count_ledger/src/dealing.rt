@@ -7,11 +7,11 @@ ghost use Rattle.count_ledger.specs.Rule.{first_books, new_role_book};
 ghost use Rattle.count_ledger.specs.Steps.{first_of, rest_of, view_of};
 
 use crate::books::{Books, LedgerRule, Terms, View};
-use crate::ledger::{Ledger, MOST_CLIENTS, WORDS_PER_LINE, word_at};
+use crate::ledger::{Ledger, WORDS_PER_LINE, word_at};
 use crate::seats::part;
 use crate::tokens::{BinRole, Pass};
 use atomic_table::{Badge, Seat, Table};
-use bin_history::Form;
+use bin_history::{Form, MOST_CLIENTS};
 use hashkeys::{Class, HashKey, Salt};
 use std::alloc::{AllocError, Allocator};
 use std::mem;

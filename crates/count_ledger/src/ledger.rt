@@ -12,20 +12,10 @@ use crate::books::{LedgerRule, Terms, View};
 use crate::seats::{add_delta, join, look, part};
 use crate::tokens::{BinRole, Pass};
 use atomic_table::{Badge, Table};
-use bin_history::{Form, Record, Trace};
+use bin_history::{Form, MOST_CALLS, MOST_LEAN_CALLS, Record, Trace};
 use hashkeys::HashKey;
 use std::alloc::Allocator;
 use std::marker::{Brand, Model};
-
-/// A pass of a recorded map makes no more calls than this.
-pub const MOST_CALLS: u64 = 1_000_000;
-
-/// A pass of a lean map makes no more calls than this: 2^57, so that the deltas of 32 clients add up to less
-/// than 2^63.
-pub const MOST_LEAN_CALLS: u64 = 1 << 57;
-
-/// A ledger has no more clients than this.
-pub const MOST_CLIENTS: u32 = 32;
 
 /// How many words fill a cache line.
 pub(crate) const WORDS_PER_LINE: usize = 8;

@@ -13,8 +13,9 @@ mod steps;
 mod sums;
 mod tokens;
 
+pub use bin_history::{MOST_CALLS, MOST_CLIENTS, MOST_LEAN_CALLS};
 pub use laws::{agreement_laws, totals_of_all, words_of_sums};
-pub use ledger::{Ledger, MOST_CALLS, MOST_CLIENTS, MOST_LEAN_CALLS};
+pub use ledger::Ledger;
 pub use name::LedgerName;
 pub use settling::Unsettled;
 pub use tokens::{BinRole, Pass, retire_all};

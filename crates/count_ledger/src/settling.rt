@@ -13,20 +13,17 @@ use crate::ledger::Ledger;
 use crate::seats::{join, look};
 use crate::tokens::{BinRole, Pass};
 use atomic_table::{Badge, Seat};
-use hashkeys::HashKey;
+use hashkeys::{HashKey, MOST_BINS};
 use std::alloc::Allocator;
 use std::marker::Brand;
 
-/// Of so many hashes side by side a class of size n has this many divided by n.
-const ROUND: u32 = 65536;
-
-/// Whether disjoint classes of these sizes cover every hash.
+/// Whether disjoint classes of these sizes cover every hash: of `MOST_BINS` hashes side by side they have as many together.
 fn are_wide<K, V, F>(roles: &[BinRole<K, V, F>]) -> bool
     ensures { MatchBool result (AreWide (classes_of roles.now)) (CoverAll (classes_of roles.now) → ⊥) }
 {
-    let mut left = ROUND;
+    let mut left = MOST_BINS;
     for role in roles {
-        left = left.saturating_sub(ROUND / role.class().n());
+        left = left.saturating_sub(MOST_BINS / role.class().n());
     }
     left == 0
 }

@@ -1,5 +1,5 @@
 -- Places in a table by their index, and tables by their exponent.
-use Rattle.std.proofs.Common.{◌≡◌, ◌⊎◌, inl, inr, ℕ, zero, suc, ◌+◌, ◌-◌, ◌<◌, ◌≤◌, ◌%◌, ◌^◌, true, List, [], ◌∷◌, ◌++◌, length, get_or, map, sym, ap, subst, refl, ◌∙◌, arith}
+use Rattle.std.proofs.Common.{◌≡◌, inl, inr, ℕ, zero, suc, ◌+◌, ◌-◌, ◌<◌, ◌≤◌, ◌%◌, ◌^◌, true, List, [], ◌∷◌, ◌++◌, length, get_or, map, sym, ap, subst, refl, ◌∙◌, arith}
 use Rattle.std.specs.Int.Bits.{bit_and}
 use Rattle.std.specs.Int.Count.{count_trailing_zeros}
 use Rattle.std.specs.List.{range_with_len}
@@ -11,8 +11,8 @@ use Rattle.std.proofs.lemmas.List.FromFn.{get_or-map-range_with_len}
 use Rattle.std.proofs.lemmas.Nat.{and_mask, pow_pos}
 use Rattle.boxcar.specs.Slot.{Named}
 use Rattle.hashkeys.specs.Classes.{IsTableSize, covers}
-use Rattle.generations.specs.Inside.{IsTable, IsSlotOf, map_named, size_named}
-use Rattle.generations.specs.Views.{GenerationsView, IsOfMap, place_of}
+use Rattle.generations.specs.Inside.{IsTable, IsSlotOf}
+use Rattle.generations.specs.Views.{GenerationsView, place_of}
 use Rattle.generations.specs.declared.state.PlaceTag.{PlaceTag}
 
 -- the map's place at an index of its table of n places
@@ -45,9 +45,6 @@ module _ (m : GenerationsView) (n : ℕ) (places : List PlaceTag) (table : IsTab
   pub place_at : p ≡ tag_at m n index
   place_at = is ∙ table.by_index index p below
 
-  pub place_of_map : IsOfMap m p
-  place_of_map = subst (IsOfMap m) (sym place_at) (record { form = refl; salt = refl; ledger = refl; least = table.least })
-
   pub place_covers : covers p.class hash ≡ true
   place_covers = subst (λ (q : PlaceTag). covers q.class hash ≡ true) (sym place_at) (eq-eqb _ _ (sym index_is))
 
@@ -75,14 +72,6 @@ exponent_below (suc (suc (suc (suc (suc (suc (suc (suc (suc (suc (suc (suc (suc 
 
 pub exponent_is : (size : ℕ) → IsTableSize size → 2 ^ count_trailing_zeros 32 size ≡ size
 exponent_is size (e, le, is) = ap (λ (x : ℕ). 2 ^ count_trailing_zeros 32 x) is ∙ ap (λ (x : ℕ). 2 ^ x) (exponent_below e (omega arith)) ∙ sym is
-
--- what a slot of the map's tables keeps is a table of the map
-pub table_in_slot : (m : GenerationsView) (e : ℕ) (slot : Named) (places : List PlaceTag) → IsSlotOf m e slot → IsTable (map_named slot.tag) (size_named slot.tag) places → IsTable m (2 ^ e) places
-table_in_slot m e slot places of table = subst (λ (x : GenerationsView). IsTable x (2 ^ e) places) of.of_map (subst (λ (n : ℕ). IsTable (map_named slot.tag) n places) of.of_size table)
-
--- and a table of the map may be put into its slot
-pub table_for_slot : (m : GenerationsView) (e : ℕ) (slot : Named) (places : List PlaceTag) → IsSlotOf m e slot → IsTable m (2 ^ e) places → IsTable (map_named slot.tag) (size_named slot.tag) places
-table_for_slot m e slot places of table = subst (λ (n : ℕ). IsTable (map_named slot.tag) n places) (sym of.of_size) (subst (λ (x : GenerationsView). IsTable x (2 ^ e) places) (sym of.of_map) table)
 
 -- one more slot
 pub slots_push : (m : GenerationsView) (slots more : List Named) (slot : Named) → more ≡ slots ++ slot ∷ [] → IsSlotOf m (length slots) slot

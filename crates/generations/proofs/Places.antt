@@ -1,5 +1,5 @@
 -- Bins and their roles at places.
-use Rattle.std.proofs.Common.{◌≡◌, ℕ, Bool, true, Option, Some, None, IsSomeAnd, Decides, subst, sym, ap, ◌∙◌}
+use Rattle.std.proofs.Common.{◌≡◌, ℕ, Bool, true, Option, Some, None, IsSomeAnd, Decides, sym, ap, ◌∙◌}
 use Rattle.hashkeys.specs.Classes.{ClassView, covers}
 use Rattle.bin_history.specs.BinPart.{IsPartOf}
 use Rattle.bin_history.specs.Lawful.{BinView, IsLawful}
@@ -37,6 +37,3 @@ module _ {K V F : Type 0} (same : K → K → Bool) (after : Call K V F → Opti
     ledger = ap (λ (x : RoleView K V F). x.ledger) is ∙ at.ledger ∙ of_map.ledger ∙ sym (ap (λ (x : PlaceTag). x.ledger) place);
     agree = Agree-divided same tells code after b c r s half at.agree class part is;
   }
-
-  pub AreAt-same : (p p' : PlaceTag) (b b' : BinView K V F) (r r' : RoleView K V F) → AreAt same after p b r → p' ≡ p → b' ≡ b → r' ≡ r → AreAt same after p' b' r'
-  AreAt-same p p' b b' r r' at place bin role = subst (λ (x : PlaceTag). AreAt same after x b' r') (sym place) (subst (λ (x : BinView K V F). AreAt same after p x r') (sym bin) (subst (λ (x : RoleView K V F). AreAt same after p b x) (sym role) at))

@@ -12,12 +12,9 @@ use crate::place::Place;
 use crate::walk::next_in_walk;
 use bin_history::{Bin, Remap};
 use count_ledger::BinRole;
-use hashkeys::{Class, HashKey};
+use hashkeys::{Class, HashKey, MOST_BINS};
 use std::alloc::{AllocError, Allocator};
 use std::sync::Wait;
-
-/// A map has no more bins than this.
-const MOST_BINS: u32 = 65_536;
 
 /// Why the bins of a map could not be taken out.
 #[derive(Drop)]

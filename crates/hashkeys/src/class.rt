@@ -3,6 +3,9 @@ ghost use Rattle.std.specs.Prelude.{◌≡◌, ℕ, ◌<◌};
 
 use std::marker::Model;
 
+/// A table has no more bins than this.
+pub const MOST_BINS: u32 = 65_536;
+
 /// The hashes that leave `index` when divided by `n`. `n` is a power of two from 1 to 65,536, and
 /// `index` is below it. A table of `n` bins has one bin for each class of size `n`.
 #[derive(Clone, Copy, PartialEq, Eq, Debug)]
