@@ -1,12 +1,13 @@
 //! The program's keys: short words of ASCII letters, digits and `_`.
-ghost use Rattle.std.specs.Prelude.{◌≡◌, true, false, MatchOption};
-ghost use Rattle.hashkeys.specs.Text.{is_key, is_word_byte, are_word_bytes, code_of};
+ghost use Rattle.std.specs.Prelude.{◌≡◌, true, false, MatchOption, length};
+ghost use Rattle.hashkeys.specs.Text.{is_key, are_word_bytes, code_of};
 
 use crate::bytes::bytes_code;
 use crate::hashing::HashKey;
 use std::alloc::AllocError;
 use std::cmp::Ordering;
 use std::marker::Model;
+use std::simd::prelude::*;
 
 /// A key of 1 to 32 bytes, each an ASCII letter, a digit or `_`. The bytes lie inline, so a clone
 /// takes no memory. Contracts see a key as its bytes.
@@ -27,21 +28,18 @@ impl Model for Key {
     ghost invariant = { λ k. (k.len ≤ 32) × (is_key (take k.len k.bytes) ≡ true) };
 }
 
-fn is_word_byte(byte: u8) -> bool
-    ensures { result ≡ is_word_byte byte }
-{
-    byte.is_ascii_alphanumeric() || byte == b'_'
-}
-
+/// Whether these 32 bytes are all ASCII letters, digits or `_`. They are looked at together.
 fn are_word_bytes(bytes: &[u8]) -> bool
+    requires { length bytes.now ≡ 32 }
     ensures { result ≡ are_word_bytes bytes.now }
 {
-    for byte in bytes {
-        if !is_word_byte(*byte) {
-            return false;
-        }
-    }
-    true
+    let bytes = u8x32::from_slice(bytes);
+    let from_a = (bytes | u8x32::splat(b' ')) - u8x32::splat(b'a');
+    let from_0 = bytes - u8x32::splat(b'0');
+    let is_no_letter = from_a.simd_ge(u8x32::splat(26));
+    let is_no_digit = from_0.simd_ge(u8x32::splat(10));
+    let others = is_no_letter & is_no_digit & bytes.simd_ne(u8x32::splat(b'_'));
+    others.to_bitmask() == 0
 }
 
 impl Key {
@@ -50,11 +48,14 @@ impl Key {
         ensures { MatchOption result (is_key bytes.now ≡ false) (λ key. (key ≡ bytes.now) × (is_key bytes.now ≡ true)) }
     {
         let len = bytes.len();
-        if len < 1 || len > 32 || !are_word_bytes(bytes) {
+        if len < 1 || len > 32 {
             return None;
         }
-        let mut copy = [0u8; 32];
+        let mut copy = [b'_'; 32];
         copy[..len].copy_from_slice(bytes);
+        if !are_word_bytes(&copy) {
+            return None;
+        }
         Some(Key {
             bytes: copy,
             len: len as u8,

@@ -1,3 +1,4 @@
+mod Places
 mod Numbers
 mod Saying
 mod Readings

@@ -1,5 +1,5 @@
 -- What one more line comes to.
-use Rattle.std.proofs.Common.{◌≡◌, ◌≢◌, ℕ, ◌+◌, ◌≤◌, ◌==◌, true, false, inl, inr, Option, Some, None, MatchOption, Bor, List, [], ◌∷◌, ◌++◌, length, Vec, map, All, refl, sym, ap, ◌∙◌, subst, arith, length-append}
+use Rattle.std.proofs.Common.{◌≡◌, ◌≢◌, ℕ, ◌+◌, ◌≤◌, ◌==◌, true, false, inl, inr, List, [], ◌∷◌, ◌++◌, length, Vec, map, All, refl, sym, ap, ◌∙◌, subst, arith, length-append}
 use Rattle.std.proofs.lemmas.Bool.Decides.{nat_tests}
 use Rattle.std.proofs.lemmas.List.{map-append}
 use Rattle.script.specs.Lines.{Word, BeginsWith, words}
@@ -44,16 +44,7 @@ Leads-to_calls p line bs cs b c e d h = subst (λ (q : Place). Leads p line q) (
 pub Leads-to_queries : (p : Place) (line : Line) (bs cs : List (List ScriptCall)) (qs rs : List Query) → cs ≡ bs → rs ≡ qs → Leads p line (queries bs qs) → Leads p line (queries cs rs)
 Leads-to_queries p line bs cs qs rs e d h = subst (λ (q : Place). Leads p line q) (λ i. queries (sym e i) (sym d i)) h
 
--- a text that is cut at its first line feed
-pub BeginsWith-split : (text l : List ℕ) (after : Option (Bor (List ℕ))) (more : Bor (List ℕ)) → All (λ b. b ≢ 10) l → MatchOption after (l ≡ text) (λ m. text ≡ l ++ 10 ∷ m.now) → after ≡ Some more → BeginsWith text l more.now
-BeginsWith-split text l after more none parts e =
-    record { parts = subst (λ (o : Option (Bor (List ℕ))). MatchOption o (l ≡ text) (λ m. text ≡ l ++ 10 ∷ m.now)) e parts; no_line_feed = none }
-
-pub no_line_feed-split : (text l : List ℕ) (after : Option (Bor (List ℕ))) → All (λ b. b ≢ 10) l → MatchOption after (l ≡ text) (λ m. text ≡ l ++ 10 ∷ m.now) → after ≡ None → All (λ b. b ≢ 10) text
-no_line_feed-split text l after none parts e =
-    let whole_text : l ≡ text = subst (λ (o : Option (Bor (List ℕ))). MatchOption o (l ≡ text) (λ m. text ≡ l ++ 10 ∷ m.now)) e parts in
-    subst (All (λ b. b ≢ 10)) whole_text none
-
+-- what follows a line is shorter
 pub BeginsWith-shorter : (text l more : List ℕ) → BeginsWith text l more → length more + 1 ≤ length text
 BeginsWith-shorter text l more h = omega (arith, simp length-append at (ap length h.parts))
 

@@ -1,8 +1,11 @@
-//! Byte strings, and parts of them.
-ghost use Rattle.std.specs.Prelude.{◌≡◌, ◌≢◌, ◌∷◌, ◌++◌, ◌<◌, ◌≤◌, All, MatchOption, length, take, slice_index, nat_eq};
+//! Byte strings, and places in them.
+ghost use Rattle.std.specs.Prelude.{◌≡◌, ◌≢◌, ℕ, ◌+◌, ◌<◌, ◌≤◌, All, length, take, slice_index, nat_eq};
 ghost use Rattle.std.specs.Cmp.Lexicographic.{pointwise};
 
-use memchr::memchr;
+use std::simd::prelude::*;
+
+/// How many bytes are looked at together.
+const LANES: usize = 32;
 
 /// Whether a first word is this one.
 #[inline(always)]
@@ -12,29 +15,47 @@ pub(crate) fn is(name: &[u8], first: &[u8]) -> bool
     name.len() == first.len() && name == first
 }
 
-/// The place of the first such byte, or the length where there is none.
-#[inline(never)]
-fn place_or_length(text: &[u8], byte: u8) -> usize
-    ensures before { All (λ b. b ≢ byte) (take result text.now) }
-    ensures within { result ≤ length text.now }
-    ensures place { result < length text.now → slice_index text.now result ≡ byte }
+/// How many of the 32 bytes from a place on stand before the first that is this one; all where none is.
+#[inline(always)]
+fn run_before(text: &[u8], at: usize, byte: u8) -> usize
+    requires { at + LANES ≤ length text.now }
+    ensures within { result ≤ LANES }
+    ensures before { (k : ℕ) → at ≤ k → k < at + result → slice_index text.now k ≢ byte }
+    ensures place { result < LANES → slice_index text.now (at + result) ≡ byte }
 {
-    match memchr(byte, text) {
-        Some(end) => end,
-        None => text.len(),
+    let found = u8x32::from_slice(&text[at..])
+        .simd_eq(u8x32::splat(byte))
+        .to_bitmask();
+    if found == 0 {
+        LANES
+    } else {
+        found.trailing_zeros() as usize
     }
 }
 
-/// The bytes before the first that is this one, and those after it, if there is one.
+/// The place of the first such byte before the end, or the end where there is none. The text may go on after the end,
+/// so that its bytes can be looked at together there too.
 #[inline(always)]
-pub(crate) fn split_at_byte(text: &[u8], byte: u8) -> (&[u8], Option<&[u8]>)
-    ensures before { All (λ b. b ≢ byte) result.0.now }
-    ensures parts { MatchOption result.1 (result.0.now ≡ text.now) (λ more. text.now ≡ result.0.now ++ byte ∷ more.now) }
+pub(crate) fn place_before(text: &[u8], end: usize, byte: u8) -> usize
+    requires { end ≤ length text.now }
+    ensures before { All (λ b. b ≢ byte) (take result text.now) }
+    ensures within { result ≤ end }
+    ensures place { result < end → slice_index text.now result ≡ byte }
 {
-    let end = place_or_length(text, byte);
-    if end < text.len() {
-        (&text[..end], Some(&text[end + 1..]))
-    } else {
-        (text, None)
+    let mut at = 0;
+    'places: while at < end {
+        if text.len() - at >= LANES {
+            let run = run_before(text, at, byte);
+            if run < LANES {
+                return end.min(at + run);
+            }
+            at += LANES;
+        } else {
+            if text[at] == byte {
+                return at;
+            }
+            at += 1;
+        }
     }
+    end
 }

@@ -7,6 +7,7 @@ ghost use Rattle.script.specs.Drafts.{in_block, place_of, HasBadBytes, IsRefused
 
 use crate::fault::{Kind, LineError};
 use crate::forms::{BlockLine, read_in_block, read_query, read_start};
+use crate::line::TextLine;
 use crate::script::{Query, ScriptCall};
 use crate::words::first_word;
 use std::alloc::Allocator;
@@ -51,9 +52,9 @@ fn check_bytes(line: &[u8]) -> Result<(), Kind>
 }
 
 impl<A: Allocator + Clone> Draft<A> {
-    /// Takes one more line, of these bytes. Where all words are right, so are the bytes: they are looked at only where
+    /// Takes one more line. Where all words are right, so are the bytes: they are looked at only where
     /// one is wrong.
-    pub(crate) fn take(&mut self, alloc: A, line: &[u8]) -> Result<(), LineError>
+    pub(crate) fn take(&mut self, alloc: A, line: &TextLine<'_>) -> Result<(), LineError>
         ensures ok { OnOk result ((said : Line) × IsLine (place_of self.old) line.now said
             × Leads (place_of self.old) said (place_of self.new)) }
         ensures err { IfErr result (IsRefused (place_of self.old) line.now) }
@@ -62,14 +63,14 @@ impl<A: Allocator + Clone> Draft<A> {
             Ok(()) => Ok(()),
             Err(LineError::NoMemory) => Err(LineError::NoMemory),
             Err(LineError::Bad(kind)) => {
-                check_bytes(line)?;
+                check_bytes(line.bytes())?;
                 Err(LineError::Bad(kind))
             }
         }
     }
 
     /// Takes what the words of one more line say.
-    fn take_words(&mut self, alloc: A, line: &[u8]) -> Result<(), LineError>
+    fn take_words(&mut self, alloc: A, line: &TextLine<'_>) -> Result<(), LineError>
         ensures ok { OnOk result ((said : Line) × Reads (forms_at (place_of self.old)) (words line.now) said
             × Leads (place_of self.old) said (place_of self.new)) }
         ensures err { IfErr result (IsMisread (place_of self.old) line.now) }

@@ -8,6 +8,7 @@ mod fault;
 mod forms;
 mod function;
 mod laws;
+mod line;
 mod number;
 mod script;
 mod text;

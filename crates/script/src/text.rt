@@ -3,9 +3,9 @@ ghost use Rattle.std.specs.Prelude.{◌≡◌, IfOk, IfErr};
 ghost use Rattle.script.specs.declared.fault.ParseError.TheVariants as errors;
 ghost use Rattle.script.specs.Verdicts.{blocks_of, IsText, IsTold, IsWithinLimits};
 
-use crate::bytes::split_at_byte;
 use crate::draft::Draft;
 use crate::fault::{Fault, Kind, ParseError};
+use crate::line::first_line;
 use crate::script::Script;
 use std::alloc::Allocator;
 
@@ -23,14 +23,13 @@ pub fn parse<A: Allocator + Clone>(alloc: A, text: &[u8]) -> Result<Script<A>, P
     let mut rest = text;
     let mut number = 1u64;
     'lines: while !rest.is_empty() {
-        let (line, after) = split_at_byte(rest, b'\n');
-        let Some(more) = after else {
+        let Some((line, more)) = first_line(rest) else {
             return Err(ParseError::Fault(Fault {
                 line: number,
                 kind: Kind::Cut,
             }));
         };
-        match draft.take(alloc.clone()?, line) {
+        match draft.take(alloc.clone()?, &line) {
             Ok(()) => {}
             Err(error) => return Err(error.at(number)),
         }

@@ -4,16 +4,16 @@ ghost use Rattle.script.specs.Lines.{Word, words, IsNumber, IsThreshold};
 ghost use Rattle.script.specs.Grammar.{IsFunction, IsMerger};
 ghost use Rattle.script.specs.Faults.{a_number, a_threshold, a_function, a_merger, a_sum_or_max, the_above, IsWrong, FailsFirst, FailsAt};
 
-use crate::bytes::split_at_byte;
 use crate::fault::Kind;
 use crate::function::Function;
+use crate::line::TextLine;
 use crate::number::{read_number, read_threshold};
 use std::marker::Model;
 
 /// The words of a line that are still to be read. Contracts see them as a list.
 #[derive(Drop)]
 pub(crate) struct Words<'a> {
-    rest: Option<&'a [u8]>,
+    rest: Option<TextLine<'a>>,
 }
 
 impl<'a> Model for Words<'a> {
@@ -23,15 +23,15 @@ impl<'a> Model for Words<'a> {
 
     ghost Value = { List Word };
 
-    ghost view = { λ w. option_map_or (λ l. words l.now) w.rest [] };
+    ghost view = { λ w. option_map_or words w.rest [] };
 }
 
 /// The first word of a line, and the others.
 #[inline(always)]
-pub(crate) fn first_word(line: &[u8]) -> (&[u8], Words<'_>)
+pub(crate) fn first_word<'a>(line: &TextLine<'a>) -> (&'a [u8], Words<'a>)
     ensures { words line.now ≡ result.0.now ∷ result.1 }
 {
-    let (word, rest) = split_at_byte(line, b' ');
+    let (word, rest) = line.split();
     (word, Words { rest })
 }
 
@@ -42,8 +42,10 @@ impl<'a> Words<'a> {
         ensures ok { IfOk result (λ w. self.old ≡ w.now ∷ self.new) }
         ensures err { IfErr result (λ kind. (kind ≡ Kind.Count) × (self.old ≡ [])) }
     {
-        let text = self.rest.ok_or(Kind::Count)?;
-        let (word, rest) = split_at_byte(text, b' ');
+        let Some(line) = self.rest.take() else {
+            return Err(Kind::Count);
+        };
+        let (word, rest) = line.split();
         self.rest = rest;
         Ok(word)
     }
@@ -54,7 +56,7 @@ impl<'a> Words<'a> {
         ensures ok { OnOk result (self.now ≡ []) }
         ensures err { IfErr result (IsWrong [] self.now) }
     {
-        match self.rest {
+        match &self.rest {
             Some(_) => Err(Kind::Count),
             None => Ok(()),
         }

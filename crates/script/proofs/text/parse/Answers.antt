@@ -2,23 +2,23 @@ use Rattle.std.proofs.Common.{sym, ap, ◌∙◌, arith}
 use Rattle.script.specs.Reading.{start}
 use Rattle.script.specs.Drafts.{place_of}
 use Rattle.script.proofs.Readings.{IsRead-within}
-use Rattle.script.proofs.Steps.{BeginsWith-split, BeginsWith-shorter, no_line_feed-split, some_left, none_left, so_far-more, told-bad, told-cut, told-missing, told-whole, not_queries-start, not_queries-calls}
+use Rattle.script.proofs.Steps.{BeginsWith-shorter, some_left, none_left, so_far-more, told-bad, told-cut, told-missing, told-whole, not_queries-start, not_queries-calls}
 use Rattle.script.proofs.text.parse.Goals as goal
 
 pub returns-in_default-clause-fault : goal.returns-in_default-clause-fault
 returns-in_default-clause-fault g c =
     let some = some_left c.lines.rest.now (sym c.is_empty.ensures ∙ c.lines-test.true) in
-    let none = no_line_feed-split _ _ _ c.split_at_byte.ensures.before c.split_at_byte.ensures.parts c.in_default.is in
+    let none = c.in_default.ensures in
     told-cut c.args.text.now c.lines.draft c.lines.number _ c.lines.invariant.so_far some none
 
 pub returns-in-Err-clause-fault : goal.returns-in-Err-clause-fault
 returns-in-Err-clause-fault g c =
-    let begins = BeginsWith-split _ _ _ c.in-Some.more c.split_at_byte.ensures.before c.split_at_byte.ensures.parts c.in-Some.is in
+    let begins = c.in-Some.ensures in
     rw c.at.ensures (told-bad c.args.text.now c.lines.draft c.lines.number _ c.lines.invariant.so_far _ _ c.in-Err.error begins c.in-Err.ensures.err)
 
 pub lines-preserved : goal.lines-preserved
 lines-preserved g c =
-    let begins = BeginsWith-split _ _ _ c.in-Some.more c.split_at_byte.ensures.before c.split_at_byte.ensures.parts c.in-Some.is in
+    let begins = c.in-Some.ensures in
     let (said, is, leads) = c.in-Ok.ensures.ok in
     let shorter = BeginsWith-shorter _ _ _ begins in
     record {
