@@ -2,8 +2,9 @@
 use Rattle.std.proofs.Common.{◌≡◌, ◌<◌, [], ◌∷◌, length, get_or, ℕ, ◌+◌, ◌-◌, ◌≤◌, List, ◌++◌, take, drop, ap, sym, ◌∙◌, arith}
 use Rattle.std.specs.Prelude.{slice_range}
 use Rattle.std.proofs.Math.Seq.{take-add}
-use Rattle.std.proofs.lemmas.List.{drop-drop, take-append-drop, take_more, append-nil}
+use Rattle.std.proofs.lemmas.List.{drop-drop, length-drop, take-append-drop, take_all, take_more, append-nil}
 use Rattle.std.proofs.lemmas.Grind.{flat_map-append}
+use Rattle.std.proofs.lemmas.List.Folds.{length-flat_map-take}
 use Rattle.bin_history.specs.Lawful.{BinView}
 use Rattle.chm.specs.Quiets.{entries_of}
 
@@ -31,3 +32,19 @@ pub entries_more : {K V F : Type 0} → (bins : List (BinView K V F)) (i : ℕ) 
 entries_more bins i d h =
     ap (λ es. entries_of (take i bins) ++ es) (sym (append-nil (get_or bins i d).entries))
     ∙ sym (flat_map-append (λ b. b.entries) (take i bins) (get_or bins i d ∷ [])) ∙ ap entries_of (sym (take_more bins i d h))
+
+-- after bins without pairs, those of the next one and of the rest
+pub entries_after_none : {K V F : Type 0} → (bins : List (BinView K V F)) (i : ℕ) (d : BinView K V F) → i < length bins → entries_of (take i bins) ≡ []
+    → (get_or bins i d).entries ++ entries_of (slice_range bins (i + 1) (length bins)) ≡ entries_of bins
+entries_after_none bins i d h none =
+    let rest : slice_range bins (i + 1) (length bins) ≡ drop (i + 1) bins
+    = take_all (length bins - (i + 1)) (drop (i + 1) bins) (let left = length-drop (i + 1) bins in omega (arith, left)) in
+    ap (λ (bs : List _). (get_or bins i d).entries ++ entries_of bs) rest
+    ∙ ap (λ (es : List _). (es ++ (get_or bins i d).entries) ++ entries_of (drop (i + 1) bins)) (sym none)
+    ∙ ap (λ (es : List _). es ++ entries_of (drop (i + 1) bins)) (entries_more bins i d h)
+    ∙ entries_rest bins (i + 1)
+
+-- no bins have more pairs than all
+pub entries_few : {K V F : Type 0} → (bins : List (BinView K V F)) (i : ℕ) (d : BinView K V F) → i < length bins
+    → length (entries_of (take i bins)) + length (get_or bins i d).entries ≤ length (entries_of bins)
+entries_few bins i d h = length-flat_map-take (λ b. b.entries) bins i d h

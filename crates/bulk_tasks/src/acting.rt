@@ -8,8 +8,9 @@ use crate::collector::Collector;
 use crate::fault::BulkFault;
 use crate::gather::gather;
 use crate::plan::Plan;
+use crate::stepping::{Stepper, step_through};
 use crate::traits::Action;
-use bin_history::Remap;
+use bin_history::{Bin, Remap};
 use chm::Quiet;
 use hashkeys::HashKey;
 use std::alloc::{AllocError, Allocator, Global};
@@ -24,13 +25,13 @@ pub(crate) struct Acting<'a, X> {
     action: &'a X,
 }
 
-impl<K, V, X: Action<K, V>> Collector<K, V> for Acting<'_, X> {
+impl<K, V, X: Action<K, V>> Stepper<K, V> for Acting<'_, X> {
     ghost use Rattle.std.specs.Prelude.{◌≡◌, IfOk};
     ghost use Rattle.bulk_tasks.specs.Actions.{answers};
 
     type Part = Result<Vec<X::R>, AllocError>;
 
-    ghost collected = { λ c es part. IfOk part (λ list. list.items ≡ answers (X.acted c.action.now) es) };
+    ghost reached = { λ c es part. IfOk part (λ list. list.items ≡ answers (X.acted c.action.now) es) };
 
     fn start(&self) -> Result<Vec<X::R>, AllocError> {
         Ok(Vec::new(self.alloc))
@@ -48,6 +49,33 @@ impl<K, V, X: Action<K, V>> Collector<K, V> for Acting<'_, X> {
         Ok(list)
     }
 
+    fn look_again(&self, part: Result<Vec<X::R>, AllocError>) -> Result<Vec<X::R>, AllocError> {
+        part
+    }
+
+    fn is_settled(&self, part: &Result<Vec<X::R>, AllocError>) -> bool {
+        part.is_err()
+    }
+}
+
+impl<
+    K: HashKey,
+    V: Clone + Eq,
+    F: Remap<K, V> + Clone,
+    A: Allocator + Clone,
+    X: Action<K, V>,
+> Collector<K, V, F, A> for Acting<'_, X> {
+    ghost use Rattle.std.specs.Prelude.{◌≡◌, IfOk};
+    ghost use Rattle.bulk_tasks.specs.Actions.{answers};
+
+    type Part = Result<Vec<X::R>, AllocError>;
+
+    ghost collected = { λ c es part. IfOk part (λ list. list.items ≡ answers (X.acted c.action.now) es) };
+
+    fn collect(&self, bins: &[Bin<K, V, F, A>]) -> Result<Vec<X::R>, AllocError> {
+        step_through(self, bins)
+    }
+
     fn append(
         &self,
         left: Result<Vec<X::R>, AllocError>,
@@ -57,14 +85,6 @@ impl<K, V, X: Action<K, V>> Collector<K, V> for Acting<'_, X> {
         let mut more = right?;
         list.append(&mut more)?;
         Ok(list)
-    }
-
-    fn look_again(&self, part: Result<Vec<X::R>, AllocError>) -> Result<Vec<X::R>, AllocError> {
-        part
-    }
-
-    fn is_settled(&self, part: &Result<Vec<X::R>, AllocError>) -> bool {
-        part.is_err()
     }
 }
 

@@ -1,5 +1,5 @@
-//! What is collected from pairs, one after the other or in parts.
-ghost use Rattle.std.specs.Prelude.{◌≡◌, ◌<◌, ◌≤◌, ◌++◌, ◌∷◌, [], ℕ, List, IsTrue, length, slice_range};
+//! What is collected from the pairs of bins, in parts that lie side by side.
+ghost use Rattle.std.specs.Prelude.{◌<◌, ◌++◌, List, length, slice_range};
 ghost use Rattle.chm.specs.Quiets.{entries_of};
 ghost use Rattle.completers.specs.Parts.{AreParts};
 
@@ -9,63 +9,20 @@ use hashkeys::HashKey;
 use std::alloc::Allocator;
 use steal_pool::Body;
 
-/// What pairs give: nothing yet at first, then pair by pair, and by parts side by side.
-pub trait Collector<K, V> {
+/// What the pairs of bins give.
+pub trait Collector<K: HashKey, V: Clone + Eq, F: Remap<K, V> + Clone, A: Allocator + Clone> {
     type Part: Drop;
 
     // Of the pairs of a list, in order.
     ghost collected: { Self → List (K × V) → Self.Part → Type 0 };
 
-    fn start(&self) -> Self::Part
-        ensures { collected self.now [] result };
-
-    /// The part with one pair more.
-    fn add(&self, part: Self::Part, key: &K, value: &V) -> Self::Part
-        ensures { (es : List (K × V)) → collected self.now es part → collected self.now (es ++ (key.now, value.now) ∷ []) result };
+    /// What the pairs of these bins give.
+    fn collect(&self, bins: &[Bin<K, V, F, A>]) -> Self::Part
+        ensures { collected self.now (entries_of bins.now) result };
 
     /// The part of two parts side by side.
     fn append(&self, left: Self::Part, right: Self::Part) -> Self::Part
         ensures { (es fs : List (K × V)) → collected self.now es left → collected self.now fs right → collected self.now (es ++ fs) result };
-
-    /// The same part, or one that says that the collector gives up. It is asked for before each bin.
-    fn look_again(&self, part: Self::Part) -> Self::Part
-        ensures { (es : List (K × V)) → collected self.now es part → collected self.now es result };
-
-    /// Whether no further pair changes the part.
-    fn is_settled(&self, part: &Self::Part) -> bool
-        ensures { IsTrue result → (es fs : List (K × V)) → collected self.now es part.now → collected self.now (es ++ fs) part.now };
-}
-
-// The part with these pairs more.
-fn add_all<K, V, C: Collector<K, V>>(collector: &C, part: C::Part, entries: &[(K, V)]) -> C::Part
-    ensures { (es : List (K × V)) → C.collected collector.now es part → C.collected collector.now (es ++ entries.now) result }
-{
-    let mut part = part;
-    for (key, value) in entries {
-        part = collector.add(part, key, value);
-    }
-    part
-}
-
-/// What the entries of these bins give.
-pub(crate) fn collect<
-    K: HashKey,
-    V: Clone + Eq,
-    F: Remap<K, V> + Clone,
-    A: Allocator + Clone,
-    C: Collector<K, V>,
->(collector: &C, bins: &[Bin<K, V, F, A>]) -> C::Part
-    ensures { C.collected collector.now (entries_of bins.now) result }
-{
-    let mut part = collector.start();
-    for bin in bins {
-        part = collector.look_again(part);
-        if collector.is_settled(&part) {
-            return part;
-        }
-        part = add_all(collector, part, bin.entries());
-    }
-    part
 }
 
 /// The bins of a closed map, whose ranges workers collect from.
@@ -87,7 +44,7 @@ impl<
     V: Clone + Eq,
     F: Remap<K, V> + Clone,
     A: Allocator + Clone,
-    C: Collector<K, V>,
+    C: Collector<K, V, F, A>,
 > Relation for Collecting<'_, K, V, F, A, C> {
     ghost use Rattle.std.specs.Prelude.{slice_range};
     ghost use Rattle.chm.specs.Quiets.{entries_of};
@@ -102,14 +59,14 @@ impl<
     V: Clone + Eq,
     F: Remap<K, V> + Clone,
     A: Allocator + Clone,
-    C: Collector<K, V>,
+    C: Collector<K, V, F, A>,
 > Body for Collecting<'_, K, V, F, A, C> {
     ghost use Rattle.std.specs.Prelude.{length};
 
     ghost limit = { λ b. length b.bins.now };
 
     fn leaf(&self, lo: usize, hi: usize) -> C::Part {
-        collect(self.collector, &self.bins[lo..hi])
+        self.collector.collect(&self.bins[lo..hi])
     }
 
     fn join(&self, lo: usize, hi: usize, parts: Parts<C::Part>) -> C::Part

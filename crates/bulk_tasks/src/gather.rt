@@ -20,7 +20,7 @@ pub(crate) fn gather<
     V: Clone + Eq + Send + Sync,
     F: Remap<K, V> + Clone + Send + Sync,
     A: Allocator + Clone + Send + Sync,
-    C: Collector<K, V> + Sync,
+    C: Collector<K, V, F, A> + Sync,
     G: Gate + Sync,
     Rt: Threads + Wait + Sync,
 >(rt: &Rt, alloc: Global, quiet: &Quiet<K, V, F, A>, plan: &Plan<'_, G>, collector: &C) -> C::Part
@@ -31,10 +31,10 @@ where
     ensures few { length (entries_of quiet.now.bins) < 2 ^ 64 }
 {
     let count = quiet.mapping_count();
-    if count == 0 {
-        return collector.start();
-    }
     let bins = quiet.bins();
+    if count == 0 {
+        return collector.collect(&bins[..0]);
+    }
     let batch = batch(count, plan.threshold, plan.workers);
     let body = Collecting { bins, collector };
     run(rt, alloc, plan.workers, plan.gate, &body, bins.len(), batch)

@@ -11,6 +11,7 @@ mod plan;
 mod reducers;
 mod reducing;
 mod searching;
+mod stepping;
 mod traits;
 mod unsigned;
 

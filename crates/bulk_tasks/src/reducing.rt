@@ -1,5 +1,5 @@
 //! Reductions of all entries to one value.
-ghost use Rattle.std.specs.Prelude.{◌≡◌, ℕ, ◌<◌, ◌^◌, List, IfOk, IfSome, IsOk, IsErrOf, IsTrue};
+ghost use Rattle.std.specs.Prelude.{◌≡◌, ℕ, ◌+◌, ◌<◌, ◌^◌, List, length, IfOk, IfSome, IsOk, IsErrOf, IsTrue};
 ghost use Rattle.std.specs.List.Sorted.{IsPermutation};
 ghost use Rattle.chm.specs.Quiets.{entries_of};
 ghost use Rattle.bulk_tasks.specs.Folds.{fold_from, plain_fold, FoldsInAnyOrder};
@@ -10,7 +10,7 @@ use crate::fault::BulkFault;
 use crate::gather::gather;
 use crate::plan::Plan;
 use crate::traits::{BasedReducer, Reducer};
-use bin_history::Remap;
+use bin_history::{Bin, Remap};
 use chm::Quiet;
 use hashkeys::HashKey;
 use std::alloc::{AllocError, Allocator, Global};
@@ -18,35 +18,71 @@ use std::sync::Wait;
 use std::thread::Threads;
 use steal_pool::Gate;
 
+// The pairs of a list, lifted and joined onto a value.
+fn fold_onto<K, V, R: Reducer<K, V>>(
+    reducer: &R,
+    first: R::A,
+    entries: &[(K, V)],
+) -> Result<R::A, AllocError>
+    ensures fold { IfOk result (λ a. a ≡ fold_from (R.lifted reducer.now) (R.joined reducer.now) first entries.now) }
+    ensures within { (n : ℕ) → R.within reducer.now n first → IfOk result (R.within reducer.now (n + length entries.now)) }
+    ensures total { IsTrue R.never_refuses → (n : ℕ) → R.within reducer.now n first → n + length entries.now < 2 ^ 64 → IsOk result }
+{
+    let mut folded = first;
+    for (key, value) in entries {
+        let lifted = reducer.lift(key, value)?;
+        folded = reducer.join(folded, lifted)?;
+    }
+    Ok(folded)
+}
+
+// The same of the pairs of bins.
+fn fold_bins_onto<
+    K: HashKey,
+    V: Clone + Eq,
+    F: Remap<K, V> + Clone,
+    A: Allocator + Clone,
+    R: Reducer<K, V>,
+>(reducer: &R, first: R::A, bins: &[Bin<K, V, F, A>]) -> Result<R::A, AllocError>
+    ensures fold { IfOk result (λ a. a ≡ fold_from (R.lifted reducer.now) (R.joined reducer.now) first (entries_of bins.now)) }
+    ensures within { (n : ℕ) → R.within reducer.now n first → IfOk result (R.within reducer.now (n + length (entries_of bins.now))) }
+    ensures total { IsTrue R.never_refuses → (n : ℕ) → R.within reducer.now n first → n + length (entries_of bins.now) < 2 ^ 64 → IsOk result }
+{
+    let mut folded = first;
+    for bin in bins {
+        folded = fold_onto(reducer, folded, bin.entries())?;
+    }
+    Ok(folded)
+}
+
 /// Collects the fold of the pairs by a reducer.
 #[derive(Drop)]
 pub(crate) struct Folding<'a, R> {
     reducer: &'a R,
 }
 
-impl<K, V, R: Reducer<K, V>> Collector<K, V> for Folding<'_, R> {
+impl<
+    K: HashKey,
+    V: Clone + Eq,
+    F: Remap<K, V> + Clone,
+    A: Allocator + Clone,
+    R: Reducer<K, V>,
+> Collector<K, V, F, A> for Folding<'_, R> {
     ghost use Rattle.bulk_tasks.specs.Folds.{IsFolded};
 
     type Part = Result<Option<R::A>, AllocError>;
 
     ghost collected = { λ c es part. IsFolded (R.lifted c.reducer.now) (R.joined c.reducer.now) (R.within c.reducer.now) R.never_refuses es part };
 
-    fn start(&self) -> Result<Option<R::A>, AllocError> {
-        Ok(None)
-    }
-
-    fn add(
-        &self,
-        part: Result<Option<R::A>, AllocError>,
-        key: &K,
-        value: &V,
-    ) -> Result<Option<R::A>, AllocError> {
-        let folded = part?;
-        let lifted = self.reducer.lift(key, value)?;
-        match folded {
-            None => Ok(Some(lifted)),
-            Some(folded) => Ok(Some(self.reducer.join(folded, lifted)?)),
+    fn collect(&self, bins: &[Bin<K, V, F, A>]) -> Result<Option<R::A>, AllocError> {
+        for (place, bin) in bins.iter().enumerate() {
+            if let Some((first, others)) = bin.entries().split_first() {
+                let lifted = self.reducer.lift(&first.0, &first.1)?;
+                let begun = fold_onto(self.reducer, lifted, others)?;
+                return Ok(Some(fold_bins_onto(self.reducer, begun, &bins[place + 1..])?));
+            }
         }
+        Ok(None)
     }
 
     fn append(
@@ -63,17 +99,6 @@ impl<K, V, R: Reducer<K, V>> Collector<K, V> for Folding<'_, R> {
             None => Ok(Some(first)),
             Some(second) => Ok(Some(self.reducer.join(first, second)?)),
         }
-    }
-
-    fn look_again(
-        &self,
-        part: Result<Option<R::A>, AllocError>,
-    ) -> Result<Option<R::A>, AllocError> {
-        part
-    }
-
-    fn is_settled(&self, part: &Result<Option<R::A>, AllocError>) -> bool {
-        part.is_err()
     }
 }
 

@@ -4,10 +4,11 @@ ghost use Rattle.chm.specs.Quiets.{entries_of};
 ghost use Rattle.bulk_tasks.specs.Plans.{IsPlanned};
 ghost use Rattle.bulk_tasks.specs.Searches.{IsSearched};
 
-use crate::collector::{Collector, collect};
+use crate::collector::Collector;
 use crate::fault::BulkFault;
 use crate::gather::gather;
 use crate::plan::Plan;
+use crate::stepping::{Stepper, step_through};
 use crate::traits::Probe;
 use bin_history::{Bin, Remap};
 use chm::Quiet;
@@ -44,13 +45,13 @@ pub(crate) struct Searching<'a, P> {
     pub(crate) may_give_up: bool,
 }
 
-impl<K, V, P: Probe<K, V>> Collector<K, V> for Searching<'_, P> {
+impl<K, V, P: Probe<K, V>> Stepper<K, V> for Searching<'_, P> {
     ghost use Rattle.std.specs.Prelude.{IsTrue};
     ghost use Rattle.bulk_tasks.specs.Searches.{IsProbed};
 
     type Part = Probed<P::U>;
 
-    ghost collected = { λ c es part. IsProbed (P.probed c.probe.now) P.never_refuses (IsTrue c.may_give_up) es part };
+    ghost reached = { λ c es part. IsProbed (P.probed c.probe.now) P.never_refuses (IsTrue c.may_give_up) es part };
 
     fn start(&self) -> Probed<P::U> {
         Probed::Nothing
@@ -67,22 +68,6 @@ impl<K, V, P: Probe<K, V>> Collector<K, V> for Searching<'_, P> {
                 Probed::Found(u)
             }
             Err(_) => Probed::Refused,
-        }
-    }
-
-    fn append(&self, left: Probed<P::U>, right: Probed<P::U>) -> Probed<P::U> {
-        match left {
-            Probed::Found(u) => Probed::Found(u),
-            Probed::Nothing => right,
-            Probed::GaveUp => match right {
-                Probed::Found(u) => Probed::Found(u),
-                Probed::Refused => Probed::Refused,
-                _ => Probed::GaveUp,
-            },
-            Probed::Refused => match right {
-                Probed::Found(u) => Probed::Found(u),
-                _ => Probed::Refused,
-            },
         }
     }
 
@@ -106,6 +91,41 @@ impl<K, V, P: Probe<K, V>> Collector<K, V> for Searching<'_, P> {
     }
 }
 
+impl<
+    K: HashKey,
+    V: Clone + Eq,
+    F: Remap<K, V> + Clone,
+    A: Allocator + Clone,
+    P: Probe<K, V>,
+> Collector<K, V, F, A> for Searching<'_, P> {
+    ghost use Rattle.std.specs.Prelude.{IsTrue};
+    ghost use Rattle.bulk_tasks.specs.Searches.{IsProbed};
+
+    type Part = Probed<P::U>;
+
+    ghost collected = { λ c es part. IsProbed (P.probed c.probe.now) P.never_refuses (IsTrue c.may_give_up) es part };
+
+    fn collect(&self, bins: &[Bin<K, V, F, A>]) -> Probed<P::U> {
+        step_through(self, bins)
+    }
+
+    fn append(&self, left: Probed<P::U>, right: Probed<P::U>) -> Probed<P::U> {
+        match left {
+            Probed::Found(u) => Probed::Found(u),
+            Probed::Nothing => right,
+            Probed::GaveUp => match right {
+                Probed::Found(u) => Probed::Found(u),
+                Probed::Refused => Probed::Refused,
+                _ => Probed::GaveUp,
+            },
+            Probed::Refused => match right {
+                Probed::Found(u) => Probed::Found(u),
+                _ => Probed::Refused,
+            },
+        }
+    }
+}
+
 /// A search by the caller alone, which does not give up.
 pub(crate) fn search_alone<
     K: HashKey,
@@ -124,7 +144,7 @@ pub(crate) fn search_alone<
         found: &found,
         may_give_up: false,
     };
-    match collect(&alone, bins) {
+    match step_through(&alone, bins) {
         Probed::Found(u) => Ok(Some(u)),
         Probed::Nothing => Ok(None),
         Probed::Refused => Err(BulkFault::NoMemory),

@@ -1,12 +1,12 @@
 use Rattle.std.proofs.Common.{List, subst, drop, take, ap, ◌++◌, ◌∙◌}
 use Rattle.chm.specs.Quiets.{entries_of}
 use Rattle.bulk_tasks.proofs.Ranges.{entries_rest, entries_more}
-use Rattle.bulk_tasks.proofs.collector.collect.Goals as goal
+use Rattle.bulk_tasks.proofs.stepping.step_through.Goals as goal
 
 pub returns-then-is_settled : goal.returns-then-is_settled
 returns-then-is_settled g c =
     let P : List (g.row.K.Denot × g.row.V.Denot)
-    → Type 0 = λ es. g.C.Collector.collected c.args.collector.now es c.look_again-part.result in
+    → Type 0 = λ es. g.S.Stepper.reached c.args.stepper.now es c.look_again-part.result in
     subst P (entries_rest c.args.bins.now c.loop-bin.bin-index)
     (c.is_settled.ensures c.if-is_settled.true (entries_of (take c.loop-bin.bin-index c.args.bins.now))
     (entries_of (drop c.loop-bin.bin-index c.args.bins.now))
@@ -14,7 +14,7 @@ returns-then-is_settled g c =
 
 pub loop-bin-preserved : goal.loop-bin-preserved
 loop-bin-preserved g c =
-    let P : List (g.row.K.Denot × g.row.V.Denot) → Type 0 = λ es. g.C.Collector.collected c.args.collector.now es c.add_all-part.result in
+    let P : List (g.row.K.Denot × g.row.V.Denot) → Type 0 = λ es. g.S.Stepper.reached c.args.stepper.now es c.add_all-part.result in
     let here = ap (λ b. b.entries) c.bin-item.is in
     let before = entries_of (take c.loop-bin.bin-index c.args.bins.now) in
     subst P (ap (λ es. before ++ es) (c.entries.ensures ∙ here)

@@ -1,6 +1,6 @@
 use Rattle.std.proofs.Common.{IsTrue, [], ◌∷◌, sym, ◌∙◌}
 use Rattle.bulk_tasks.proofs.Probing.{settled, found_last}
-use Rattle.bulk_tasks.proofs.searching.SearchingCollector.add.Goals as goal
+use Rattle.bulk_tasks.proofs.searching.SearchingStepper.add.Goals as goal
 
 pub returns-in_default : goal.returns-in_default
 returns-in_default g c = λ es h.

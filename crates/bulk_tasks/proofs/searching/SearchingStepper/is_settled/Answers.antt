@@ -1,6 +1,6 @@
 use Rattle.std.proofs.Common.{IsTrue}
 use Rattle.bulk_tasks.proofs.Probing.{settled}
-use Rattle.bulk_tasks.proofs.searching.SearchingCollector.is_settled.Goals as goal
+use Rattle.bulk_tasks.proofs.searching.SearchingStepper.is_settled.Goals as goal
 
 pub returns-in_default : goal.returns-in_default
 returns-in_default g c = λ t es fs h.

@@ -1,6 +1,0 @@
-use Rattle.std.proofs.Common.{take}
-use Rattle.chm.specs.Quiets.{entries_of}
-use Rattle.bulk_tasks.proofs.collector.collect.Given as goal
-
-abbrev pub invariant-loop-bin : goal.invariant-loop-bin
-invariant-loop-bin g l = g.C.Collector.collected l.collector (entries_of (take l.bin-index l.bins)) l.part
