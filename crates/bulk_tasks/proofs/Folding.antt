@@ -9,10 +9,6 @@ none_ne_some : {A : Type 0} (a : A) → None ≡ Some a → ⊥
 none_ne_some {A} a h = let P : Option A → Type 0 = λ o. MatchOption o (Unit {0}) (λ _. ⊥) in subst P h tt
 
 module _ {K V A : Type 0} (lift : K → V → A) (join : A → A → A) where
-  pub fold_none : (es fs : List (K × V)) → None ≡ plain_fold lift join es → es ++ fs ≡ fs
-  fold_none [] fs h = refl
-  fold_none (e ∷ es) fs h = absurd (none_ne_some _ h)
-
   pub from_both : (a : A) (es fs : List (K × V)) → fold_from lift join a (es ++ fs) ≡ fold_from lift join (fold_from lift join a es) fs
   from_both a es fs = ap (fold join a) (map-append (λ e. lift e.0 e.1) es fs)
       ∙ fold-append join a (map (λ e. lift e.0 e.1) es) (map (λ e. lift e.0 e.1) fs)

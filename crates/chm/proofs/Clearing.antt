@@ -1,5 +1,5 @@
 -- What a clear takes away, and what its visits show at the end.
-use Rattle.std.proofs.Common.{◌≡◌, ◌≢◌, ℕ, ◌<◌, ◌≤◌, Bool, true, false, Decides, cond, Option, Some, None, List, [], ◌∷◌, ◌++◌, length, filter, All, slice_index_or, refl, sym, ap, subst, ◌∙◌, arith, Result, Err, IsErrOf}
+use Rattle.std.proofs.Common.{◌≡◌, ◌≢◌, ℕ, ◌<◌, ◌≤◌, Bool, true, false, Decides, cond, Option, Some, None, List, [], ◌∷◌, ◌++◌, length, All, slice_index_or, refl, sym, ap, subst, ◌∙◌, arith, Result, Err, IsErrOf}
 use Rattle.std.specs.Result.{IsErrAnd}
 use Rattle.std.proofs.lemmas.List.{append_assoc, append-nil}
 use Rattle.std.proofs.lemmas.List.Elements.{All-nil, All-cons, All-head, All-tail, All-append, All-push, All-weaker, filter-append}
@@ -16,6 +16,7 @@ use Rattle.bin_history.specs.declared.call.Call.TheVariants.{Remove}
 use Rattle.bin_history.specs.Records.{RecordView}
 use Rattle.bin_history.specs.declared.call.Reply.{Reply}
 use Rattle.count_ledger.specs.Views.{LedgerView, PassView}
+use Rattle.count_ledger.proofs.Filters.{filter_none}
 use Rattle.chm.specs.Called.{IsCalledOn}
 use Rattle.chm.specs.Cleared.{HasLeft, HasOwnLeft, HasRemoved, HasRemovedIn, IsRemoval}
 use Rattle.chm.specs.Met.{IsHistory}
@@ -70,9 +71,6 @@ module _ {K V F : Type 0} where
     removed_in-more old mid new (rs, each, of, is) (ss, each', of', is') =
         (rs ++ ss, All-append IsRemoval rs ss each each', All-append (λ (r : RecordView K V F). is_of code salt class (key_of r.call) ≡ true) rs ss of of', is' ∙ ap (λ (p : PassView K V F). record p { made = p.made ++ ss }) is ∙ ap (λ (l : List (RecordView K V F)). record old { made = l }) (append_assoc old.made rs ss))
 
-    pub removed_in-somewhere : (old new : PassView K V F) → HasRemovedIn code salt class old new → HasRemoved old new
-    removed_in-somewhere old new (rs, each, of, is) = (rs, each, is)
-
 -- a class that is passed last has no hash of those that were passed before, where each hash is passed at most once
 pub apart : (classes : List ClassView) (class : ClassView) (hash : ℕ) → covering (classes ++ class ∷ []) hash ≤ 1 → covers class hash ≡ true → All (λ c. covers c hash ≡ false) classes
 apart [] class hash once its = All-nil (λ (c : ClassView). covers c hash ≡ false)
@@ -89,10 +87,6 @@ apart (c ∷ cs) class hash once its = go (λ few. apart cs class hash few its) 
 pub passed_on : {S T E : Type 0} (r : Result S E) (e f : E) → IsErrAnd r (λ y. y ≡ e) → IsErrOf r f → IsErrOf {T = T} (Err e) f
 passed_on {S} {T} {E} r e f same is = let its : f ≡ e = subst (λ (x : Result S E). IsErrAnd x (λ y. y ≡ e)) is same in ap (λ (x : E). Err x) (sym its)
 
-filter-none : {X : Type 0} (p : X → Bool) (xs : List X) → All (λ x. p x ≡ false) xs → filter p xs ≡ []
-filter-none p [] none = refl
-filter-none {X} p (x ∷ xs) none = let N : X → Type 0 = λ y. p y ≡ false in ap (λ b. cond b (x ∷ filter p xs) (filter p xs)) (All-head N x xs none) ∙ filter-none p xs (All-tail N x xs none)
-
 module _ {K V F : Type 0} (same : K → K → Bool) (code : K → ℕ) (after : Call K V F → Option V → Option V) (ledger : LedgerView K V) where
   -- a visit still shows the bin after removals of keys of a class that has none of its hashes
   pub IsVisit-later : (old new : PassView K V F) (class : ClassView) (v : VisitView K V) → HasRemovedIn code ledger.salt class old new → ((hash : ℕ) → covers class hash ≡ true → covers v.class hash ≡ false)
@@ -101,7 +95,7 @@ module _ {K V F : Type 0} (same : K → K → Bool) (code : K → ℕ) (after : 
       let (kept, history, entries) = visit.history in
       let In : RecordView K V F → Type 0 = λ r. is_of code ledger.salt class (key_of r.call) ≡ true in
       let Out : RecordView K V F → Type 0 = λ r. is_of code ledger.salt v.class (key_of r.call) ≡ false in
-      let none : part_of_records (is_of code ledger.salt v.class) rs ≡ [] = filter-none (λ (r : RecordView K V F). is_of code ledger.salt v.class (key_of r.call)) rs (All-weaker In Out (λ r i. other (hash_of ledger.salt (code (key_of r.call))) i) rs of) in
+      let none : part_of_records (is_of code ledger.salt v.class) rs ≡ [] = filter_none (λ (r : RecordView K V F). is_of code ledger.salt v.class (key_of r.call)) rs (All-weaker In Out (λ r i. other (hash_of ledger.salt (code (key_of r.call))) i) rs of) in
       let grown : part_of_records (is_of code ledger.salt v.class) (old.made ++ rs) ≡ part_of_records (is_of code ledger.salt v.class) old.made =
       filter-append (λ (r : RecordView K V F). is_of code ledger.salt v.class (key_of r.call)) old.made rs ∙ ap (λ (l : List (RecordView K V F)). part_of_records (is_of code ledger.salt v.class) old.made ++ l) none ∙ append-nil (part_of_records (is_of code ledger.salt v.class) old.made)
       in

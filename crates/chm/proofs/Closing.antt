@@ -1,12 +1,10 @@
 -- What is known of a map when its bins and all its books are back.
-use Rattle.std.proofs.Common.{◌≡◌, ℕ, zero, suc, ◌+◌, ◌%◌, ◌^◌, ◌<◌, ◌≤◌, ◌==◌, Bool, Decides, cond, Option, Some, None, inl, inr, pos, ◌+ℤ◌, List, [], ◌∷◌, length, sum_by, count_by, refl, sym, ap, subst, ◌∙◌, arith, All}
+use Rattle.std.proofs.Common.{◌≡◌, ℕ, zero, suc, ◌+◌, ◌%◌, ◌^◌, ◌<◌, ◌≤◌, ◌==◌, Bool, Decides, cond, Option, Some, None, inl, inr, pos, ◌+ℤ◌, List, [], ◌∷◌, length, count_by, refl, sym, ap, subst, ◌∙◌, arith, All}
 use Rattle.std.proofs.lemmas.Bool.{eq-eqb}
-use Rattle.std.proofs.lemmas.Bool.Decides.{nat_tests}
 use Rattle.std.proofs.lemmas.Int.{ints}
 use Rattle.std.proofs.lemmas.List.{length-append}
 use Rattle.std.proofs.lemmas.List.Elements.{All-nil, All-cons, All-head, All-tail, All-weaker}
-use Rattle.std.proofs.lemmas.List.Sums.{sum_by-cons}
-use Rattle.hashkeys.specs.Classes.{ClassView, CoverAll, CoverOnce, IsTableSize}
+use Rattle.hashkeys.specs.Classes.{IsTableSize}
 use Rattle.bin_history.specs.Deltas.{sum_of_deltas}
 use Rattle.bin_history.specs.Entries.{replay}
 use Rattle.bin_history.specs.Lawful.{BinView}
@@ -16,6 +14,7 @@ use Rattle.count_ledger.specs.Settled.{AllAgree}
 use Rattle.count_ledger.specs.Views.{LedgerView, PassView, RoleView}
 use Rattle.count_ledger.specs.Words.{word_of, total_of, total_made}
 use Rattle.count_ledger.proofs.Agreements.{Agree-count}
+use Rattle.count_ledger.proofs.Filters.{eqb_turn, length_is_sum}
 use Rattle.count_ledger.proofs.Tallies.{upto, upto-none, upto-same, upto-more, upto-one, upto-count}
 use Rattle.count_ledger.proofs.Totals.{count-settled}
 use Rattle.count_ledger.proofs.WordSums.{total_made_bounds, word_of-add, word_of_natural}
@@ -59,13 +58,6 @@ module _ {K V F : Type 0} (same : K → K → Bool) (tells : (x y : K) → Decid
       λ i. record { ledger = sym is_l i; n = sym is_n i; bins = bins; roles = sym is_rs i; passes = sym is_ps i } in
       subst Whole called (record { size = size; walk = walk; leaves = subst (λ h. AreLeaves same code after h bins roles) home leaves; books = books })
 
-turn : (a b : ℕ) → (a == b) ≡ (b == a)
-turn a b = grind (arith, nat_tests)
-
-length_is_sum : {X : Type 0} (xs : List X) → sum_by (λ _. 1) xs ≡ length xs
-length_is_sum [] = refl
-length_is_sum (x ∷ xs) = let rest = length_is_sum xs in let here = sum_by-cons (λ _. 1) x xs in omega arith
-
 upto_ones : (n : ℕ) → upto (λ _. 1) n ≡ n
 upto_ones zero = upto-none (λ _. 1)
 upto_ones (suc n) =
@@ -79,7 +71,7 @@ module _ {K V F : Type 0} (code : K → ℕ) (ledger : LedgerView K V) (passes :
   as_many_passes =
       let n = ledger.clients in
       let Once : PassView K V F → Type 0 = λ p. upto (λ h. cond (p.client == h) 1 0) n ≡ 1 in
-      let once : All Once passes = All-weaker (IsPassOf ledger) Once (λ p is. upto-same (λ h. cond (p.client == h) 1 0) (λ h. cond (h == p.client) 1 0) n (λ h lt. ap (λ (b : Bool). cond b 1 0) (turn p.client h)) ∙ upto-one p.client n is.client) passes all.each_pass in
+      let once : All Once passes = All-weaker (IsPassOf ledger) Once (λ p is. upto-same (λ h. cond (p.client == h) 1 0) (λ h. cond (h == p.client) 1 0) n (λ h lt. ap (λ (b : Bool). cond b 1 0) (eqb_turn p.client h)) ∙ upto-one p.client n is.client) passes all.each_pass in
       sym (length_is_sum passes)
       ∙ sym (upto-count (λ (p : PassView K V F) h. p.client == h) (λ _. 1) n passes once)
       ∙ upto-same (λ h. count_by (λ (p : PassView K V F). p.client == h) passes) (λ _. 1) n all.each_client
@@ -108,7 +100,3 @@ module _ {K V F : Type 0} (map : MapView K V) (passes : List (PassView K V F)) w
   pub NotClosed-bins : map.ledger.clients ≤ length passes → IsNotClosed map passes (record { fault = BinMissing; map = None; passes = passes })
   NotClosed-bins all =
       record { passes_are = refl; missing = ((λ e. absurd cc), (λ few. absurd (omega arith))); kept = inl (refl, refl); faults = inr (inr refl) }
-
--- classes that have every hash once have every hash
-pub covered : (classes : List ClassView) → CoverOnce classes → CoverAll classes
-covered classes once hash low = let one = once hash in omega arith

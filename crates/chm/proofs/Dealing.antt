@@ -1,9 +1,8 @@
 -- Pairs dealt to the classes of a table.
-use Rattle.std.proofs.Common.{◌≡◌, ◌≢◌, ℕ, zero, suc, ◌+◌, ◌%◌, ◌^◌, ◌<◌, Bool, true, false, cond, List, [], ◌∷◌, ◌++◌, length, replicate, flat_map, filter, get_or, Decides, subst, inl, inr, ⊎_elim, ◌⊎◌, refl, sym, ap, ◌∙◌, arith, All}
+use Rattle.std.proofs.Common.{◌≡◌, ◌≢◌, ℕ, zero, suc, ◌+◌, ◌%◌, ◌^◌, ◌<◌, Bool, true, List, [], ◌∷◌, ◌++◌, length, replicate, flat_map, get_or, Decides, subst, inl, inr, ⊎_elim, ◌⊎◌, sym, ap, ◌∙◌, arith, All}
 use Rattle.std.proofs.lemmas.Bool.{cases_lt, ne_eqb, eq-eqb}
 use Rattle.std.proofs.lemmas.List.{ext_get_or, get_or-map, length-map, get_or-replicate, get_or-set_same, get_or-set_other, length-append, length-replicate, length-set}
 use Rattle.std.proofs.lemmas.List.Concat.{length-flat_map}
-use Rattle.std.proofs.lemmas.List.Elements.{All-nil, All-cons}
 use Rattle.std.proofs.lemmas.List.FromFn.{get_or-map-range_with_len, length-map-range_with_len}
 use Rattle.std.proofs.lemmas.List.Sums.{sum_by-set}
 use Rattle.std.specs.Prelude.{set}
@@ -13,6 +12,7 @@ use Rattle.hashkeys.specs.declared.hashing.Salt.{Salt}
 use Rattle.std.specs.declared.vec.Vec.{Vec}
 use Rattle.bin_history.specs.Entries.{HasDistinctKeys}
 use Rattle.bin_history.specs.Part.{part_of_entries}
+use Rattle.bin_history.proofs.Lawful.{All-passed}
 use Rattle.bin_history.proofs.Parts.{HasDistinctKeys-part}
 use Rattle.count_ledger.specs.Opening.{AreOfTheirClasses, base_at, lists_of}
 use Rattle.count_ledger.proofs.Filters.{filter_push_kept, filter_push_left}
@@ -76,14 +76,6 @@ module _ {K V : Type 0} (code : K → ℕ) (salt : Salt) (n : ℕ) where
         in
         ext_get_or [] (set ls i x) (dealt code salt n (done ++ e ∷ [])) (len_set ∙ len ∙ sym (length-dealt (done ++ e ∷ []))) goes
 
--- what a filter keeps passes its test
-All-kept : {X : Type 0} (p : X → Bool) (xs : List X) → All (λ x. p x ≡ true) (filter p xs)
-All-kept p [] = All-nil (λ x. p x ≡ true)
-All-kept {X} p (x ∷ xs) = go (p x) refl (All-kept p xs) where
-  go : (b : Bool) → p x ≡ b → All (λ x. p x ≡ true) (filter p xs) → All (λ x. p x ≡ true) (cond b (x ∷ filter p xs) (filter p xs))
-  go true is rest = All-cons (λ (y : X). p y ≡ true) x (filter p xs) is rest
-  go false is rest = rest
-
 module _ {K V Z : Type 0} (same : K → K → Bool) (tells : (x y : K) → Decides (same x y) (x ≡ y)) (code : K → ℕ) (salt : Salt) (n : ℕ) (es : List (K × V)) where
   -- of distinct keys those of each class are distinct
   pub distinct-dealt : (bases : Vec (Vec (K × V) Z) Z) → HasDistinctKeys same es → lists_of bases ≡ dealt code salt n es → All (λ base. HasDistinctKeys same base.items) bases.items
@@ -100,4 +92,4 @@ module _ {K V : Type 0} (code : K → ℕ) (salt : Salt) (n : ℕ) (es : List (K
       let len : length bases ≡ n = ap (λ (l : List (List (K × V))). length l) is ∙ length-dealt code salt n es in
       let at : base_at bases i ≡ part_of_entries (is_of code salt (record { n = n; index = i })) es = ap (λ (l : List (List (K × V))). get_or l i []) is ∙ dealt_at code salt n es i [] (omega arith) in
       let Of : ℕ → List (K × V) → Type 0 = λ m l. All (λ e. is_of code salt (record { n = m; index = i }) e.0 ≡ true) l in
-      subst (λ m. Of m (base_at bases i)) (sym len) (subst (Of n) (sym at) (All-kept (λ (e : K × V). is_of code salt (record { n = n; index = i }) e.0) es))
+      subst (λ m. Of m (base_at bases i)) (sym len) (subst (Of n) (sym at) (All-passed (λ (e : K × V). is_of code salt (record { n = n; index = i }) e.0) es))

@@ -12,7 +12,3 @@ IsTableSize-wider n m (e, _, is) (f, _, at) lt =
     let double : 2 ^ (e + 1) ≡ 2 ^ e * 2 = pow-add 2 e 1 in
     let up : 2 ^ (e + 1) ≤ 2 ^ f = pow_mono (omega arith) in
     omega arith
-
--- there is no table wider than the widest
-pub IsTableSize-most : (n : ℕ) → IsTableSize n → n ≤ 65536
-IsTableSize-most n (e, few, is) = let k : 2 ^ e ≤ 2 ^ 16 = pow_mono few in omega arith

@@ -3,16 +3,13 @@ ghost use Rattle.std.specs.Prelude.{◌≡◌, ◌<◌, ℕ, length, All, slice_
 ghost use Rattle.count_ledger.specs.Views.{PassView};
 
 use crate::map::Map;
-use bin_history::Remap;
+use bin_history::{MOST_CLIENTS, Remap};
 use count_ledger::Pass;
 use hashkeys::HashKey;
 use std::alloc::Allocator;
 use std::sync::Wait;
 use std::thread;
 use std::thread::Threads;
-
-/// How many threads work at once at most: as many as a map has clients.
-const MOST_THREADS: usize = 32;
 
 /// What each of the clients that share a map does, in a thread of its own, by calls with the pass that it is lent.
 pub trait Sharing<K: HashKey, V: Clone + Eq, F: Remap<K, V> + Clone, A: Allocator> {
@@ -58,6 +55,6 @@ impl<K: HashKey, V: Clone + Eq, F: Remap<K, V> + Clone, A: Allocator> Map<K, V, 
             ensures ledger { pass.exit.now.ledger ≡ pass.entry.now.ledger }
             ensures done { W.does work.entry.now pass.entry.now pass.exit.now }
         { work.work(rt, self, pass) };
-        thread::for_each_mut(rt, passes, MOST_THREADS, &lend);
+        thread::for_each_mut(rt, passes, MOST_CLIENTS as usize, &lend);
     }
 }

@@ -3,8 +3,7 @@ ghost use Rattle.std.specs.Prelude.{◌≡◌, ℕ, ◌^◌, ◌≤◌, ◌<◌}
 ghost use Rattle.hashkeys.specs.Classes.{IsTableSize};
 ghost use Rattle.chm.specs.Sizes.{threshold, IsSizeFor, IsSizeFrom};
 
-/// A table has no more bins than this.
-pub const MOST_BINS: u32 = 65_536;
+pub use hashkeys::MOST_BINS;
 
 /// The least table of at least this capacity, which is 1 to 4,096.
 pub(crate) fn size_for(capacity: u32) -> u32

@@ -5,6 +5,9 @@ use Rattle.std.specs.declared.vec.Vec.{Vec}
 use Rattle.bin_history.specs.Records.{RecordView}
 use Rattle.bin_history.specs.declared.call.Reply.{Reply}
 use Rattle.chm.specs.Quiets.{QuietView, entries_of}
+use Rattle.bin_history.specs.Limits.{most_calls}
+use Rattle.bin_history.specs.declared.form.Form.TheVariants.{Recorded}
+use Rattle.count_ledger.specs.Opening.{lists_of}
 use Rattle.count_ledger.specs.Views.{LedgerId, PassView}
 use Rattle.script.specs.Grammar.{ScriptCall}
 use Rattle.script.specs.declared.function.Function.{Function}
@@ -20,10 +23,6 @@ ScriptPass = PassView (List ℕ) ℤ Function
 abbrev pub ScriptQuiet : Type 0
 ScriptQuiet = QuietView (List ℕ) ℤ Function
 
--- a vector of vectors as a list of lists
-abbrev pub lists_of : {X Y Z : Type 0} → Vec (Vec X Y) Z → List (List X)
-lists_of v = map (λ b. b.items) v.items
-
 -- the records are of just these calls, in their order, and replied this
 abbrev pub HasMade : List ScriptCall → List (Reply ℤ) → List ScriptRecord → Type 0
 HasMade calls replies made = (map told made ≡ zip calls replies) × (length replies ≡ length calls)
@@ -32,7 +31,7 @@ HasMade calls replies made = (map told made ≡ zip calls replies) × (length re
 pub record IsSeated {A : Type 0} (id : LedgerId) (c : Client A) : Type 0 where
   pub ledger : c.pass.ledger ≡ id
   pub fresh : c.pass.made ≡ []
-  pub short : IfSome c.calls (λ calls. length calls.items ≤ 1000000)
+  pub short : IfSome c.calls (λ calls. length calls.items ≤ most_calls Recorded)
   pub none : c.replies ≡ None
 
 -- the client after its calls: it has its own pass, and where it has replies they are those of its calls

@@ -1,5 +1,7 @@
 //! One client of a script: its pass, and the calls of its block.
 ghost use Rattle.std.specs.Prelude.{◌≡◌, ◌≤◌, [], length, IfOk};
+ghost use Rattle.bin_history.specs.Limits.{most_calls};
+ghost use Rattle.bin_history.specs.declared.form.Form.TheVariants.{Recorded};
 ghost use Rattle.facing_cli.specs.Played.{HasMade, IsSeated, HasEnded};
 
 use crate::gate::ClientGate;
@@ -37,7 +39,7 @@ fn make_calls<R: Wait, G: ClientGate, A: Allocator + Clone>(
 ) -> Result<Vec<Reply<i64>, A>, AllocError>
     requires pass { pass.old.ledger ≡ map.now.ledger.id }
     requires fresh { pass.old.made ≡ [] }
-    requires short { length calls.items ≤ 1000000 }
+    requires short { length calls.items ≤ most_calls Recorded }
     ensures ledger { pass.new.ledger ≡ pass.old.ledger }
     ensures client { pass.new.client ≡ pass.old.client }
     ensures made { IfOk result (λ replies. HasMade calls.items replies.items pass.new.made) }

@@ -1,6 +1,7 @@
 //! What a run may be told besides its script.
 ghost use Rattle.std.specs.Prelude.{◌≡◌, ◌≤◌, ◌<◌, ◌↔◌, IfOk, IsOk, IsErrOf};
-ghost use Rattle.facing_cli.specs.Choices.{AreWorkers, IsCapacity};
+ghost use Rattle.chm.specs.Refusals.{IsCapacity};
+ghost use Rattle.bulk_tasks.specs.Plans.{AreWorkers};
 
 use crate::fault::Fault;
 use hashkeys::Salt;
@@ -16,7 +17,9 @@ pub struct Options {
 }
 
 impl Model for Options {
-    ghost use Rattle.facing_cli.specs.Choices.{OptionsView, AreWorkers, IsCapacity};
+    ghost use Rattle.chm.specs.Refusals.{IsCapacity};
+    ghost use Rattle.bulk_tasks.specs.Plans.{AreWorkers};
+    ghost use Rattle.facing_cli.specs.Choices.{OptionsView};
 
     ghost Value = { OptionsView };
 

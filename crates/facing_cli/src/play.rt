@@ -5,13 +5,14 @@ ghost use Rattle.count_ledger.specs.Opening.{new_passes};
 ghost use Rattle.script.specs.Verdicts.{IsWithinLimits};
 ghost use Rattle.facing_cli.specs.Failures.{IsOfMap, IsOfPlay};
 ghost use Rattle.facing_cli.specs.Outcomes.{IsAllowed};
-ghost use Rattle.facing_cli.specs.Played.{lists_of, passes_of, outcome_of, ArePlayed, HasEnded, IsSeated};
+ghost use Rattle.count_ledger.specs.Opening.{lists_of};
+ghost use Rattle.facing_cli.specs.Played.{passes_of, outcome_of, ArePlayed, HasEnded, IsSeated};
 
 use crate::client::{Client, ScriptMap, ScriptPass};
 use crate::fault::Fault;
 use crate::gate::ClientGate;
 use crate::options::Options;
-use bin_history::Reply;
+use bin_history::{MOST_CLIENTS, Reply};
 use chm::{Map, NotClosed, Quiet};
 use count_ledger::retire_all;
 use hashkeys::Key;
@@ -20,9 +21,6 @@ use std::alloc::{AllocError, Allocator};
 use std::sync::Wait;
 use std::thread;
 use std::thread::Threads;
-
-/// How many clients a script can have, each with a thread of its own.
-const MOST_CLIENTS: usize = 32;
 
 /// The replies of each client.
 type Replies<A> = Vec<Vec<Reply<i64>, A>, A>;
@@ -79,7 +77,7 @@ fn play_clients<R: Threads + Wait + Sync, G: ClientGate + Sync, A: Allocator + C
         requires { IsSeated map.now.ledger.id client.now }
         ensures { HasEnded client.entry.now client.exit.now }
     { client.play(rt, map, gate) };
-    thread::for_each_mut(rt, clients, MOST_CLIENTS, &play);
+    thread::for_each_mut(rt, clients, MOST_CLIENTS as usize, &play);
 }
 
 /// Takes the passes of the clients back, and their replies, where no client was refused.

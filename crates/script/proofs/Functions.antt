@@ -42,11 +42,6 @@ FailsAt-number (Max m) old new w u kind h some e wrong = λ ss. wrong_at ss kind
 FailsAt-number (Set m) old new w u kind h some e wrong = λ ss. wrong_at ss kind old w new (codes "set") e h.0 (inr ((2, omega arith, refl), wrong ss))
 FailsAt-number Drop old new w u kind h some e wrong = absurd (some refl)
 
--- where its word is wrong, the function is
-pub FailsFirst-function : (ws : List Word) (kind : Kind) → FailsFirst a_function ws kind → FailsAt a_function ws kind
-FailsFirst-function [] kind h = λ ss. h
-FailsFirst-function (w ∷ ws) kind h = λ ss. inl h
-
 pub FailsFirst-merger : (ws : List Word) (kind : Kind) → FailsFirst a_function ws kind → FailsAt a_merger ws kind
 FailsFirst-merger [] kind h = λ ss. h
 FailsFirst-merger (w ∷ ws) kind h = λ ss. inl h

@@ -1,25 +1,20 @@
 -- What one more line comes to.
-use Rattle.std.proofs.Common.{◌≡◌, ◌≢◌, ℕ, ◌+◌, ◌≤◌, ◌==◌, true, false, inl, inr, List, [], ◌∷◌, ◌++◌, length, Vec, map, All, refl, sym, ap, ◌∙◌, subst, arith, length-append}
+use Rattle.std.proofs.Common.{◌≡◌, ◌≢◌, ℕ, ◌+◌, ◌≤◌, ◌==◌, true, false, inr, List, [], ◌∷◌, ◌++◌, length, Vec, map, All, refl, sym, ap, ◌∙◌, subst, arith, length-append}
 use Rattle.std.proofs.lemmas.Bool.Decides.{nat_tests}
 use Rattle.std.proofs.lemmas.List.{map-append}
 use Rattle.script.specs.Lines.{Word, BeginsWith, words}
 use Rattle.script.specs.Grammar.{ScriptCall, Line, Reads}
-use Rattle.script.specs.Reading.{Place, start, calls, queries, forms_at, Leads, IsLine, IsBad, Verdict, whole, faulty, IsRead, good, bad, cut, ended, missing}
+use Rattle.script.specs.Reading.{Place, start, calls, queries, forms_at, Leads, IsLine, Verdict, whole, faulty, IsRead, good, bad, cut, ended, missing}
 use Rattle.script.specs.Verdicts.{HasVerdict, IsJust, IsTold}
-use Rattle.script.specs.Drafts.{place_of, HasBadBytes, IsRefused, IsMisread, IsRefusedAtLimit, error_at}
+use Rattle.script.specs.Drafts.{place_of, IsRefused, IsMisread, IsRefusedAtLimit, error_at}
 use Rattle.script.specs.declared.draft.Draft.{Draft}
 use Rattle.script.specs.declared.draft.Draft.TheVariants as drafts
 use Rattle.script.specs.declared.script.Query.{Query}
-use Rattle.script.specs.declared.fault.Kind.{Kind}
 use Rattle.script.specs.declared.fault.Kind.TheVariants as kinds
 use Rattle.script.specs.declared.fault.LineError.{LineError}
 use Rattle.script.specs.declared.fault.LineError.TheVariants.{NoMemory, Bad}
 use Rattle.script.proofs.Readings.{IsRead-same}
 use Rattle.script.proofs.Written.{Reads-printable, Reads-spaced}
-
-pub IsBad-from_bytes : (p : Place) (l : List ℕ) (kind : Kind) → HasBadBytes l kind → IsBad p l kind
-IsBad-from_bytes p l kind (inl h) = inl h
-IsBad-from_bytes p l kind (inr h) = inr (h.0, inl h.1)
 
 -- the words of a line that were read
 module _ (p : Place) (l : List ℕ) (ws : List Word) (words_are : words l ≡ ws) where

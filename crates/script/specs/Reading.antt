@@ -1,5 +1,7 @@
 -- Which text is which script, and which line of another text is bad.
 use Rattle.std.specs.Prelude.{◌≡◌, ◌≢◌, ℕ, ◌+◌, ◌<◌, ◌≤◌, ◌⊎◌, List, [], ◌∷◌, ◌++◌, length, All}
+use Rattle.bin_history.specs.Limits.{most_clients, most_calls}
+use Rattle.bin_history.specs.declared.form.Form.TheVariants.{Recorded}
 use Rattle.script.specs.Lines.{Word, BeginsWith, words, IsPrintable, IsSpaced}
 use Rattle.script.specs.Grammar.{ScriptCall, Line, client, query, call, ask, Form, start_forms, block_forms, query_forms, Reads}
 use Rattle.script.specs.Faults.{AreWrong}
@@ -21,15 +23,15 @@ forms_at (queries blocks asked) = query_forms
 
 -- one more such line is too many: there are at most 32 blocks, each of at most 1,000,000 calls
 abbrev pub IsTooMany : Place → Line → Type 0
-IsTooMany (calls blocks block) client = 32 ≤ length blocks + 1
-IsTooMany (calls blocks block) (call c) = 1000000 ≤ length block
+IsTooMany (calls blocks block) client = most_clients ≤ length blocks + 1
+IsTooMany (calls blocks block) (call c) = most_calls Recorded ≤ length block
 IsTooMany _ _ = ⊥
 
 -- a line that is not too many leads from place to place
 pub data Leads : Place → Line → Place → Type 0 where
   first_client : Leads start client (calls [] [])
-  next_client : (blocks : List (List ScriptCall)) (block : List ScriptCall) → length blocks + 1 < 32 → Leads (calls blocks block) client (calls (blocks ++ block ∷ []) [])
-  next_call : (blocks : List (List ScriptCall)) (block : List ScriptCall) (c : ScriptCall) → length block < 1000000 → Leads (calls blocks block) (call c) (calls blocks (block ++ c ∷ []))
+  next_client : (blocks : List (List ScriptCall)) (block : List ScriptCall) → length blocks + 1 < most_clients → Leads (calls blocks block) client (calls (blocks ++ block ∷ []) [])
+  next_call : (blocks : List (List ScriptCall)) (block : List ScriptCall) (c : ScriptCall) → length block < most_calls Recorded → Leads (calls blocks block) (call c) (calls blocks (block ++ c ∷ []))
   first_query : (blocks : List (List ScriptCall)) (block : List ScriptCall) → Leads (calls blocks block) query (queries (blocks ++ block ∷ []) [])
   next_query : (blocks : List (List ScriptCall)) (asked : List Query) (q : Query) → Leads (queries blocks asked) (ask q) (queries blocks (asked ++ q ∷ []))
 

@@ -10,14 +10,9 @@ use crate::forms::{BlockLine, read_in_block, read_query, read_start};
 use crate::line::TextLine;
 use crate::script::{Query, ScriptCall};
 use crate::words::first_word;
+use bin_history::{MOST_CALLS, MOST_CLIENTS};
 use std::alloc::Allocator;
 use std::mem;
-
-/// The most blocks that a script may have.
-const MOST_BLOCKS: usize = 32;
-
-/// The most calls that a block may have.
-const MOST_CALLS: usize = 1_000_000;
 
 /// A script as far as it was read.
 #[derive(Drop)]
@@ -115,7 +110,7 @@ fn push_block<A: Allocator>(
     ensures ok { OnOk result (Leads (in_block blocks.old.items block.old.items) client (in_block blocks.new.items block.new.items)) }
     ensures err { IfErr result (IsRefusedAtLimit (in_block blocks.old.items block.old.items) client) }
 {
-    if blocks.len() >= MOST_BLOCKS - 1 {
+    if blocks.len() >= MOST_CLIENTS as usize - 1 {
         return Err(LineError::Bad(Kind::Limit));
     }
     blocks.push(mem::replace(block, Vec::new(alloc)))?;
@@ -130,7 +125,7 @@ fn push_call<A: Allocator>(
     ensures ok { OnOk result ((blocks : List (List CallView)) → Leads (calls blocks block.old.items) (call_line call) (calls blocks block.new.items)) }
     ensures err { IfErr result (λ e. (blocks : List (List CallView)) → IsRefusedAtLimit (calls blocks block.old.items) (call_line call) e) }
 {
-    if block.len() >= MOST_CALLS {
+    if block.len() >= MOST_CALLS as usize {
         return Err(LineError::Bad(Kind::Limit));
     }
     block.push(call)?;

@@ -4,7 +4,9 @@ use Rattle.std.specs.Cmp.Lexicographic.{pointwise}
 use Rattle.std.specs.declared.vec.Vec.{Vec}
 use Rattle.bin_history.specs.Calls.{key_of}
 use Rattle.bin_history.specs.Entries.{lookup, HasDistinctKeys}
+use Rattle.bin_history.specs.Limits.{most_calls}
 use Rattle.bin_history.specs.Records.{RecordView}
+use Rattle.bin_history.specs.declared.form.Form.TheVariants.{Lean}
 use Rattle.count_ledger.specs.Views.{PassView}
 use Rattle.facingberyl.specs.Tallies.{AddsOne, times_in_all, told}
 use Rattle.functions.specs.declared.numbers.Add.{Add}
@@ -32,7 +34,7 @@ pub record HasWorked {A : Type 0} (parts : List (Vec (List ℕ) A)) (old new : W
 -- each client made a call for each word of its part, which has 2^57 at most
 pub record AreWhole {A : Type 0} (parts : List (Vec (List ℕ) A)) (passes : List WordPass) : Type 0 where
   pub each : (c : ℕ) (p : WordPass) (v : Vec (List ℕ) A) → c < length parts → length (slice_index_or passes c p).made ≡ length (slice_index_or parts c v).items
-  pub few : All (λ v. length v.items ≤ 144115188075855872) parts
+  pub few : All (λ v. length v.items ≤ most_calls Lean) parts
 
 -- each word stands once, with how often it stands in the parts
 pub record AreCounts (parts : List (List (List ℕ))) (counts : List (List ℕ × ℕ)) : Type 0 where

@@ -1,7 +1,8 @@
 use Rattle.std.proofs.Common.{◌≡◌, Vec, ap, subst, sym, ◌∙◌, arith, inl, inr}
 use Rattle.std.proofs.lemmas.List.{length-map}
 use Rattle.chm.specs.Closing.{NotClosedView}
-use Rattle.facing_cli.specs.Played.{ArePlayed, lists_of}
+use Rattle.count_ledger.specs.Opening.{lists_of}
+use Rattle.facing_cli.specs.Played.{ArePlayed}
 use Rattle.facing_cli.proofs.Allowed.{IsAllowed-closed}
 use Rattle.facing_cli.proofs.play.play.Goals as goal
 

@@ -1,5 +1,6 @@
 use Rattle.std.proofs.Common.{◌≡◌, ◌++◌, List, None, Some, Vec, All, length, map, take, drop, ap, subst, sym, ◌∙◌}
-use Rattle.facing_cli.specs.Played.{ScriptPass, ArePlayed, lists_of, passes_of}
+use Rattle.count_ledger.specs.Opening.{lists_of}
+use Rattle.facing_cli.specs.Played.{ScriptPass, ArePlayed, passes_of}
 use Rattle.facing_cli.specs.declared.client.Client.{Client}
 use Rattle.facing_cli.proofs.Seats.{new-length, new-ledger, restored, IfOk-weaker, AreSeated-seated, AllLedger-after, ArePlayed-gathered}
 use Rattle.facing_cli.proofs.play.play_blocks.Goals as goal

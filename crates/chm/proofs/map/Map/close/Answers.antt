@@ -12,7 +12,8 @@ use Rattle.bin_history.specs.Entries.{replay}
 use Rattle.bin_history.specs.Lawful.{BinView}
 use Rattle.chm.specs.Quiets.{entries_of}
 use Rattle.chm.specs.Views.{MapView, bins_of}
-use Rattle.chm.proofs.Closing.{roles_of_leaves, count_of_leaves, word_of_count, IsQuiet-closed, NotClosed-missing, NotClosed-memory, NotClosed-bins, covered}
+use Rattle.count_ledger.proofs.Covering.{CoverAll-once}
+use Rattle.chm.proofs.Closing.{roles_of_leaves, count_of_leaves, word_of_count, IsQuiet-closed, NotClosed-missing, NotClosed-memory, NotClosed-bins}
 use Rattle.chm.proofs.map.Map.close.Goals as goal
 
 pub returns-then-len-clients-clause-refused : goal.returns-then-len-clients-clause-refused
@@ -53,7 +54,7 @@ unreachable-requires g c =
     let clients = c.clients.ensures.value in
     let own : c.self.inside.ledger ≡ c.args.self.ledger = ap (λ (m : MapView _ _). m.ledger) c.self.view_is in
     let many : c.self.inside.ledger.clients ≡ c.args.self.ledger.clients = ap (λ (l : LedgerView _ _). l.clients) own in
-    let all : CoverAll (classes_of c.in-Ok.roles.items) = subst CoverAll (sym c.in-Ok.ensures.classes) (covered (classes_of_bins c.in-Ok.bins.items) c.in-Ok.ensures.walk.each_hash) in
+    let all : CoverAll (classes_of c.in-Ok.roles.items) = subst CoverAll (sym c.in-Ok.ensures.classes) (CoverAll-once (classes_of_bins c.in-Ok.bins.items) c.in-Ok.ensures.walk.each_hash) in
     ⊎_elim (λ few. absurd (omega arith)) (λ left_out. left_out all) c.in-Err.ensures.refused
 
 pub returns-in-Err-NoMemory-clause-refused : goal.returns-in-Err-NoMemory-clause-refused
