@@ -1,5 +1,5 @@
 //! How often a call asks its function.
-use crate::values::Alloc;
+use crate::values::{Alloc, assert_same};
 use bin_history::{Bin, Call, Form, Remap};
 use hashkeys::{Class, Key, Salt};
 use refusing_alloc::Refusing;
@@ -102,8 +102,8 @@ fn a_function_is_asked_once_where_its_answer_is_used(rt: HostRuntime) -> Result<
         for (kind, (absent, present)) in rows.iter().enumerate() {
             let of_absent = ask(&rt, rt.alloc(), form, (kind, false), u64::MAX)?;
             let of_present = ask(&rt, rt.alloc(), form, (kind, true), u64::MAX)?;
-            assert_eq!(rt; of_absent, (true, *absent), "kind {kind}");
-            assert_eq!(rt; of_present, (true, *present), "kind {kind}");
+            assert_same(&rt, &(kind, of_absent), &(kind, (true, *absent)));
+            assert_same(&rt, &(kind, of_present), &(kind, (true, *present)));
         }
     }
     Ok(())
@@ -116,10 +116,10 @@ fn a_function_is_not_asked_where_room_is_refused(rt: HostRuntime) -> Result<(), 
         for kind in [0, 2] {
             for granted in 0..requests {
                 let refused = ask(&rt, rt.alloc(), form, (kind, false), granted)?;
-                assert_eq!(rt; refused, (false, 0), "kind {kind}, request {granted}");
+                assert_same(&rt, &(kind, granted, refused), &(kind, granted, (false, 0)));
             }
             let made = ask(&rt, rt.alloc(), form, (kind, false), requests)?;
-            assert_eq!(rt; made, (true, 1), "kind {kind}");
+            assert_same(&rt, &(kind, made), &(kind, (true, 1)));
         }
     }
     Ok(())

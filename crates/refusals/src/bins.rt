@@ -1,5 +1,5 @@
 //! A bin, each request of a call refused in turn.
-use crate::values::{Alloc, Answer, Number};
+use crate::values::{Alloc, Answer, Number, assert_same};
 use bin_history::{Bin, Call, Form, Reply};
 use hashkeys::{Class, Key, Salt};
 use refusing_alloc::Refusing;
@@ -22,10 +22,10 @@ fn pair<'a>(rt: &impl Abort, alloc: Alloc<'a>, text: &[u8], number: u64) -> Pair
 }
 
 fn assert_pairs(rt: &impl Abort, found: &[Pair<'_>], wanted: &[(&[u8], u64)]) {
-    assert_eq!(rt; found.len(), wanted.len());
+    assert_same(rt, &found.len(), &wanted.len());
     for ((key, value), (text, number)) in found.iter().zip(wanted) {
-        assert_eq!(rt; key.bytes(), *text);
-        assert_eq!(rt; value.number, *number);
+        assert_same(rt, &key.bytes(), text);
+        assert_same(rt, &value.number, number);
     }
 }
 
@@ -87,7 +87,7 @@ fn a_new_bin_copies_its_base(rt: HostRuntime) -> Result<(), Fail> {
     for (form, requests) in [(Form::Recorded, 3), (Form::Lean, 0)] {
         for granted in 0..5 {
             let refused = refuse_new(&rt, &alloc, form, granted)?;
-            assert_eq!(rt; refused, granted < requests);
+            assert_same(&rt, &(granted, refused), &(granted, granted < requests));
         }
     }
     Ok(())
@@ -140,7 +140,7 @@ fn assert_value(rt: &impl Abort, bin: &NumberBin<'_>, value: Option<u64>, calls:
         Form::Recorded => (calls, 0),
         Form::Lean => (0, bin.entries().len()),
     };
-    assert_eq!(rt; (bin.records().len(), bin.base().len()), stored);
+    assert_same(rt, &(bin.records().len(), bin.base().len()), &stored);
 }
 
 /// What a call replies, the value that it leaves, and how often it asks for memory in a bin of each form.
@@ -196,7 +196,7 @@ fn refuse_call(
         let refused = alloc.has_refused();
         alloc.refuse_after(u64::MAX);
         if refused {
-            assert!(rt; reply.is_err(), "kind {kind}, request {granted}");
+            assert_same(rt, &(kind, granted, reply.is_err()), &(kind, granted, true));
             assert_value(rt, &bin, value, made);
             reply = make(rt, &mut bin, call_of_kind(rt, &alloc, kind));
         }
@@ -264,13 +264,14 @@ fn rows() -> [(Outcome, Outcome); 12] {
 fn refuse_calls(rt: &impl Abort, memory: Global, form: Form, first: u64) -> Result<(), AllocError> {
     for (kind, (present, absent)) in rows().iter().enumerate() {
         let requests = refuse_call(rt, memory, form, kind, Some(1), present)?;
-        assert_eq!(rt; requests, present.requests(form), "kind {kind}, present");
-        let requests = refuse_call(rt, memory, form, kind, None, absent)?;
-        assert_eq!(rt;
-            requests,
-            absent.requests(form).wrapping_add(first),
-            "kind {kind}, absent"
+        assert_same(
+            rt,
+            &("present", kind, requests),
+            &("present", kind, present.requests(form)),
         );
+        let requests = refuse_call(rt, memory, form, kind, None, absent)?;
+        let wanted = absent.requests(form).wrapping_add(first);
+        assert_same(rt, &("absent", kind, requests), &("absent", kind, wanted));
     }
     Ok(())
 }
@@ -307,13 +308,13 @@ fn a_refused_fold_leaves_the_base(rt: HostRuntime) -> Result<(), Fail> {
         if alloc.has_refused() {
             assert!(rt; outcome.is_err());
             assert!(rt; bin.base().is_empty());
-            assert_eq!(rt; bin.records().len(), 1024);
+            assert_same(&rt, &bin.records().len(), &1024);
             assert_pairs(&rt, bin.entries(), &[(b"a", 2)]);
             refusals = refusals.wrapping_add(1);
             put(&rt, &alloc, &mut bin, b"q", 3)?;
         }
         assert_pairs(&rt, bin.base(), &[(b"q", 1), (b"a", 2)]);
-        assert_eq!(rt; bin.records().len(), 513);
+        assert_same(&rt, &bin.records().len(), &513);
         assert_pairs(&rt, bin.entries(), &[(b"a", 2), (b"q", 3)]);
         if refusals == granted {
             break;
@@ -321,7 +322,7 @@ fn a_refused_fold_leaves_the_base(rt: HostRuntime) -> Result<(), Fail> {
     }
     // Room in the base, and two copies of the value: the entries had two keys, and a list that is folded has room for
     // the record.
-    assert_eq!(rt; refusals, 3);
+    assert_same(&rt, &refusals, &3);
     Ok(())
 }
 
@@ -344,10 +345,10 @@ fn refuse_split(
         let (low, high) = halves?;
         assert_pairs(rt, low.entries(), &[(b"a", 2)]);
         assert_pairs(rt, high.entries(), &[(b"q", 3)]);
-        assert_eq!(rt; (low.records().len(), high.records().len()), records);
+        assert_same(rt, &(low.records().len(), high.records().len()), &records);
     }
     assert_pairs(rt, bin.entries(), &[(b"q", 3), (b"a", 2)]);
-    assert_eq!(rt; bin.records().len(), records.0.wrapping_add(records.1));
+    assert_same(rt, &bin.records().len(), &records.0.wrapping_add(records.1));
     Ok(refused)
 }
 
@@ -362,7 +363,7 @@ fn a_refused_split_leaves_the_bin(rt: HostRuntime) -> Result<(), Fail> {
         put(&rt, &alloc, &mut bin, b"q", 3)?;
         for granted in 0..17 {
             let refused = refuse_split(&rt, &alloc, &bin, granted, records)?;
-            assert_eq!(rt; refused, granted < requests);
+            assert_same(&rt, &(granted, refused), &(granted, granted < requests));
         }
     }
     Ok(())

@@ -1,7 +1,7 @@
 //! A ledger and a move, each request of their making refused in turn.
 ghost use Rattle.std.specs.Prelude.{◌≡◌, All, IfOk};
 
-use crate::values::Alloc;
+use crate::values::{Alloc, assert_same};
 use bin_history::Form;
 use count_ledger::{BinRole, Ledger, Pass, Unsettled, retire_all};
 use hashkeys::{Key, Salt};
@@ -30,7 +30,7 @@ fn assert_settles(rt: &impl Abort, made: Made<'_>)
     let (ledger, passes, roles) = made;
     let sizes = (passes.len(), roles.len());
     match ledger.settle(passes, roles) {
-        Ok(total) => assert_eq!(rt; (sizes, total), ((2, 2), 0)),
+        Ok(total) => assert_same(rt, &(sizes, total), &((2, 2), 0)),
         Err(
             Unsettled {
                 ledger,
@@ -71,7 +71,7 @@ fn a_refused_ledger_is_made_again(rt: HostRuntime) -> Result<(), Fail> {
         refusals = refusals.wrapping_add(1);
     }
     // The lists of bases, passes and roles, and the table's two blocks.
-    assert_eq!(rt; refusals, 5);
+    assert_same(&rt, &refusals, &5);
     Ok(())
 }
 
@@ -92,6 +92,6 @@ fn a_refused_move_is_made_again(rt: HostRuntime) -> Result<(), Fail> {
         refusals = refusals.wrapping_add(1);
     }
     // The list of spare movers, and the table's two blocks.
-    assert_eq!(rt; refusals, 3);
+    assert_same(&rt, &refusals, &3);
     Ok(())
 }

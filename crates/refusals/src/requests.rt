@@ -1,4 +1,5 @@
 //! Which requests the allocator of the tests refuses.
+use crate::values::assert_same;
 use refusing_alloc::Refusing;
 use std::test::Fail;
 use std::thread;
@@ -11,9 +12,10 @@ fn one_request_is_refused(rt: HostRuntime) -> Result<(), Fail> {
         for number in 0..6u64 {
             let before = alloc.has_refused();
             let block = Vec::<u64, _>::with_capacity(&alloc, 1);
-            assert_eq!(rt;
-                (before, block.is_err()),
-                (number > granted, number == granted)
+            assert_same(
+                &rt,
+                &(before, block.is_err()),
+                &(number > granted, number == granted),
             );
         }
     }
@@ -29,11 +31,11 @@ fn a_refused_growth_leaves_the_items(rt: HostRuntime) -> Result<(), Fail> {
     for number in 0..100u64 {
         if items.push(number).is_err() {
             refused = refused.wrapping_add(1);
-            assert_eq!(rt; items.len() as u64, number);
+            assert_same(&rt, &(items.len() as u64), &number);
             items.push(number)?;
         }
     }
-    assert_eq!(rt; (refused, items.len()), (1, 100));
+    assert_same(&rt, &(refused, items.len()), &(1, 100));
     assert!(rt; items.iter().copied().eq(0..100u64));
     Ok(())
 }

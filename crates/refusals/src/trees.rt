@@ -1,7 +1,7 @@
 //! A tree of completers, each request of its making refused in turn.
 ghost use Rattle.std.specs.Prelude.{◌≡◌, IfOk};
 
-use crate::values::Alloc;
+use crate::values::{Alloc, assert_same};
 use completers::{Arrival, Partial, Relation, Supply, Tree};
 use refusing_alloc::Refusing;
 use std::alloc::AllocError;
@@ -49,7 +49,7 @@ fn assert_completes(rt: &impl Abort, made: Made<'_>)
     };
     assert!(rt; above.is_none());
     let part = parts.take().expect(rt, "a part");
-    assert_eq!(rt; (part.lo, part.hi, part.part), (0, 5, 5));
+    assert_same(rt, &(part.lo, part.hi, part.part), &(0, 5, 5));
     assert!(rt; parts.take().is_none());
 }
 
@@ -69,6 +69,6 @@ fn a_refused_tree_is_made_again(rt: HostRuntime) -> Result<(), Fail> {
         refusals = refusals.wrapping_add(1);
     }
     // The table's list of places, its words and its places.
-    assert_eq!(rt; refusals, 3);
+    assert_same(&rt, &refusals, &3);
     Ok(())
 }

@@ -3,10 +3,17 @@ use bin_history::Remap;
 use hashkeys::Key;
 use refusing_alloc::Refusing;
 use std::alloc::{AllocError, Global};
+use std::fmt::Debug;
 use std::marker::Model;
+use std::process::Abort;
 
 /// The allocator of a test.
 pub(crate) type Alloc<'a> = &'a Refusing<Global>;
+
+/// Asserts that what was found is what is wanted. A call of it is one step of the caller, which goes on as it is.
+pub(crate) fn assert_same<T: PartialEq + Debug>(rt: &impl Abort, found: &T, wanted: &T) {
+    assert_eq!(rt; found, wanted);
+}
 
 /// Asks for memory, and gives it back.
 fn ask(alloc: Alloc<'_>) -> Result<(), AllocError> {
