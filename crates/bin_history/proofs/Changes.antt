@@ -1,16 +1,18 @@
 -- A change at a key's place is a store at the key.
-use Rattle.std.proofs.Common.{◌≡◌, ℕ, zero, suc, ◌<◌, Bool, true, false, Option, Some, None, Decides, List, [], ◌∷◌, ◌++◌, length, refl, sym, ap, ◌∙◌, arith, get_or, set}
+use Rattle.std.proofs.Common.{◌≡◌, ℕ, zero, suc, ◌<◌, Bool, true, false, Option, Some, None, Decides, List, [], ◌∷◌, ◌++◌, length, refl, sym, ap, ◌∙◌, arith}
+use Rattle.std.proofs.Common.{get_or, set}
 use Rattle.std.proofs.lemmas.Bool.{true≢false}
 use Rattle.std.proofs.lemmas.Grind.{common_steps}
 use Rattle.std.proofs.lemmas.Option.{none-some}
 use Rattle.std.specs.List.{remove as remove_at}
 use Rattle.bin_history.specs.Entries.{lookup, put, remove, store}
-use Rattle.bin_history.specs.Births.{place}
-use Rattle.bin_history.specs.Changes.{assign_at, changed, HasPlace, IsFound, Fits, value_in, taken_from, taken_by, change_to, change_by, left_by}
+use Rattle.bin_history.specs.Births.{index_of}
+use Rattle.bin_history.specs.Changes.{assign_at, entries_after, HasIndex, IsIndexOf, Fits, value_in, taken_from, taken_by, change_to, change_by, left_by}
 use Rattle.bin_history.specs.Calls.{key_of, after}
 use Rattle.bin_history.specs.Ops.{call_on, may_add, value_of}
 use Rattle.bin_history.specs.declared.op.Op.{Op}
-use Rattle.bin_history.specs.declared.op.Op.TheVariants.{Get, Contains, Put, PutIfAbsent, Remove, RemoveIf, Replace, ReplaceIf, ComputeIfAbsent, ComputeIfPresent, Compute, Merge}
+use Rattle.bin_history.specs.declared.op.Op.TheVariants.{Get, Contains, Put, PutIfAbsent, Remove, RemoveIf, Replace, ReplaceIf, ComputeIfAbsent}
+use Rattle.bin_history.specs.declared.op.Op.TheVariants.{ComputeIfPresent, Compute, Merge}
 use Rattle.bin_history.specs.declared.effect.Effect.{Effect}
 use Rattle.bin_history.specs.declared.effect.Effect.TheVariants.{Keep, Give, Set}
 
@@ -26,25 +28,25 @@ value_in-at (e ∷ es) zero d l is = ap (λ (x : _ × _). Some x.1) (sym is)
 value_in-at (e ∷ es) (suc i) d l is = value_in-at es i d (omega arith) is
 
 module _ {K V : Type 0} (same : K → K → Bool) (tells : (x y : K) → Decides (same x y) (x ≡ y)) where
-  pub lookup_at : (es : List (K × V)) (k : K) (i : ℕ) (d : K × V) → i ≡ place same es k → i < length es → lookup same es k ≡ Some (get_or es i d).1
+  pub lookup_at : (es : List (K × V)) (k : K) (i : ℕ) (d : K × V) → i ≡ index_of same es k → i < length es → lookup same es k ≡ Some (get_or es i d).1
   lookup_at [] k i d p l = absurd (omega arith)
   lookup_at (e ∷ es) k zero d p l = grind (arith, common_steps)
   lookup_at (e ∷ es) k (suc i) d p l = let ih = lookup_at es k i d in grind (arith, common_steps)
 
-  pub lookup_absent : (es : List (K × V)) (k : K) → length es ≡ place same es k → lookup same es k ≡ None
+  pub lookup_absent : (es : List (K × V)) (k : K) → length es ≡ index_of same es k → lookup same es k ≡ None
   lookup_absent [] k p = refl
   lookup_absent (e ∷ es) k p = let ih = lookup_absent es k in grind (arith, common_steps)
 
-  put_at : (es : List (K × V)) (k : K) (v : V) (i : ℕ) → i ≡ place same es k → i < length es → put same es k v ≡ assign_at es i v
+  put_at : (es : List (K × V)) (k : K) (v : V) (i : ℕ) → i ≡ index_of same es k → i < length es → put same es k v ≡ assign_at es i v
   put_at [] k v i p l = absurd (omega arith)
   put_at (e ∷ es) k v zero p l = grind (arith, common_steps)
   put_at (e ∷ es) k v (suc i) p l = let ih = put_at es k v i in grind (arith, common_steps)
 
-  put_absent : (es : List (K × V)) (k : K) (v : V) → length es ≡ place same es k → put same es k v ≡ es ++ (k, v) ∷ []
+  put_absent : (es : List (K × V)) (k : K) (v : V) → length es ≡ index_of same es k → put same es k v ≡ es ++ (k, v) ∷ []
   put_absent [] k v p = refl
   put_absent (e ∷ es) k v p = let ih = put_absent es k v in grind (arith, common_steps)
 
-  remove-at : (es : List (K × V)) (k : K) (i : ℕ) → i ≡ place same es k → i < length es → remove same es k ≡ remove_at es i
+  remove-at : (es : List (K × V)) (k : K) (i : ℕ) → i ≡ index_of same es k → i < length es → remove same es k ≡ remove_at es i
   remove-at [] k i p l = absurd (omega arith)
   remove-at (e ∷ es) k zero p l = grind (arith, common_steps)
   remove-at (e ∷ es) k (suc i) p l = let ih = remove-at es k i in grind (arith, common_steps)
@@ -62,46 +64,49 @@ module _ {K V : Type 0} (same : K → K → Bool) (tells : (x y : K) → Decides
   store_same es k None p = remove-absent es k p
   store_same es k (Some v) p = put_same es k v p
 
-  pub changed-to : (es : List (K × V)) (k : K) (found : Option ℕ) (w : Option V) → IsFound same es k found → changed es (change_to found k w) ≡ store same es k w
-  changed-to es k None None f = sym (remove-absent es k (lookup_absent es k f))
-  changed-to es k None (Some v) f = sym (put_absent es k v f)
-  changed-to es k (Some i) None f = sym (remove-at es k i f.1 f.0)
-  changed-to es k (Some i) (Some v) f = sym (put_at es k v i f.1 f.0)
+  pub entries_after-to : (es : List (K × V)) (k : K) (found : Option ℕ) (w : Option V) → IsIndexOf same es k found
+      → entries_after es (change_to found k w) ≡ store same es k w
+  entries_after-to es k None None f = sym (remove-absent es k (lookup_absent es k f))
+  entries_after-to es k None (Some v) f = sym (put_absent es k v f)
+  entries_after-to es k (Some i) None f = sym (remove-at es k i f.1 f.0)
+  entries_after-to es k (Some i) (Some v) f = sym (put_at es k v i f.1 f.0)
 
-  pub changed-by : {F : Type 0} (es : List (K × V)) (k : K) (found : Option ℕ) (op : Op V F) (effect : Effect V) (given : Option V) → (effect ≡ Give → given ≡ value_of op) → IsFound same es k found
-      → changed es (change_by found k effect given) ≡ store same es k (left_by op effect (lookup same es k))
-  changed-by es k found op Keep given is f = sym (store_same es k (lookup same es k) refl)
-  changed-by es k found op Give given is f = changed-to es k found given f ∙ ap (store same es k) (is refl)
-  changed-by es k found op (Set w) given is f = changed-to es k found w f
+  pub entries_after-by : {F : Type 0} (es : List (K × V)) (k : K) (found : Option ℕ) (op : Op V F) (effect : Effect V) (given : Option V)
+      → (effect ≡ Give → given ≡ value_of op) → IsIndexOf same es k found
+      → entries_after es (change_by found k effect given) ≡ store same es k (left_by op effect (lookup same es k))
+  entries_after-by es k found op Keep given is f = sym (store_same es k (lookup same es k) refl)
+  entries_after-by es k found op Give given is f = entries_after-to es k found given f ∙ ap (store same es k) (is refl)
+  entries_after-by es k found op (Set w) given is f = entries_after-to es k found w f
 
-  value_in-place : (es : List (K × V)) (k : K) (i : ℕ) → i ≡ place same es k → i < length es → value_in es i ≡ lookup same es k
-  value_in-place [] k i p l = absurd (omega arith)
-  value_in-place (e ∷ es) k zero p l = grind (arith, common_steps)
-  value_in-place (e ∷ es) k (suc i) p l = let ih = value_in-place es k i in grind (arith, common_steps)
+  value_in-index_of : (es : List (K × V)) (k : K) (i : ℕ) → i ≡ index_of same es k → i < length es → value_in es i ≡ lookup same es k
+  value_in-index_of [] k i p l = absurd (omega arith)
+  value_in-index_of (e ∷ es) k zero p l = grind (arith, common_steps)
+  value_in-index_of (e ∷ es) k (suc i) p l = let ih = value_in-index_of es k i in grind (arith, common_steps)
 
-  taken-to : (es : List (K × V)) (k : K) (found : Option ℕ) (w : Option V) → IsFound same es k found → taken_from es (change_to found k w) ≡ lookup same es k
+  taken-to : (es : List (K × V)) (k : K) (found : Option ℕ) (w : Option V) → IsIndexOf same es k found → taken_from es (change_to found k w) ≡ lookup same es k
   taken-to es k None None f = sym (lookup_absent es k f)
   taken-to es k None (Some v) f = sym (lookup_absent es k f)
-  taken-to es k (Some i) None f = value_in-place es k i f.1 f.0
-  taken-to es k (Some i) (Some v) f = value_in-place es k i f.1 f.0
+  taken-to es k (Some i) None f = value_in-index_of es k i f.1 f.0
+  taken-to es k (Some i) (Some v) f = value_in-index_of es k i f.1 f.0
 
   -- the change takes away what the effect does
-  pub taken-by : (es : List (K × V)) (k : K) (found : Option ℕ) (effect : Effect V) (given : Option V) → IsFound same es k found
+  pub taken-by : (es : List (K × V)) (k : K) (found : Option ℕ) (effect : Effect V) (given : Option V) → IsIndexOf same es k found
       → taken_from es (change_by found k effect given) ≡ taken_by effect (lookup same es k)
   taken-by es k found Keep given f = refl
   taken-by es k found Give given f = taken-to es k found given f
   taken-by es k found (Set w) given f = taken-to es k found w f
 
-  HasPlace-change_to : (es : List (K × V)) (k : K) (found : Option ℕ) (w : Option V) → IsFound same es k found → HasPlace es (change_to found k w)
-  HasPlace-change_to es k None None f = tt
-  HasPlace-change_to es k None (Some v) f = tt
-  HasPlace-change_to es k (Some i) None f = f.0
-  HasPlace-change_to es k (Some i) (Some v) f = f.0
+  HasIndex-change_to : (es : List (K × V)) (k : K) (found : Option ℕ) (w : Option V) → IsIndexOf same es k found → HasIndex es (change_to found k w)
+  HasIndex-change_to es k None None f = tt
+  HasIndex-change_to es k None (Some v) f = tt
+  HasIndex-change_to es k (Some i) None f = f.0
+  HasIndex-change_to es k (Some i) (Some v) f = f.0
 
-  pub HasPlace-change_by : (es : List (K × V)) (k : K) (found : Option ℕ) (effect : Effect V) (given : Option V) → IsFound same es k found → HasPlace es (change_by found k effect given)
-  HasPlace-change_by es k found Keep given f = tt
-  HasPlace-change_by es k found Give given f = HasPlace-change_to es k found given f
-  HasPlace-change_by es k found (Set w) given f = HasPlace-change_to es k found w f
+  pub HasIndex-change_by : (es : List (K × V)) (k : K) (found : Option ℕ) (effect : Effect V) (given : Option V) → IsIndexOf same es k found
+      → HasIndex es (change_by found k effect given)
+  HasIndex-change_by es k found Keep given f = tt
+  HasIndex-change_by es k found Give given f = HasIndex-change_to es k found given f
+  HasIndex-change_by es k found (Set w) given f = HasIndex-change_to es k found w f
 
 -- a change fits where there is room for each new key that the call may add
 Fits-change_to : {K V : Type 0} (found : Option ℕ) (k : K) (w : Option V) (may : Bool) (room : ℕ)

@@ -27,17 +27,20 @@ module _ {K V : Type 0} (same : K → K → Bool) where
   length-remove_there [] k w a = absurd cc
   length-remove_there (e ∷ es) k w a = let ih = length-remove_there es k w in grind (arith, common_steps)
 
-  length-store : (es : List (K × V)) (k : K) (before after : Option V) → before ≡ lookup same es k → pos (length (store same es k after)) ≡ pos (length es) +ℤ change_of_count before after
+  length-store : (es : List (K × V)) (k : K) (before after : Option V) → before ≡ lookup same es k
+      → pos (length (store same es k after)) ≡ pos (length es) +ℤ change_of_count before after
   length-store es k None None b = let l = length-remove_none es k (sym b) in omega (arith, ints)
   length-store es k None (Some v) b = let l = length-put_new es k v (sym b) in omega (arith, ints)
   length-store es k (Some w) None b = let l = length-remove_there es k w (sym b) in omega (arith, ints)
   length-store es k (Some w) (Some v) b = let l = length-put_there es k v w (sym b) in omega (arith, ints)
 
 module _ {K V F : Type 0} (same : K → K → Bool) (tells : (x y : K) → Decides (same x y) (x ≡ y)) (after : Call K V F → Option V → Option V) where
-  pub length-replay : (es : List (K × V)) (rs : List (RecordView K V F)) → HasDistinctKeys same es → IsLegal same after (lookup same es) rs → pos (length (replay same es rs)) ≡ pos (length es) +ℤ sum_of_deltas rs
+  pub length-replay : (es : List (K × V)) (rs : List (RecordView K V F)) → HasDistinctKeys same es → IsLegal same after (lookup same es) rs
+      → pos (length (replay same es rs)) ≡ pos (length es) +ℤ sum_of_deltas rs
   length-replay es [] d l = omega (arith, ints)
   length-replay es (r ∷ rs) d l =
       let P : (K → Option V) → Type 0 = λ m. IsLegal same after m rs in
       let here = length-store same es (key_of r.call) r.before r.after l.0.0 in
-      let rest = length-replay (store same es (key_of r.call) r.after) rs (HasDistinctKeys-store same tells es (key_of r.call) r.after d) (subst P (λ i q. sym (lookup-store same tells es (key_of r.call) r.after d q) i) l.1) in
+      let rest = length-replay (store same es (key_of r.call) r.after) rs (HasDistinctKeys-store same tells es (key_of r.call) r.after d)
+      (subst P (λ i q. sym (lookup-store same tells es (key_of r.call) r.after d q) i) l.1) in
       omega (arith, ints)

@@ -17,21 +17,26 @@ module _ {K V : Type 0} (same : K → K → Bool) (tells : (x y : K) → Decides
   lookup-put [] k v q = refl
   lookup-put (e ∷ es) k v q = let ih = lookup-put es k v q in let a = tells e.0 k in let b = tells e.0 q in let c = tells k q in grind (arith, common_steps)
 
-  pub lookup-remove : (es : List (K × V)) (k : K) → HasDistinctKeys same es → (q : K) → lookup same (remove same es k) q ≡ cond (same k q) None (lookup same es q)
+  pub lookup-remove : (es : List (K × V)) (k : K) → HasDistinctKeys same es → (q : K)
+      → lookup same (remove same es k) q ≡ cond (same k q) None (lookup same es q)
   lookup-remove [] k d q = sym (cond_same (same k q) None)
-  lookup-remove (e ∷ es) k d q = let ih = lookup-remove es k d.1 q in let a = tells e.0 k in let b = tells e.0 q in let c = tells k q in grind (arith, common_steps)
+  lookup-remove (e ∷ es) k d q = let ih = lookup-remove es k d.1 q in let a = tells e.0 k in let b = tells e.0 q in let c = tells k q in
+      grind (arith, common_steps)
 
-  pub lookup-store : (es : List (K × V)) (k : K) (w : Option V) → HasDistinctKeys same es → (q : K) → lookup same (store same es k w) q ≡ cond (same k q) w (lookup same es q)
+  pub lookup-store : (es : List (K × V)) (k : K) (w : Option V) → HasDistinctKeys same es → (q : K)
+      → lookup same (store same es k w) q ≡ cond (same k q) w (lookup same es q)
   lookup-store es k None d q = lookup-remove es k d q
   lookup-store es k (Some v) d q = lookup-put es k v q
 
   pub HasDistinctKeys-put : (es : List (K × V)) (k : K) (v : V) → HasDistinctKeys same es → HasDistinctKeys same (put same es k v)
   HasDistinctKeys-put [] k v d = (refl, tt)
-  HasDistinctKeys-put (e ∷ es) k v d = let ih = HasDistinctKeys-put es k v d.1 in let a = tells e.0 k in let b = lookup-put es k v e.0 in let c = tells k e.0 in grind (arith, common_steps)
+  HasDistinctKeys-put (e ∷ es) k v d = let ih = HasDistinctKeys-put es k v d.1 in let a = tells e.0 k in let b = lookup-put es k v e.0 in let c = tells k e.0 in
+      grind (arith, common_steps)
 
   pub HasDistinctKeys-remove : (es : List (K × V)) (k : K) → HasDistinctKeys same es → HasDistinctKeys same (remove same es k)
   HasDistinctKeys-remove [] k d = tt
-  HasDistinctKeys-remove (e ∷ es) k d = let ih = HasDistinctKeys-remove es k d.1 in let a = tells e.0 k in let b = lookup-remove es k d.1 e.0 in let c = tells k e.0 in grind (arith, common_steps)
+  HasDistinctKeys-remove (e ∷ es) k d = let ih = HasDistinctKeys-remove es k d.1 in let a = tells e.0 k in let b = lookup-remove es k d.1 e.0 in
+      let c = tells k e.0 in grind (arith, common_steps)
 
   pub HasDistinctKeys-store : (es : List (K × V)) (k : K) (w : Option V) → HasDistinctKeys same es → HasDistinctKeys same (store same es k w)
   HasDistinctKeys-store es k None d = HasDistinctKeys-remove es k d

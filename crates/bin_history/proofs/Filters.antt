@@ -9,10 +9,12 @@ one p xs x b e = filter-append p xs (x ∷ []) ∙ ap (λ (c : Bool). filter p x
 next_is : {X : Type 0} (xs : List X) (i : ℕ) (x : X) → i < length xs → x ≡ get_or xs i x → take (i + 1) xs ≡ take i xs ++ x ∷ []
 next_is {X} xs i x l e = take_more xs i x l ∙ ap (λ (y : X). take i xs ++ y ∷ []) (sym e)
 
-pub filter_more_kept : {X : Type 0} (p : X → Bool) (xs : List X) (i : ℕ) (x : X) → i < length xs → x ≡ get_or xs i x → p x ≡ true → filter p (take (i + 1) xs) ≡ filter p (take i xs) ++ x ∷ []
+pub filter_more_kept : {X : Type 0} (p : X → Bool) (xs : List X) (i : ℕ) (x : X) → i < length xs → x ≡ get_or xs i x → p x ≡ true
+    → filter p (take (i + 1) xs) ≡ filter p (take i xs) ++ x ∷ []
 filter_more_kept p xs i x l e t = ap (filter p) (next_is xs i x l e) ∙ one p (take i xs) x true t
 
-pub filter_more_left : {X : Type 0} (p : X → Bool) (xs : List X) (i : ℕ) (x : X) → i < length xs → x ≡ get_or xs i x → p x ≡ false → filter p (take (i + 1) xs) ≡ filter p (take i xs)
+pub filter_more_left : {X : Type 0} (p : X → Bool) (xs : List X) (i : ℕ) (x : X) → i < length xs → x ≡ get_or xs i x → p x ≡ false
+    → filter p (take (i + 1) xs) ≡ filter p (take i xs)
 filter_more_left p xs i x l e t = ap (filter p) (next_is xs i x l e) ∙ one p (take i xs) x false t ∙ append-nil (filter p (take i xs))
 
 pub pair_is : {A B : Type 0} (a : A) (b : B) (x : A × B) → a ≡ x.0 → b ≡ x.1 → (a, b) ≡ x

@@ -33,7 +33,8 @@ module _ {K V F : Type 0} (same : K → K → Bool) (tells : (x y : K) → Decid
         front ++ gone,
         record {
           distinct = h.distinct;
-          kept_is = ap (λ (ks : List (RecordView K V F)). ks ++ more) h.kept_is ∙ append_assoc front b.records more ∙ ap (λ (rs : List (RecordView K V F)). front ++ rs) g.stored_is ∙ sym (append_assoc front gone c.records);
+          kept_is = ap (λ (ks : List (RecordView K V F)). ks ++ more) h.kept_is ∙ append_assoc front b.records more
+              ∙ ap (λ (rs : List (RecordView K V F)). front ++ rs) g.stored_is ∙ sym (append_assoc front gone c.records);
           legal = IsLegal-append same tells after (lookup same opening) front gone h.legal (subst L base g.legal);
           base_is = g.base_is ∙ ap (λ (es : List (K × V)). replay same es gone) h.base_is ∙ sym (replay-append same tells opening front gone);
         },
@@ -75,11 +76,13 @@ module _ {K V F : Type 0} (same : K → K → Bool) (tells : (x y : K) → Decid
       let whole : old ++ drop 512 b.records ≡ b.records = take-append-drop 512 b.records in
       let base : lookup same b.base ≡ run same (lookup same opening) front = ap (lookup same) h.base_is ∙ lookup-replay same tells opening front h.distinct in
       let L : (K → Option V) → Type 0 = λ m. IsLegal same after m old in
-      let first : IsLegal same after (lookup same b.base) old = IsLegal-front same tells after (lookup same b.base) old (drop 512 b.records) (rw whole legal) in (
+      let first : IsLegal same after (lookup same b.base) old =
+      IsLegal-front same tells after (lookup same b.base) old (drop 512 b.records) (rw whole legal) in (
         front ++ old,
         record {
           distinct = h.distinct;
-          kept_is = h.kept_is ∙ ap (λ (rs : List (RecordView K V F)). front ++ rs) (sym whole ∙ ap (λ (rs : List (RecordView K V F)). old ++ rs) (sym k.records)) ∙ sym (append_assoc front old c.records);
+          kept_is = h.kept_is ∙ ap (λ (rs : List (RecordView K V F)). front ++ rs)
+              (sym whole ∙ ap (λ (rs : List (RecordView K V F)). old ++ rs) (sym k.records)) ∙ sym (append_assoc front old c.records);
           legal = IsLegal-append same tells after (lookup same opening) front old h.legal (subst L base first);
           base_is = k.base ∙ ap (λ (es : List (K × V)). replay same es old) h.base_is ∙ sym (replay-append same tells opening front old);
         },
@@ -90,15 +93,16 @@ module _ {K V F : Type 0} (same : K → K → Bool) (tells : (x y : K) → Decid
       → HasHistory same after opening kept b → IsPartOf code b c
       → HasHistory same after (part_of_entries (is_of code b.salt c.class) opening) (part_of_records (is_of code b.salt c.class) kept) c
   HasHistory-part opening kept b c (front, h) p =
-      let passes : K → Bool = is_of code b.salt c.class in
-      let part : lookup same (part_of_entries passes opening) ≡ part_of_map passes (lookup same opening) = λ i q. lookup-part same tells passes opening q i in
-      let L : (K → Option V) → Type 0 = λ m. IsLegal same after m (part_of_records passes front) in (
-        part_of_records passes front,
+      let test : K → Bool = is_of code b.salt c.class in
+      let part : lookup same (part_of_entries test opening) ≡ part_of_map test (lookup same opening) = λ i q. lookup-part same tells test opening q i in
+      let L : (K → Option V) → Type 0 = λ m. IsLegal same after m (part_of_records test front) in (
+        part_of_records test front,
         record {
-          distinct = HasDistinctKeys-part same tells passes opening h.distinct;
-          kept_is = ap (part_of_records passes) h.kept_is ∙ filter-append (λ (r : RecordView K V F). passes (key_of r.call)) front b.records ∙ ap (λ (rs : List (RecordView K V F)). part_of_records passes front ++ rs) (sym p.records);
-          legal = subst L (sym part) (IsLegal-part same tells passes after (lookup same opening) front h.legal);
-          base_is = p.base ∙ ap (part_of_entries passes) h.base_is ∙ sym (replay-part same tells passes opening front);
+          distinct = HasDistinctKeys-part same tells test opening h.distinct;
+          kept_is = ap (part_of_records test) h.kept_is ∙ filter-append (λ (r : RecordView K V F). test (key_of r.call)) front b.records
+              ∙ ap (λ (rs : List (RecordView K V F)). part_of_records test front ++ rs) (sym p.records);
+          legal = subst L (sym part) (IsLegal-part same tells test after (lookup same opening) front h.legal);
+          base_is = p.base ∙ ap (part_of_entries test) h.base_is ∙ sym (replay-part same tells test opening front);
         },
       )
 
@@ -110,5 +114,6 @@ module _ {K V F : Type 0} (same : K → K → Bool) (tells : (x y : K) → Decid
       let base : lookup same b.base ≡ run same (lookup same opening) front = ap (lookup same) h.base_is ∙ lookup-replay same tells opening front h.distinct in
       let L : (K → Option V) → Type 0 = λ m. IsLegal same after m b.records in (
         rw h.kept_is (IsLegal-append same tells after (lookup same opening) front b.records h.legal (subst L base legal)),
-        replayed ∙ ap (λ (es : List (K × V)). replay same es b.records) h.base_is ∙ sym (replay-append same tells opening front b.records) ∙ ap (replay same opening) (sym h.kept_is),
+        replayed ∙ ap (λ (es : List (K × V)). replay same es b.records) h.base_is ∙ sym (replay-append same tells opening front b.records)
+            ∙ ap (replay same opening) (sym h.kept_is),
       )

@@ -1,5 +1,6 @@
 -- What a bin keeps, through a call, a fold and a split.
-use Rattle.std.proofs.Common.{◌≡◌, ℕ, ◌<◌, ◌≤◌, Bool, true, false, cond, Option, Some, None, Decides, inl, inr, List, [], ◌∷◌, ◌++◌, length, refl, sym, ap, ◌∙◌, subst, arith, All, take, drop, filter}
+use Rattle.std.proofs.Common.{◌≡◌, ℕ, ◌<◌, ◌≤◌, Bool, true, false, cond, Option, Some, None, Decides, inl, inr, List, [], ◌∷◌, ◌++◌, length, refl, sym, ap, ◌∙◌}
+use Rattle.std.proofs.Common.{subst, arith, All, take, drop, filter}
 use Rattle.std.proofs.lemmas.Grind.{common_steps}
 use Rattle.std.proofs.lemmas.List.{length_push, take-append-drop, length-drop}
 use Rattle.std.proofs.lemmas.List.Elements.{All-cons, All-nil, All-push, All-take, All-drop}
@@ -33,7 +34,8 @@ length-filter-le p [] = omega arith
 length-filter-le p (x ∷ xs) = let ih = length-filter-le p xs in grind (arith, common_steps)
 
 module _ {K V F : Type 0} (same : K → K → Bool) (tells : (x y : K) → Decides (same x y) (x ≡ y)) (code : K → ℕ) (after : Call K V F → Option V → Option V) where
-  pub IsReplayed-new : (salt : Salt) (class : ClassView) (base : List (K × V)) (records : List (RecordView K V F)) (entries : List (K × V)) → HasDistinctKeys same base → All (λ e. is_of code salt class e.0 ≡ true) base → records ≡ [] → entries ≡ base → IsReplayed same code after salt class base records entries
+  pub IsReplayed-new : (salt : Salt) (class : ClassView) (base : List (K × V)) (records : List (RecordView K V F)) (entries : List (K × V)) → HasDistinctKeys
+      same base → All (λ e. is_of code salt class e.0 ≡ true) base → records ≡ [] → entries ≡ base → IsReplayed same code after salt class base records entries
   IsReplayed-new salt class base records entries d c r e =
       let P : List (RecordView K V F) → Type 0 = λ rs. IsReplayed same code after salt class base rs entries in
       subst P (sym r) (record {
@@ -45,10 +47,15 @@ module _ {K V F : Type 0} (same : K → K → Bool) (tells : (x y : K) → Decid
         replayed = e;
       })
 
-  pub IsReplayed-applied : (salt : Salt) (class : ClassView) (base : List (K × V)) (records : List (RecordView K V F)) (entries : List (K × V)) (r : RecordView K V F) → IsReplayed same code after salt class base records entries → is_of code salt class (key_of r.call) ≡ true → r.before ≡ lookup same entries (key_of r.call) → r.after ≡ after r.call r.before → length records < 1024 → IsReplayed same code after salt class base (records ++ r ∷ []) (store same entries (key_of r.call) r.after)
+  pub IsReplayed-applied : (salt : Salt) (class : ClassView) (base : List (K × V)) (records : List (RecordView K V F)) (entries : List (K × V))
+      (r : RecordView K V F) → IsReplayed same code after salt class base records entries → is_of code salt class (key_of r.call) ≡ true
+      → r.before ≡ lookup same entries (key_of r.call) → r.after ≡ after r.call r.before → length records < 1024
+      → IsReplayed same code after salt class base (records ++ r ∷ []) (store same entries (key_of r.call) r.after)
   IsReplayed-applied salt class base records entries r k of_class before_is after_is few =
-      let now : lookup same entries ≡ run same (lookup same base) records = ap (lookup same) k.replayed ∙ lookup-replay same tells base records k.base_distinct in
-      let at_key : lookup same entries (key_of r.call) ≡ run same (lookup same base) records (key_of r.call) = ap (λ (m : K → Option V). m (key_of r.call)) now in
+      let now : lookup same entries ≡ run same (lookup same base) records = ap (lookup same) k.replayed
+      ∙ lookup-replay same tells base records k.base_distinct in
+      let at_key : lookup same entries (key_of r.call) ≡ run same (lookup same base) records (key_of r.call) =
+      ap (λ (m : K → Option V). m (key_of r.call)) now in
       record {
         base_distinct = k.base_distinct;
         base_of_class = k.base_of_class;
@@ -58,36 +65,43 @@ module _ {K V F : Type 0} (same : K → K → Bool) (tells : (x y : K) → Decid
         replayed = ap (λ es. store same es (key_of r.call) r.after) k.replayed ∙ sym (replay-append same tells base records (r ∷ []));
       }
 
-  pub IsReplayed-folded : (salt : Salt) (class : ClassView) (base : List (K × V)) (records : List (RecordView K V F)) (entries : List (K × V)) (n : ℕ) → IsReplayed same code after salt class base records entries → IsReplayed same code after salt class (replay same base (take n records)) (drop n records) entries
+  pub IsReplayed-folded : (salt : Salt) (class : ClassView) (base : List (K × V)) (records : List (RecordView K V F)) (entries : List (K × V)) (n : ℕ)
+      → IsReplayed same code after salt class base records entries
+      → IsReplayed same code after salt class (replay same base (take n records)) (drop n records) entries
   IsReplayed-folded salt class base records entries n k =
       let whole : take n records ++ drop n records ≡ records = take-append-drop n records in
       let legal : IsLegal same after (lookup same base) (take n records ++ drop n records) = rw whole k.legal in
       let Q : RecordView K V F → Type 0 = λ x. is_of code salt class (key_of x.call) ≡ true in
-      let now : run same (lookup same base) (take n records) ≡ lookup same (replay same base (take n records)) = sym (lookup-replay same tells base (take n records) k.base_distinct) in
+      let now : run same (lookup same base) (take n records) ≡ lookup same (replay same base (take n records)) =
+      sym (lookup-replay same tells base (take n records) k.base_distinct) in
       let L : (K → Option V) → Type 0 = λ m. IsLegal same after m (drop n records) in
       record {
         base_distinct = HasDistinctKeys-replay same tells base (take n records) k.base_distinct;
-        base_of_class = All-replay same tells (λ q. is_of code salt class q ≡ true) base (take n records) k.base_of_class (All-take Q n records k.records_of_class);
+        base_of_class = All-replay same tells (λ q. is_of code salt class q ≡ true) base (take n records) k.base_of_class
+            (All-take Q n records k.records_of_class);
         records_of_class = All-drop Q n records k.records_of_class;
         legal = subst L now (IsLegal-rest same tells after (lookup same base) (take n records) (drop n records) legal);
         at_most = let l = length-drop n records in let m = k.at_most in omega arith;
         replayed = k.replayed ∙ ap (replay same base) (sym whole) ∙ replay-append same tells base (take n records) (drop n records);
       }
 
-  pub IsReplayed-part : (salt : Salt) (class half : ClassView) (base : List (K × V)) (records : List (RecordView K V F)) (entries : List (K × V)) → IsReplayed same code after salt class base records entries → IsReplayed same code after salt half (part_of_entries (is_of code salt half) base) (part_of_records (is_of code salt half) records) (part_of_entries (is_of code salt half) entries)
+  pub IsReplayed-part : (salt : Salt) (class half : ClassView) (base : List (K × V)) (records : List (RecordView K V F)) (entries : List (K × V))
+      → IsReplayed same code after salt class base records entries → IsReplayed same code after salt half (part_of_entries (is_of code salt half) base)
+      (part_of_records (is_of code salt half) records) (part_of_entries (is_of code salt half) entries)
   IsReplayed-part salt class half base records entries k =
-      let passes : K → Bool = is_of code salt half in
-      let L : (K → Option V) → Type 0 = λ m. IsLegal same after m (part_of_records passes records) in
+      let test : K → Bool = is_of code salt half in
+      let L : (K → Option V) → Type 0 = λ m. IsLegal same after m (part_of_records test records) in
       record {
-        base_distinct = HasDistinctKeys-part same tells passes base k.base_distinct;
-        base_of_class = All-passed (λ (e : K × V). passes e.0) base;
-        records_of_class = All-passed (λ (r : RecordView K V F). passes (key_of r.call)) records;
-        legal = subst L (λ i q. sym (lookup-part same tells passes base q) i) (IsLegal-part same tells passes after (lookup same base) records k.legal);
-        at_most = let l = length-filter-le (λ (r : RecordView K V F). passes (key_of r.call)) records in let m = k.at_most in omega arith;
-        replayed = ap (part_of_entries passes) k.replayed ∙ sym (replay-part same tells passes base records);
+        base_distinct = HasDistinctKeys-part same tells test base k.base_distinct;
+        base_of_class = All-passed (λ (e : K × V). test e.0) base;
+        records_of_class = All-passed (λ (r : RecordView K V F). test (key_of r.call)) records;
+        legal = subst L (λ i q. sym (lookup-part same tells test base q) i) (IsLegal-part same tells test after (lookup same base) records k.legal);
+        at_most = let l = length-filter-le (λ (r : RecordView K V F). test (key_of r.call)) records in let m = k.at_most in omega arith;
+        replayed = ap (part_of_entries test) k.replayed ∙ sym (replay-part same tells test base records);
       }
 
-  pub IsLawful-from_replayed : (b : BinView K V F) → IsReplayed same code after b.salt b.class b.base b.records b.entries → StoresByForm b → IsLawful same code after b
+  pub IsLawful-from_replayed : (b : BinView K V F) → IsReplayed same code after b.salt b.class b.base b.records b.entries → StoresByForm b
+      → IsLawful same code after b
   IsLawful-from_replayed b k stored =
       let es = replay same b.base b.records in
       record {
@@ -104,33 +118,40 @@ module _ {K V F : Type 0} (same : K → K → Bool) (tells : (x y : K) → Decid
       }
 
   -- a bin without records, whose base is its entries
-  pub IsReplayed-lean : (salt : Salt) (class : ClassView) (entries : List (K × V)) → HasDistinctKeys same entries → All (λ e. is_of code salt class e.0 ≡ true) entries → IsReplayed same code after salt class entries [] entries
+  pub IsReplayed-lean : (salt : Salt) (class : ClassView) (entries : List (K × V)) → HasDistinctKeys same entries
+      → All (λ e. is_of code salt class e.0 ≡ true) entries → IsReplayed same code after salt class entries [] entries
   IsReplayed-lean salt class entries d c = IsReplayed-new salt class entries [] entries d c refl refl
 
   -- the entries by themselves
-  pub IsReplayed-bare : (salt : Salt) (class : ClassView) (base : List (K × V)) (records : List (RecordView K V F)) (entries : List (K × V)) → IsReplayed same code after salt class base records entries → IsReplayed same code after salt class entries [] entries
+  pub IsReplayed-bare : (salt : Salt) (class : ClassView) (base : List (K × V)) (records : List (RecordView K V F)) (entries : List (K × V))
+      → IsReplayed same code after salt class base records entries → IsReplayed same code after salt class entries [] entries
   IsReplayed-bare salt class base records entries k =
       IsReplayed-lean salt class entries
       (rw k.replayed (HasDistinctKeys-replay same tells base records k.base_distinct))
       (rw k.replayed (All-replay same tells (λ q. is_of code salt class q ≡ true) base records k.base_of_class k.records_of_class))
 
   -- the same of what a bin with this log, or none, stores
-  pub IsReplayed-kept : (salt : Salt) (class : ClassView) (base : List (K × V)) (records : List (RecordView K V F)) (base' : List (K × V)) (records' : List (RecordView K V F)) (entries : List (K × V))
-      → IsReplayed same code after salt class base records entries → IsKeptOrFolded same base records base' records' → IsReplayed same code after salt class base' records' entries
+  pub IsReplayed-kept : (salt : Salt) (class : ClassView) (base : List (K × V)) (records : List (RecordView K V F)) (base' : List (K × V))
+      (records' : List (RecordView K V F)) (entries : List (K × V))
+      → IsReplayed same code after salt class base records entries → IsKeptOrFolded same base records base' records'
+      → IsReplayed same code after salt class base' records' entries
   IsReplayed-kept salt class base records base' records' entries k (inl (b, r)) = rw (b, r) k
   IsReplayed-kept salt class base records base' records' entries k (inr (full, b, r)) = rw (b, r) (IsReplayed-folded salt class base records entries 512 k)
 
   -- a call more on a bin with this log, or none
-  pub IsReplayed-called : {A : Type 0} (salt : Salt) (class : ClassView) (log log' : Option (Box (LogView K V F) A)) (entries entries' : List (K × V)) (r : RecordView K V F)
+  pub IsReplayed-called : {A : Type 0} (salt : Salt) (class : ClassView) (log log' : Option (Box (LogView K V F) A)) (entries entries' : List (K × V))
+      (r : RecordView K V F)
       → IsReplayed same code after salt class (base_of log entries) (records_of log) entries
-      → is_of code salt class (key_of r.call) ≡ true → r.before ≡ lookup same entries (key_of r.call) → r.after ≡ after r.call r.before → length (records_of log) < 1024
+      → is_of code salt class (key_of r.call) ≡ true → r.before ≡ lookup same entries (key_of r.call) → r.after ≡ after r.call r.before
+      → length (records_of log) < 1024
       → form_of log' ≡ form_of log → ((es : List (K × V)) → base_of log' es ≡ base_of log es) → records_of log' ≡ with_one_more (form_of log) (records_of log) r
       → entries' ≡ store same entries (key_of r.call) r.after
       → IsReplayed same code after salt class (base_of log' entries') (records_of log') entries'
   IsReplayed-called salt class (Some log) log' entries entries' r k of_class before_is after_is few form base records is =
       rw (base entries', records, is) (IsReplayed-applied salt class log.value.base log.value.records entries r k of_class before_is after_is few)
   IsReplayed-called salt class None log' entries entries' r k of_class before_is after_is few form base records is =
-      rw (base entries', records) (IsReplayed-bare salt class entries (r ∷ []) entries' (rw is (IsReplayed-applied salt class entries [] entries r k of_class before_is after_is few)))
+      rw (base entries', records) (IsReplayed-bare salt class entries (r ∷ []) entries'
+      (rw is (IsReplayed-applied salt class entries [] entries r k of_class before_is after_is few)))
 
 abbrev is_recorded : Form → Type 0
 is_recorded Recorded = Unit {0}
@@ -139,7 +160,8 @@ is_recorded Lean = ⊥
 recorded_is_not_lean : Recorded ≡ Lean → ⊥
 recorded_is_not_lean e = subst is_recorded e tt
 
-pub stored_by_form : {K V F A : Type 0} (log : Option (Box (LogView K V F) A)) (entries : List (K × V)) → form_of log ≡ Lean → (records_of log ≡ []) × (base_of log entries ≡ entries)
+pub stored_by_form : {K V F A : Type 0} (log : Option (Box (LogView K V F) A)) (entries : List (K × V)) → form_of log ≡ Lean
+    → (records_of log ≡ []) × (base_of log entries ≡ entries)
 stored_by_form (Some log) entries e = absurd (recorded_is_not_lean e)
 stored_by_form None entries e = (refl, refl)
 
@@ -148,6 +170,7 @@ pub base_in_log : {K V F A : Type 0} (log : Option (Box (LogView K V F) A)) (es 
 base_in_log (Some log) es fs e = refl
 base_in_log None es fs e = absurd (recorded_is_not_lean (sym e))
 
-pub KeepsOrFolds-of : {K V F : Type 0} (same_key : K → K → Bool) (b c : BinView K V F) → IsKeptOrFolded same_key b.base b.records c.base c.records → KeepsOrFolds same_key b c
+pub KeepsOrFolds-of : {K V F : Type 0} (same_key : K → K → Bool) (b c : BinView K V F) → IsKeptOrFolded same_key b.base b.records c.base c.records
+    → KeepsOrFolds same_key b c
 KeepsOrFolds-of same_key b c (inl (base, records)) = inl (record { base = base; records = records })
 KeepsOrFolds-of same_key b c (inr (full, base, records)) = inr (record { full = full; base = base; records = records })

@@ -3,7 +3,7 @@ use Rattle.std.specs.Prelude.{◌≡◌, ℕ, ◌<◌, Bool, true, Option, Some,
 use Rattle.hashkeys.specs.Classes.{is_of}
 use Rattle.bin_history.specs.Calls.{key_of, after, reply}
 use Rattle.bin_history.specs.Entries.{lookup, store, replay}
-use Rattle.bin_history.specs.Changes.{answered, changed, taken_from, HasPlace, Fits}
+use Rattle.bin_history.specs.Changes.{reply_of, entries_after, taken_from, HasIndex, Fits}
 use Rattle.bin_history.specs.Ops.{call_on}
 use Rattle.bin_history.specs.Lawful.{BinView}
 use Rattle.bin_history.specs.declared.call.Call.{Call}
@@ -44,27 +44,28 @@ module _ {K V F : Type 0} (same_key : K → K → Bool) (same_value : V → V �
   pub record IsWorkedOut (ready : ReadyView K V F) (entries : List (K × V)) : Type 0 where
     pub before_is : ready.before ≡ lookup same_key entries (key_of ready.call)
     pub after_is : ready.after ≡ after same_value remapped merged ready.call ready.before
-    pub reply_is : answered ready.answer (taken_from entries ready.change) ≡ reply same_value ready.call ready.before ready.after
-    pub has_place : HasPlace entries ready.change
-    pub change_is : changed entries ready.change ≡ store same_key entries (key_of ready.call) ready.after
+    pub reply_is : reply_of ready.answer (taken_from entries ready.change) ≡ reply same_value ready.call ready.before ready.after
+    pub has_index : HasIndex entries ready.change
+    pub change_is : entries_after entries ready.change ≡ store same_key entries (key_of ready.call) ready.after
 
 -- there is room for the record of the call, where the bin stores records, and for the entry that it adds, if it adds one
-pub record HasRoom {K V F : Type 0} (ready : ReadyView K V F) (b : BinView K V F) : Type 0 where
+pub record HasMemoryFor {K V F : Type 0} (ready : ReadyView K V F) (b : BinView K V F) : Type 0 where
   pub record_room : b.form ≡ Recorded → 0 < b.record_room
   pub entry_room : Fits b.entry_room ready.change
   pub few : length b.records < 1024
 
-module _ {K V F : Type 0} (same_key : K → K → Bool) (code : K → ℕ) (same_value : V → V → Bool) (remapped : F → K → Option V → Option V) (merged : F → V → V → Option V) where
+module _ {K V F : Type 0} (same_key : K → K → Bool) (code : K → ℕ) (same_value : V → V → Bool) (remapped : F → K → Option V → Option V)
+    (merged : F → V → V → Option V) where
   -- the call was prepared on this bin, and nothing was applied since
   pub record IsPrepared (ready : ReadyView K V F) (b : BinView K V F) : Type 0 where
     pub worked_out : IsWorkedOut same_key same_value remapped merged ready b.entries
-    pub room : HasRoom ready b
+    pub room : HasMemoryFor ready b
     pub kept : ready.kept ≡ kept_in b.form ready.call ready.before ready.after
     pub of_class : is_of code b.salt b.class (key_of ready.call) ≡ true
 
 -- the record of a call that is ready
-abbrev pub recorded : {K V F : Type 0} → ℕ → ℕ → ReadyView K V F → RecordView K V F
-recorded client ordinal ready = record { client = client; ordinal = ordinal; call = ready.call; before = ready.before; after = ready.after }
+abbrev pub record_of : {K V F : Type 0} → ℕ → ℕ → ReadyView K V F → RecordView K V F
+record_of client ordinal ready = record { client = client; ordinal = ordinal; call = ready.call; before = ready.before; after = ready.after }
 
 -- base and records as they were
 pub record KeepsRecords {K V F : Type 0} (b c : BinView K V F) : Type 0 where

@@ -4,7 +4,8 @@ use Rattle.bin_history.specs.Entries.{lookup}
 use Rattle.bin_history.specs.Lawful.{BinView}
 use Rattle.bin_history.specs.Ops.{may_add}
 use Rattle.bin_history.specs.declared.call.Call.{Call}
-use Rattle.bin_history.specs.declared.call.Call.TheVariants.{Get, Contains, Put, PutIfAbsent, Remove, RemoveIf, Replace, ReplaceIf, ComputeIfAbsent, ComputeIfPresent, Compute, Merge}
+use Rattle.bin_history.specs.declared.call.Call.TheVariants.{Get, Contains, Put, PutIfAbsent, Remove, RemoveIf, Replace, ReplaceIf, ComputeIfAbsent}
+use Rattle.bin_history.specs.declared.call.Call.TheVariants.{ComputeIfPresent, Compute, Merge}
 use Rattle.bin_history.specs.declared.form.Form.TheVariants.{Recorded}
 use Rattle.bin_history.specs.declared.op.Op.{Op}
 use Rattle.bin_history.specs.declared.op.Op.TheVariants as op
@@ -44,7 +45,8 @@ asks (op.Compute _) before = true
 asks (op.Merge _ _) before = is_some before
 
 -- nothing that the call on the key needs of this bin can be refused: no copy is, it asks no function, and there is room
-pub record IsSure {K V F : Type 0} (same_key : K → K → Bool) (key_copies : K → Type 0) (value_copies : V → Type 0) (b : BinView K V F) (k : K) (op : Op V F) : Type 0 where
+pub record IsSure {K V F : Type 0} (same_key : K → K → Bool) (key_copies : K → Type 0) (value_copies : V → Type 0) (b : BinView K V F) (k : K) (op : Op V F) :
+    Type 0 where
   pub key : key_copies k
   pub values : IsNeverRefused value_copies
   pub asks_none : asks op (lookup same_key b.entries k) ≡ false

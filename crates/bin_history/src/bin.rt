@@ -51,7 +51,8 @@ impl<K: HashKey, V: Clone + Eq, F: Remap<K, V> + Clone, A: Allocator> Model for 
       entry_room = vec_capacity b.entries - vec_len b.entries;
     } };
 
-    ghost invariant = { λ b. IsReplayed K.eq K.code (after V.eq F.remapped F.merged) b.salt b.class (base_of b.log b.entries.items) (records_of b.log) b.entries.items };
+    ghost invariant = { λ b. IsReplayed K.eq K.code (after V.eq F.remapped F.merged) b.salt b.class (base_of b.log b.entries.items)
+        (records_of b.log) b.entries.items };
 }
 
 impl<K: HashKey, V: Clone + Eq, F: Remap<K, V> + Clone, A: Allocator + Clone> Bin<K, V, F, A> {
@@ -203,7 +204,7 @@ impl<K: HashKey, V: Clone + Eq, F: Remap<K, V> + Clone, A: Allocator + Clone> Bi
     ghost use Rattle.bin_history.specs.Ops.{call_on, key_in};
     ghost use Rattle.bin_history.specs.declared.form.Form.TheVariants.{Recorded};
     ghost use Rattle.bin_history.specs.Logs.{with_one_more};
-    ghost use Rattle.bin_history.specs.Readiness.{IsPrepared, KeepsOrFolds, recorded};
+    ghost use Rattle.bin_history.specs.Readiness.{IsPrepared, KeepsOrFolds, record_of};
     ghost use Rattle.bin_history.specs.Sure.{IsSure, op_of};
 
     /// Prepares a call on a key of the bin's class: makes all growths, asks the call's function, makes all copies,
@@ -277,13 +278,13 @@ impl<K: HashKey, V: Clone + Eq, F: Remap<K, V> + Clone, A: Allocator + Clone> Bi
         requires client { client < 64 }
         requires ordinal { ordinal < 2 ^ 58 }
         ensures reply { result.0 ≡ reply V.eq ready.call ready.before ready.after }
-        ensures trace { result.1 ≡ recorded client ordinal ready }
+        ensures trace { result.1 ≡ record_of client ordinal ready }
         ensures entries { self.new.entries ≡ store K.eq self.old.entries (key_of ready.call) ready.after }
-        ensures records { self.new.records ≡ with_one_more self.old.form self.old.records (recorded client ordinal ready) }
+        ensures records { self.new.records ≡ with_one_more self.old.form self.old.records (record_of client ordinal ready) }
         ensures base { self.old.form ≡ Recorded → self.new.base ≡ self.old.base }
         ensures record_room { self.old.form ≡ Recorded → self.new.record_room + 1 ≡ self.old.record_room }
         ensures entry_room { length self.new.entries + self.new.entry_room ≡ length self.old.entries + self.old.entry_room }
-        ensures history { GoesOn K.eq (after V.eq F.remapped F.merged) self.old (recorded client ordinal ready ∷ []) self.new }
+        ensures history { GoesOn K.eq (after V.eq F.remapped F.merged) self.old (record_of client ordinal ready ∷ []) self.new }
         ensures form { self.new.form ≡ self.old.form }
         ensures class { self.new.class ≡ self.old.class }
         ensures salt { self.new.salt ≡ self.old.salt }

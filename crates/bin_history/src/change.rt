@@ -1,7 +1,7 @@
 //! Changes of a list of entries.
 ghost use Rattle.std.specs.Prelude.{◌≡◌, ◌<◌, ◌≤◌, ◌+◌, ◌-◌, IfOk, IsOk, option_copied, vec_len, vec_capacity};
 ghost use Rattle.bin_history.specs.Entries.{lookup};
-ghost use Rattle.bin_history.specs.Changes.{IsFound, change_at, change_to, change_by, changed, taken_from, HasPlace, Fits};
+ghost use Rattle.bin_history.specs.Changes.{IsIndexOf, change_at, change_to, change_by, entries_after, taken_from, HasIndex, Fits};
 ghost use Rattle.bin_history.specs.Copies.{IsExact};
 ghost use Rattle.bin_history.specs.Ops.{key_in};
 
@@ -11,7 +11,7 @@ use hashkeys::HashKey;
 use std::alloc::{AllocError, Allocator};
 use std::mem::replace;
 
-/// One change, at a known place.
+/// One change, at a known index.
 #[derive(Drop)]
 pub enum Change<K, V> {
     Stay,
@@ -20,9 +20,9 @@ pub enum Change<K, V> {
     Take(usize),
 }
 
-/// The place of a key.
+/// The index of a key.
 pub(crate) fn find<K: HashKey, V>(entries: &[(K, V)], key: &K) -> Option<usize>
-    ensures { IsFound K.eq entries.now key.now result }
+    ensures { IsIndexOf K.eq entries.now key.now result }
 {
     for (i, entry) in entries.iter().enumerate() {
         if entry.0 == *key {
@@ -38,7 +38,7 @@ pub(crate) fn value_at<'a, K: HashKey, V>(
     key: &K,
     found: Option<usize>,
 ) -> Option<&'a V>
-    requires { IsFound K.eq entries.now key.now found }
+    requires { IsIndexOf K.eq entries.now key.now found }
     ensures { option_copied result ≡ lookup K.eq entries.now key.now }
 {
     let _ = key;
@@ -49,7 +49,7 @@ pub(crate) fn value_at<'a, K: HashKey, V>(
 }
 
 impl<K, V> Change<K, V> {
-    /// The change by which the key at this place gets this value, or none.
+    /// The change by which the key at this index gets this value, or none.
     fn at(i: usize, value: Option<V>) -> Change<K, V>
         ensures { result ≡ change_at i value }
     {
@@ -118,10 +118,10 @@ impl<K: Drop, V: Drop> Change<K, V> {
     /// Makes the change. It gives back the value that it takes away.
     #[inline(always)]
     pub(crate) fn carry_out<A: Allocator>(self, entries: &mut Vec<(K, V), A>) -> Option<V>
-        requires place { HasPlace entries.old.items self }
+        requires index { HasIndex entries.old.items self }
         requires room { Fits (vec_capacity entries.old - vec_len entries.old) self }
         ensures taken { result ≡ taken_from entries.old.items self }
-        ensures items { entries.new.items ≡ changed entries.old.items self }
+        ensures items { entries.new.items ≡ entries_after entries.old.items self }
         ensures len { vec_len entries.new ≤ vec_len entries.old + 1 }
         ensures capacity { vec_capacity entries.new ≡ vec_capacity entries.old }
     {

@@ -1,6 +1,6 @@
 //! What a call does to the value at its key, and what it answers.
 ghost use Rattle.std.specs.Prelude.{◌≡◌, IfOk, IsOk, option_copied};
-ghost use Rattle.bin_history.specs.Changes.{answered, left_by};
+ghost use Rattle.bin_history.specs.Changes.{reply_of, left_by};
 ghost use Rattle.bin_history.specs.Copies.{IsExact};
 ghost use Rattle.bin_history.specs.Ops.{value_of};
 ghost use Rattle.bin_history.specs.Sure.{IsNeverRefused};
@@ -58,7 +58,7 @@ impl<V: Clone> Effect<V> {
 impl<V: Drop> Answer<V> {
     /// The reply, by the value that the call took away.
     pub(crate) fn reply(self, taken: Option<V>) -> Reply<V>
-        ensures { result ≡ answered self taken }
+        ensures { result ≡ reply_of self taken }
     {
         match self {
             Answer::Known(reply) => reply,

@@ -14,11 +14,11 @@ use hashkeys::HashKey;
 /// The part of a run, at the keys that any test passes, is the run of the part; and the part of a legal list is
 /// legal on the part of the map.
 pub fn part_of_a_run<K: HashKey, V: Eq, F: Remap<K, V>>()
-    ensures run { (passes : K → Bool) (map : K → Option V) (rs : List (RecordView K V F)) (k : K)
-        → run K.eq (part_of_map passes map) (part_of_records passes rs) k ≡ part_of_map passes (run K.eq map rs) k }
-    ensures legal { (passes : K → Bool) (map : K → Option V) (rs : List (RecordView K V F))
+    ensures run { (test : K → Bool) (map : K → Option V) (rs : List (RecordView K V F)) (k : K)
+        → run K.eq (part_of_map test map) (part_of_records test rs) k ≡ part_of_map test (run K.eq map rs) k }
+    ensures legal { (test : K → Bool) (map : K → Option V) (rs : List (RecordView K V F))
         → IsLegal K.eq (after V.eq F.remapped F.merged) map rs
-        → IsLegal K.eq (after V.eq F.remapped F.merged) (part_of_map passes map) (part_of_records passes rs) }
+        → IsLegal K.eq (after V.eq F.remapped F.merged) (part_of_map test map) (part_of_records test rs) }
 {}
 
 /// In a legal list each key by itself behaves as a cell of one thread, and a list in which each key does is legal.

@@ -136,7 +136,8 @@ pub(crate) fn add_to<K: Drop, V: Drop, F: Drop, A: Allocator>(
     ensures form { form_of log.new ≡ form_of log.old }
     ensures base { (es : List (K × V)) → base_of log.new es ≡ base_of log.old es }
     ensures records { (call : Call K V F) (before after : Option V) → kept ≡ kept_in (form_of log.old) call before after
-        → records_of log.new ≡ with_one_more (form_of log.old) (records_of log.old) (record { client = client; ordinal = ordinal; call = call; before = before; after = after }) }
+        → records_of log.new ≡ with_one_more (form_of log.old) (records_of log.old)
+        (record { client = client; ordinal = ordinal; call = call; before = before; after = after }) }
     ensures less_room { (call : Call K V F) (before after : Option V) → kept ≡ kept_in (form_of log.old) call before after
         → form_of log.old ≡ Recorded → record_room_of log.new + 1 ≡ record_room_of log.old }
 {
@@ -161,7 +162,8 @@ pub(crate) fn part_of_log<K: HashKey, V: Clone, F: Clone, A: Allocator + Clone>(
     requires values { IsExact V.is_clone }
     requires functions { IsExact F.is_clone }
     ensures form { IfOk result (λ part. form_of part ≡ form_of log.now) }
-    ensures base { IfOk result (λ part. (es : List (K × V)) → base_of part (part_of_entries (is_of K.code salt class) es) ≡ part_of_entries (is_of K.code salt class) (base_of log.now es)) }
+    ensures base { IfOk result (λ part. (es : List (K × V))
+        → base_of part (part_of_entries (is_of K.code salt class) es) ≡ part_of_entries (is_of K.code salt class) (base_of log.now es)) }
     ensures records { IfOk result (λ part. records_of part ≡ part_of_records (is_of K.code salt class) (records_of log.now)) }
 {
     match log {

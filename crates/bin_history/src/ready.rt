@@ -1,6 +1,6 @@
 //! Calls that are prepared.
 ghost use Rattle.std.specs.Prelude.{◌≡◌, ◌<◌, ℕ, None, true, false, IfOk, IsOk};
-ghost use Rattle.bin_history.specs.Changes.{IsFound, Fits};
+ghost use Rattle.bin_history.specs.Changes.{IsIndexOf, Fits};
 ghost use Rattle.bin_history.specs.Copies.{IsExact};
 ghost use Rattle.bin_history.specs.Entries.{lookup};
 ghost use Rattle.bin_history.specs.Ops.{call_on, key_in, may_add};
@@ -64,11 +64,12 @@ pub(crate) fn work_out<K: HashKey, V: Clone + Eq, F: Remap<K, V> + Drop>(
 ) -> Result<Ready<K, V, F>, AllocError>
     requires keys { IsExact K.is_clone }
     requires values { IsExact V.is_clone }
-    requires found { IsFound K.eq entries.now (key_in key) found }
+    requires found { IsIndexOf K.eq entries.now (key_in key) found }
     ensures call { IfOk result (λ r. r.call ≡ call_on (key_in key.entry) op) }
     ensures ready { IfOk result (λ r. IsWorkedOut K.eq V.eq F.remapped F.merged r entries.now) }
     ensures kept { IfOk result (λ r. r.kept ≡ kept_in form r.call r.before r.after) }
-    ensures succeeds { K.is_infallible (key_in key.entry) → IsNeverRefused V.is_infallible → asks op (lookup K.eq entries.now (key_in key.entry)) ≡ false → IsOk result }
+    ensures succeeds { K.is_infallible (key_in key.entry) → IsNeverRefused V.is_infallible → asks op (lookup K.eq entries.now (key_in key.entry)) ≡ false
+        → IsOk result }
     ensures fits { IfOk result (λ r. (room : ℕ) → (found ≡ None → may_add op ≡ true → 0 < room) → Fits room r.change) }
 {
     let before = value_at(entries, key.get(), found);

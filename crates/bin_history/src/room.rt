@@ -8,7 +8,8 @@ use std::alloc::{AllocError, Allocator};
 /// A list begins with room for so many.
 const LEAST_ROOM: usize = 4;
 
-/// Makes room for one more. A full list moves into a new one of twice its room: to be grown where it lies it would have to ask the heap of the thread that first
+/// Makes room for one more. A full list moves into a new one of twice its room: to
+/// be grown where it lies it would have to ask the heap of the thread that first
 /// made it, which other threads ask too.
 pub(crate) fn make_room_in<T: Drop, A: Allocator + Clone>(
     list: &mut Vec<T, A>,

@@ -47,7 +47,13 @@ impl<K, V, F> Trace<K, V, F> {
 
     /// What a call of this client leaves, which made so many before.
     pub(crate) fn seen(client: u32, ordinal: u64, seen: Seen<K, V, F>) -> Trace<K, V, F>
-        ensures { result ≡ record { client = client; ordinal = ordinal; call = call_seen seen.call; before = value_seen seen.before; after = value_seen seen.after } }
+        ensures { result ≡ record {
+          client = client;
+          ordinal = ordinal;
+          call = call_seen seen.call;
+          before = value_seen seen.before;
+          after = value_seen seen.after;
+        } }
     {
         Trace {
             client: Snapshot::of(&client),

@@ -104,7 +104,8 @@ fn remapped<K, V: Clone, F: Remap<K, V>>(
     before: Option<&V>,
 ) -> Result<Work<V>, AllocError>
     requires { IsExact V.is_clone }
-    ensures { IfOk result (λ work. work ≡ (let value = F.remapped function.now key.now (option_copied before.entry) in record { effect = Set value; answer = Known (Value value) })) }
+    ensures { IfOk result (λ work. work ≡ (let value = F.remapped function.now key.now (option_copied before.entry) in
+        record { effect = Set value; answer = Known (Value value) })) }
 {
     Work::setting(function.remap(key, before)?)
 }
@@ -115,7 +116,8 @@ fn merged<K, V: Clone, F: Remap<K, V>>(
     given: &V,
 ) -> Result<Work<V>, AllocError>
     requires { IsExact V.is_clone }
-    ensures { IfOk result (λ work. work ≡ (let value = F.merged function.now old.now given.now in record { effect = Set value; answer = Known (Value value) })) }
+    ensures { IfOk result (λ work. work ≡ (let value = F.merged function.now old.now given.now in
+        record { effect = Set value; answer = Known (Value value) })) }
 {
     Work::setting(function.merge(old, given)?)
 }

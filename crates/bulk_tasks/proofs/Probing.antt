@@ -3,16 +3,16 @@ use Rattle.std.proofs.Common.{◌≡◌, ◌≢◌, Bool, List, [], ◌∷◌, �
 use Rattle.std.proofs.lemmas.List.Elements.{All-append, Contains-append_left, Contains-append_right}
 use Rattle.bulk_tasks.specs.declared.searching.Probed.{Probed}
 use Rattle.bulk_tasks.specs.declared.searching.Probed.TheVariants.{Found, Nothing, GaveUp, Refused}
-use Rattle.bulk_tasks.specs.Searches.{IsFound, IsNowhere, IsProbed}
+use Rattle.bulk_tasks.specs.Searches.{IsHit, IsNowhere, IsProbed}
 
 module _ {K V U : Type 0} (probe : K → V → Option U) where
-  pub found_left : (es fs : List (K × V)) (u : U) → IsFound probe es u → IsFound probe (es ++ fs) u
+  pub found_left : (es fs : List (K × V)) (u : U) → IsHit probe es u → IsHit probe (es ++ fs) u
   found_left es fs u h = (h.0, Contains-append_left es fs h.0 h.1, h.2)
 
-  pub found_right : (es fs : List (K × V)) (u : U) → IsFound probe fs u → IsFound probe (es ++ fs) u
+  pub found_right : (es fs : List (K × V)) (u : U) → IsHit probe fs u → IsHit probe (es ++ fs) u
   found_right es fs u h = (h.0, Contains-append_right es fs h.0 h.1, h.2)
 
-  pub found_last : (es : List (K × V)) (k : K) (v : V) (u : U) → probe k v ≡ Some u → IsFound probe (es ++ (k, v) ∷ []) u
+  pub found_last : (es : List (K × V)) (k : K) (v : V) (u : U) → probe k v ≡ Some u → IsHit probe (es ++ (k, v) ∷ []) u
   found_last es k v u h = ((k, v), Contains-append_right es ((k, v) ∷ []) (k, v) (0, omega arith, refl), h)
 
   -- what has come to more than nothing stays so

@@ -1,7 +1,8 @@
 -- How much a range is halved.
 use Rattle.std.specs.Prelude.{ℕ, ◌*◌, ◌/◌, ◌==◌, nat_lt, if◌then◌else◌, min, ◌||◌}
 
--- of so many entries, a threshold and workers: nothing for the greatest threshold, for at most one entry, and for fewer entries than the threshold; else up to four tasks a
+-- of so many entries, a threshold and workers: nothing for the greatest threshold, for
+-- at most one entry, and for fewer entries than the threshold; else up to four tasks a
 -- worker, but no more than there are thresholds in the entries
 abbrev pub batch_of : ℕ → ℕ → ℕ → ℕ
 batch_of count threshold workers =

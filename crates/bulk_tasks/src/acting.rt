@@ -88,7 +88,8 @@ impl<
     }
 }
 
-/// Does the action with each entry. The answers come in walk order, one an entry. Where it is refused memory, what was done is done, and nothing is answered. It waits for its workers.
+/// Does the action with each entry. The answers come in walk order, one an entry. Where it is
+/// refused memory, what was done is done, and nothing is answered. It waits for its workers.
 pub fn for_each<
     K: HashKey + Send + Sync,
     V: Clone + Eq + Send + Sync,

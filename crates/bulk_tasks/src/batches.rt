@@ -2,7 +2,8 @@
 ghost use Rattle.std.specs.Prelude.{◌≡◌, ◌<◌, ◌≤◌};
 ghost use Rattle.bulk_tasks.specs.Batches.{batch_of};
 
-/// The batch of a bulk operation over so many entries: 0 leaves all to one task. The threshold is the least number of entries worth a task of their own; `u64::MAX` asks for one task, and 0 for
+/// The batch of a bulk operation over so many entries: 0 leaves all to one task. The threshold is
+/// the least number of entries worth a task of their own; `u64::MAX` asks for one task, and 0 for
 /// as many as keep all workers busy.
 pub fn batch(count: u64, threshold: u64, workers: usize) -> usize
     requires { (0 < workers) × (workers ≤ 16) }

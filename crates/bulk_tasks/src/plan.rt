@@ -4,7 +4,8 @@ ghost use Rattle.std.specs.Prelude.{◌≡◌, IfErr};
 use crate::fault::BulkFault;
 use steal_pool::OpenGate;
 
-/// How a bulk operation is shared out. The threshold is the least number of entries worth a task of their own (`batch` has the whole rule); there are 1 to 16 workers, the caller among
+/// How a bulk operation is shared out. The threshold is the least number of entries worth a
+/// task of their own (`batch` has the whole rule); there are 1 to 16 workers, the caller among
 /// them; and the gate is called before each task.
 #[derive(Drop, Debug)]
 pub struct Plan<'a, G> {

@@ -115,7 +115,8 @@ fn join_onto<K, V, R: Reducer<K, V>>(
     basis: R::A,
     folded: Option<R::A>,
 ) -> Result<R::A, AllocError>
-    ensures fold { IfOk result (λ a. (es : List (K × V)) → folded ≡ plain_fold (R.lifted reducer.now) (R.joined reducer.now) es → a ≡ fold_from (R.lifted reducer.now) (R.joined reducer.now) basis es) }
+    ensures fold { IfOk result (λ a. (es : List (K × V)) → folded ≡ plain_fold (R.lifted reducer.now) (R.joined reducer.now) es
+        → a ≡ fold_from (R.lifted reducer.now) (R.joined reducer.now) basis es) }
     ensures total { IsTrue R.never_refuses → R.within reducer.now 0 basis → (n : ℕ) → n < 2 ^ 64 → IfSome folded (R.within reducer.now n) → IsOk result }
 {
     match folded {
@@ -124,7 +125,8 @@ fn join_onto<K, V, R: Reducer<K, V>>(
     }
 }
 
-/// The value of all entries by the reducer: what lifting each and joining from left to right in walk order gives; none of no entries. With a reducer that never refuses it is refused a bad
+/// The value of all entries by the reducer: what lifting each and joining from left to right in
+/// walk order gives; none of no entries. With a reducer that never refuses it is refused a bad
 /// number of workers alone. It waits for its workers.
 pub fn reduce<
     K: HashKey + Send + Sync,
@@ -144,7 +146,8 @@ pub fn reduce<
 where
     R::A: Send,
     ensures fold { IfOk result (λ a. a ≡ plain_fold (R.lifted reducer.now) (R.joined reducer.now) (entries_of quiet.now.bins)) }
-    ensures order { IfOk result (λ a. (es : List (K × V)) → IsPermutation (entries_of quiet.now.bins) es → a ≡ plain_fold (R.lifted reducer.now) (R.joined reducer.now) es) }
+    ensures order { IfOk result (λ a. (es : List (K × V)) → IsPermutation (entries_of quiet.now.bins) es
+        → a ≡ plain_fold (R.lifted reducer.now) (R.joined reducer.now) es) }
     ensures workers { IsPlanned plan.now.workers result }
     ensures total { IsTrue R.never_refuses → ¬ IsErrOf result BulkFault.NoMemory }
 {
@@ -172,7 +175,8 @@ pub fn reduce_based<
 where
     R::A: Send,
     ensures fold { IfOk result (λ a. a ≡ fold_from (R.lifted reducer.now) (R.joined reducer.now) (R.based reducer.now) (entries_of quiet.now.bins)) }
-    ensures order { IfOk result (λ a. (es : List (K × V)) → IsPermutation (entries_of quiet.now.bins) es → a ≡ fold_from (R.lifted reducer.now) (R.joined reducer.now) (R.based reducer.now) es) }
+    ensures order { IfOk result (λ a. (es : List (K × V)) → IsPermutation (entries_of quiet.now.bins) es
+        → a ≡ fold_from (R.lifted reducer.now) (R.joined reducer.now) (R.based reducer.now) es) }
     ensures workers { IsPlanned plan.now.workers result }
     ensures total { IsTrue R.never_refuses → ¬ IsErrOf result BulkFault.NoMemory }
 {

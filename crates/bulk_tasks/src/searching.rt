@@ -152,7 +152,8 @@ pub(crate) fn search_alone<
     }
 }
 
-/// Something that the probe finds in some entry, or none where it finds nothing in any. Once something is found other entries may be left out. With a probe that never refuses it is refused
+/// Something that the probe finds in some entry, or none where it finds nothing in any. Once
+/// something is found other entries may be left out. With a probe that never refuses it is refused
 /// a bad number of workers alone. It waits for its workers.
 pub fn search<
     K: HashKey + Send + Sync,

@@ -1,9 +1,11 @@
-//! What a caller of a bulk operation gives. Each states the function that it works out; all may be refused memory, and a reducer or a probe may state that it never is.
+//! What a caller of a bulk operation gives. Each states the function that it works out;
+//! all may be refused memory, and a reducer or a probe may state that it never is.
 ghost use Rattle.std.specs.Prelude.{◌≡◌, ℕ, ◌+◌, ◌<◌, ◌^◌, IfOk, IsOk, IsTrue};
 
 use std::alloc::AllocError;
 
-/// What makes one value of all pairs: each is lifted, and the lifted values are joined. Join is associative and commutative, so it does not matter which are joined first. A reducer states a
+/// What makes one value of all pairs: each is lifted, and the lifted values are joined. Join is
+/// associative and commutative, so it does not matter which are joined first. A reducer states a
 /// bound within which the value of so many pairs lies: a join that is never refused need hold values of fewer than 2^64 pairs alone.
 pub trait Reducer<K, V> {
     ghost use Rattle.std.specs.Prelude.{ℕ, Bool};

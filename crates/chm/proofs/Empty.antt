@@ -13,9 +13,11 @@ module _ {K V Z : Type 0} where
   pub length-empty : (vs : List (Vec (K × V) Z)) (n : ℕ) → map (λ b. b.items) vs ≡ replicate n [] → length vs ≡ n
   length-empty vs n e = sym (length-map vs (λ (b : Vec (K × V) Z). b.items)) ∙ ap (λ (l : List (List (K × V))). length l) e ∙ length-replicate n []
 
-  pub distinct-empty : (same : K → K → Bool) (vs : List (Vec (K × V) Z)) (n : ℕ) → map (λ b. b.items) vs ≡ replicate n [] → All (λ b. HasDistinctKeys same b.items) vs
+  pub distinct-empty : (same : K → K → Bool) (vs : List (Vec (K × V) Z)) (n : ℕ) → map (λ b. b.items) vs ≡ replicate n []
+      → All (λ b. HasDistinctKeys same b.items) vs
   distinct-empty same [] n e = All-nil (λ (b : Vec (K × V) Z). HasDistinctKeys same b.items)
   distinct-empty same (v ∷ vs) zero e = absurd cc
   distinct-empty same (v ∷ vs) (suc n) e =
       let first : v.items ≡ [] = ap (λ (l : List (List (K × V))). slice_index_or l 0 v.items) e in
-      All-cons (λ (b : Vec (K × V) Z). HasDistinctKeys same b.items) v vs (subst (HasDistinctKeys same) (sym first) tt) (distinct-empty same vs n (ap (λ (l : List (List (K × V))). drop 1 l) e))
+      All-cons (λ (b : Vec (K × V) Z). HasDistinctKeys same b.items) v vs (subst (HasDistinctKeys same) (sym first) tt)
+      (distinct-empty same vs n (ap (λ (l : List (List (K × V))). drop 1 l) e))

@@ -8,20 +8,21 @@ use Rattle.bin_history.specs.Lawful.{BinView, IsLawful}
 use Rattle.bin_history.specs.Part.{part_of_entries, part_of_records}
 use Rattle.bin_history.specs.Plain.{IsLegal}
 use Rattle.bin_history.specs.declared.call.Call.{Call}
-use Rattle.bin_history.specs.Readiness.{ReadyView, IsWorkedOut, recorded}
+use Rattle.bin_history.specs.Readiness.{ReadyView, IsWorkedOut, record_of}
 use Rattle.bin_history.specs.Records.{RecordView}
 use Rattle.bin_history.specs.declared.call.Reply.{Reply}
 use Rattle.bin_history.proofs.Runs.{lookup-replay}
-use Rattle.count_ledger.specs.Agreement.{Agree}
+use Rattle.count_ledger.specs.Agreement.{BinAgrees}
 use Rattle.count_ledger.specs.Books.{BooksAgree, IsPassOf, IsRoleOf}
 use Rattle.count_ledger.specs.Views.{LedgerView, PassView, RoleView}
-use Rattle.count_ledger.proofs.Agreements.{Agree-replay}
+use Rattle.count_ledger.proofs.Agreements.{BinAgrees-replay}
 use Rattle.chm.specs.Called.{IsCalled, IsCalledOn}
 use Rattle.chm.specs.Views.{opening_in}
-use Rattle.chm.specs.Met.{IsMet}
+use Rattle.chm.specs.Histories.{IsMet}
 
 module _ {K V F : Type 0} (same : K → K → Bool) (tells : (x y : K) → Decides (same x y) (x ≡ y)) (code : K → ℕ) (after : Call K V F → Option V → Option V) where
-  module _ (ledger : LedgerView K V) (pass : PassView K V F) (b : BinView K V F) (r : RoleView K V F) (agree : Agree same after b r) (role : IsRoleOf code ledger r) where
+  module _ (ledger : LedgerView K V) (pass : PassView K V F) (b : BinView K V F) (r : RoleView K V F) (agree : BinAgrees same after b r)
+      (role : IsRoleOf code ledger r) where
     -- the role's opening pairs are those of the bin's class
     opening-met : r.opening ≡ opening_in code ledger b.class
     opening-met =
@@ -29,9 +30,10 @@ module _ {K V F : Type 0} (same : K → K → Bool) (tells : (x y : K) → Decid
         ∙ (λ i. part_of_entries (is_of code (role.salt i) r.class) ledger.opening)
         ∙ (λ i. part_of_entries (is_of code ledger.salt (sym agree.class i)) ledger.opening)
 
-    pub IsMet-agree : IsPassOf ledger pass → IsLawful same code after b → b.entries ≡ replay same b.base b.records → BooksAgree code pass r → IsMet same code after ledger pass b r
+    pub IsMet-agree : IsPassOf ledger pass → IsLawful same code after b → b.entries ≡ replay same b.base b.records → BooksAgree code pass r
+        → IsMet same code after ledger pass b r
     IsMet-agree of lawful replayed books =
-        let (legal, entries) = Agree-replay same tells code after b r agree lawful replayed in
+        let (legal, entries) = BinAgrees-replay same tells code after b r agree lawful replayed in
         let L : List (K × V) → Type 0 = λ es. IsLegal same after (lookup same es) r.kept in
         let is : b.entries ≡ replay same (opening_in code ledger b.class) r.kept = entries ∙ ap (λ (es : List (K × V)). replay same es r.kept) opening-met in
         let distinct = subst (HasDistinctKeys same) opening-met agree.history.1.distinct in
@@ -51,11 +53,15 @@ module _ {K V F : Type 0} (same : K → K → Bool) (tells : (x y : K) → Decid
           same_map = λ k. ap (λ (m : K → Option V). m k) run_is;
         }
 
-module _ {K V F : Type 0} (same : K → K → Bool) (code : K → ℕ) (same_value : V → V → Bool) (remapped : F → K → Option V → Option V) (merged : F → V → V → Option V) where
+module _ {K V F : Type 0} (same : K → K → Bool) (code : K → ℕ) (same_value : V → V → Bool) (remapped : F → K → Option V → Option V)
+    (merged : F → V → V → Option V) where
   -- a call that was worked out on a bin's entries and applied was made on them
-  pub IsCalledOn-applied : (ready : ReadyView K V F) (call : Call K V F) (old new : PassView K V F) (answer : Reply V) (es worked others : List (K × V)) (r : RecordView K V F) (client ordinal : ℕ)
-      → IsWorkedOut same same_value remapped merged ready worked → worked ≡ es → ready.call ≡ call → r ≡ recorded client ordinal ready → client ≡ old.client → ordinal ≡ length old.made
-      → others ≡ store same worked (key_of ready.call) ready.after → new ≡ record old { made = old.made ++ r ∷ [] } → answer ≡ reply same_value ready.call ready.before ready.after
+  pub IsCalledOn-applied : (ready : ReadyView K V F) (call : Call K V F) (old new : PassView K V F) (answer : Reply V) (es worked others : List (K × V))
+      (r : RecordView K V F) (client ordinal : ℕ)
+      → IsWorkedOut same same_value remapped merged ready worked → worked ≡ es → ready.call ≡ call → r ≡ record_of client ordinal ready → client ≡ old.client
+      → ordinal ≡ length old.made
+      → others ≡ store same worked (key_of ready.call) ready.after → new ≡ record old { made = old.made ++ r ∷ [] }
+      → answer ≡ reply same_value ready.call ready.before ready.after
       → IsCalledOn same code same_value remapped merged es others call old new answer
   IsCalledOn-applied ready call old new answer es worked others r client ordinal w kept is_call is by next stored pass replied =
       let r_call : r.call ≡ call = ap (λ (x : RecordView K V F). x.call) is ∙ is_call in
@@ -75,8 +81,10 @@ module _ {K V F : Type 0} (same : K → K → Bool) (code : K → ℕ) (same_val
       )
 
   -- such a call, on a bin of the key's hash that the pass met, found the value that the key had in the map
-  pub IsCalled-met : (ledger : LedgerView K V) (call : Call K V F) (old new : PassView K V F) (answer : Reply V) (b : BinView K V F) (role : RoleView K V F) (others : List (K × V))
-      → IsCalledOn same code same_value remapped merged b.entries others call old new answer → IsMet same code (after same_value remapped merged) ledger old b role
+  pub IsCalled-met : (ledger : LedgerView K V) (call : Call K V F) (old new : PassView K V F) (answer : Reply V) (b : BinView K V F) (role : RoleView K V F)
+      (others : List (K × V))
+      → IsCalledOn same code same_value remapped merged b.entries others call old new answer
+      → IsMet same code (after same_value remapped merged) ledger old b role
       → IsClass b.class → is_of code ledger.salt b.class (key_of call) ≡ true
       → IsCalled same code same_value remapped merged ledger call old new answer
   IsCalled-met ledger call old new answer b role others (r, made, before, stored) met class on =

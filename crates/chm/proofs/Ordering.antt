@@ -37,17 +37,21 @@ module _ {K V F : Type 0} (same : K → K → Bool) (tells : (x y : K) → Decid
     part : part_of_records (is_of code r.salt r.class) calls ≡ r.kept
 
   kept : All IsKept q.roles
-  kept = λ i d lt. record { role = All-get_or (IsRoleOf code q.ledger) q.roles i d lt quiet.books.each_role; part = All-get_or (λ r. part_of_records (is_of code r.salt r.class) calls ≡ r.kept) q.roles i d lt order.kept }
+  kept = λ i d lt. record {
+    role = All-get_or (IsRoleOf code q.ledger) q.roles i d lt quiet.books.each_role;
+    part = All-get_or (λ r. part_of_records (is_of code r.salt r.class) calls ≡ r.kept) q.roles i d lt order.kept;
+  }
 
   module _ (k : K) (b : BinView K V F) (r : RoleView K V F) (is_kept : IsKept r) (at_home : IsHome same tells code after g (entries_of q.bins) k b r) where
     of_class : is_of code r.salt r.class k ≡ true
-    of_class = (λ i. covers (sym at_home.leaf.agree.class i) (hash_of (is_kept.role.salt i) (code k))) ∙ at_home.covered
+    of_class = (λ i. covers (sym at_home.with_role.agree.class i) (hash_of (is_kept.role.salt i) (code k))) ∙ at_home.covered
 
     -- the calls on the key are those of the role that are on it
     on_key : records_on same k r.kept ≡ records_on same k calls
     on_key =
         ap (records_on same k) (sym is_kept.part)
-        ∙ filter_within (λ (x : RecordView K V F). same (key_of x.call) k) (λ x. is_of code r.salt r.class (key_of x.call)) (λ x is. ap (is_of code r.salt r.class) ((tells (key_of x.call) k).0 is) ∙ of_class) calls
+        ∙ filter_within (λ (x : RecordView K V F). same (key_of x.call) k) (λ x. is_of code r.salt r.class (key_of x.call))
+        (λ x is. ap (is_of code r.salt r.class) ((tells (key_of x.call) k).0 is) ∙ of_class) calls
 
     opened : lookup same r.opening k ≡ lookup same q.ledger.opening k
     opened =
@@ -61,8 +65,11 @@ module _ {K V F : Type 0} (same : K → K → Bool) (tells : (x y : K) → Decid
 
     history : IsLegal same after (lookup same r.opening) r.kept × (replay same b.base b.records ≡ replay same r.opening r.kept)
     history =
-        let (front, h) = at_home.leaf.agree.history in
-        HasHistory-replay same tells code after r.opening r.kept b_replayed (front, record { distinct = h.distinct; kept_is = h.kept_is; legal = h.legal; base_is = h.base_is }) at_home.leaf.lawful.legal refl_replay where
+        let (front, h) = at_home.with_role.agree.history in
+        HasHistory-replay same tells code after r.opening r.kept b_replayed (
+          front,
+          record { distinct = h.distinct; kept_is = h.kept_is; legal = h.legal; base_is = h.base_is },
+        ) at_home.with_role.lawful.legal refl_replay where
           refl_replay : b_replayed.entries ≡ replay same b.base b.records
           refl_replay = λ i. replay same b.base b.records
 
@@ -74,16 +81,16 @@ module _ {K V F : Type 0} (same : K → K → Bool) (tells : (x y : K) → Decid
     value : lookup same (entries_of q.bins) k ≡ run same (lookup same q.ledger.opening) calls k
     value =
         at_home.value
-        ∙ at_home.leaf.lawful.same_map k
-        ∙ sym (ap (λ (m : K → Option V). m k) (lookup-replay same tells b.base b.records at_home.leaf.lawful.base_distinct))
+        ∙ at_home.with_role.lawful.same_map k
+        ∙ sym (ap (λ (m : K → Option V). m k) (lookup-replay same tells b.base b.records at_home.with_role.lawful.base_distinct))
         ∙ ap (λ (es : List (K × V)). lookup same es k) history.1
-        ∙ ap (λ (m : K → Option V). m k) (lookup-replay same tells r.opening r.kept (at_home.leaf.agree.history).1.distinct)
+        ∙ ap (λ (m : K → Option V). m k) (lookup-replay same tells r.opening r.kept (at_home.with_role.agree.history).1.distinct)
         ∙ run-cell same tells (lookup same r.opening) r.kept k
         ∙ (λ i. cell_after (opened i) (on_key i))
         ∙ sym (run-cell same tells (lookup same q.ledger.opening) calls k)
 
   home_of : (k : K) → (b : BinView K V F) × (r : RoleView K V F) × IsKept r × IsHome same tells code after g (entries_of q.bins) k b r
-  home_of k = home same tells code after g IsKept q.bins q.roles k quiet.leaves kept (quiet.walk.each_hash (hash_of q.ledger.salt (code k)))
+  home_of k = home same tells code after g IsKept q.bins q.roles k quiet.with_roles kept (quiet.walk.each_hash (hash_of q.ledger.salt (code k)))
 
   pub IsOneOrder-closed : IsOneOrder same code after q calls
   IsOneOrder-closed = record {
@@ -99,7 +106,8 @@ module _ {K V F : Type 0} (same : K → K → Bool) (tells : (x y : K) → Decid
       let one = IsOneOrder-closed in
       record {
         clients = All-filter on (λ (x : RecordView K V F). x.client < q.ledger.clients) calls order.clients;
-        own = All-weaker (λ (p : PassView K V F). by_client p.client calls ≡ p.made) (λ p. by_client p.client (records_on same k calls) ≡ records_on same k p.made)
+        own = All-weaker (λ (p : PassView K V F). by_client p.client calls ≡ p.made)
+            (λ p. by_client p.client (records_on same k calls) ≡ records_on same k p.made)
             (λ p made. filter_turn (λ (x : RecordView K V F). x.client == p.client) on calls ∙ ap (records_on same k) made) q.passes order.made;
         legal = IsLegal-cell same tells after (lookup same q.ledger.opening) calls k one.legal;
         final = one.final k ∙ run-cell same tells (lookup same q.ledger.opening) calls k;
@@ -107,4 +115,5 @@ module _ {K V F : Type 0} (same : K → K → Bool) (tells : (x y : K) → Decid
 
   -- no key stands twice
   pub distinct-closed : HasDistinctKeys same (entries_of q.bins)
-  distinct-closed = distinct same tells code after g q.bins q.roles quiet.leaves (λ k. let one = quiet.walk.each_hash (hash_of q.ledger.salt (code k)) in omega arith)
+  distinct-closed = distinct same tells code after g q.bins q.roles quiet.with_roles
+      (λ k. let one = quiet.walk.each_hash (hash_of q.ledger.salt (code k)) in omega arith)

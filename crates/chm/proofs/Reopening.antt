@@ -47,17 +47,19 @@ module _ {K V : Type 0} (same : K → K → Bool) (tells : (x y : K) → Decides
 
     in_one_from : (a len : ℕ) → a ≤ hash_of salt (code k) % n → hash_of salt (code k) % n < a + len → lookup same (parts_from a len) k ≡ lookup same es k
     in_one_from a zero from below = absurd (omega arith)
-    in_one_from a (suc len) from below = ⊎_elim (λ lt. later lt (in_one_from (a + 1) len (omega arith) (omega arith))) here (cases_lt a (hash_of salt (code k) % n)) where
-      later : a < hash_of salt (code k) % n → lookup same (parts_from (a + 1) len) k ≡ lookup same es k → lookup same (parts_from a (suc len)) k ≡ lookup same es k
-      later lt rest = lookup-right same (part a) (parts_from (a + 1) len) k (in_no_other a (λ e. omega (arith, e))) ∙ rest
+    in_one_from a (suc len) from below =
+        ⊎_elim (λ lt. later lt (in_one_from (a + 1) len (omega arith) (omega arith))) here (cases_lt a (hash_of salt (code k) % n)) where
+          later : a < hash_of salt (code k) % n → lookup same (parts_from (a + 1) len) k ≡ lookup same es k
+              → lookup same (parts_from a (suc len)) k ≡ lookup same es k
+          later lt rest = lookup-right same (part a) (parts_from (a + 1) len) k (in_no_other a (λ e. omega (arith, e))) ∙ rest
 
-      here : hash_of salt (code k) % n ≤ a → lookup same (parts_from a (suc len)) k ≡ lookup same es k
-      here le = go (lookup same es k) refl (in_its_own a (omega (arith, from, le))) where
-        go : (o : Option V) → lookup same es k ≡ o → lookup same (part a) k ≡ lookup same es k → lookup same (parts_from a (suc len)) k ≡ lookup same es k
-        go None is own =
-            lookup-right same (part a) (parts_from (a + 1) len) k (own ∙ is)
-            ∙ in_none_from (a + 1) len (omega (arith, from, le)) ∙ sym is
-        go (Some w) is own = lookup-left_found (part a) (parts_from (a + 1) len) k w (own ∙ is) ∙ sym is
+          here : hash_of salt (code k) % n ≤ a → lookup same (parts_from a (suc len)) k ≡ lookup same es k
+          here le = go (lookup same es k) refl (in_its_own a (omega (arith, from, le))) where
+            go : (o : Option V) → lookup same es k ≡ o → lookup same (part a) k ≡ lookup same es k → lookup same (parts_from a (suc len)) k ≡ lookup same es k
+            go None is own =
+                lookup-right same (part a) (parts_from (a + 1) len) k (own ∙ is)
+                ∙ in_none_from (a + 1) len (omega (arith, from, le)) ∙ sym is
+            go (Some w) is own = lookup-left_found (part a) (parts_from (a + 1) len) k w (own ∙ is) ∙ sym is
 
     pub lookup-in_classes : 0 < n → lookup same (in_classes code salt n es) k ≡ lookup same es k
     lookup-in_classes some = in_one_from 0 n (omega arith) (let low = mod-lt (hash_of salt (code k)) some in omega arith)

@@ -16,9 +16,12 @@ pub record AreExact {K V F : Type 0} (key : K → K → Type 0) (value : V → V
   pub values : IsExact value
   pub functions : IsExact function
 
-module _ {K V F : Type 0} (same_key : K → K → Bool) (code : K → ℕ) (same_value : V → V → Bool) (remapped : F → K → Option V → Option V) (merged : F → V → V → Option V) where
-  -- the pass made the call, whose reply the answer stands for, or the call was refused and the pass is as it was: because the pass is full, or for want of memory
-  pub record IsAnsweredAs {T : Type 0} (reply : T → Reply V) (ledger : LedgerView K V) (call : Call K V F) (old new : PassView K V F) (result : Result T Fault) : Type 0 where
+module _ {K V F : Type 0} (same_key : K → K → Bool) (code : K → ℕ) (same_value : V → V → Bool) (remapped : F → K → Option V → Option V)
+    (merged : F → V → V → Option V) where
+  -- the pass made the call, whose reply the answer stands for, or the call was refused
+  -- and the pass is as it was: because the pass is full, or for want of memory
+  pub record IsAnsweredAs {T : Type 0} (reply : T → Reply V) (ledger : LedgerView K V) (call : Call K V F) (old new : PassView K V F)
+      (result : Result T Fault) : Type 0 where
     pub called : IfOk result (λ answer. IsCalled same_key code same_value remapped merged ledger call old new (reply answer))
     pub refused : OnErr result (new ≡ old)
     pub full : IsErrOf result PassFull ↔ (most_calls ledger.form ≤ length old.made)

@@ -9,7 +9,7 @@ use Rattle.bin_history.specs.Records.{RecordView}
 use Rattle.bin_history.specs.declared.call.Reply.{Reply}
 use Rattle.count_ledger.specs.Views.{LedgerView, PassView}
 use Rattle.chm.specs.Views.{opening_in}
-use Rattle.chm.specs.Met.{IsHistory}
+use Rattle.chm.specs.Histories.{IsHistory}
 
 module _ {K V F : Type 0} (same_key : K → K → Bool) (code : K → ℕ) (after : Call K V F → Option V → Option V) where
   -- the value that the key had at the end of a history of a class that its hash is in
@@ -30,7 +30,8 @@ module _ {K V F : Type 0} (same_value : V → V → Bool) (remapped : F → K �
     pub left : r.after ≡ after same_value remapped merged call r.before
     pub reply_is : answer ≡ reply same_value call r.before r.after
 
-module _ {K V F : Type 0} (same_key : K → K → Bool) (code : K → ℕ) (same_value : V → V → Bool) (remapped : F → K → Option V → Option V) (merged : F → V → V → Option V) where
+module _ {K V F : Type 0} (same_key : K → K → Bool) (code : K → ℕ) (same_value : V → V → Bool) (remapped : F → K → Option V → Option V)
+    (merged : F → V → V → Option V) where
   -- the pass made the call, which found the value that the key had in the map
   abbrev pub IsCalled : LedgerView K V → Call K V F → PassView K V F → PassView K V F → Reply V → Type 0
   IsCalled ledger call old new answer =

@@ -26,7 +26,8 @@ HasRemoved {K} {V} {F} old new = (removals : List (RecordView K V F)) × All IsR
 -- the same of keys of a class
 abbrev pub HasRemovedIn : {K V F : Type 0} → (K → ℕ) → Salt → ClassView → PassView K V F → PassView K V F → Type 0
 HasRemovedIn {K} {V} {F} code salt class old new =
-    (removals : List (RecordView K V F)) × All IsRemoval removals × All (λ r. is_of code salt class (key_of r.call) ≡ true) removals × (new ≡ record old { made = old.made ++ removals })
+    (removals : List (RecordView K V F)) × All IsRemoval removals × All (λ r. is_of code salt class (key_of r.call) ≡ true) removals
+    × (new ≡ record old { made = old.made ++ removals })
 
 module _ {K V F : Type 0} (same_key : K → K → Bool) (code : K → ℕ) (after : Call K V F → Option V → Option V) where
   -- a walk over the bins as they were left would have shown none with entries
@@ -39,9 +40,11 @@ module _ {K V F : Type 0} (same_key : K → K → Bool) (code : K → ℕ) (afte
 
 -- a pair is left: by the client's own calls, a class has one
 abbrev pub HasOwnLeft : {K V F : Type 0} → (K → K → Bool) → (K → ℕ) → LedgerView K V → PassView K V F → Type 0
-HasOwnLeft same_key code ledger pass = (c : ClassView) × (replay same_key (opening_in code ledger c) (part_of_records (is_of code ledger.salt c) pass.made) ≢ [])
+HasOwnLeft same_key code ledger pass = (c : ClassView)
+    × (replay same_key (opening_in code ledger c) (part_of_records (is_of code ledger.salt c) pass.made) ≢ [])
 
 -- nothing is left: by the client's own calls, no class of a walk has a pair
 abbrev pub IsEmptied : {K V F : Type 0} → (K → K → Bool) → (K → ℕ) → ℕ → LedgerView K V → PassView K V F → Type 0
 IsEmptied same_key code n ledger pass =
-    (classes : List ClassView) × IsWalk n classes × All (λ c. replay same_key (opening_in code ledger c) (part_of_records (is_of code ledger.salt c) pass.made) ≡ []) classes
+    (classes : List ClassView) × IsWalk n classes
+    × All (λ c. replay same_key (opening_in code ledger c) (part_of_records (is_of code ledger.salt c) pass.made) ≡ []) classes

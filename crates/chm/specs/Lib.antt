@@ -1,5 +1,5 @@
 pub mod Views
-pub mod Met
+pub mod Histories
 pub mod Called
 pub mod Answered
 pub mod Sizes

@@ -17,7 +17,8 @@ module _ {K V F : Type 0} (same_key : K → K → Bool) (code : K → ℕ) (afte
     pub final : (k : K) → lookup same_key (entries_of q.bins) k ≡ run same_key (lookup same_key q.ledger.opening) calls k
 
 module _ {K V F : Type 0} (same_key : K → K → Bool) (after : Call K V F → Option V → Option V) where
-  -- all calls on one key: of each client those that it made on the key, in its order; they are calls of one cell, from the opening value of the key to its closed one
+  -- all calls on one key: of each client those that it made on the key, in its order;
+  -- they are calls of one cell, from the opening value of the key to its closed one
   pub record IsHistoryOfKey (q : QuietView K V F) (k : K) (rs : List (RecordView K V F)) : Type 0 where
     pub clients : All (λ r. r.client < q.ledger.clients) rs
     pub own : All (λ p. by_client p.client rs ≡ records_on same_key k p.made) q.passes

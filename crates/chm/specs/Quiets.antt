@@ -3,9 +3,9 @@ use Rattle.std.specs.Prelude.{ℕ, Bool, Option, List, flat_map}
 use Rattle.hashkeys.specs.Classes.{IsTableSize}
 use Rattle.bin_history.specs.Lawful.{BinView}
 use Rattle.bin_history.specs.declared.call.Call.{Call}
-use Rattle.count_ledger.specs.Settled.{AllAgree}
+use Rattle.count_ledger.specs.Settled.{AreReconciled}
 use Rattle.count_ledger.specs.Views.{LedgerView, PassView, RoleView}
-use Rattle.generations.specs.Leaves.{AreLeaves, classes_of_bins}
+use Rattle.generations.specs.BinsWithRoles.{AreBinsWithRoles, classes_of_bins}
 use Rattle.generations.specs.Walks.{IsWalk}
 use Rattle.chm.specs.Views.{bins_of}
 
@@ -27,5 +27,5 @@ module _ {K V F : Type 0} (same_key : K → K → Bool) (code : K → ℕ) (afte
   pub record IsQuiet (q : QuietView K V F) : Type 0 where
     pub size : IsTableSize q.n
     pub walk : IsWalk q.n (classes_of_bins q.bins)
-    pub leaves : AreLeaves same_key code after (bins_of (record { ledger = q.ledger; n = q.n })) q.bins q.roles
-    pub books : AllAgree code q.ledger q.passes q.roles
+    pub with_roles : AreBinsWithRoles same_key code after (bins_of (record { ledger = q.ledger; n = q.n })) q.bins q.roles
+    pub books : AreReconciled code q.ledger q.passes q.roles

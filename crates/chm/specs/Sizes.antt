@@ -13,12 +13,12 @@ abbrev pub threshold : ℕ → ℕ
 threshold n = n - n / 4
 
 -- a table of n bins has room for this many keys, or there is no wider one
-abbrev pub HasRoom : ℕ → ℕ → Type 0
-HasRoom count n = (count < threshold n) ⊎ (n ≡ 65536)
+abbrev pub IsWideEnough : ℕ → ℕ → Type 0
+IsWideEnough count n = (count < threshold n) ⊎ (n ≡ 65536)
 
 -- the least table from n0 bins on that has room
 pub record IsSizeFrom (n0 count n : ℕ) : Type 0 where
   pub size : IsTableSize n
   pub from : n0 ≤ n
-  pub room : HasRoom count n
-  pub least : (m : ℕ) → IsTableSize m → n0 ≤ m → HasRoom count m → n ≤ m
+  pub room : IsWideEnough count n
+  pub least : (m : ℕ) → IsTableSize m → n0 ≤ m → IsWideEnough count m → n ≤ m

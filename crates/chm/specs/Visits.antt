@@ -7,18 +7,18 @@ use Rattle.bin_history.specs.Part.{part_of_records}
 use Rattle.bin_history.specs.declared.call.Call.{Call}
 use Rattle.bin_history.specs.Records.{RecordView}
 use Rattle.count_ledger.specs.Views.{LedgerView, PassView, RoleView}
-use Rattle.generations.specs.Leaves.{IsLeaf}
+use Rattle.generations.specs.BinsWithRoles.{IsBinWithRole}
 use Rattle.generations.specs.Walks.{IsWalk}
 use Rattle.chm.specs.Views.{MapView, opening_in, bins_of}
-use Rattle.chm.specs.Met.{IsHistory}
+use Rattle.chm.specs.Histories.{IsHistory}
 
 -- a visit: the class of a bin, and its entries
 pub record VisitView (K V : Type 0) : Type 0 where
   pub class : ClassView
   pub entries : List (K × V)
 
-abbrev pub classes_of : {K V : Type 0} → List (VisitView K V) → List ClassView
-classes_of visits = map (λ v. v.class) visits
+abbrev pub classes_of_visits : {K V : Type 0} → List (VisitView K V) → List ClassView
+classes_of_visits visits = map (λ v. v.class) visits
 
 -- all that visits show
 abbrev pub shown_by : {K V : Type 0} → List (VisitView K V) → List (K × V)
@@ -36,12 +36,13 @@ module _ {K V F : Type 0} (same_key : K → K → Bool) (code : K → ℕ) (afte
   pub record IsVisit (ledger : LedgerView K V) (pass : PassView K V F) (v : VisitView K V) : Type 0 where
     pub distinct : HasDistinctKeys same_key v.entries
     pub of_class : All (λ e. is_of code ledger.salt v.class e.0 ≡ true) v.entries
-    pub history : (kept : List (RecordView K V F)) × IsHistory same_key code after ledger pass v.class kept × (v.entries ≡ replay same_key (opening_in code ledger v.class) kept)
+    pub history : (kept : List (RecordView K V F)) × IsHistory same_key code after ledger pass v.class kept
+        × (v.entries ≡ replay same_key (opening_in code ledger v.class) kept)
 
   -- visits of a whole table that opened with n bins: in walk order, and every hash is of one of them
   pub record AreVisits (n : ℕ) (ledger : LedgerView K V) (pass : PassView K V F) (visits : List (VisitView K V)) : Type 0 where
     pub each : All (IsVisit ledger pass) visits
-    pub walk : IsWalk n (classes_of visits)
+    pub walk : IsWalk n (classes_of_visits visits)
 
 -- the entries are what the client's own calls made of the opening map's part
 abbrev pub IsOwn : {K V F : Type 0} → (K → K → Bool) → (K → ℕ) → LedgerView K V → PassView K V F → VisitView K V → Type 0
@@ -50,4 +51,5 @@ IsOwn same_key code ledger pass v = v.entries ≡ replay same_key (opening_in co
 -- a bin of the map for the key's hash, which is lawful and agrees with a role of the map's ledger, has this value at the key
 abbrev pub IsShown : {K V F : Type 0} → (K → K → Bool) → (K → ℕ) → (Call K V F → Option V → Option V) → MapView K V → K → Option V → Type 0
 IsShown {K} {V} {F} same_key code after map key value =
-    (b : BinView K V F) × (r : RoleView K V F) × IsLeaf same_key code after (bins_of map) b r × (is_of code map.ledger.salt b.class key ≡ true) × (value ≡ lookup same_key b.entries key)
+    (b : BinView K V F) × (r : RoleView K V F) × IsBinWithRole same_key code after (bins_of map) b r × (is_of code map.ledger.salt b.class key ≡ true)
+    × (value ≡ lookup same_key b.entries key)

@@ -34,7 +34,8 @@ impl<
         requires values { IsExact V.is_clone }
         requires pass { pass.old.ledger ≡ self.now.ledger.id }
         requires room { length pass.old.made < most_calls self.now.ledger.form }
-        ensures called { IfOk result (λ r. IsCalled K.eq K.code V.eq F.remapped F.merged self.now.ledger (call_on (key_in key.entry) op) pass.old pass.new r.0) }
+        ensures called { IfOk result (λ r. IsCalled K.eq K.code V.eq F.remapped F.merged self.now.ledger
+            (call_on (key_in key.entry) op) pass.old pass.new r.0) }
         ensures refused { OnErr result (pass.new ≡ pass.old) }
     {
         let mut held = self.bins.hold(rt, self.salt().hash_of(key.get()));
@@ -292,7 +293,8 @@ impl<
         self.call(rt, pass, Call::Compute(key, function))
     }
 
-    /// Gives a key without a value this one, and a key with a value what the function makes of both. It replies the value after. Nothing but the key's bin is held while the function runs.
+    /// Gives a key without a value this one, and a key with a value what the function makes of
+    /// both. It replies the value after. Nothing but the key's bin is held while the function runs.
     ///
     ///     map.merge(rt, pass, 1, 5, Plus(0))? == Reply::Value(Some(5))
     ///     map.merge(rt, pass, 1, 2, Plus(0))? == Reply::Value(Some(7))

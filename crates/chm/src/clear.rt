@@ -2,7 +2,7 @@
 ghost use Rattle.std.specs.Prelude.{◌≡◌, ◌≢◌, ◌<◌, ◌≤◌, ◌↔◌, [], length, IfOk, IfErr, IsErrOf, OnOk, OnErr};
 ghost use Rattle.bin_history.specs.Calls.{after};
 ghost use Rattle.bin_history.specs.Copies.{IsExact};
-ghost use Rattle.count_ledger.specs.Agreement.{Agree};
+ghost use Rattle.count_ledger.specs.Agreement.{BinAgrees};
 ghost use Rattle.count_ledger.specs.Limits.{most_calls};
 ghost use Rattle.chm.specs.Cleared.{HasLeft, HasOwnLeft, HasRemoved, HasRemovedIn, IsCleared, IsEmptied};
 ghost use Rattle.chm.specs.Refusals.{IsOfCall};
@@ -34,7 +34,7 @@ impl<
         requires values { IsExact V.is_clone }
         requires pass { pass.old.ledger ≡ self.now.ledger.id }
         requires role { role.old.ledger ≡ self.now.ledger.id }
-        requires agree { Agree K.eq (after V.eq F.remapped F.merged) bin.old role.old }
+        requires agree { BinAgrees K.eq (after V.eq F.remapped F.merged) bin.old role.old }
         requires some { bin.old.entries ≢ [] }
         ensures removed { HasRemovedIn K.code bin.old.salt bin.old.class pass.old pass.new }
         ensures fewer { OnOk result (length bin.new.entries < length bin.old.entries) }
@@ -42,7 +42,7 @@ impl<
         ensures class { bin.new.class ≡ bin.old.class }
         ensures salt { bin.new.salt ≡ bin.old.salt }
         ensures ledger { role.new.ledger ≡ role.old.ledger }
-        ensures agree { Agree K.eq (after V.eq F.remapped F.merged) bin.new role.new }
+        ensures agree { BinAgrees K.eq (after V.eq F.remapped F.merged) bin.new role.new }
         ensures full { IsErrOf result Fault.PassFull → most_calls self.now.ledger.form ≤ length pass.new.made }
         ensures left { IsErrOf result Fault.PassFull → bin.new.entries ≢ [] }
         ensures faults { IfErr result IsOfCall }
@@ -68,14 +68,14 @@ impl<
         requires values { IsExact V.is_clone }
         requires pass { pass.old.ledger ≡ self.now.ledger.id }
         requires role { role.old.ledger ≡ self.now.ledger.id }
-        requires agree { Agree K.eq (after V.eq F.remapped F.merged) bin.old role.old }
+        requires agree { BinAgrees K.eq (after V.eq F.remapped F.merged) bin.old role.old }
         ensures removed { HasRemovedIn K.code bin.old.salt bin.old.class pass.old pass.new }
         ensures empty { OnOk result (bin.new.entries ≡ []) }
         ensures form { bin.new.form ≡ bin.old.form }
         ensures class { bin.new.class ≡ bin.old.class }
         ensures salt { bin.new.salt ≡ bin.old.salt }
         ensures ledger { role.new.ledger ≡ role.old.ledger }
-        ensures agree { Agree K.eq (after V.eq F.remapped F.merged) bin.new role.new }
+        ensures agree { BinAgrees K.eq (after V.eq F.remapped F.merged) bin.new role.new }
         ensures full { IsErrOf result Fault.PassFull → most_calls self.now.ledger.form ≤ length pass.new.made }
         ensures left { IsErrOf result Fault.PassFull → bin.new.entries ≢ [] }
         ensures faults { IfErr result IsOfCall }
@@ -99,7 +99,8 @@ impl<
         ensures removed { HasRemoved pass.old pass.new }
         ensures there { IfOk result (λ its. HasRemovedIn K.code self.now.ledger.salt its pass.old pass.new) }
         ensures first { IfOk result (λ its. IsFirstOf class its) }
-        ensures visit { IfOk result (λ its. IsVisit K.eq K.code (after V.eq F.remapped F.merged) self.now.ledger pass.new (record { class = its; entries = [] })) }
+        ensures visit { IfOk result (λ its. IsVisit K.eq K.code (after V.eq F.remapped F.merged) self.now.ledger pass.new
+            (record { class = its; entries = [] })) }
         ensures full { IsErrOf result Fault.PassFull → most_calls self.now.ledger.form ≤ length pass.new.made }
         ensures left { IsErrOf result Fault.PassFull → HasLeft K.eq K.code (after V.eq F.remapped F.merged) self.now.ledger pass.new }
         ensures faults { IfErr result IsOfCall }

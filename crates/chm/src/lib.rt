@@ -1,7 +1,9 @@
-//! A map of keys to values that many threads call at once. A call holds the bin of its key, makes the call there and posts it to the books of its client and of the
+//! A map of keys to values that many threads call at once. A call holds the bin of
+//! its key, makes the call there and posts it to the books of its client and of the
 //! bin, before it gives the bin back. Each call so answers the reply of the one record that it made, in the one-thread map that the bin is.
 //!
-//! The table grows while it is called. After a call that made its key present, where there are three keys to four bins, the call's client opens a move to twice the bins, and
+//! The table grows while it is called. After a call that made its key present, where there
+//! are three keys to four bins, the call's client opens a move to twice the bins, and
 //! moves 16 of them at a time; calls that meet a moved bin help. No refusal in a move is an error of a call.
 #![tactic(auto)]
 
@@ -11,6 +13,7 @@ mod clear;
 mod close;
 mod fault;
 mod growth;
+mod held;
 mod lent;
 mod map;
 mod moving;
@@ -20,7 +23,6 @@ mod share;
 mod single;
 mod size;
 mod taken;
-mod under;
 mod visit;
 
 pub use bin_history::{Call, Form, Given, Op, Remap, Reply};

@@ -95,7 +95,8 @@ impl<K: HashKey, V: Clone + Eq, F: Remap<K, V> + Clone, A: Allocator> Quiet<K, V
         let _ = &self.bins;
     }
 
-    /// There is one order of all calls of all clients, in which they are those of a one-thread map: each client's in that client's order, each bin's as its role kept
+    /// There is one order of all calls of all clients, in which they are those of a
+    /// one-thread map: each client's in that client's order, each bin's as its role kept
     /// them, legal on the opening map, and they leave the pairs of this map. It does nothing when it runs.
     pub fn one_order(&self)
         ensures { (calls : List (RecordView K V F)) × IsOneOrder K.eq K.code (after V.eq F.remapped F.merged) self.now calls }
@@ -103,7 +104,8 @@ impl<K: HashKey, V: Clone + Eq, F: Remap<K, V> + Clone, A: Allocator> Quiet<K, V
         let _ = &self.bins;
     }
 
-    /// What holds of each key: no key stands twice, and all calls on one key, which are of each client just those that it made on the key, in its order, are calls of one
+    /// What holds of each key: no key stands twice, and all calls on one key, which are of
+    /// each client just those that it made on the key, in its order, are calls of one
     /// cell, from the value that the key had at the opening to the one that it has. It does nothing when it runs.
     pub fn histories(&self)
         ensures distinct { HasDistinctKeys K.eq (entries_of self.now.bins) }

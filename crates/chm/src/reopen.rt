@@ -5,7 +5,7 @@ ghost use Rattle.bin_history.specs.Copies.{IsExact};
 ghost use Rattle.count_ledger.specs.Opening.{lists_of};
 ghost use Rattle.chm.specs.Quiets.{entries_of};
 ghost use Rattle.chm.specs.Opened.{IsLimited};
-ghost use Rattle.chm.specs.Reopened.{dealt, IsReopened};
+ghost use Rattle.chm.specs.Reopened.{parts_by_class, IsReopened};
 
 use crate::fault::Fault;
 use crate::map::{Map, Opened, no_bases};
@@ -28,7 +28,7 @@ fn deal<K: HashKey + Drop, V: Clone + Eq + Drop, F: Remap<K, V> + Clone, A: Allo
     requires keys { IsExact K.is_clone }
     requires values { IsExact V.is_clone }
     requires size { IsTableSize n }
-    ensures dealt { IfOk result (λ bases. lists_of bases ≡ dealt K.code salt n pairs.entry) }
+    ensures dealt { IfOk result (λ bases. lists_of bases ≡ parts_by_class K.code salt n pairs.entry) }
     ensures total { IfOk result (λ bases. length (flat_map (λ base. base) (lists_of bases)) ≡ length pairs.entry) }
 {
     let mut bases = no_bases(alloc, n)?;
@@ -46,7 +46,8 @@ impl<
     F: Remap<K, V> + Clone + Drop,
     A: Allocator + Clone,
 > Quiet<K, V, F, A> {
-    /// Opens a map with copies of the pairs, which go into their bins in walk order, and with passes that made nothing for 1 to 32 clients. It has this map's form, and its table
+    /// Opens a map with copies of the pairs, which go into their bins in walk order, and with
+    /// passes that made nothing for 1 to 32 clients. It has this map's form, and its table
     /// is the least from this map's opening one on that has room for them. The closed map stays as it is.
     ///
     ///     let (map, passes) = quiet.reopen(2)?;

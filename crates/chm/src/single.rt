@@ -29,7 +29,8 @@ impl<K: HashKey, V: Clone + Eq, F: Remap<K, V> + Clone, A: Allocator + Clone> Qu
     ///     quiet.get(&1).copied() == Some(5)
     ///     quiet.get(&2).is_none()
     pub fn get(&self, key: &K) -> Option<&V>
-        ensures { MatchOption result (lookup K.eq (entries_of self.now.bins) key.now ≡ None) (λ value. lookup K.eq (entries_of self.now.bins) key.now ≡ Some value.now) }
+        ensures { MatchOption result (lookup K.eq (entries_of self.now.bins) key.now ≡ None)
+            (λ value. lookup K.eq (entries_of self.now.bins) key.now ≡ Some value.now) }
     {
         value_in(&self.bins, key)
     }

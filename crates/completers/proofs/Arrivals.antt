@@ -1,5 +1,6 @@
 -- An arrival keeps the rule, and the last one takes all places.
-use Rattle.std.proofs.Common.{◌≡◌, ℕ, zero, suc, ◌+◌, ◌-◌, ◌*◌, ◌%◌, ◌^◌, ◌<◌, ◌≤◌, ◌≢◌, List, [], ◌∷◌, length, get_or, set, sym, refl, ap, ◌∙◌, subst, ⊎_elim, arith, length-set, get_or-set_other, get_or-set_same}
+use Rattle.std.proofs.Common.{◌≡◌, ℕ, zero, suc, ◌+◌, ◌-◌, ◌*◌, ◌%◌, ◌^◌, ◌<◌, ◌≤◌, ◌≢◌, List, [], ◌∷◌, length, get_or, set, sym, refl, ap, ◌∙◌, subst, ⊎_elim}
+use Rattle.std.proofs.Common.{arith, length-set, get_or-set_other, get_or-set_same}
 use mathlib.Core.Logic.{dite}
 use native.Mathlib.Decide.{ℕ_discrete, dec_le}
 use mathlib.Core.Option.{none, some, some-injective, some-ne-none}
@@ -9,14 +10,16 @@ use Rattle.std.specs.Prelude.{Option, Some, None}
 use Rattle.atomic_table.specs.Table.{takes, gives, chain, homes_after, Allows}
 use Rattle.atomic_table.proofs.Lists.{set_here, set_else, at_map}
 use Rattle.completers.proofs.Weights.{total_at, same}
-use Rattle.completers.proofs.Cells.{within, played_more, Ticketed, St, Homes, Alike, moved, has_placing, keeps_waiting}
-use Rattle.completers.proofs.Moves.{one_right, elsewhere, beside, few_of, restaged, going_set, given_out_set, position_arrived, numbers, tickets, arrived_not_held, given_at, Rule}
+use Rattle.completers.proofs.Cells.{within, reachable_more, Ticketed, St, Homes, Alike, moved, has_placing, keeps_waiting}
+use Rattle.completers.proofs.Moves.{one_right, elsewhere, beside, few_of, restaged, going_set, given_out_set, position_arrived, numbers, tickets}
+use Rattle.completers.proofs.Moves.{arrived_not_held, given_at, Rule}
 use Rattle.completers.proofs.Parting.{takes_up, carried_up, up_frame, up_long, up_valid, all_parts}
-use Rattle.completers.specs.Game.{arrive, number, Allowed, Played, Plays}
-use Rattle.completers.specs.Rights.{code, path_of, IsAbove, node_in}
+use Rattle.completers.specs.Game.{arrive, number, Allowed, IsReachable, IsPossible}
+use Rattle.completers.specs.Rights.{code, path_of, IsTicketAbove, node_in}
 use Rattle.completers.specs.Parts.{AreParts, IsPart, present, stack}
-use Rattle.completers.specs.Rule.{known_forks, total, indexed, Stage, held, waits, places, arrived, has_arrived, Piece, piece, going, over, missing, position_of, right_of, given_out, Tiled, PlaceOk, Going}
-use Rattle.completers.specs.Steps.{Knows, Arrives}
+use Rattle.completers.specs.Rule.{known_forks, total, indexed, Stage, held, waits, places, arrived, has_arrived, Piece, piece, going, over, missing}
+use Rattle.completers.specs.Rule.{position_of, right_of, given_out, Tiled, SlotOk, Going}
+use Rattle.completers.specs.Steps.{Knowledge, Arrives}
 use Rattle.completers.specs.declared.relation.Partial.{Partial}
 use Rattle.completers.specs.declared.rule.Above.{Above}
 use Rattle.completers.specs.declared.rule.Right.{Right}
@@ -78,7 +81,7 @@ module _ {P : Type 0} (fits : ℕ → ℕ → P → Type 0) (bins : ℕ) where
 
   above_in : (s : St fits bins) (r : Rule fits bins s) (slots : ℕ) → length s.homes ≡ slots
       → (n low top : ℕ) (above : List Right) (ps : List Piece) → get_elem? r.cells n ≡ some (going low top above ps)
-      → IsAbove bins low top above
+      → IsTicketAbove bins low top above
       → above ≢ [] → 8 * node_in above + 8 ≤ slots
   above_in s r slots wide n low top above ps at is there = ⊎_elim (λ none_is. absurd (there none_is.0))
       (λ one. let x : Right = Waits one.0 one.1 low top one.2 one.3 in let self = one_right x in
@@ -97,7 +100,7 @@ module _ {P : Type 0} (fits : ℕ → ℕ → P → Type 0) (bins : ℕ) where
   )
 
   module _ (slots id : ℕ) (n i lo hi fk d : ℕ) (up : List Above) (xp : Partial P) (part : IsPart fits lo hi xp) where
-    abbrev me : Knows P
+    abbrev me : Knowledge P
     me = (Places n i lo hi fk d up ∷ [], (8 * n + i, Some xp) ∷ [])
 
     arrives_step : Allows (Rule fits bins) slots id me (2 * n) (λ x. (x + (2 ^ 64 - 1)) % 2 ^ 64) (Arrives fits bins slots me)
@@ -115,18 +118,18 @@ module _ {P : Type 0} (fits : ℕ → ℕ → P → Type 0) (bins : ℕ) where
         let in_row : k < length s.homes =
         (let w = within r.cells n (going t.low t.top t.above ps) t.cell_is in let l : ℕ = length r.cells in let w' : n < l = w in
         let h : ℕ = length s.homes in let wide' : h ≡ 8 * l = r.homes_wide in let q : k < h = omega arith in q) in
-        let place : PlaceOk fits bins homes' k lo hi arrived = (xp, set_here s.homes k (some (Some xp)) in_row, part) in
+        let place : SlotOk fits bins homes' k lo hi arrived = (xp, set_here s.homes k (some (Some xp)) in_row, part) in
         let code_same : get_or words' (2 * n + 1) 0 ≡ get_or s.words (2 * n + 1) 0 =
         get_or-set_other s.words (2 * n) (2 * n + 1) y 0 (λ e. omega arith) in
         let number_same : get_or words' (2 * n) 0 + 1 ≡ x + 0 =
         (let a : ℕ = get_or words' (2 * n) 0 in let a' : a ≡ y = now in let q : a + 1 ≡ x + 0 = omega arith in q) in
         let allowed = plays s r n i lo hi t in
-        let played' : Played (position_of (set ps i (piece lo hi arrived))) =
-        subst Played (sym (position_arrived ps i (piece lo hi places) (piece lo hi arrived) t.piece_is refl refl))
-        (played_more (position_of ps) (arrive i) g.played allowed) in
-        let told : Plays (arrive i) (λ p. (number p ≡ x) × (i ≡ 0 → length p.arrived ≡ fk + 1)) = (
+        let played' : IsReachable (position_of (set ps i (piece lo hi arrived))) =
+        subst IsReachable (sym (position_arrived ps i (piece lo hi places) (piece lo hi arrived) t.piece_is refl refl))
+        (reachable_more (position_of ps) (arrive i) g.reachable allowed) in
+        let told : IsPossible (arrive i) (λ p. (number p ≡ x) × (i ≡ 0 → length p.arrived ≡ fk + 1)) = (
           position_of ps,
-          g.played,
+          g.reachable,
           allowed,
           (
             numbers ps ∙ sym g.number_is,
@@ -151,8 +154,8 @@ module _ {P : Type 0} (fits : ℕ → ℕ → P → Type 0) (bins : ℕ) where
         let o : x ≡ 1 = one in let q : b ≡ 0 = omega arith in q) in
         let all = all_arrived qs done in let value : ℕ → Option (Partial P) = λ j. read (get_elem? homes' (8 * n + j)) in
         let shows : (j : ℕ) (p : Piece) → get_elem? qs j ≡ some p → (z : Partial P) × (get_elem? homes' (8 * n + j) ≡ some (some (Some z)))
-        × IsPart fits p.lo p.hi z = λ j p e. subst (λ (st : Stage). PlaceOk fits bins homes' (8 * n + j) p.lo p.hi st) (all j p e)
-        (g'.each_place j p e) in
+        × IsPart fits p.lo p.hi z = λ j p e. subst (λ (st : Stage). SlotOk fits bins homes' (8 * n + j) p.lo p.hi st) (all j p e)
+        (g'.each_slot j p e) in
         let there : (j : ℕ) → j < 8 → get_elem? homes' (8 * n + j) ≡ some (some (value j)) = λ j low. dite (dec_le (length qs) j)
         (λ far. let e = g'.others j far low in e ∙ ap (λ (o : Option (Partial P)). some (some o)) (sym (ap read e)))
         (λ close. let p = present_at qs j close in let z = shows j p.0 p.1 in
@@ -216,9 +219,9 @@ module _ {P : Type 0} (fits : ℕ → ℕ → P → Type 0) (bins : ℕ) where
           (told, (λ one. absurd (more one))),
         ))
 
-  pub arrives : (slots id : ℕ) (found : Knows P) (n i lo hi fk d : ℕ) (up : List Above) (xp : Partial P)
+  pub arrives : (slots id : ℕ) (found : Knowledge P) (n i lo hi fk d : ℕ) (up : List Above) (xp : Partial P)
       → found ≡ (Places n i lo hi fk d up ∷ [], (8 * n + i, Some xp) ∷ []) → IsPart fits lo hi xp
       → Allows (Rule fits bins) slots id found (2 * n) (λ x. (x + (2 ^ 64 - 1)) % 2 ^ 64) (Arrives fits bins slots found)
   arrives slots id found n i lo hi fk d up xp is part =
-      subst (λ (m : Knows P). Allows (Rule fits bins) slots id m (2 * n) (λ x. (x + (2 ^ 64 - 1)) % 2 ^ 64) (Arrives fits bins slots m))
+      subst (λ (m : Knowledge P). Allows (Rule fits bins) slots id m (2 * n) (λ x. (x + (2 ^ 64 - 1)) % 2 ^ 64) (Arrives fits bins slots m))
       (sym is) (arrives_step slots id n i lo hi fk d up xp part)

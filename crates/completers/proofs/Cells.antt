@@ -1,5 +1,6 @@
 -- One node changes, and the rule is kept.
-use Rattle.std.proofs.Common.{◌≡◌, ℕ, zero, suc, ◌+◌, ◌*◌, ◌<◌, ◌≤◌, ◌≢◌, List, [], ◌∷◌, ◌++◌, length, get_or, set, sym, refl, ap, ◌∙◌, subst, ⊎_elim, arith, length-set}
+use Rattle.std.proofs.Common.{◌≡◌, ℕ, zero, suc, ◌+◌, ◌*◌, ◌<◌, ◌≤◌, ◌≢◌, List, [], ◌∷◌, ◌++◌, length, get_or, set, sym, refl, ap, ◌∙◌, subst, ⊎_elim, arith}
+use Rattle.std.proofs.Common.{length-set}
 use mathlib.Core.Option.{some, some-injective, some-ne-none}
 use mathlib.Core.Option as maybe
 use lib.ListN.{get_elem?}
@@ -7,9 +8,10 @@ use Rattle.std.specs.Prelude.{Option}
 use Rattle.atomic_table.specs.Table.{State}
 use Rattle.atomic_table.proofs.Lists.{at_set}
 use Rattle.completers.proofs.Weights.{total_set, total_append, total_at, indexed_set, some_indexed, same, hit_yes, hits_yes}
-use Rattle.completers.specs.Game.{Event, Position, start, Allowed, after, IsGame, reached, Played}
+use Rattle.completers.specs.Game.{Event, Position, start, Allowed, after, IsGame, position_after, IsReachable}
 use Rattle.completers.specs.Rights.{code, path_of}
-use Rattle.completers.specs.Rule.{total, indexed, Stage, held, waits, places, arrived, Piece, piece, Cell, fresh, going, over, right_of, known_forks, given_out, kept_by, PlaceOk, CellOk, Holds}
+use Rattle.completers.specs.Rule.{total, indexed, Stage, held, waits, places, arrived, Piece, piece, Cell, fresh, going, over, right_of, known_forks, given_out}
+use Rattle.completers.specs.Rule.{kept_by, SlotOk, CellOk, Holds}
 use Rattle.completers.specs.declared.relation.Partial.{Partial}
 use Rattle.completers.specs.declared.rule.Above.{Above}
 use Rattle.completers.specs.declared.rule.Right.{Right}
@@ -21,13 +23,13 @@ within (x ∷ xs) zero a e = omega arith
 within (x ∷ xs) (suc i) a e = let r = within xs i a e in omega arith
 
 -- one more event
-pub game_more : (p : Position) (es : List Event) (e : Event) → IsGame p es → Allowed (reached p es) e → IsGame p (es ++ e ∷ [])
-    × (reached p (es ++ e ∷ []) ≡ after (reached p es) e)
+pub game_more : (p : Position) (es : List Event) (e : Event) → IsGame p es → Allowed (position_after p es) e → IsGame p (es ++ e ∷ [])
+    × (position_after p (es ++ e ∷ []) ≡ after (position_after p es) e)
 game_more p [] e g a = ((a, tt), refl)
 game_more p (x ∷ xs) e g a = let r = game_more (after p x) xs e g.1 a in ((g.0, r.0), r.1)
 
-pub played_more : (p : Position) (e : Event) → Played p → Allowed p e → Played (after p e)
-played_more p e b a = let r = game_more start b.0 e b.1 (subst (λ (q : Position). Allowed q e) (sym b.2) a) in
+pub reachable_more : (p : Position) (e : Event) → IsReachable p → Allowed p e → IsReachable (after p e)
+reachable_more p e b a = let r = game_more start b.0 e b.1 (subst (λ (q : Position). Allowed q e) (sym b.2) a) in
     (b.0 ++ e ∷ [], r.0, r.1 ∙ ap (λ (q : Position). after q e) b.2)
 
 -- which ticket a right is for
@@ -165,12 +167,12 @@ module _ {P : Type 0} (fits : ℕ → ℕ → P → Type 0) (bins : ℕ) where
   keeps_waiting s r n c m i lo hi fk up at pos = let b = kept_backed s r n c (Waits m i lo hi fk up) at pos in
       (found_waiting r.cells m i lo hi fk up b.0 b.1 b.2 b.3).0
 
-  pub place_frame : (homes homes' : Homes) (k lo hi : ℕ) (st : Stage) → get_elem? homes' k ≡ get_elem? homes k
-      → PlaceOk fits bins homes k lo hi st → PlaceOk fits bins homes' k lo hi st
-  place_frame homes homes' k lo hi held e x = e ∙ x
-  place_frame homes homes' k lo hi waits e x = e ∙ x
-  place_frame homes homes' k lo hi places e x = x
-  place_frame homes homes' k lo hi arrived e x = (x.0, e ∙ x.1, x.2)
+  pub slot_frame : (homes homes' : Homes) (k lo hi : ℕ) (st : Stage) → get_elem? homes' k ≡ get_elem? homes k
+      → SlotOk fits bins homes k lo hi st → SlotOk fits bins homes' k lo hi st
+  slot_frame homes homes' k lo hi held e x = e ∙ x
+  slot_frame homes homes' k lo hi waits e x = e ∙ x
+  slot_frame homes homes' k lo hi places e x = x
+  slot_frame homes homes' k lo hi arrived e x = (x.0, e ∙ x.1, x.2)
 
   abbrev pub Alike : List ℕ → List ℕ → Homes → Homes → ℕ → Type 0
   Alike words words' homes homes' n = (get_or words' (2 * n) 0 ≡ get_or words (2 * n) 0)
@@ -187,10 +189,10 @@ module _ {P : Type 0} (fits : ℕ → ℕ → P → Type 0) (bins : ℕ) where
     tiled = x.tiled;
     few = x.few;
     own_only = x.own_only;
-    each_place = λ i p at. place_frame homes homes' (8 * n + i) p.lo p.hi p.stage
-        (e.2 i (let w = within ps i p at in let f = x.few in omega arith)) (x.each_place i p at);
+    each_slot = λ i p at. slot_frame homes homes' (8 * n + i) p.lo p.hi p.stage
+        (e.2 i (let w = within ps i p at in let f = x.few in omega arith)) (x.each_slot i p at);
     others = λ i far small. e.2 i small ∙ x.others i far small;
-    played = x.played;
+    reachable = x.reachable;
   }
   frame words words' homes homes' n e over x = tt
 

@@ -1,16 +1,17 @@
 -- What an arrival tells, put together.
-use Rattle.std.proofs.Common.{◌≡◌, ℕ, suc, ◌+◌, ◌-◌, ◌*◌, ◌/◌, ◌%◌, ◌^◌, ◌<◌, ◌≤◌, ◌≢◌, Bool, false, cond, List, [], ◌∷◌, map, length, sym, ap, ◌∙◌, subst, ⊎_elim, arith}
+use Rattle.std.proofs.Common.{◌≡◌, ℕ, suc, ◌+◌, ◌-◌, ◌*◌, ◌/◌, ◌%◌, ◌^◌, ◌<◌, ◌≤◌, ◌≢◌, Bool, false, cond, List, [], ◌∷◌, map, length, sym, ap, ◌∙◌, subst}
+use Rattle.std.proofs.Common.{⊎_elim, arith}
 use mathlib.Core.Option.{some, some-injective}
 use lib.ListN.{get_elem?}
 use Rattle.std.specs.Prelude.{Option, Some, None}
 use Rattle.completers.specs.Game.{waiting}
 use Rattle.atomic_table.specs.Table.{Me}
-use Rattle.completers.specs.Rights.{code, IsAbove, nodes, tail, lower_half, node_in, forks_in, up_in}
+use Rattle.completers.specs.Rights.{code, IsTicketAbove, nodes, tail, lower_half, node_in, forks_in, up_in}
 use Rattle.completers.proofs.Seats.{lower}
-use Rattle.completers.specs.Steps.{forked}
-use Rattle.completers.specs.Parts.{AreParts, IsPart, present, stack, pile, ends, places_of}
+use Rattle.completers.specs.Steps.{forked_rights}
+use Rattle.completers.specs.Parts.{AreParts, IsPart, present, stack, pile, ends, slots_of}
 use Rattle.completers.specs.declared.relation.Partial.{Partial}
-use Rattle.completers.specs.declared.parts.Places.{Places}
+use Rattle.completers.specs.declared.parts.Slots.{Slots}
 use Rattle.completers.specs.declared.rule.Above.{Above}
 use Rattle.completers.specs.declared.rule.Right.{Right}
 use Rattle.completers.specs.declared.rule.Right.TheVariants.{Opened, Waits}
@@ -22,15 +23,15 @@ alone (b ∷ []) one e = ap (λ (x : Bool). cond x 0 1 + 0) (some-injective b fa
 alone (b ∷ c ∷ bs) one e = let l : ℕ = length bs in let o : suc (suc l) ≡ 1 = one in absurd (omega arith)
 
 module _ {P : Type 0} where
-  pub full : (n : ℕ) (y : ℕ → Option (Partial P)) (l : List (ℕ × Option (Partial P))) (ps : Places P) → l ≡ (8 * n, y 0) ∷ pile n y 7 []
-      → places_of ps ≡ map (λ (p : ℕ × Option (Partial P)). p.1) l → places_of ps ≡ y 0 ∷ stack y 7
+  pub full : (n : ℕ) (y : ℕ → Option (Partial P)) (l : List (ℕ × Option (Partial P))) (ps : Slots P) → l ≡ (8 * n, y 0) ∷ pile n y 7 []
+      → slots_of ps ≡ map (λ (p : ℕ × Option (Partial P)). p.1) l → slots_of ps ≡ y 0 ∷ stack y 7
   full n y l ps e f = f ∙ ap (map (λ (p : ℕ × Option (Partial P)). p.1)) e
 
   abbrev first_of_all : List (Option (Partial P)) → Option (Partial P)
   first_of_all [] = None
   first_of_all (o ∷ os) = o
 
-  pub own_is : (y : ℕ → Option (Partial P)) (ps : Places P) → places_of ps ≡ y 0 ∷ stack y 7 → ps.own ≡ y 0
+  pub own_is : (y : ℕ → Option (Partial P)) (ps : Slots P) → slots_of ps ≡ y 0 ∷ stack y 7 → ps.own ≡ y 0
   own_is y ps e = ap first_of_all e
 
 module _ {P : Type 0} (fits : ℕ → ℕ → P → Type 0) where
@@ -56,7 +57,7 @@ module _ {P : Type 0} (fits : ℕ → ℕ → P → Type 0) where
   is_part lo hi x a b c = (a, b, subst (λ (z : ℕ × ℕ). fits z.0 z.1 x.part) (λ k. (a k, b k)) c)
 
 -- the ticket above, found again by its code
-pub again : (lo hi bins c slots : ℕ) (rights : List Right) → IsAbove bins lo hi rights → code rights ≡ c → c ≢ 0
+pub again : (lo hi bins c slots : ℕ) (rights : List Right) → IsTicketAbove bins lo hi rights → code rights ≡ c → c ≢ 0
     → (rights ≢ [] → 8 * node_in rights + 8 ≤ slots)
     → (f : ℕ) × (up : List Above) × (rights ≡ Waits ((c - 1) / 8) ((c - 1) % 8) lo hi f up ∷ []) × (8 * ((c - 1) / 8) + 8 ≤ slots)
 again lo hi bins c slots rights is e nz room = ⊎_elim
@@ -68,7 +69,7 @@ again lo hi bins c slots rights is e nz room = ⊎_elim
     (one.2, one.3, one.5 ∙ (λ k. Waits (a k) (b k) lo hi one.2 one.3 ∷ []), subst (λ (z : ℕ). 8 * z + 8 ≤ slots) a low)) is
 
 -- the root has nothing above it, and the whole range
-pub none_above : (lo hi bins c : ℕ) (rights : List Right) → IsAbove bins lo hi rights → code rights ≡ c → c ≡ 0 → (rights ≡ []) × (lo ≡ 0)
+pub none_above : (lo hi bins c : ℕ) (rights : List Right) → IsTicketAbove bins lo hi rights → code rights ≡ c → c ≡ 0 → (rights ≡ []) × (lo ≡ 0)
     × (hi ≡ bins)
 none_above lo hi bins c rights is e z = ⊎_elim (λ none_is. none_is)
     (λ one. let f : 8 * one.0 + one.1 + 1 ≡ c = ap code (sym one.5) ∙ e in let m : ℕ = one.0 in let i : ℕ = one.1 in
@@ -87,9 +88,9 @@ is_node me n lo hi k up rs e = e ∙ (λ t. (Opened n lo hi k (up_in (sym e t).0
 -- what a fork leaves with the node
 pub left_node : {S : Type 0} (a b c d : Me S (List Right)) (mid n lo hi k level : ℕ) (up : List Above) → 0 < level
     → a ≡ (Opened n lo hi k up ∷ nodes (n + 1) (2 ^ level - 1), [])
-    → b ≡ (forked mid a.0, a.1) → c ≡ (tail b.0, b.1) → d ≡ (lower_half c.0, c.1)
+    → b ≡ (forked_rights mid a.0, a.1) → c ≡ (tail b.0, b.1) → d ≡ (lower_half c.0, c.1)
     → d ≡ (Opened n lo mid (k + 1) up ∷ nodes (n + 1) (2 ^ (level - 1) - 1), [])
 left_node a b c d mid n lo hi k level up more is e f g =
     g ∙ (ap (λ u. (lower_half u.0, u.1)) f ∙
     (ap (λ u. (lower_half (tail u.0), u.1)) e
-    ∙ (ap (λ u. (lower_half (tail (forked mid u.0)), u.1)) is ∙ ap (λ l. (l, [])) (lower (Opened n lo mid (k + 1) up) n level more))))
+    ∙ (ap (λ u. (lower_half (tail (forked_rights mid u.0)), u.1)) is ∙ ap (λ l. (l, [])) (lower (Opened n lo mid (k + 1) up) n level more))))

@@ -1,5 +1,6 @@
 -- A fork, the opening of a node and the start keep the rule.
-use Rattle.std.proofs.Common.{◌≡◌, ℕ, zero, suc, ◌+◌, ◌*◌, ◌%◌, ◌^◌, ◌<◌, ◌≤◌, ◌≢◌, ◌⊎◌, Bool, false, List, [], ◌∷◌, ◌++◌, map, length, get_or, set, replicate, sym, refl, ap, ◌∙◌, subst, ⊎_elim, inl, inr, arith, length-set, length-append, get_or-set_other, get_or-set_same}
+use Rattle.std.proofs.Common.{◌≡◌, ℕ, zero, suc, ◌+◌, ◌*◌, ◌%◌, ◌^◌, ◌<◌, ◌≤◌, ◌≢◌, ◌⊎◌, Bool, false, List, [], ◌∷◌, ◌++◌, map, length, get_or, set, replicate}
+use Rattle.std.proofs.Common.{sym, refl, ap, ◌∙◌, subst, ⊎_elim, inl, inr, arith, length-set, length-append, get_or-set_other, get_or-set_same}
 use mathlib.Core.List.{map-append}
 use mathlib.Core.Option.{some, some-injective, some-ne-none}
 use lib.ListN.{get_elem?, length-map, length-replicate}
@@ -7,12 +8,13 @@ use Rattle.std.specs.Prelude.{Option, None}
 use Rattle.atomic_table.specs.Table.{keeps, Allows, opening}
 use Rattle.atomic_table.proofs.Lists.{at_set, at_snoc}
 use Rattle.completers.proofs.Weights.{total_set, total_append, indexed_same, indexed_snoc, same, same_self}
-use Rattle.completers.proofs.Cells.{within, played_more, moved, has_opened, has_unopened}
+use Rattle.completers.proofs.Cells.{within, reachable_more, moved, has_opened, has_unopened}
 use Rattle.completers.proofs.Moves.{first_right, numbers, tickets, given_at, flags_same, is_held, Rule}
-use Rattle.completers.specs.Game.{fork, after, Played}
-use Rattle.completers.specs.Rights.{nodes, code, path_of, IsAbove}
-use Rattle.completers.specs.Rule.{total, indexed, Stage, held, waits, places, arrived, has_arrived, Piece, piece, Cell, fresh, going, missing, given, position_of, known_forks, right_of, given_out, kept_by, Down, Tiled, PlaceOk, Going, CellOk, Holds}
-use Rattle.completers.specs.Steps.{Knows, Forks, Opens, opened}
+use Rattle.completers.specs.Game.{fork, after, IsReachable}
+use Rattle.completers.specs.Rights.{nodes, code, path_of, IsTicketAbove}
+use Rattle.completers.specs.Rule.{total, indexed, Stage, held, waits, places, arrived, has_arrived, Piece, piece, Cell, fresh, going, missing, given}
+use Rattle.completers.specs.Rule.{position_of, known_forks, right_of, given_out, kept_by, Down, Tiled, SlotOk, Going, CellOk, Holds}
+use Rattle.completers.specs.Steps.{Knowledge, Forks, Opens, opened_rights}
 use Rattle.completers.specs.declared.relation.Partial.{Partial}
 use Rattle.completers.specs.declared.rule.Above.{Above}
 use Rattle.completers.specs.declared.rule.Right.{Right}
@@ -116,7 +118,7 @@ few_missing (p ∷ ps) = let r : total missing ps ≤ length ps = few_missing ps
 module _ {P : Type 0} (fits : ℕ → ℕ → P → Type 0) (bins : ℕ) where
   forks_step : (mid slots id : ℕ) (car : List (ℕ × Option (Partial P))) (n lo hi k : ℕ) (up : List Above) (rs : List Right) → lo < mid
       → mid < hi → k < 8
-      → let me : Knows P = (Opened n lo hi k up ∷ rs, car) in
+      → let me : Knowledge P = (Opened n lo hi k up ∷ rs, car) in
       Allows (Rule fits bins) slots id me (2 * n) (λ x. (x + 1) % 2 ^ 64) (Forks mid me)
   forks_step mid slots id car n lo hi k up rs above_lo below_hi room s r wide at _ =
       let v : List Right = Opened n lo hi k up ∷ rs in
@@ -164,17 +166,17 @@ module _ {P : Type 0} (fits : ℕ → ℕ → P → Type 0) (bins : ℕ) where
                   (λ (z : (j ≢ 0) × (get_elem? ps j ≡ some p)). g.own_only j p z.1 st) (at_set ps 0 j own' p old))
                   (λ (z : new ≡ p). absurd (subst is_held (sym (ap (λ (q : Piece). q.stage) z ∙ st)) tt))
                   (at_snoc (set ps 0 own') new p j e);
-              each_place = λ j p e. ⊎_elim (λ (old : get_elem? (set ps 0 own') j ≡ some p). ⊎_elim
-                  (λ (z : (j ≡ 0) × (own' ≡ p)). subst (λ (q : ℕ × Piece). PlaceOk fits bins s.homes (8 * n + q.0) q.1.lo q.1.hi q.1.stage)
-                  (λ i. (sym z.0 i, z.1 i)) (g.each_place 0 (piece lo hi held) here))
-                  (λ (z : (j ≢ 0) × (get_elem? ps j ≡ some p)). g.each_place j p z.1) (at_set ps 0 j own' p old))
+              each_slot = λ j p e. ⊎_elim (λ (old : get_elem? (set ps 0 own') j ≡ some p). ⊎_elim
+                  (λ (z : (j ≡ 0) × (own' ≡ p)). subst (λ (q : ℕ × Piece). SlotOk fits bins s.homes (8 * n + q.0) q.1.lo q.1.hi q.1.stage)
+                  (λ i. (sym z.0 i, z.1 i)) (g.each_slot 0 (piece lo hi held) here))
+                  (λ (z : (j ≢ 0) × (get_elem? ps j ≡ some p)). g.each_slot j p z.1) (at_set ps 0 j own' p old))
                   (λ (z : (j ≡ length (set ps 0 own')) × (new ≡ p)). let jl : j ≡ len = z.0 ∙ length-set ps 0 own' in
-                  subst (λ (q : ℕ × Piece). PlaceOk fits bins s.homes (8 * n + q.0) q.1.lo q.1.hi q.1.stage) (λ i. (sym jl i, z.1 i))
+                  subst (λ (q : ℕ × Piece). SlotOk fits bins s.homes (8 * n + q.0) q.1.lo q.1.hi q.1.stage) (λ i. (sym jl i, z.1 i))
                   (g.others len (let q : len ≤ len = omega arith in q) (let c : k ≡ len = count in let q : len < 8 = omega arith in q)))
                   (at_end (set ps 0 own') new p j e);
               others = λ j far near. g.others j (let a : ℕ = length qs in let a' : a ≡ len + 1 = long in let far' : a ≤ j = far in
                   let q : len ≤ j = omega arith in q) near;
-              played = subst Played (sym (position_fork lo mid hi ps here)) (played_more (position_of ps) fork g.played was);
+              reachable = subst IsReachable (sym (position_fork lo mid hi ps here)) (reachable_more (position_of ps) fork g.reachable was);
             })
             (λ h. let a = out_fork h n t.low t.top t.above lo mid hi ps here g.own_only in
             let u' : ℕ = given_out h n (going t.low t.top t.above qs) in let u : ℕ = given_out h n (going t.low t.top t.above ps) in
@@ -186,22 +188,22 @@ module _ {P : Type 0} (fits : ℕ → ℕ → P → Type 0) (bins : ℕ) where
             let eq : q' ≡ q = λ z. h (Waits n (count z) mid hi 0 (f.3 z)) in
             let a' : u' + o ≡ u + (p + q) = a in let b : ℕ = total h t.above in let c : ℕ = total h rs in
             let z : q' + (p' + c) + b + u ≤ o' + c + b + u' = omega arith in z),
-        (refl, (position_of ps, g.played, was, (numbers ps ∙ sym g.number_is, tickets ps k count))),
+        (refl, (position_of ps, g.reachable, was, (numbers ps ∙ sym g.number_is, tickets ps k count))),
       )
 
-  pub forks_node : (mid slots id : ℕ) (me : Knows P) (n lo hi k : ℕ) (up : List Above) (rs : List Right)
+  pub forks_node : (mid slots id : ℕ) (me : Knowledge P) (n lo hi k : ℕ) (up : List Above) (rs : List Right)
       (car : List (ℕ × Option (Partial P))) → me ≡ (Opened n lo hi k up ∷ rs, car) → lo < mid → mid < hi → k < 8
       → Allows (Rule fits bins) slots id me (2 * n) (λ x. (x + 1) % 2 ^ 64) (Forks mid me)
   forks_node mid slots id me n lo hi k up rs car is a b c =
-      subst (λ (m : Knows P). Allows (Rule fits bins) slots id m (2 * n) (λ x. (x + 1) % 2 ^ 64) (Forks mid m)) (sym is)
+      subst (λ (m : Knowledge P). Allows (Rule fits bins) slots id m (2 * n) (λ x. (x + 1) % 2 ^ 64) (Forks mid m)) (sym is)
       (forks_step mid slots id car n lo hi k up rs a b c)
 
   -- a node is opened, and takes over what is above it
   opens_step : (any lo hi slots id : ℕ) (car : List (ℕ × Option (Partial P))) (was : List Right) (m : ℕ) (rs above : List Right) → lo < hi
-      → IsAbove bins lo hi above
-      → 0 < total (same (Unopened m)) was → opened any was ≡ Opened m lo hi 1 (path_of above) ∷ rs
+      → IsTicketAbove bins lo hi above
+      → 0 < total (same (Unopened m)) was → opened_rights any was ≡ Opened m lo hi 1 (path_of above) ∷ rs
       → ((h : Right → ℕ) → total h rs + total h above + h (Unopened m) ≤ total h was)
-      → let me : Knows P = (was, car) in Allows (Rule fits bins) slots id me (2 * m + 1) (λ _. code above) (λ _. Opens any me)
+      → let me : Knowledge P = (was, car) in Allows (Rule fits bins) slots id me (2 * m + 1) (λ _. code above) (λ _. Opens any me)
   opens_step any lo hi slots id car was m rs above less is pos gets balance s r wide at _ =
       let v : List Right = was in let cell = has_unopened fits bins s r id v m at pos in
       let ok : CellOk fits bins s.words s.homes m fresh = r.each_node m fresh cell in
@@ -227,12 +229,12 @@ module _ {P : Type 0} (fits : ℕ → ℕ → P → Type 0) (bins : ℕ) where
               tiled = (refl, less, refl);
               few = omega arith;
               own_only = λ j p e st. (let q = within (piece lo hi held ∷ []) j p e in omega arith);
-              each_place = λ j p e. ⊎_elim (λ (none_left : get_elem? [] j ≡ some p). absurd (some-ne-none p (sym none_left)))
+              each_slot = λ j p e. ⊎_elim (λ (none_left : get_elem? [] j ≡ some p). absurd (some-ne-none p (sym none_left)))
                   (λ (z : (j ≡ 0) × (piece lo hi held ≡ p)). subst
-                  (λ (q : ℕ × Piece). PlaceOk fits bins s.homes (8 * m + q.0) q.1.lo q.1.hi q.1.stage) (λ i. (sym z.0 i, z.1 i))
+                  (λ (q : ℕ × Piece). SlotOk fits bins s.homes (8 * m + q.0) q.1.lo q.1.hi q.1.stage) (λ i. (sym z.0 i, z.1 i))
                   (ok.1 0 (omega arith))) (at_end [] (piece lo hi held) p j e);
               others = λ j far near. ok.1 j near;
-              played = ([], tt, refl);
+              reachable = ([], tt, refl);
             })
             (λ h. let a : ℕ = h (Opened m lo hi 1 (path_of above)) in let b : ℕ = total h rs in let d : ℕ = total h above in
             let e : ℕ = h (Unopened m) in let f : ℕ = total h was in let bal : b + d + e ≤ f = balance h in
@@ -240,19 +242,19 @@ module _ {P : Type 0} (fits : ℕ → ℕ → P → Type 0) (bins : ℕ) where
         (λ t. (sym gets t, car)),
       )
 
-  pub opens_root : (slots id : ℕ) (me : Knows P) (m : ℕ) (rs : List Right) (car : List (ℕ × Option (Partial P)))
+  pub opens_root : (slots id : ℕ) (me : Knowledge P) (m : ℕ) (rs : List Right) (car : List (ℕ × Option (Partial P)))
       → me ≡ (Unopened m ∷ rs, car) → 0 < bins
       → Allows (Rule fits bins) slots id me (2 * m + 1) (λ _. 0) (λ _. Opens bins me)
   opens_root slots id me m rs car is less =
-      subst (λ (u : Knows P). Allows (Rule fits bins) slots id u (2 * m + 1) (λ _. 0) (λ _. Opens bins u)) (sym is)
+      subst (λ (u : Knowledge P). Allows (Rule fits bins) slots id u (2 * m + 1) (λ _. 0) (λ _. Opens bins u)) (sym is)
       (opens_step bins 0 bins slots id car (Unopened m ∷ rs) m rs [] less (inl (refl, refl, refl)) (first_right (Unopened m) rs) refl
       (λ h. let a : ℕ = h (Unopened m) in let b : ℕ = total h rs in let q : b + 0 + a ≤ a + b = omega arith in q))
 
-  pub opens_below : (any slots id : ℕ) (me : Knows P) (n i lo hi fk : ℕ) (up : List Above) (m : ℕ) (rs : List Right)
+  pub opens_below : (any slots id : ℕ) (me : Knowledge P) (n i lo hi fk : ℕ) (up : List Above) (m : ℕ) (rs : List Right)
       (car : List (ℕ × Option (Partial P))) → me ≡ (Waits n i lo hi fk up ∷ Unopened m ∷ rs, car) → i < 8 → lo < hi
       → Allows (Rule fits bins) slots id me (2 * m + 1) (λ _. 8 * n + i + 1) (λ _. Opens any me)
   opens_below any slots id me n i lo hi fk up m rs car is small less =
-      subst (λ (u : Knows P). Allows (Rule fits bins) slots id u (2 * m + 1) (λ _. 8 * n + i + 1) (λ _. Opens any u)) (sym is)
+      subst (λ (u : Knowledge P). Allows (Rule fits bins) slots id u (2 * m + 1) (λ _. 8 * n + i + 1) (λ _. Opens any u)) (sym is)
       (opens_step any lo hi slots id car (Waits n i lo hi fk up ∷ Unopened m ∷ rs) m rs (Waits n i lo hi fk up ∷ []) less
       (inr (n, i, fk, up, small, refl))
       (let x : ℕ = same (Unopened m) (Unopened m) in let e : x ≡ 1 = same_self (Unopened m) in let y : ℕ = total (same (Unopened m)) rs in

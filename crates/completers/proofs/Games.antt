@@ -1,12 +1,14 @@
 -- The law of the completion game.
-use Rattle.std.proofs.Common.{◌≡◌, ℕ, zero, suc, ◌+◌, ◌<◌, ◌≤◌, eq-eqb, ne_eqb, Bool, true, false, cond, List, [], ◌∷◌, ◌++◌, set, sym, refl, ap, ◌∙◌, subst, arith}
+use Rattle.std.proofs.Common.{◌≡◌, ℕ, zero, suc, ◌+◌, ◌<◌, ◌≤◌, eq-eqb, ne_eqb, Bool, true, false, cond, List, [], ◌∷◌, ◌++◌, set, sym, refl, ap, ◌∙◌, subst}
+use Rattle.std.proofs.Common.{arith}
 use mathlib.Core.Logic.{dite}
 use mathlib.Core.Option.{some, some-injective, some-ne-none}
 use native.Mathlib.Decide.{ℕ_discrete}
 use Rattle.std.proofs.lemmas.Bool.{false≢true}
 use lib.ListN.{get_elem?}
 use Rattle.atomic_table.proofs.Lists.{at_longer}
-use Rattle.completers.specs.Game.{Event, fork, own, arrive, Position, start, number, Allowed, after, IsGame, reached, waiting, is_last, lasts, IsComplete, OneLast}
+use Rattle.completers.specs.Game.{Event, fork, own, arrive, Position, start, number, Allowed, after, IsGame, position_after, waiting, is_last, lasts}
+use Rattle.completers.specs.Game.{IsComplete, OneLast}
 
 -- the own ticket doesn't arrive before it is given out
 abbrev Sound : Position → Type 0
@@ -48,7 +50,7 @@ abbrev Ends : Position → List Event → Type 0
 Ends p es = (before : List Event) × (t : ℕ) × (es ≡ before ++ arrive t ∷ []) × (lasts p before ≡ 0) × (lasts p es ≡ 1)
 
 abbrev Law : Position → List Event → Type 0
-Law p es = (lasts p es ≤ 1) × (number (reached p es) ≡ 0 → Ends p es) × (lasts p es ≡ 1 → IsComplete (reached p es))
+Law p es = (lasts p es ≤ 1) × (number (position_after p es) ≡ 0 → Ends p es) × (lasts p es ≡ 1 → IsComplete (position_after p es))
 
 -- an event that isn't last
 more : (p : Position) (e : Event) (es : List Event) → is_last p e ≡ false → Law (after p e) es → Law p (e ∷ es)

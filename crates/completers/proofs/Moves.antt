@@ -1,5 +1,6 @@
 -- Each step keeps the rule.
-use Rattle.std.proofs.Common.{◌≡◌, ℕ, zero, suc, ◌+◌, ◌-◌, ◌*◌, ◌<◌, ◌≤◌, ◌≢◌, Bool, true, false, List, [], ◌∷◌, map, length, get_or, set, sym, refl, ap, ◌∙◌, subst, ⊎_elim, arith, length-set}
+use Rattle.std.proofs.Common.{◌≡◌, ℕ, zero, suc, ◌+◌, ◌-◌, ◌*◌, ◌<◌, ◌≤◌, ◌≢◌, Bool, true, false, List, [], ◌∷◌, map, length, get_or, set, sym, refl, ap, ◌∙◌}
+use Rattle.std.proofs.Common.{subst, ⊎_elim, arith, length-set}
 use mathlib.Core.Option.{none, some, some-injective, some-ne-none}
 use mathlib.Core.Option as maybe
 use lib.ListN.{get_elem?, length-map}
@@ -8,11 +9,12 @@ use Rattle.std.specs.Prelude.{Option, None}
 use Rattle.atomic_table.specs.Table.{State, keeps, takes, Allows}
 use Rattle.atomic_table.proofs.Lists.{at_set, set_else, set_again, at_map}
 use Rattle.completers.proofs.Weights.{total_set, indexed_set, same, same_self}
-use Rattle.completers.proofs.Cells.{within, played_more, Ticketed, St, Homes, Alike, moved, has_waiting, has_opened, place_frame}
-use Rattle.completers.specs.Game.{own, arrive, after, waiting, Played}
+use Rattle.completers.proofs.Cells.{within, reachable_more, Ticketed, St, Homes, Alike, moved, has_waiting, has_opened, slot_frame}
+use Rattle.completers.specs.Game.{own, arrive, after, waiting, IsReachable}
 use Rattle.completers.specs.Rights.{code, path_of}
-use Rattle.completers.specs.Rule.{known_forks, total, indexed, Stage, held, waits, places, arrived, has_arrived, is_given, Piece, piece, going, missing, given, position_of, right_of, given_out, Down, Tiled, PlaceOk, Going, Holds}
-use Rattle.completers.specs.Steps.{Knows, Owns, Takes}
+use Rattle.completers.specs.Rule.{known_forks, total, indexed, Stage, held, waits, places, arrived, has_arrived, is_given, Piece, piece, going, missing, given}
+use Rattle.completers.specs.Rule.{position_of, right_of, given_out, Down, Tiled, SlotOk, Going, Holds}
+use Rattle.completers.specs.Steps.{Knowledge, Owns, Takes}
 use Rattle.completers.specs.declared.relation.Partial.{Partial}
 use Rattle.completers.specs.declared.rule.Above.{Above}
 use Rattle.completers.specs.declared.rule.Right.{Right}
@@ -129,10 +131,10 @@ module _ {P : Type 0} (fits : ℕ → ℕ → P → Type 0) (bins : ℕ) where
       → get_or words' (2 * n + 1) 0 ≡ get_or s.words (2 * n + 1) 0
       → get_or words' (2 * n) 0 + missing (piece lo hi st) ≡ get_or s.words (2 * n) 0 + missing (piece lo hi st')
       → ((j : ℕ) → j ≢ i → j < 8 → get_elem? homes' (8 * n + j) ≡ get_elem? s.homes (8 * n + j))
-      → PlaceOk fits bins homes' (8 * n + i) lo hi st'
-      → Played (position_of (set t.pieces i (piece lo hi st')))
+      → SlotOk fits bins homes' (8 * n + i) lo hi st'
+      → IsReachable (position_of (set t.pieces i (piece lo hi st')))
       → Going fits bins words' homes' n t.low t.top t.above (set t.pieces i (piece lo hi st'))
-  going_set s r n i lo hi st st' t out words' homes' code_same number_same places_same place played =
+  going_set s r n i lo hi st st' t out words' homes' code_same number_same places_same place reachable =
       let ps = t.pieces in let p : Piece = piece lo hi st in let q : Piece = piece lo hi st' in
       let g : Going fits bins s.words s.homes n t.low t.top t.above ps = r.each_node n (going t.low t.top t.above ps) t.cell_is in
       let long : length (set ps i q) ≡ length ps = length-set ps i q in
@@ -149,14 +151,14 @@ module _ {P : Type 0} (fits : ℕ → ℕ → P → Type 0) (bins : ℕ) where
         few = subst (λ (k : ℕ). k ≤ 8) (sym long) g.few;
         own_only = λ j x e is. ⊎_elim (λ (y : (j ≡ i) × (q ≡ x)). absurd (out (ap (λ (z : Piece). z.stage) y.1 ∙ is)))
             (λ (y : (j ≢ i) × (get_elem? ps j ≡ some x)). g.own_only j x y.1 is) (at_set ps i j q x e);
-        each_place = λ j x e. ⊎_elim (λ (y : (j ≡ i) × (q ≡ x)). subst
-            (λ (z : ℕ × Piece). PlaceOk fits bins homes' (8 * n + z.0) z.1.lo z.1.hi z.1.stage) (λ k. (sym y.0 k, y.1 k)) place)
-            (λ (y : (j ≢ i) × (get_elem? ps j ≡ some x)). place_frame fits bins s.homes homes' (8 * n + j) x.lo x.hi x.stage
-            (places_same j y.0 (let w = within ps j x y.1 in let f = g.few in omega arith)) (g.each_place j x y.1))
+        each_slot = λ j x e. ⊎_elim (λ (y : (j ≡ i) × (q ≡ x)). subst
+            (λ (z : ℕ × Piece). SlotOk fits bins homes' (8 * n + z.0) z.1.lo z.1.hi z.1.stage) (λ k. (sym y.0 k, y.1 k)) place)
+            (λ (y : (j ≢ i) × (get_elem? ps j ≡ some x)). slot_frame fits bins s.homes homes' (8 * n + j) x.lo x.hi x.stage
+            (places_same j y.0 (let w = within ps j x y.1 in let f = g.few in omega arith)) (g.each_slot j x y.1))
             (at_set ps i j q x e);
         others = λ j far near. let far' : length ps ≤ j = subst (λ (k : ℕ). k ≤ j) long far in
             places_same j (λ e. let w = within ps i p t.piece_is in absurd (omega arith)) near ∙ g.others j far' near;
-        played = played;
+        reachable = reachable;
       }
 
   pub restaged : (s : St fits bins) (r : Rule s) (n i lo hi : ℕ) (st st' : Stage) (t : Ticketed r.cells n i lo hi st) → (st' ≡ held → ⊥)
@@ -166,16 +168,16 @@ module _ {P : Type 0} (fits : ℕ → ℕ → P → Type 0) (bins : ℕ) where
       → get_or words' (2 * n + 1) 0 ≡ get_or s.words (2 * n + 1) 0
       → get_or words' (2 * n) 0 + missing (piece lo hi st) ≡ get_or s.words (2 * n) 0 + missing (piece lo hi st')
       → ((j : ℕ) → j ≢ i → j < 8 → get_elem? homes' (8 * n + j) ≡ get_elem? s.homes (8 * n + j))
-      → PlaceOk fits bins homes' (8 * n + i) lo hi st'
-      → Played (position_of (set t.pieces i (piece lo hi st')))
+      → SlotOk fits bins homes' (8 * n + i) lo hi st'
+      → IsReachable (position_of (set t.pieces i (piece lo hi st')))
       → ((h : Right → ℕ) → total h w + right_of h n t.above (length t.pieces) i lo hi st ≤ total h v + right_of h n t.above
       (length t.pieces) i lo hi st')
       → Rule record { words = words'; homes = homes'; views = set s.views id w }
-  restaged s r n i lo hi st st' t out id v w at words' homes' words_long homes_long others code_same number_same places_same place played balance =
+  restaged s r n i lo hi st st' t out id v w at words' homes' words_long homes_long others code_same number_same places_same place reachable balance =
       let ps = t.pieces in let p : Piece = piece lo hi st in let q : Piece = piece lo hi st' in
       moved fits bins s r n (going t.low t.top t.above ps)
       (going t.low t.top t.above (set ps i q)) t.cell_is id v w at words' homes' words_long homes_long others
-      (going_set s r n i lo hi st st' t out words' homes' code_same number_same places_same place played)
+      (going_set s r n i lo hi st st' t out words' homes' code_same number_same places_same place reachable)
       (λ h. let a = given_out_set h n t.low t.top t.above ps i p q t.piece_is in
       let x : ℕ = given_out h n (going t.low t.top t.above (set ps i q)) in let y : ℕ = given_out h n (going t.low t.top t.above ps) in
       let rp : ℕ = right_of h n t.above (length ps) i lo hi st in let rq : ℕ = right_of h n t.above (length ps) i lo hi st' in
@@ -203,7 +205,7 @@ module _ {P : Type 0} (fits : ℕ → ℕ → P → Type 0) (bins : ℕ) where
       (sym (set_get s.words k))
 
   places_step : (slots id : ℕ) (car : List (ℕ × Option (Partial P))) (n i lo hi fk : ℕ) (up : List Above)
-      → let me : Knows P = (Waits n i lo hi fk up ∷ [], car) in Allows Rule slots id me (2 * n + 1) (λ x. x) (Takes me)
+      → let me : Knowledge P = (Waits n i lo hi fk up ∷ [], car) in Allows Rule slots id me (2 * n + 1) (λ x. x) (Takes me)
   places_step slots id car n i lo hi fk up s r wide at _ =
       let v : List Right = Waits n i lo hi fk up ∷ [] in
       let f = has_waiting fits bins s r id v n i lo hi fk up at (one_right (Waits n i lo hi fk up)) in let t = f.0 in let ps = t.pieces in
@@ -213,11 +215,11 @@ module _ {P : Type 0} (fits : ℕ → ℕ → P → Type 0) (bins : ℕ) where
       let homes' : Homes fits bins = set s.homes k none in (
         w,
         takes k None,
-        g.each_place i (piece lo hi waits) t.piece_is,
+        g.each_slot i (piece lo hi waits) t.piece_is,
         same_words s (2 * n + 1) homes' (set s.views id w)
             (restaged s r n i lo hi waits places t (λ e. not_held e) id v w at s.words homes' refl (length-set s.homes k none)
             (λ m apart. (refl, refl, elsewhere s.homes n i m none small apart)) refl refl (λ j apart _. beside s.homes n i none j apart) tt
-            (subst Played (sym (position_same ps i (piece lo hi waits) (piece lo hi places) t.piece_is refl refl)) g.played)
+            (subst IsReachable (sym (position_same ps i (piece lo hi waits) (piece lo hi places) t.piece_is refl refl)) g.reachable)
             (λ h. let a : ℕ = h (Places n i lo hi fk x up) in
             let b : ℕ = h (Places n i lo hi (known_forks i (length ps)) (code t.above) (path_of t.above)) in
             let c : ℕ = h (Waits n i lo hi fk up) in let d : ℕ = h (Waits n i lo hi (known_forks i (length ps)) (path_of t.above)) in
@@ -226,13 +228,13 @@ module _ {P : Type 0} (fits : ℕ → ℕ → P → Type 0) (bins : ℕ) where
         refl,
       )
 
-  pub takes_place : (slots id : ℕ) (me : Knows P) (n i lo hi fk : ℕ) (up : List Above) (car : List (ℕ × Option (Partial P)))
+  pub takes_place : (slots id : ℕ) (me : Knowledge P) (n i lo hi fk : ℕ) (up : List Above) (car : List (ℕ × Option (Partial P)))
       → me ≡ (Waits n i lo hi fk up ∷ [], car) → Allows Rule slots id me (2 * n + 1) (λ x. x) (Takes me)
   takes_place slots id me n i lo hi fk up car is =
-      subst (λ (m : Knows P). Allows Rule slots id m (2 * n + 1) (λ x. x) (Takes m)) (sym is) (places_step slots id car n i lo hi fk up)
+      subst (λ (m : Knowledge P). Allows Rule slots id m (2 * n + 1) (λ x. x) (Takes m)) (sym is) (places_step slots id car n i lo hi fk up)
 
   owns_step : (slots id : ℕ) (car : List (ℕ × Option (Partial P))) (n lo hi k : ℕ) (up : List Above) (rs : List Right)
-      → let me : Knows P = (Opened n lo hi k up ∷ rs, car) in Allows Rule slots id me (2 * n) (λ x. x) (Owns me)
+      → let me : Knowledge P = (Opened n lo hi k up ∷ rs, car) in Allows Rule slots id me (2 * n) (λ x. x) (Owns me)
   owns_step slots id car n lo hi k up rs s r wide at _ =
       let v : List Right = Opened n lo hi k up ∷ rs in
       let f = has_opened fits bins s r id v n lo hi k up at (first_right (Opened n lo hi k up) rs) in let t0 = f.1 in
@@ -250,16 +252,16 @@ module _ {P : Type 0} (fits : ℕ → ℕ → P → Type 0) (bins : ℕ) where
         tt,
         same_words s (2 * n) s.homes (set s.views id w)
             (restaged s r n 0 lo hi held waits t (λ e. not_held' e) id v w at s.words s.homes refl refl
-            (λ m apart. (refl, refl, (λ j near. refl))) refl refl (λ j apart _. refl) (g0.each_place 0 (piece lo hi held) here)
-            (subst Played (sym now) (played_more (position_of ps) own g0.played was))
+            (λ m apart. (refl, refl, (λ j near. refl))) refl refl (λ j apart _. refl) (g0.each_slot 0 (piece lo hi held) here)
+            (subst IsReachable (sym now) (reachable_more (position_of ps) own g0.reachable was))
             (λ h. let a : ℕ = h (Waits n 0 lo hi (k - 1) up) in let a' : ℕ = h (Waits n 0 lo hi (length ps - 1) (path_of t.above)) in
             let b : ℕ = h (Opened n lo hi (length ps) (path_of t.above)) in let c : ℕ = h (Opened n lo hi k up) in let d : ℕ = total h rs in
             let e : c ≡ b = λ z. h (Opened n lo hi (f.2 z) (f.3 z)) in let e' : a ≡ a' = λ z. h (Waits n 0 lo hi (f.2 z - 1) (f.3 z)) in
             let z : a + 0 + b ≤ c + d + a' = omega arith in z)),
-        (refl, (position_of ps, g0.played, was, (numbers ps ∙ sym g0.number_is, tickets ps k f.2))),
+        (refl, (position_of ps, g0.reachable, was, (numbers ps ∙ sym g0.number_is, tickets ps k f.2))),
       )
 
-  pub gives_own : (slots id : ℕ) (me : Knows P) (n lo hi k : ℕ) (up : List Above) (rs : List Right) (car : List (ℕ × Option (Partial P)))
+  pub gives_own : (slots id : ℕ) (me : Knowledge P) (n lo hi k : ℕ) (up : List Above) (rs : List Right) (car : List (ℕ × Option (Partial P)))
       → me ≡ (Opened n lo hi k up ∷ rs, car) → Allows Rule slots id me (2 * n) (λ x. x) (Owns me)
   gives_own slots id me n lo hi k up rs car is =
-      subst (λ (m : Knows P). Allows Rule slots id m (2 * n) (λ x. x) (Owns m)) (sym is) (owns_step slots id car n lo hi k up rs)
+      subst (λ (m : Knowledge P). Allows Rule slots id m (2 * n) (λ x. x) (Owns m)) (sym is) (owns_step slots id car n lo hi k up rs)

@@ -40,9 +40,9 @@ abbrev pub IsGame : Position → List Event → Type 0
 IsGame p [] = Unit {0}
 IsGame p (e ∷ es) = Allowed p e × IsGame (after p e) es
 
-abbrev pub reached : Position → List Event → Position
-reached p [] = p
-reached p (e ∷ es) = reached (after p e) es
+abbrev pub position_after : Position → List Event → Position
+position_after p [] = p
+position_after p (e ∷ es) = position_after (after p e) es
 
 -- an arrival is last when it leaves the number at 0
 abbrev pub is_last : Position → Event → Bool
@@ -62,14 +62,16 @@ IsComplete p = (p.given ≡ true) × (number p ≡ 0)
 abbrev pub EndsInLast : List Event → Type 0
 EndsInLast es = (before : List Event) × (t : ℕ) × (es ≡ before ++ arrive t ∷ []) × (lasts start before ≡ 0) × (lasts start es ≡ 1)
 
--- in every game there is at most one last arrival. Where the own ticket is given out and all tickets have arrived there is exactly one, the final event, and nowhere else
+-- in every game there is at most one last arrival. Where the own ticket is given out
+-- and all tickets have arrived there is exactly one, the final event, and nowhere else
 abbrev pub OneLast : Type 0
-OneLast = (es : List Event) → IsGame start es → (lasts start es ≤ 1) × (IsComplete (reached start es) → EndsInLast es) × (lasts start es ≡ 1 → IsComplete (reached start es))
+OneLast = (es : List Event) → IsGame start es
+    → (lasts start es ≤ 1) × (IsComplete (position_after start es) → EndsInLast es) × (lasts start es ≡ 1 → IsComplete (position_after start es))
 
 -- some list of events leads there
-abbrev pub Played : Position → Type 0
-Played p = (es : List Event) × IsGame start es × (reached start es ≡ p)
+abbrev pub IsReachable : Position → Type 0
+IsReachable p = (es : List Event) × IsGame start es × (position_after start es ≡ p)
 
 -- the event is allowed where a game has led to, and that position is such
-abbrev pub Plays : Event → (Position → Type 0) → Type 0
-Plays e Such = (p : Position) × Played p × Allowed p e × Such p
+abbrev pub IsPossible : Event → (Position → Type 0) → Type 0
+IsPossible e Such = (p : Position) × IsReachable p × Allowed p e × Such p

@@ -1,7 +1,7 @@
--- Parts side by side, and the eight places of a node.
+-- Parts side by side, and the eight slots of a node.
 use Rattle.std.specs.Prelude.{◌≡◌, ℕ, zero, suc, ◌+◌, ◌*◌, ◌<◌, List, [], ◌∷◌, Option, Some, None}
 use Rattle.completers.specs.declared.relation.Partial.{Partial}
-use Rattle.completers.specs.declared.parts.Places.{Places}
+use Rattle.completers.specs.declared.parts.Slots.{Slots}
 
 module _ {P : Type 0} where
   -- parts side by side from lo to hi, each of which fits its range
@@ -13,26 +13,26 @@ module _ {P : Type 0} where
   abbrev pub IsPart : (ℕ → ℕ → P → Type 0) → ℕ → ℕ → Partial P → Type 0
   IsPart fits lo hi x = (x.lo ≡ lo) × (x.hi ≡ hi) × fits lo hi x.part
 
-  -- what is in places, without the empty ones
+  -- what is in slots, without the empty ones
   abbrev pub present : List (Option (Partial P)) → List (Partial P)
   present [] = []
   present (None ∷ os) = present os
   present (Some x ∷ os) = x ∷ present os
 
-  abbrev pub places_of : Places P → List (Option (Partial P))
-  places_of p = p.own ∷ p.fork7 ∷ p.fork6 ∷ p.fork5 ∷ p.fork4 ∷ p.fork3 ∷ p.fork2 ∷ p.fork1 ∷ []
+  abbrev pub slots_of : Slots P → List (Option (Partial P))
+  slots_of p = p.own ∷ p.fork7 ∷ p.fork6 ∷ p.fork5 ∷ p.fork4 ∷ p.fork3 ∷ p.fork2 ∷ p.fork1 ∷ []
 
   -- y j, .., y 1
   abbrev pub stack : (ℕ → Option (Partial P)) → ℕ → List (Option (Partial P))
   stack y zero = []
   stack y (suc j) = y (suc j) ∷ stack y j
 
-  -- the places j, .., 1 of the node n with what is in them, in front of others
+  -- the slots j, .., 1 of the node n with what is in them, in front of others
   abbrev pub pile : ℕ → (ℕ → Option (Partial P)) → ℕ → List (ℕ × Option (Partial P)) → List (ℕ × Option (Partial P))
   pile n y zero c = c
   pile n y (suc j) c = (8 * n + suc j, y (suc j)) ∷ pile n y j c
 
-  -- where a place's part ends
+  -- where a slot's part ends
   abbrev pub end_after : ℕ → Option (Partial P) → ℕ
   end_after d None = d
   end_after d (Some x) = x.hi

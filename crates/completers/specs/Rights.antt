@@ -40,8 +40,9 @@ path_of (Waits n i lo hi f up ∷ rs) = record { node = n; number = i; lo = lo; 
 path_of (Places n i lo hi f c up ∷ rs) = []
 
 -- the ticket above is for the node's range. Only the root, of the whole range, has none
-abbrev pub IsAbove : ℕ → ℕ → ℕ → List Right → Type 0
-IsAbove bins lo top above = ((above ≡ []) × (lo ≡ 0) × (top ≡ bins)) ⊎ ((n : ℕ) × (i : ℕ) × (f : ℕ) × (up : List Above) × (i < 8) × (above ≡ Waits n i lo top f up ∷ []))
+abbrev pub IsTicketAbove : ℕ → ℕ → ℕ → List Right → Type 0
+IsTicketAbove bins lo top above = ((above ≡ []) × (lo ≡ 0) × (top ≡ bins))
+    ⊎ ((n : ℕ) × (i : ℕ) × (f : ℕ) × (up : List Above) × (i < 8) × (above ≡ Waits n i lo top f up ∷ []))
 
 -- the node that the first right is of
 abbrev pub node_in : List Right → ℕ

@@ -1,13 +1,14 @@
 -- The rule of a tree's table.
--- Word 2 m is the number of the node m, and word 2 m + 1 the code of the ticket above it. Slot 8 m + i is the place of the ticket i of the node m.
-use Rattle.std.specs.Prelude.{◌≡◌, ℕ, zero, suc, ◌+◌, ◌-◌, ◌*◌, ◌<◌, ◌≤◌, Bool, true, false, if◌then◌else◌, List, [], ◌∷◌, map, length, slice_index, Option, Some, None}
+-- Word 2 m is the number of the node m, and word 2 m + 1 the code of the ticket above it. Slot 8 m + i is that of the ticket i of the node m.
+use Rattle.std.specs.Prelude.{◌≡◌, ℕ, zero, suc, ◌+◌, ◌-◌, ◌*◌, ◌<◌, ◌≤◌, Bool, true, false, if◌then◌else◌, List, [], ◌∷◌, map, length, slice_index, Option}
+use Rattle.std.specs.Prelude.{Some, None}
 use mathlib.Core.Option.{some}
 use mathlib.Core.Option as maybe
 use lib.ListN.{get_elem?}
 use Rattle.atomic_table.specs.Table.{State}
-use Rattle.completers.specs.Game.{Position, Played}
+use Rattle.completers.specs.Game.{Position, IsReachable}
 use Rattle.completers.specs.Parts.{IsPart}
-use Rattle.completers.specs.Rights.{IsAbove, code, path_of}
+use Rattle.completers.specs.Rights.{IsTicketAbove, code, path_of}
 use Rattle.completers.specs.declared.relation.Partial.{Partial}
 use Rattle.completers.specs.declared.rule.Right.{Right}
 use Rattle.completers.specs.declared.rule.Right.TheVariants.{Unopened, Opened, Waits, Places}
@@ -21,7 +22,7 @@ abbrev pub indexed : {A : Type 0} → (ℕ → A → ℕ) → ℕ → List A →
 indexed f i [] = 0
 indexed f i (x ∷ xs) = f i x + indexed f (i + 1) xs
 
--- the own ticket is held by its node until it is given out. A ticket's place is out with it while it writes
+-- the own ticket is held by its node until it is given out. A ticket's slot is out with it while it writes
 pub data Stage : Type 0 where
   held : Stage
   waits : Stage
@@ -100,22 +101,22 @@ Tiled lo top (p ∷ ps) = (p.lo ≡ lo) × (lo < p.hi) × Down p.hi top ps
 
 module _ {P : Type 0} (fits : ℕ → ℕ → P → Type 0) (bins : ℕ) where
   module _ (homes : List (maybe.Option (Option (Partial P)))) (k lo hi : ℕ) where
-    abbrev pub PlaceOk : Stage → Type 0
-    PlaceOk held = get_elem? homes k ≡ some (some None)
-    PlaceOk waits = get_elem? homes k ≡ some (some None)
-    PlaceOk places = Unit {0}
-    PlaceOk arrived = (x : Partial P) × (get_elem? homes k ≡ some (some (Some x))) × IsPart fits lo hi x
+    abbrev pub SlotOk : Stage → Type 0
+    SlotOk held = get_elem? homes k ≡ some (some None)
+    SlotOk waits = get_elem? homes k ≡ some (some None)
+    SlotOk places = Unit {0}
+    SlotOk arrived = (x : Partial P) × (get_elem? homes k ≡ some (some (Some x))) × IsPart fits lo hi x
 
   pub record Going (words : List ℕ) (homes : List (maybe.Option (Option (Partial P)))) (m lo top : ℕ) (above : List Right) (ps : List Piece) : Type 0 where
     pub number_is : slice_index words (2 * m) ≡ total missing ps
     pub code_is : slice_index words (2 * m + 1) ≡ code above
-    pub above_is : IsAbove bins lo top above
+    pub above_is : IsTicketAbove bins lo top above
     pub tiled : Tiled lo top ps
     pub few : length ps ≤ 8
     pub own_only : (i : ℕ) (p : Piece) → get_elem? ps i ≡ some p → p.stage ≡ held → i ≡ 0
-    pub each_place : (i : ℕ) (p : Piece) → get_elem? ps i ≡ some p → PlaceOk homes (8 * m + i) p.lo p.hi p.stage
+    pub each_slot : (i : ℕ) (p : Piece) → get_elem? ps i ≡ some p → SlotOk homes (8 * m + i) p.lo p.hi p.stage
     pub others : (i : ℕ) → length ps ≤ i → i < 8 → get_elem? homes (8 * m + i) ≡ some (some None)
-    pub played : Played (position_of ps)
+    pub reachable : IsReachable (position_of ps)
 
   module _ (words : List ℕ) (homes : List (maybe.Option (Option (Partial P)))) (m : ℕ) where
     abbrev pub CellOk : Cell → Type 0
@@ -123,7 +124,7 @@ module _ {P : Type 0} (fits : ℕ → ℕ → P → Type 0) (bins : ℕ) where
     CellOk (going lo top above ps) = Going words homes m lo top above ps
     CellOk over = Unit {0}
 
-  -- Each right is with one token or one node at most, and each node's words and places are as its tickets say
+  -- Each right is with one token or one node at most, and each node's words and slots are as its tickets say
   pub record Holds (s : State (Option (Partial P)) (List Right)) : Type 0 where
     pub cells : List Cell
     pub words_wide : length s.words ≡ 2 * length cells

@@ -6,7 +6,7 @@ use Rattle.completers.specs.declared.rule.Right.{Right}
 use Rattle.completers.specs.declared.rule.Right.TheVariants.{Opened, Waits}
 use Rattle.completers.specs.Rights.{nodes, forks_in, up_in}
 
--- a table of two words and eight places a node
+-- a table of two words and eight slots a node
 pub record IsTree (table : TableId) (nodes slots : ℕ) : Type 0 where
   pub words : table.words ≡ 2 * nodes
   pub places : table.slots ≡ 8 * nodes

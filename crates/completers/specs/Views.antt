@@ -16,7 +16,8 @@ pub record SupplyView : Type 0 where
   pub first : ℕ
   pub level : ℕ
 
--- an open node of a tree: the range that is left, how often it forked, its supply of 2 ^ level nodes, itself among them, and the tickets above it, the nearest first
+-- an open node of a tree: the range that is left, how often it forked, its supply of 2
+-- ^ level nodes, itself among them, and the tickets above it, the nearest first
 pub record NodeView : Type 0 where
   pub tree : TableId
   pub node : ℕ
@@ -26,7 +27,8 @@ pub record NodeView : Type 0 where
   pub level : ℕ
   pub above : List Above
 
--- a ticket of a node: its number, 0 for the own ticket, its range, how often the node forked, where it is the own ticket (else 0), and the tickets above the node, the nearest first
+-- a ticket of a node: its number, 0 for the own ticket, its range, how often the node forked,
+-- where it is the own ticket (else 0), and the tickets above the node, the nearest first
 pub record TicketView : Type 0 where
   pub tree : TableId
   pub node : ℕ

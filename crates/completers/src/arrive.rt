@@ -1,13 +1,13 @@
 //! Arrivals.
 ghost use Rattle.std.specs.Prelude.{◌≡◌, ◌≢◌, ℕ, ◌+◌, ◌*◌, ◌<◌, ◌≤◌, List, [], ◌∷◌, map, length, Contains, MatchOption, None, Some};
 ghost use Rattle.atomic_table.specs.Table.{rest, turned};
-ghost use Rattle.completers.specs.Parts.{AreParts, pile, places_of, present};
-ghost use Rattle.completers.specs.Rights.{IsAbove, code as code_of, node_in, path_of};
+ghost use Rattle.completers.specs.Parts.{AreParts, pile, slots_of, present};
+ghost use Rattle.completers.specs.Rights.{IsTicketAbove, code as code_of, node_in, path_of};
 ghost use Rattle.completers.specs.declared.rule.Right.TheVariants.{Places as Placing};
 
-use crate::parts::{Parts, Places};
+use crate::parts::{Parts, Slots};
 use crate::relation::{Partial, Relation};
-use crate::rule::Place;
+use crate::rule::TokenSeat;
 use crate::steps::{First, TakeStep};
 use crate::tokens::Ticket;
 use crate::tree::Tree;
@@ -27,30 +27,30 @@ pub enum Arrival<P: Drop> {
 impl<B: Relation, A: Allocator> Tree<B, A> {
     ghost use Rattle.completers.specs.Arrived.{MatchArrival, IsLast, IsWholeNode};
 
-    // What is in the place that the seat took last, which goes behind the others.
-    fn empty(&self, seat: &mut Place<B::Part>, slot: usize) -> Option<Partial<B::Part>>
+    // What is in the slot that the seat took last, which goes behind the others.
+    fn empty(&self, seat: &mut TokenSeat<B::Part>, slot: usize) -> Option<Partial<B::Part>>
         requires table { seat.old.table_id ≡ self.now.identity }
         requires place { (old : _) × (seat.old.me.1 ≡ (slot, old) ∷ rest seat.old.me.1) }
         ensures table { seat.new.table_id ≡ seat.old.table_id }
         ensures found { seat.old.me.1 ≡ (slot, result) ∷ rest seat.old.me.1 }
         ensures rights { seat.new.me.0 ≡ seat.old.me.0 }
-        ensures places { seat.new.me.1 ≡ turned ((slot, None) ∷ rest seat.old.me.1) }
+        ensures slots { seat.new.me.1 ≡ turned ((slot, None) ∷ rest seat.old.me.1) }
     {
         let found = self.board.shared.exchange(seat, slot, None);
         seat.turn();
         found
     }
 
-    // What is in all places of the node.
-    fn empty_all(&self, seat: &mut Place<B::Part>, node: usize) -> Places<B::Part>
+    // What is in all slots of the node.
+    fn empty_all(&self, seat: &mut TokenSeat<B::Part>, node: usize) -> Slots<B::Part>
         requires table { seat.old.table_id ≡ self.now.identity }
         requires inside { (8 * node + 8 ≤ seat.old.table_id.slots) × (seat.old.table_id.slots ≤ 1024) }
-        requires places { (y : _) × (seat.old.me.1 ≡ (8 * node, y 0) ∷ pile node y 7 []) }
+        requires slots { (y : _) × (seat.old.me.1 ≡ (8 * node, y 0) ∷ pile node y 7 []) }
         ensures table { seat.new.table_id ≡ seat.old.table_id }
         ensures rights { seat.new.me.0 ≡ seat.old.me.0 }
-        ensures found { places_of result ≡ map (λ p. p.1) seat.old.me.1 }
+        ensures found { slots_of result ≡ map (λ p. p.1) seat.old.me.1 }
     {
-        Places {
+        Slots {
             own: self.empty(seat, 8 * node),
             fork7: self.empty(seat, 8 * node + 7),
             fork6: self.empty(seat, 8 * node + 6),
@@ -65,13 +65,15 @@ impl<B: Relation, A: Allocator> Tree<B, A> {
     // The ticket with this code, for the range of the parts.
     fn above(
         &self,
-        mut seat: Place<B::Part>,
+        mut seat: TokenSeat<B::Part>,
         code: u64,
-        places: &Places<B::Part>,
+        slots: &Slots<B::Part>,
     ) -> Option<Ticket<B::Part>>
         requires table { seat.table_id ≡ self.now.identity }
-        requires above { (lo : ℕ) × (hi : ℕ) × AreParts (B.relates self.now.relation) lo hi (present (places_of places.now)) × IsAbove self.now.bins lo hi seat.me.0 × (code_of seat.me.0 ≡ code) × (seat.me.0 ≢ [] → 8 * node_in seat.me.0 + 8 ≤ seat.table_id.slots) × ((x : _) × (places.now.own ≡ Some x) × (x.lo ≡ lo)) }
-        ensures { IsWholeNode self.now (B.relates self.now.relation) (path_of seat.me.0) (present (places_of places.now)) result }
+        requires above { (lo : ℕ) × (hi : ℕ) × AreParts (B.relates self.now.relation) lo hi (present (slots_of slots.now))
+            × IsTicketAbove self.now.bins lo hi seat.me.0 × (code_of seat.me.0 ≡ code) × (seat.me.0 ≢ [] → 8 * node_in seat.me.0 + 8 ≤ seat.table_id.slots)
+            × ((x : _) × (slots.now.own ≡ Some x) × (x.lo ≡ lo)) }
+        ensures { IsWholeNode self.now (B.relates self.now.relation) (path_of seat.me.0) (present (slots_of slots.now)) result }
     {
         if code == 0 {
             return None;
@@ -82,17 +84,20 @@ impl<B: Relation, A: Allocator> Tree<B, A> {
             seat: above,
             node: code / 8,
             number: code % 8,
-            lo: places.lo(),
-            hi: places.hi(),
+            lo: slots.lo(),
+            hi: slots.hi(),
         })
     }
 
-    // Writes the part into the ticket's place, and reads the code of the ticket above.
-    fn place(&self, ticket: Ticket<B::Part>, partial: Partial<B::Part>) -> (Place<B::Part>, u64)
+    // Writes the part into the ticket's slot, and reads the code of the ticket above.
+    fn place(&self, ticket: Ticket<B::Part>, partial: Partial<B::Part>) -> (TokenSeat<B::Part>, u64)
         requires tree { ticket.tree ≡ self.now.identity }
         ensures table { result.0.table_id ≡ self.now.identity }
         ensures inside { (8 * ticket.node + 8 ≤ result.0.table_id.slots) × (result.0.table_id.slots ≤ 1024) × (ticket.number < 8) }
-        ensures place { result.0.me ≡ (Placing ticket.node ticket.number ticket.lo ticket.hi ticket.forks result.1 ticket.above ∷ [], (8 * ticket.node + ticket.number, Some partial) ∷ []) }
+        ensures place { result.0.me ≡ (
+          Placing ticket.node ticket.number ticket.lo ticket.hi ticket.forks result.1 ticket.above ∷ [],
+          (8 * ticket.node + ticket.number, Some partial) ∷ [],
+        ) }
     {
         let Ticket {
             mut seat,
@@ -109,13 +114,15 @@ impl<B: Relation, A: Allocator> Tree<B, A> {
         (seat, code)
     }
 
-    /// Leaves a part at the ticket's node. Whoever comes last has the parts of all its tickets, side by side over the node's whole range, and the ticket above, for that range.
+    /// Leaves a part at the ticket's node. Whoever comes last has the parts of all its tickets,
+    /// side by side over the node's whole range, and the ticket above, for that range.
     /// It takes no memory and waits for nobody.
     pub fn arrive(&self, ticket: Ticket<B::Part>, partial: Partial<B::Part>) -> Arrival<B::Part>
         requires tree { ticket.tree ≡ self.now.identity }
         requires range { (partial.lo ≡ ticket.lo) × (partial.hi ≡ ticket.hi) }
         requires part { B.relates self.now.relation partial.lo partial.hi partial.part }
-        ensures last { MatchArrival result (Unit {0}) (λ parts above. Contains parts partial × IsWholeNode self.now (B.relates self.now.relation) ticket.above parts above) }
+        ensures last { MatchArrival result (Unit {0})
+            (λ parts above. Contains parts partial × IsWholeNode self.now (B.relates self.now.relation) ticket.above parts above) }
         // The own ticket of a node that forked nothing.
         ensures alone { ticket.number ≡ 0 → ticket.forks ≡ 0 → IsLast result }
     {
@@ -124,8 +131,8 @@ impl<B: Relation, A: Allocator> Tree<B, A> {
         if count_down::<B, Brand>(&self.board.shared, &mut seat, node) != 1 {
             return Arrival::Early;
         }
-        let places = self.empty_all(&mut seat, node);
-        let above = self.above(seat, code, &places);
-        Arrival::Last(Parts::of(places), above)
+        let slots = self.empty_all(&mut seat, node);
+        let above = self.above(seat, code, &slots);
+        Arrival::Last(Parts::of(slots), above)
     }
 }

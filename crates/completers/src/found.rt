@@ -24,7 +24,8 @@ impl<I: Finds> Rule for Numbered<I> {
     ghost invariant = { λ word. IsClaimWord I.finds word };
 }
 
-/// The index at which something was found first. Many may claim and look at once. Whoever claims an index shows that something is found there, and whoever looks learns that of what it is shown.
+/// The index at which something was found first. Many may claim and look at once. Whoever claims an
+/// index shows that something is found there, and whoever looks learns that of what it is shown.
 #[derive(Drop)]
 pub struct Found<I: Finds> {
     word: AtomicIn<Numbered<I>>,

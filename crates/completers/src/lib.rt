@@ -1,9 +1,13 @@
-//! Counted completers. A range of bins is worked on as a tree of nodes: whoever opens a node forks upper halves of its range to others, and keeps the lower half.
-//! Each fork, and the node itself, has a ticket, and each ticket arrives once, with a part for its range. The last arrival at a node has the parts of all its tickets,
-//! in range order, and the ticket above it: it joins them, and arrives there with the joined part. So what a tree gives for its whole range is what one thread would give,
+//! Counted completers. A range of bins is worked on as a tree of nodes: whoever opens a
+//! node forks upper halves of its range to others, and keeps the lower half.
+//! Each fork, and the node itself, has a ticket, and each ticket arrives once, with a
+//! part for its range. The last arrival at a node has the parts of all its tickets,
+//! in range order, and the ticket above it: it joins them, and arrives there with the
+//! joined part. So what a tree gives for its whole range is what one thread would give,
 //! whoever did which range, in whatever order.
 //!
-//! Each node counts the tickets that have not arrived in one word, with one fetch_add for a fork and one fetch_sub for an arrival. Nothing waits, and only `Tree::new` takes memory.
+//! Each node counts the tickets that have not arrived in one word, with one fetch_add for a
+//! fork and one fetch_sub for an arrival. Nothing waits, and only `Tree::new` takes memory.
 #![tactic(auto)]
 
 mod arrive;

@@ -11,7 +11,8 @@ use std::alloc::Allocator;
 use std::marker::Brand;
 
 impl<P: Drop> Node<P> {
-    /// Gives away the range from `mid` up, as a ticket, with the upper half of the node's supply. The node keeps the range below and the lower half of the supply.
+    /// Gives away the range from `mid` up, as a ticket, with the upper half of the
+    /// node's supply. The node keeps the range below and the lower half of the supply.
     /// A node forks while it has more than one node, and fewer tickets than the tree has slots.
     pub fn fork<B: Relation<Part = P>, A: Allocator>(
         &mut self,

@@ -1,13 +1,13 @@
 //! The parts that the last arrival at a node has.
 ghost use Rattle.std.specs.Prelude.{◌≡◌, ℕ, ◌∷◌, [], MatchOption};
-ghost use Rattle.completers.specs.Parts.{end_after, ends, present, start_of, places_of};
+ghost use Rattle.completers.specs.Parts.{end_after, ends, present, start_of, slots_of};
 
 use crate::relation::Partial;
 use std::marker::Model;
 
-/// The places of a node, in range order.
+/// The slots of a node, in range order.
 #[derive(Drop)]
-pub(crate) struct Places<P> {
+pub(crate) struct Slots<P> {
     pub(crate) own: Option<Partial<P>>,
     pub(crate) fork7: Option<Partial<P>>,
     pub(crate) fork6: Option<Partial<P>>,
@@ -21,17 +21,17 @@ pub(crate) struct Places<P> {
 /// Parts in range order: a node's own, and those of its forks, the last fork's first. There are up to 8, and they are taken one by one.
 #[derive(Drop)]
 pub struct Parts<P> {
-    places: Places<P>,
+    slots: Slots<P>,
 }
 
 impl<P> Model for Parts<P> {
     ghost use Rattle.std.specs.Prelude.{List};
     ghost use Rattle.completers.specs.declared.relation.Partial.{Partial};
-    ghost use Rattle.completers.specs.Parts.{present, places_of};
+    ghost use Rattle.completers.specs.Parts.{present, slots_of};
 
     ghost Value = { List (Partial P) };
 
-    ghost view = { λ p. present (places_of p.places) };
+    ghost view = { λ p. present (slots_of p.slots) };
 }
 
 fn end_of<P>(before: usize, place: &Option<Partial<P>>) -> usize
@@ -43,7 +43,7 @@ fn end_of<P>(before: usize, place: &Option<Partial<P>>) -> usize
     }
 }
 
-impl<P> Places<P> {
+impl<P> Slots<P> {
     pub(crate) fn lo(&self) -> usize
         ensures { result ≡ start_of self.now.own }
     {
@@ -54,7 +54,7 @@ impl<P> Places<P> {
     }
 
     pub(crate) fn hi(&self) -> usize
-        ensures { result ≡ ends (start_of self.now.own) (places_of self.now) }
+        ensures { result ≡ ends (start_of self.now.own) (slots_of self.now) }
     {
         let end = end_of(end_of(self.lo(), &self.own), &self.fork7);
         let end = end_of(end_of(end, &self.fork6), &self.fork5);
@@ -63,7 +63,8 @@ impl<P> Places<P> {
     }
 
     fn take(&mut self) -> Option<Partial<P>>
-        ensures { MatchOption result ((present (places_of self.old) ≡ []) × (present (places_of self.new) ≡ [])) (λ x. present (places_of self.old) ≡ x ∷ present (places_of self.new)) }
+        ensures { MatchOption result ((present (slots_of self.old) ≡ []) × (present (slots_of self.new) ≡ []))
+            (λ x. present (slots_of self.old) ≡ x ∷ present (slots_of self.new)) }
     {
         if let Some(x) = self.own.take() {
             return Some(x);
@@ -91,16 +92,16 @@ impl<P> Places<P> {
 }
 
 impl<P> Parts<P> {
-    pub(crate) fn of(places: Places<P>) -> Parts<P>
-        ensures { result ≡ present (places_of places) }
+    pub(crate) fn of(slots: Slots<P>) -> Parts<P>
+        ensures { result ≡ present (slots_of slots) }
     {
-        Parts { places }
+        Parts { slots }
     }
 
     /// The next part, in range order. None: all are taken.
     pub fn take(&mut self) -> Option<Partial<P>>
         ensures { MatchOption result ((self.old ≡ []) × (self.new ≡ [])) (λ x. self.old ≡ x ∷ self.new) }
     {
-        self.places.take()
+        self.slots.take()
     }
 }

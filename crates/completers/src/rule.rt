@@ -1,11 +1,12 @@
-//! What tokens may do, and the rule over the words and places of a tree.
+//! What tokens may do, and the rule over the words and slots of a tree.
 use crate::relation::{Partial, Relation};
 use atomic_table::{Seat, Shared, Table, TableRule};
 use std::collections::LinkedList;
 use std::marker::PhantomData;
 use std::snapshot::Snapshot;
 
-/// A ticket above a node: its own node, its number and range, and how many forks its node has, where it is that node's own ticket (else 0). No value of it is made.
+/// A ticket above a node: its own node, its number and range, and how many forks its
+/// node has, where it is that node's own ticket (else 0). No value of it is made.
 pub struct Above {
     pub node: u64,
     pub number: u64,
@@ -25,7 +26,7 @@ pub enum Right {
     Opened(u64, u64, u64, u64, Path),
     /// Arrive: the node, the ticket's number and range, how many forks the node has, where the ticket is its own (else 0), and the tickets above the node.
     Waits(u64, u64, u64, u64, u64, Path),
-    /// The same while the ticket's place is with the token, which has read the code of the ticket above.
+    /// The same while the ticket's slot is with the token, which has read the code of the ticket above.
     Places(u64, u64, u64, u64, u64, u64, Path),
 }
 
@@ -54,7 +55,7 @@ impl<B: Relation> TableRule<Option<Partial<B::Part>>, Rights, Purpose<B>> for Co
     ghost first = { λ key. nodes 0 key.nodes };
 }
 
-pub(crate) type Place<P> = Seat<Option<Partial<P>>, Rights>;
+pub(crate) type TokenSeat<P> = Seat<Option<Partial<P>>, Rights>;
 
 pub(crate) type Words<B> = Shared<
     Option<Partial<<B as Relation>::Part>>,

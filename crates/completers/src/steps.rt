@@ -61,7 +61,7 @@ impl<P> Play<Option<Partial<P>>, Rights> for OwnStep {
     ghost then = { λ _ m found w. Owns m found w };
 }
 
-/// A ticket takes its place, and reads the code of the ticket above its node.
+/// A ticket takes its slot, and reads the code of the ticket above its node.
 pub(crate) struct TakeStep;
 
 impl<P> Play<Option<Partial<P>>, Rights> for TakeStep {
@@ -70,7 +70,7 @@ impl<P> Play<Option<Partial<P>>, Rights> for TakeStep {
     ghost then = { λ _ m found w. Takes m found w };
 }
 
-/// A ticket arrives. The last one has all places of the node.
+/// A ticket arrives. The last one has all slots of the node.
 pub(crate) struct ArriveStep<W> {
     marker: PhantomData<W>,
 }

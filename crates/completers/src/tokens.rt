@@ -1,13 +1,13 @@
 //! The tokens of a tree. None can be cloned. A token that is dropped is a right that nobody has any more.
 ghost use Rattle.std.specs.Prelude.{◌≡◌, ◌<◌};
 
-use crate::rule::Place;
+use crate::rule::TokenSeat;
 use std::marker::Model;
 
 /// Nodes of a tree that nobody has opened: 2 to the level of them, side by side.
 #[derive(Drop)]
 pub struct Supply<P: Drop> {
-    pub(crate) seat: Place<P>,
+    pub(crate) seat: TokenSeat<P>,
     pub(crate) first: usize,
     pub(crate) level: u32,
 }
@@ -26,7 +26,7 @@ impl<P: Drop> Model for Supply<P> {
 /// An open node, which forks until it gives out its own ticket.
 #[derive(Drop)]
 pub struct Node<P: Drop> {
-    pub(crate) seat: Place<P>,
+    pub(crate) seat: TokenSeat<P>,
     pub(crate) node: usize,
     pub(crate) lo: usize,
     pub(crate) hi: usize,
@@ -49,7 +49,7 @@ impl<P: Drop> Model for Node<P> {
 /// The right to arrive once at a node, with a part of the ticket's range.
 #[derive(Drop)]
 pub struct Ticket<P: Drop> {
-    pub(crate) seat: Place<P>,
+    pub(crate) seat: TokenSeat<P>,
     pub(crate) node: usize,
     pub(crate) number: usize,
     pub(crate) lo: usize,
@@ -63,7 +63,15 @@ impl<P: Drop> Model for Ticket<P> {
 
     ghost Value = { TicketView };
 
-    ghost view = { λ t. record { tree = t.seat.table_id; node = t.node; number = t.number; lo = t.lo; hi = t.hi; forks = forks_in t.seat.me.0; above = up_in t.seat.me.0 } };
+    ghost view = { λ t. record {
+      tree = t.seat.table_id;
+      node = t.node;
+      number = t.number;
+      lo = t.lo;
+      hi = t.hi;
+      forks = forks_in t.seat.me.0;
+      above = up_in t.seat.me.0;
+    } };
 
     ghost invariant = { λ t. IsTicket t.seat.table_id t.seat.me t.node t.number t.lo t.hi };
 }

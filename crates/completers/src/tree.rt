@@ -13,7 +13,7 @@ use std::alloc::{AllocError, Allocator};
 use std::marker::{Brand, Model};
 use std::snapshot::Snapshot;
 
-/// The nodes of a tree, with the places for their parts. `B` says which parts a range may have.
+/// The nodes of a tree, with the slots for their parts. `B` says which parts a range may have.
 #[derive(Drop)]
 pub struct Tree<B: Relation, A: Allocator> {
     pub(crate) board: Board<B, A>,
@@ -26,7 +26,12 @@ impl<B: Relation, A: Allocator> Model for Tree<B, A> {
 
     ghost Value = { TreeView B };
 
-    ghost view = { λ t. record { identity = t.board.shared.table_id; relation = t.board.shared.key.relation.value; bins = t.board.shared.key.bins; slots = t.slots } };
+    ghost view = { λ t. record {
+      identity = t.board.shared.table_id;
+      relation = t.board.shared.key.relation.value;
+      bins = t.board.shared.key.bins;
+      slots = t.slots;
+    } };
 
     ghost invariant = { λ t. IsTree t.board.shared.table_id t.board.shared.key.nodes t.slots };
 }
@@ -45,7 +50,8 @@ fn level_of(nodes: usize) -> u32
 }
 
 impl<B: Relation, A: Allocator> Tree<B, A> {
-    /// A tree of `nodes` nodes, a power of two up to 128, each with 1 to 8 `slots` for the parts of its tickets. Its root is to have the range from 0 up to `bins`, and each part
+    /// A tree of `nodes` nodes, a power of two up to 128, each with 1 to 8 `slots` for the
+    /// parts of its tickets. Its root is to have the range from 0 up to `bins`, and each part
     /// stands in the relation of `about` to its range. Err: there was no memory.
     ///
     /// In every order of forks and arrivals at a node at most one arrival is the last, and it is the final event.
@@ -133,7 +139,8 @@ impl<B: Relation, A: Allocator> Tree<B, A> {
         }
     }
 
-    /// Opens the first node of the supply for the range from `lo` up to `hi`. The root has the tree's whole range and no ticket above, and any other node the range of
+    /// Opens the first node of the supply for the range from `lo` up to `hi`. The root
+    /// has the tree's whole range and no ticket above, and any other node the range of
     /// the ticket above, which it keeps for its last arrival.
     pub fn open(
         &self,

@@ -13,47 +13,54 @@ use Rattle.bin_history.specs.declared.call.Call.{Call}
 use Rattle.bin_history.specs.Records.{RecordView}
 use Rattle.bin_history.proofs.Counts.{length-replay}
 use Rattle.bin_history.proofs.Histories.{HasHistory-new, HasHistory-gone_on, HasHistory-prepared, HasHistory-part, HasHistory-replay}
-use Rattle.count_ledger.specs.Agreement.{Agree, part_of_role}
+use Rattle.count_ledger.specs.Agreement.{BinAgrees, part_of_role}
 use Rattle.count_ledger.specs.Views.{RoleView}
 
 module _ {K V F : Type 0} (same : K → K → Bool) (tells : (x y : K) → Decides (same x y) (x ≡ y)) (code : K → ℕ) (after : Call K V F → Option V → Option V) where
-  pub Agree-new : (b : BinView K V F) (r : RoleView K V F) → b.class ≡ r.class → b.salt ≡ r.salt → HasDistinctKeys same b.base → b.base ≡ r.opening → b.records ≡ [] → r.kept ≡ [] → Agree same after b r
-  Agree-new b r class salt distinct base records kept = record {
+  pub BinAgrees-new : (b : BinView K V F) (r : RoleView K V F) → b.class ≡ r.class → b.salt ≡ r.salt → HasDistinctKeys same b.base → b.base ≡ r.opening
+      → b.records ≡ [] → r.kept ≡ [] → BinAgrees same after b r
+  BinAgrees-new b r class salt distinct base records kept = record {
     class = class;
     salt = salt;
     history = rw (kept, ← base) (HasHistory-new same tells code after b distinct records);
   }
 
-  pub Agree-gone_on : (b c : BinView K V F) (r s : RoleView K V F) (more : List (RecordView K V F))
-      → Agree same after b r → c.class ≡ b.class → c.salt ≡ b.salt → GoesOn same after b more c → s ≡ record r { kept = r.kept ++ more } → Agree same after c s
-  Agree-gone_on b c r s more a class salt on is =
+  pub BinAgrees-gone_on : (b c : BinView K V F) (r s : RoleView K V F) (more : List (RecordView K V F))
+      → BinAgrees same after b r → c.class ≡ b.class → c.salt ≡ b.salt → GoesOn same after b more c → s ≡ record r { kept = r.kept ++ more }
+      → BinAgrees same after c s
+  BinAgrees-gone_on b c r s more a class salt on is =
       rw is (record {
         class = class ∙ a.class;
         salt = salt ∙ a.salt;
         history = HasHistory-gone_on same tells code after r.opening r.kept b c more a.history on;
       })
 
-  pub Agree-prepared : (b c : BinView K V F) (r : RoleView K V F) → Agree same after b r → IsLawful same code after b → c.class ≡ b.class → c.salt ≡ b.salt → KeepsOrFolds same b c → Agree same after c r
-  Agree-prepared b c r a lawful class salt folds = record {
+  pub BinAgrees-prepared : (b c : BinView K V F) (r : RoleView K V F) → BinAgrees same after b r → IsLawful same code after b → c.class ≡ b.class
+      → c.salt ≡ b.salt → KeepsOrFolds same b c → BinAgrees same after c r
+  BinAgrees-prepared b c r a lawful class salt folds = record {
     class = class ∙ a.class;
     salt = salt ∙ a.salt;
     history = HasHistory-prepared same tells code after r.opening r.kept b c a.history lawful.legal folds;
   }
 
-  pub Agree-divided : (b c : BinView K V F) (r s : RoleView K V F) (half : ClassView → ClassView) → Agree same after b r → c.class ≡ half b.class → IsPartOf code b c → s ≡ part_of_role code (half r.class) r → Agree same after c s
-  Agree-divided b c r s half a class part is =
+  pub BinAgrees-divided : (b c : BinView K V F) (r s : RoleView K V F) (half : ClassView → ClassView) → BinAgrees same after b r → c.class ≡ half b.class
+      → IsPartOf code b c → s ≡ part_of_role code (half r.class) r → BinAgrees same after c s
+  BinAgrees-divided b c r s half a class part is =
       let own : c.class ≡ half r.class = class ∙ ap half a.class in
-      let H : ClassView → Type 0 = λ k. HasHistory same after (part_of_entries (is_of code b.salt k) r.opening) (part_of_records (is_of code b.salt k) r.kept) c in
+      let H : ClassView → Type 0 = λ k. HasHistory same after (part_of_entries (is_of code b.salt k) r.opening)
+      (part_of_records (is_of code b.salt k) r.kept) c in
       rw is (record {
         class = own;
         salt = part.salt ∙ a.salt;
         history = rw (← a.salt) (subst H own (HasHistory-part same tells code after r.opening r.kept b c a.history part));
       })
 
-  pub Agree-replay : (b : BinView K V F) (r : RoleView K V F) → Agree same after b r → IsLawful same code after b → b.entries ≡ replay same b.base b.records → IsLegal same after (lookup same r.opening) r.kept × (b.entries ≡ replay same r.opening r.kept)
-  Agree-replay b r a lawful replayed = HasHistory-replay same tells code after r.opening r.kept b a.history lawful.legal replayed
+  pub BinAgrees-replay : (b : BinView K V F) (r : RoleView K V F) → BinAgrees same after b r → IsLawful same code after b
+      → b.entries ≡ replay same b.base b.records → IsLegal same after (lookup same r.opening) r.kept × (b.entries ≡ replay same r.opening r.kept)
+  BinAgrees-replay b r a lawful replayed = HasHistory-replay same tells code after r.opening r.kept b a.history lawful.legal replayed
 
-  pub Agree-count : (b : BinView K V F) (r : RoleView K V F) → Agree same after b r → IsLawful same code after b → b.entries ≡ replay same b.base b.records → pos (length b.entries) ≡ pos (length r.opening) +ℤ sum_of_deltas r.kept
-  Agree-count b r a lawful replayed =
-      let (legal, is) = Agree-replay b r a lawful replayed in
+  pub BinAgrees-count : (b : BinView K V F) (r : RoleView K V F) → BinAgrees same after b r → IsLawful same code after b
+      → b.entries ≡ replay same b.base b.records → pos (length b.entries) ≡ pos (length r.opening) +ℤ sum_of_deltas r.kept
+  BinAgrees-count b r a lawful replayed =
+      let (legal, is) = BinAgrees-replay b r a lawful replayed in
       ap (λ (es : List (K × V)). pos (length es)) is ∙ length-replay same tells after r.opening r.kept a.history.1.distinct legal

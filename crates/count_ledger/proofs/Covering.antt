@@ -1,5 +1,6 @@
 -- Classes that have no hash in common cover every hash just where 65,536 hashes side by side have as many of them as there are.
-use Rattle.std.proofs.Common.{◌≡◌, ℕ, zero, suc, ◌+◌, ◌-◌, ◌*◌, ◌/◌, ◌%◌, ◌^◌, ◌<◌, ◌≤◌, ◌==◌, Bool, true, false, cond, List, [], ◌∷◌, MatchBool, sum_by, count_by, sym, refl, ap, subst, ◌∙◌, arith, All}
+use Rattle.std.proofs.Common.{◌≡◌, ℕ, zero, suc, ◌+◌, ◌-◌, ◌*◌, ◌/◌, ◌%◌, ◌^◌, ◌<◌, ◌≤◌, ◌==◌, Bool, true, false, cond, List, [], ◌∷◌, MatchBool, sum_by}
+use Rattle.std.proofs.Common.{count_by, sym, refl, ap, subst, ◌∙◌, arith, All}
 use Rattle.std.specs.Int.{◌∣◌}
 use Rattle.std.proofs.lemmas.Bool.{eqb-true, eq-eqb}
 use Rattle.std.proofs.lemmas.List.Elements.{All-weaker, All-head, All-tail}
@@ -17,7 +18,8 @@ covered c h = cond (covers c h) 1 0
 upto-covered : (c : ClassView) → c.index < c.n → (m : ℕ) → upto (covered c) (m * c.n) ≡ m
 upto-covered c lt zero = ap (upto (covered c)) (zero-mul c.n) ∙ upto-none (covered c)
 upto-covered c lt (suc m) =
-    let block : upto (λ r. covered c (m * c.n + r)) c.n ≡ 1 = upto-same (λ r. covered c (m * c.n + r)) (λ r. cond (r == c.index) 1 0) c.n (λ r l. ap (λ (x : ℕ). cond (x == c.index) 1 0) (mod-mul-add m c.n r l)) ∙ upto-one c.index c.n lt in
+    let block : upto (λ r. covered c (m * c.n + r)) c.n ≡ 1 = upto-same (λ r. covered c (m * c.n + r)) (λ r. cond (r == c.index) 1 0) c.n
+    (λ r l. ap (λ (x : ℕ). cond (x == c.index) 1 0) (mod-mul-add m c.n r l)) ∙ upto-one c.index c.n lt in
     let before : upto (covered c) (m * c.n) ≡ m = upto-covered c lt m in
     ap (upto (covered c)) (suc-mul m c.n) ∙ upto-more (covered c) (m * c.n) c.n ∙ omega arith
 
@@ -62,7 +64,8 @@ wide_from_cover classes lawful all =
     omega arith
 
 -- what a walk over all classes, which takes their widths from 65,536, has left at its end
-pub wide_by_rest : (left : ℕ) (classes : List ClassView) → left ≡ 65536 - sum_by (λ c. 65536 / c.n) classes → All IsClass classes → MatchBool (left == 0) (AreWide classes) (CoverAll classes → ⊥)
+pub wide_by_rest : (left : ℕ) (classes : List ClassView) → left ≡ 65536 - sum_by (λ c. 65536 / c.n) classes → All IsClass classes
+    → MatchBool (left == 0) (AreWide classes) (CoverAll classes → ⊥)
 wide_by_rest left classes is lawful = go (left == 0) refl where
   go : (b : Bool) → (left == 0) ≡ b → MatchBool b (AreWide classes) (CoverAll classes → ⊥)
   go true e = let none = eqb-true left 0 e in record { lawful = lawful; wide = omega arith }

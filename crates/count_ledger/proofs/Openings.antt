@@ -1,5 +1,6 @@
 -- A new ledger's books: they are as the rule says, and are dealt out one by one.
-use Rattle.std.proofs.Common.{◌≡◌, ◌≢◌, ℕ, zero, suc, ◌+◌, ◌-◌, ◌*◌, ◌%◌, ◌<◌, ◌≤◌, ◌==◌, ◌&&◌, Bool, true, false, cond, List, [], ◌∷◌, ◌++◌, length, get_or, replicate, map, take, filter, ⊎_elim, sym, refl, ap, subst, ◌∙◌, arith, All}
+use Rattle.std.proofs.Common.{◌≡◌, ◌≢◌, ℕ, zero, suc, ◌+◌, ◌-◌, ◌*◌, ◌%◌, ◌<◌, ◌≤◌, ◌==◌, ◌&&◌, Bool, true, false, cond, List, [], ◌∷◌, ◌++◌, length, get_or}
+use Rattle.std.proofs.Common.{replicate, map, take, filter, ⊎_elim, sym, refl, ap, subst, ◌∙◌, arith, All}
 use Rattle.std.specs.Prelude.{slice_index, flat_map}
 use Rattle.std.specs.List.{range_with_len, AllByRecursion as Each}
 use Rattle.std.proofs.lemmas.List.{append-nil, length-replicate, length-take-le, get_or_past}
@@ -31,7 +32,8 @@ module _ {A : Type 0} (f : ℕ → A) where
   Each-range Q a zero q = tt
   Each-range Q a (suc n) q = (q a (omega arith) (omega arith), Each-range Q (a + 1) n (λ i low lt. q i (omega arith) (omega arith)))
 
-  Among-range : (P : A → Type 0) (R : A → A → Type 0) (a n : ℕ) → ((i : ℕ) → i < a + n → P (f i)) → ((i j : ℕ) → i < j → j < a + n → R (f i) (f j)) → Among P R (map f (range_with_len a n))
+  Among-range : (P : A → Type 0) (R : A → A → Type 0) (a n : ℕ) → ((i : ℕ) → i < a + n → P (f i)) → ((i j : ℕ) → i < j → j < a + n → R (f i) (f j))
+      → Among P R (map f (range_with_len a n))
   Among-range P R a zero p r = tt
   Among-range P R a (suc n) p r = (
     p a (omega arith),
@@ -54,7 +56,8 @@ module _ {X : Type 0} (p : X → Bool) where
       ∙ filter_no_list ls (λ j lt. n (suc j) (omega arith))
 
   -- a test that the members of one list pass, and those of no other
-  filter_one_list : (ls : List (List X)) (i : ℕ) → i < length ls → All (λ x. p x ≡ true) (get_or ls i []) → ((j : ℕ) → j < length ls → j ≢ i → All (λ x. p x ≡ false) (get_or ls j [])) → filter p (flat_map (λ l. l) ls) ≡ get_or ls i []
+  filter_one_list : (ls : List (List X)) (i : ℕ) → i < length ls → All (λ x. p x ≡ true) (get_or ls i [])
+      → ((j : ℕ) → j < length ls → j ≢ i → All (λ x. p x ≡ false) (get_or ls j [])) → filter p (flat_map (λ l. l) ls) ≡ get_or ls i []
   filter_one_list [] i lt y n = absurd (omega arith)
   filter_one_list (l ∷ ls) zero lt y n =
       filter-append p l (flat_map (λ k. k) ls)
@@ -73,10 +76,12 @@ not_another : (n h i j : ℕ) → j ≢ i → (h % n == j) ≡ true → (h % n =
 not_another n h i j ne e = grind (arith, nat_tests)
 
 -- each base is the part of all pairs in its class
-pub base_is_part : {K V : Type 0} (code : K → ℕ) (salt : Salt) (bases : List (List (K × V))) → AreOfTheirClasses code salt bases → (i : ℕ) → i < length bases → base_at bases i ≡ part_of_entries (is_of code salt (class_at bases i)) (flat_map (λ base. base) bases)
+pub base_is_part : {K V : Type 0} (code : K → ℕ) (salt : Salt) (bases : List (List (K × V))) → AreOfTheirClasses code salt bases → (i : ℕ) → i < length bases
+    → base_at bases i ≡ part_of_entries (is_of code salt (class_at bases i)) (flat_map (λ base. base) bases)
 base_is_part {K} {V} code salt bases own i lt =
     sym (filter_one_list (λ (e : K × V). is_of code salt (class_at bases i) e.0) bases i lt (own i lt)
-    (λ j lt' ne. All-weaker (λ (e : K × V). is_of code salt (class_at bases j) e.0 ≡ true) (λ e. is_of code salt (class_at bases i) e.0 ≡ false) (λ e. not_another (length bases) (hash_of salt (code e.0)) i j ne) (base_at bases j) (own j lt')))
+    (λ j lt' ne. All-weaker (λ (e : K × V). is_of code salt (class_at bases j) e.0 ≡ true) (λ e. is_of code salt (class_at bases i) e.0 ≡ false)
+    (λ e. not_another (length bases) (hash_of salt (code e.0)) i j ne) (base_at bases j) (own j lt')))
 
 -- all books in one seat
 AmongSeats-one : {A : Type 0} (P : A → Type 0) (R : A → A → Type 0) (v : List A) → Among P R v → AmongSeats P R (v ∷ [])
@@ -89,23 +94,33 @@ AmongSeats-one P R v fit = record { within = only; across = λ i j u w ne at at'
   only zero u e = subst (Among P R) (some-injective v u e) fit
   only (suc i) u e = absurd (some-ne-none u (sym e))
 
-module _ {K V : Type 0} (F : Type 0) (code : K → ℕ) (t : TermsView K V) (words : List ℕ) (zeros : (i : ℕ) → slice_index words i ≡ 0) (own : AreOfTheirClasses code t.salt t.bases) where
+module _ {K V : Type 0} (F : Type 0) (code : K → ℕ) (t : TermsView K V) (words : List ℕ) (zeros : (i : ℕ) → slice_index words i ≡ 0)
+    (own : AreOfTheirClasses code t.salt t.bases) where
   first_fit : Among (IsSound {F = F} code t words []) (AreTogether code) (first_books t)
   first_fit =
       let n = length t.bases in
-      Among-append (IsSound {F = F} code t words []) (AreTogether code) (map new_pass_book (range_with_len 0 t.clients)) (map (new_role_book t) (range_with_len 0 n))
-      (Among-range new_pass_book (IsSound {F = F} code t words []) (AreTogether code) 0 t.clients (λ i lt. (omega arith, tt, omega arith, zeros (8 * (i + 1)), refl)) (λ i j lt lt' e. omega (arith, e)))
+      Among-append (IsSound {F = F} code t words []) (AreTogether code) (map new_pass_book (range_with_len 0 t.clients))
+      (map (new_role_book t) (range_with_len 0 n))
+      (Among-range new_pass_book (IsSound {F = F} code t words []) (AreTogether code) 0 t.clients
+      (λ i lt. (omega arith, tt, omega arith, zeros (8 * (i + 1)), refl)) (λ i j lt lt' e. omega (arith, e)))
       (Among-range (new_role_book t) (IsSound {F = F} code t words []) (AreTogether code) 0 n
       (λ i lt. (refl, base_is_part code t.salt t.bases own i (omega arith), All-nil (λ (r : RecordView K V F). r.client < t.clients), refl))
       (λ i j lt lt' h. only_one n h i j (λ e. omega (arith, e))))
-      (Each-range new_pass_book (λ b. Each (AreTogether {F = F} code b) (map (new_role_book t) (range_with_len 0 n))) 0 t.clients (λ c low lt. Each-range (new_role_book t) (AreTogether {F = F} code (Pass c [])) 0 n (λ i low' lt'. tt)))
+      (Each-range new_pass_book (λ b. Each (AreTogether {F = F} code b) (map (new_role_book t) (range_with_len 0 n))) 0 t.clients
+      (λ c low lt. Each-range (new_role_book t) (AreTogether {F = F} code (Pass c [])) 0 n (λ i low' lt'. tt)))
 
   pub Holds-first : (homes : List (Unit {0})) → length words ≡ 8 * (t.clients + 1) → Holds {F = F} code t (opening words homes (first_books t))
-  Holds-first homes sized = record { sized = sized; calls = []; books = AmongSeats-one (IsSound {F = F} code t words []) (AreTogether code) (first_books t) first_fit }
+  Holds-first homes sized = record {
+    sized = sized;
+    calls = [];
+    books = AmongSeats-one (IsSound {F = F} code t words []) (AreTogether code) (first_books t) first_fit;
+  }
 
 -- a new pass
-pub IsPass-new : {K V F : Type 0} (words client : ℕ) (me : Me (Unit {0}) (List (Book K V F))) → me ≡ (Pass client [] ∷ [], []) → 8 * (client + 1) < words → client < 32 → IsPass words client 0 me
-IsPass-new words client me is lt few = subst (IsPass words client 0) (sym is) (record { word = lt; book = refl; counted = refl; at_most = omega arith; few = few })
+pub IsPass-new : {K V F : Type 0} (words client : ℕ) (me : Me (Unit {0}) (List (Book K V F))) → me ≡ (Pass client [] ∷ [], []) → 8 * (client + 1) < words
+    → client < 32 → IsPass words client 0 me
+IsPass-new words client me is lt few =
+    subst (IsPass words client 0) (sym is) (record { word = lt; book = refl; counted = refl; at_most = omega arith; few = few })
 
 -- the words of a new ledger: the first of some zeros
 pub zeros-index : (n m i : ℕ) → slice_index (take n (replicate m 0)) i ≡ 0

@@ -18,11 +18,12 @@ use Rattle.count_ledger.specs.Terms.{TermsView}
 use Rattle.count_ledger.specs.Words.{word_of}
 use Rattle.count_ledger.specs.Books.{AreNumbered}
 use Rattle.count_ledger.specs.Rule.{Among, Across, IsSound, AreTogether}
-use Rattle.count_ledger.specs.Steps.{posted}
+use Rattle.count_ledger.specs.Steps.{books_with_record}
 use Rattle.count_ledger.proofs.Filters.{filter_push_kept, filter_push_left}
 use Rattle.count_ledger.proofs.WordSums.{word_of-add, sum_of_deltas-push}
 
-AreNumbered-push : {K V F : Type 0} (c n : ℕ) (made : List (RecordView K V F)) (r : RecordView K V F) → AreNumbered c n made → r.client ≡ c → r.ordinal ≡ n + length made → AreNumbered c n (made ++ r ∷ [])
+AreNumbered-push : {K V F : Type 0} (c n : ℕ) (made : List (RecordView K V F)) (r : RecordView K V F) → AreNumbered c n made → r.client ≡ c
+    → r.ordinal ≡ n + length made → AreNumbered c n (made ++ r ∷ [])
 AreNumbered-push c n [] r m by at = (by, omega arith, tt)
 AreNumbered-push c n (x ∷ xs) r m by at = (m.0, m.1, AreNumbered-push c (n + 1) xs r m.2 by (omega arith))
 
@@ -49,14 +50,22 @@ module _ {K V F : Type 0} (code : K → ℕ) (t : TermsView K V) (words : List �
         f.0,
         AreNumbered-push c 0 made r f.1 by (omega arith),
         omega arith,
-        get_or-set_same words (8 * (c + 1)) _ 0 there ∙ ap (λ (n : ℕ). (n + word_of (delta r)) % 2 ^ 64) f.3 ∙ sym (word_of-add (sum_of_deltas made) (delta r)) ∙ ap word_of (sym (sum_of_deltas-push made r)),
+        get_or-set_same words (8 * (c + 1)) _ 0 there ∙ ap (λ (n : ℕ). (n + word_of (delta r)) % 2 ^ 64) f.3 ∙ sym (word_of-add (sum_of_deltas made) (delta r))
+            ∙ ap word_of (sym (sum_of_deltas-push made r)),
         filter_push_kept (λ x. x.client == c) calls r (eq-eqb _ _ by) ∙ ap (λ (l : List (RecordView K V F)). l ++ r ∷ []) f.4,
       )
 
-  role_sound : c < t.clients → IsSound code t words calls (Role salt class pairs kept) → IsSound code t words_after calls_after (Role salt class pairs (kept ++ r ∷ []))
-  role_sound low f = (f.0, f.1, All-push (λ (x : RecordView K V F). x.client < t.clients) kept r f.2 (omega arith), filter_push_kept (λ x. is_of code salt class (key_of x.call)) calls r on ∙ ap (λ (l : List (RecordView K V F)). l ++ r ∷ []) f.3)
+  role_sound : c < t.clients → IsSound code t words calls (Role salt class pairs kept)
+      → IsSound code t words_after calls_after (Role salt class pairs (kept ++ r ∷ []))
+  role_sound low f = (
+    f.0,
+    f.1,
+    All-push (λ (x : RecordView K V F). x.client < t.clients) kept r f.2 (omega arith),
+    filter_push_kept (λ x. is_of code salt class (key_of x.call)) calls r on ∙ ap (λ (l : List (RecordView K V F)). l ++ r ∷ []) f.3,
+  )
 
-  pub posted_fit : Among (IsSound code t words calls) (AreTogether code) before → Among (IsSound code t words_after calls_after) (AreTogether code) (posted r before)
+  pub posted_fit : Among (IsSound code t words calls) (AreTogether code) before
+      → Among (IsSound code t words_after calls_after) (AreTogether code) (books_with_record r before)
   posted_fit a = (
     pass_sound a.0,
     (tt, tt),
@@ -68,7 +77,8 @@ module _ {K V F : Type 0} (code : K → ℕ) (t : TermsView K V) (words : List �
   not_on own s k is apart = rw (is ∙ sym own) (other_of _ _ (apart (hash_of salt (code (key_of r.call)))) on)
 
   -- another book is as sound as before: no other client's word has changed, and the call is of another client, or on a key of another class
-  other_sound : salt ≡ t.salt → (b : Book K V F) → AreTogether code (Pass c made) b → AreTogether code (Role salt class pairs kept) b → IsSound code t words calls b → IsSound code t words_after calls_after b
+  other_sound : salt ≡ t.salt → (b : Book K V F) → AreTogether code (Pass c made) b → AreTogether code (Role salt class pairs kept) b
+      → IsSound code t words calls b → IsSound code t words_after calls_after b
   other_sound own (Pass d m) ne e f = (
     f.0,
     f.1,
@@ -86,7 +96,9 @@ module _ {K V F : Type 0} (code : K → ℕ) (t : TermsView K V) (words : List �
   role_beside (Pass d m) e = tt
   role_beside (Role s k o l) apart = apart
 
-  others_fit : salt ≡ t.salt → (u : List (Book K V F)) → Among (IsSound code t words calls) (AreTogether code) u → Each (AreTogether code (Pass c made)) u → Each (AreTogether code (Role salt class pairs kept)) u → Among (IsSound code t words_after calls_after) (AreTogether code) u × Across (AreTogether code) (posted r before) u
+  others_fit : salt ≡ t.salt → (u : List (Book K V F)) → Among (IsSound code t words calls) (AreTogether code) u → Each (AreTogether code (Pass c made)) u
+      → Each (AreTogether code (Role salt class pairs kept)) u
+      → Among (IsSound code t words_after calls_after) (AreTogether code) u × Across (AreTogether code) (books_with_record r before) u
   others_fit own [] a p q = (tt, (tt, (tt, tt)))
   others_fit own (b ∷ bs) a p q =
       let rest = others_fit own bs a.2 p.1 q.1 in (
@@ -94,5 +106,7 @@ module _ {K V F : Type 0} (code : K → ℕ) (t : TermsView K V) (words : List �
         ((pass_beside b p.0, rest.1.0), ((role_beside b q.0, rest.1.1.0), tt)),
       )
 
-  pub posted_others : Among (IsSound code t words calls) (AreTogether code) before → (u : List (Book K V F)) → Among (IsSound code t words calls) (AreTogether code) u → Across (AreTogether code) before u → Among (IsSound code t words_after calls_after) (AreTogether code) u × Across (AreTogether code) (posted r before) u
+  pub posted_others : Among (IsSound code t words calls) (AreTogether code) before → (u : List (Book K V F))
+      → Among (IsSound code t words calls) (AreTogether code) u → Across (AreTogether code) before u
+      → Among (IsSound code t words_after calls_after) (AreTogether code) u × Across (AreTogether code) (books_with_record r before) u
   posted_others f u a x = others_fit f.2.0.0 u a x.0 x.1.0

@@ -10,9 +10,9 @@ use Rattle.bin_history.specs.Part.{part_of_records}
 use Rattle.bin_history.specs.Records.{RecordView}
 use Rattle.count_ledger.specs.Terms.{TermsView}
 use Rattle.count_ledger.specs.Views.{LedgerId, PassView, RoleView}
-use Rattle.count_ledger.specs.Books.{BooksAgree, IsPassOf, IsRoleOf, classes_of}
+use Rattle.count_ledger.specs.Books.{BooksAgree, IsPassOf, IsRoleOf, classes_of_roles}
 use Rattle.count_ledger.specs.Rule.{Among, IsSound, AreTogether, ledger_of}
-use Rattle.count_ledger.specs.Settled.{AllAgree}
+use Rattle.count_ledger.specs.Settled.{AreReconciled}
 use Rattle.count_ledger.specs.Tokens.{pass_book, role_book, AreWide}
 use Rattle.count_ledger.proofs.Filters.{eqb_turn, length_is_sum}
 use Rattle.count_ledger.proofs.Together.{Among-left, Among-right}
@@ -64,31 +64,46 @@ module _ {K V F : Type 0} (code : K → ℕ) (id : LedgerId) (t : TermsView K V)
     salt = s.0;
     opening = s.1;
     clients = s.2;
-    of_class = subst (All (λ x. is_of code r.salt r.class (key_of x.call) ≡ true)) s.3 (filter_passes (λ (x : RecordView K V F). is_of code r.salt r.class (key_of x.call)) calls);
+    of_class = subst (All (λ x. is_of code r.salt r.class (key_of x.call) ≡ true)) s.3
+        (filter_passes (λ (x : RecordView K V F). is_of code r.salt r.class (key_of x.call)) calls);
   }
 
-  pub AllAgree-settled : (ps : List (PassView K V F)) (rs : List (RoleView K V F)) → t.clients ≤ length ps → AreWide (classes_of rs) → Among (IsSound code t words calls) (AreTogether code) (map role_book rs ++ map pass_book ps) → AllAgree code (ledger_of id t) ps rs
-  AllAgree-settled ps rs enough wide a =
+  pub AreReconciled-settled : (ps : List (PassView K V F)) (rs : List (RoleView K V F)) → t.clients ≤ length ps → AreWide (classes_of_roles rs)
+      → Among (IsSound code t words calls) (AreTogether code) (map role_book rs ++ map pass_book ps) → AreReconciled code (ledger_of id t) ps rs
+  AreReconciled-settled ps rs enough wide a =
       let P = IsSound code t words calls in
       let R = AreTogether code in
       let passes = Among-of_map pass_book P R ps (Among-right P R (map role_book rs) (map pass_book ps) a) in
       let roles = Among-of_map role_book P R rs (Among-left P R (map role_book rs) (map pass_book ps) a) in
-      let made = All-from_recursion (λ p. by_client p.client calls ≡ p.made) ps (Each-from_among (λ p. P (pass_book p)) (λ p q. R (pass_book p) (pass_book q)) (λ p. by_client p.client calls ≡ p.made) (λ p s. s.4) ps passes) in
-      let kept = All-from_recursion (λ r. part_of_records (is_of code r.salt r.class) calls ≡ r.kept) rs (Each-from_among (λ r. P (role_book r)) (λ r s. R (role_book r) (role_book s)) (λ r. part_of_records (is_of code r.salt r.class) calls ≡ r.kept) (λ r s. s.3) rs roles) in
-      let apart = Among-weaker (λ p. P (pass_book p)) (λ p q. R (pass_book p) (pass_book q)) (λ p q. (k : ℕ) → ((p.client == k) && (q.client == k)) ≡ false) (λ p q ne k. two_clients p.client q.client k ne) ps passes in
+      let made = All-from_recursion (λ p. by_client p.client calls ≡ p.made) ps
+      (Each-from_among (λ p. P (pass_book p)) (λ p q. R (pass_book p) (pass_book q)) (λ p. by_client p.client calls ≡ p.made) (λ p s. s.4) ps passes) in
+      let kept = All-from_recursion (λ r. part_of_records (is_of code r.salt r.class) calls ≡ r.kept) rs (Each-from_among (λ r. P (role_book r))
+      (λ r s. R (role_book r) (role_book s)) (λ r. part_of_records (is_of code r.salt r.class) calls ≡ r.kept) (λ r s. s.3) rs roles) in
+      let apart = Among-weaker (λ p. P (pass_book p)) (λ p q. R (pass_book p) (pass_book q)) (λ p q. (k : ℕ) → ((p.client == k) && (q.client == k)) ≡ false)
+      (λ p q ne k. two_clients p.client q.client k ne) ps passes in
       record {
-        each_pass = All-from_recursion (IsPassOf (ledger_of id t)) ps (Each-from_among (λ p. P (pass_book p)) (λ p q. R (pass_book p) (pass_book q)) (IsPassOf (ledger_of id t)) IsPassOf-sound ps passes);
-        each_client = hit_once (λ p k. p.client == k) (λ p. P (pass_book p)) (λ _. 1) t.clients ps apart (All-from_recursion (λ p. upto (λ k. cond (p.client == k) 1 0) t.clients ≡ 1) ps (Each-from_among (λ p. P (pass_book p)) (λ p q. R (pass_book p) (pass_book q)) (λ p. upto (λ k. cond (p.client == k) 1 0) t.clients ≡ 1) (λ p s. one_client p.client t.clients s.0) ps passes)) (let n = length_is_sum ps in omega arith);
-        each_role = All-from_recursion (IsRoleOf code (ledger_of id t)) rs (Each-from_among (λ r. P (role_book r)) (λ r s. R (role_book r) (role_book s)) (IsRoleOf code (ledger_of id t)) IsRoleOf-sound rs roles);
-        each_hash = CoverOnce-wide (λ _. Unit {0}) (classes_of rs) wide (Among-map (λ r. r.class) (λ r. P (role_book r)) AreApart rs roles);
+        each_pass = All-from_recursion (IsPassOf (ledger_of id t)) ps
+            (Each-from_among (λ p. P (pass_book p)) (λ p q. R (pass_book p) (pass_book q)) (IsPassOf (ledger_of id t)) IsPassOf-sound ps passes);
+        each_client = hit_once (λ p k. p.client == k) (λ p. P (pass_book p)) (λ _. 1) t.clients ps apart
+            (All-from_recursion (λ p. upto (λ k. cond (p.client == k) 1 0) t.clients ≡ 1) ps
+            (Each-from_among (λ p. P (pass_book p)) (λ p q. R (pass_book p) (pass_book q)) (λ p. upto (λ k. cond (p.client == k) 1 0) t.clients ≡ 1)
+            (λ p s. one_client p.client t.clients s.0) ps passes)) (let n = length_is_sum ps in omega arith);
+        each_role = All-from_recursion (IsRoleOf code (ledger_of id t)) rs
+            (Each-from_among (λ r. P (role_book r)) (λ r s. R (role_book r) (role_book s)) (IsRoleOf code (ledger_of id t)) IsRoleOf-sound rs roles);
+        each_hash = CoverOnce-wide (λ _. Unit {0}) (classes_of_roles rs) wide (Among-map (λ r. r.class) (λ r. P (role_book r)) AreApart rs roles);
         agree = All-weaker (λ r. part_of_records (is_of code r.salt r.class) calls ≡ r.kept) (λ r. All (λ p. BooksAgree code p r) ps)
-            (λ r kept_is. All-weaker (λ p. by_client p.client calls ≡ p.made) (λ p. BooksAgree code p r) (λ p made_is. agree_by (is_of code r.salt r.class) p.client calls p.made r.kept made_is kept_is) ps made) rs kept;
+            (λ r kept_is. All-weaker (λ p. by_client p.client calls ≡ p.made) (λ p. BooksAgree code p r)
+            (λ p made_is. agree_by (is_of code r.salt r.class) p.client calls p.made r.kept made_is kept_is) ps made) rs kept;
         order = (
           calls,
           record {
-            clients = each_call code t.salt t.clients rs calls (CoverOnce-wide (λ _. Unit {0}) (classes_of rs) wide (Among-map (λ r. r.class) (λ r. P (role_book r)) AreApart rs roles))
-                (All-from_recursion (λ r. r.salt ≡ t.salt) rs (Each-from_among (λ r. P (role_book r)) (λ r s. R (role_book r) (role_book s)) (λ r. r.salt ≡ t.salt) (λ r s. s.0) rs roles))
-                (All-from_recursion (λ r. All (λ x. x.client < t.clients) (part_of_records (is_of code r.salt r.class) calls)) rs (Each-from_among (λ r. P (role_book r)) (λ r s. R (role_book r) (role_book s)) (λ r. All (λ x. x.client < t.clients) (part_of_records (is_of code r.salt r.class) calls)) (λ r s. subst (All (λ x. x.client < t.clients)) (sym s.3) s.2) rs roles));
+            clients = each_call code t.salt t.clients rs calls
+                (CoverOnce-wide (λ _. Unit {0}) (classes_of_roles rs) wide (Among-map (λ r. r.class) (λ r. P (role_book r)) AreApart rs roles))
+                (All-from_recursion (λ r. r.salt ≡ t.salt) rs
+                (Each-from_among (λ r. P (role_book r)) (λ r s. R (role_book r) (role_book s)) (λ r. r.salt ≡ t.salt) (λ r s. s.0) rs roles))
+                (All-from_recursion (λ r. All (λ x. x.client < t.clients) (part_of_records (is_of code r.salt r.class) calls)) rs
+                (Each-from_among (λ r. P (role_book r)) (λ r s. R (role_book r) (role_book s)) (λ r. All (λ x. x.client < t.clients)
+                (part_of_records (is_of code r.salt r.class) calls)) (λ r s. subst (All (λ x. x.client < t.clients)) (sym s.3) s.2) rs roles));
             made = made;
             kept = kept;
           },

@@ -1,5 +1,6 @@
 -- Some numbers are hit by things that have no number in common: where they hit so many in all as there are numbers, each number is hit once.
-use Rattle.std.proofs.Common.{◌≡◌, ℕ, zero, suc, ◌+◌, ◌<◌, ◌≤◌, ◌==◌, ◌&&◌, Bool, true, false, cond, List, [], ◌∷◌, sum_by, count_by, ◌⊎◌, ⊎_elim, sym, refl, ap, subst, ◌∙◌, arith, All}
+use Rattle.std.proofs.Common.{◌≡◌, ℕ, zero, suc, ◌+◌, ◌<◌, ◌≤◌, ◌==◌, ◌&&◌, Bool, true, false, cond, List, [], ◌∷◌, sum_by, count_by, ◌⊎◌, ⊎_elim, sym, refl}
+use Rattle.std.proofs.Common.{ap, subst, ◌∙◌, arith, All}
 use Rattle.std.specs.List.{AllByRecursion as Each}
 use Rattle.std.proofs.lemmas.Bool.{ne_eqb, eq-eqb}
 use Rattle.std.proofs.lemmas.List.Elements.{All-head, All-tail}
@@ -45,7 +46,8 @@ unfolding upto
 upto-one i zero lt = absurd (omega arith)
 upto-one i (suc n) lt =
     ⊎_elim
-    (λ e. let none : upto (λ r. cond (r == i) 1 0) n ≡ 0 = upto-same (λ r. cond (r == i) 1 0) (λ _. 0) n (λ r l. ap (λ (b : Bool). cond b 1 0) (ne_eqb r i (λ q. omega arith))) ∙ upto-zero n in
+    (λ e. let none : upto (λ r. cond (r == i) 1 0) n ≡ 0 =
+    upto-same (λ r. cond (r == i) 1 0) (λ _. 0) n (λ r l. ap (λ (b : Bool). cond b 1 0) (ne_eqb r i (λ q. omega arith))) ∙ upto-zero n in
     let here : ◌≡◌ {A = ℕ} (cond (n == i) 1 0) 1 = ap (λ (b : Bool). cond b 1 0) (eq-eqb n i (omega arith)) in omega arith)
     (λ l. let one = upto-one i n (omega arith) in
     let elsewhere : ◌≡◌ {A = ℕ} (cond (n == i) 1 0) 0 = ap (λ (b : Bool). cond b 1 0) (ne_eqb n i (λ q. omega arith)) in omega arith)
@@ -67,11 +69,13 @@ upto-full f zero e full r lt = absurd (omega arith)
 upto-full f (suc n) e full r lt =
     let most = upto-most f n (λ q l. e q (omega arith)) in
     let last = e n (omega arith) in
-    ⊎_elim (λ is. subst (λ (q : ℕ). f q ≡ 1) (sym is) (omega arith)) (λ l. upto-full f n (λ q l'. e q (omega arith)) (omega arith) r l) (equal_or_below r n (omega arith))
+    ⊎_elim (λ is. subst (λ (q : ℕ). f q ≡ 1) (sym is) (omega arith)) (λ l. upto-full f n (λ q l'. e q (omega arith)) (omega arith) r l)
+    (equal_or_below r n (omega arith))
 
 module _ {X : Type 0} (hits : X → ℕ → Bool) where
   -- how many numbers below n are hit, each as often as it is
-  pub upto-count : (width : X → ℕ) (n : ℕ) (xs : List X) → All (λ x. upto (λ h. cond (hits x h) 1 0) n ≡ width x) xs → upto (λ h. count_by (λ x. hits x h) xs) n ≡ sum_by width xs
+  pub upto-count : (width : X → ℕ) (n : ℕ) (xs : List X) → All (λ x. upto (λ h. cond (hits x h) 1 0) n ≡ width x) xs
+      → upto (λ h. count_by (λ x. hits x h) xs) n ≡ sum_by width xs
   upto-count width n [] w = upto-zero n
   upto-count width n (x ∷ xs) w =
       let W : X → Type 0 = λ y. upto (λ h. cond (hits y h) 1 0) n ≡ width y in
@@ -88,14 +92,19 @@ module _ {X : Type 0} (hits : X → ℕ → Bool) where
 
   no_other : (x : X) (xs : List X) (h : ℕ) → hits x h ≡ true → Each (λ y. (k : ℕ) → (hits x k && hits y k) ≡ false) xs → count_by (λ y. hits y h) xs ≡ 0
   no_other x [] h t e = refl
-  no_other x (y ∷ ys) h t e = let a = no_other x ys h t e.1 in let b = other (hits x h) (hits y h) (e.0 h) t in let c = count_by-cons (λ z. hits z h) y ys in omega arith
+  no_other x (y ∷ ys) h t e = let a = no_other x ys h t e.1 in let b = other (hits x h) (hits y h) (e.0 h) t in let c = count_by-cons (λ z. hits z h) y ys in
+      omega arith
 
   at_most_one : (P : X → Type 0) (xs : List X) (h : ℕ) → Among P (λ x y. (k : ℕ) → (hits x k && hits y k) ≡ false) xs → count_by (λ y. hits y h) xs ≤ 1
   at_most_one P [] h a = omega arith
   at_most_one P (x ∷ xs) h a = go (at_most_one P xs h a.2) (hits x h) refl where
     go : count_by (λ y. hits y h) xs ≤ 1 → (b : Bool) → hits x h ≡ b → count_by (λ y. hits y h) (x ∷ xs) ≤ 1
-    go few true e = let none = no_other x xs h e a.1 in let c = count_by-cons (λ z. hits z h) x xs in let one : ◌≡◌ {A = ℕ} (cond (hits x h) 1 0) 1 = ap (λ (t : Bool). cond t 1 0) e in omega arith
-    go few false e = let c = count_by-cons (λ z. hits z h) x xs in let none : ◌≡◌ {A = ℕ} (cond (hits x h) 1 0) 0 = ap (λ (t : Bool). cond t 1 0) e in omega arith
+    go few true e = let none = no_other x xs h e a.1 in let c = count_by-cons (λ z. hits z h) x xs in
+        let one : ◌≡◌ {A = ℕ} (cond (hits x h) 1 0) 1 = ap (λ (t : Bool). cond t 1 0) e in omega arith
+    go few false e = let c = count_by-cons (λ z. hits z h) x xs in let none : ◌≡◌ {A = ℕ} (cond (hits x h) 1 0) 0 = ap (λ (t : Bool). cond t 1 0) e in
+        omega arith
 
-  pub hit_once : (P : X → Type 0) (width : X → ℕ) (n : ℕ) (xs : List X) → Among P (λ x y. (k : ℕ) → (hits x k && hits y k) ≡ false) xs → All (λ x. upto (λ h. cond (hits x h) 1 0) n ≡ width x) xs → n ≤ sum_by width xs → (h : ℕ) → h < n → count_by (λ x. hits x h) xs ≡ 1
-  hit_once P width n xs apart widths enough = upto-full (λ h. count_by (λ x. hits x h) xs) n (λ h lt. at_most_one P xs h apart) (let w = upto-count width n xs widths in omega arith)
+  pub hit_once : (P : X → Type 0) (width : X → ℕ) (n : ℕ) (xs : List X) → Among P (λ x y. (k : ℕ) → (hits x k && hits y k) ≡ false) xs
+      → All (λ x. upto (λ h. cond (hits x h) 1 0) n ≡ width x) xs → n ≤ sum_by width xs → (h : ℕ) → h < n → count_by (λ x. hits x h) xs ≡ 1
+  hit_once P width n xs apart widths enough =
+      upto-full (λ h. count_by (λ x. hits x h) xs) n (λ h lt. at_most_one P xs h apart) (let w = upto-count width n xs widths in omega arith)

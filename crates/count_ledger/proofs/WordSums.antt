@@ -1,5 +1,6 @@
 -- Sums of deltas, and sums of words modulo 2^64.
-use Rattle.std.proofs.Common.{◌≡◌, ℕ, suc, ◌+◌, ◌-◌, ◌*◌, ◌%◌, ◌^◌, ◌<◌, ◌≤◌, ℤ, pos, negsuc, ◌+ℤ◌, ◌≤ℤ◌, neg_ℤ, Option, Some, None, List, [], ◌∷◌, ◌++◌, length, get_or, take, refl, sym, ap, ◌∙◌, arith, All}
+use Rattle.std.proofs.Common.{◌≡◌, ℕ, suc, ◌+◌, ◌-◌, ◌*◌, ◌%◌, ◌^◌, ◌<◌, ◌≤◌, ℤ, pos, negsuc, ◌+ℤ◌, ◌≤ℤ◌, neg_ℤ, Option, Some, None, List, [], ◌∷◌, ◌++◌}
+use Rattle.std.proofs.Common.{length, get_or, take, refl, sym, ap, ◌∙◌, arith, All}
 use Rattle.std.specs.Prelude.{unsigned_abs, FitsSigned}
 use Rattle.std.specs.Int.{cast_signed, cast_unsigned, w64}
 use Rattle.std.proofs.lemmas.Int.{ints, int_rem_euclid_is, to_z-of_z}
@@ -29,7 +30,8 @@ word_of-add a b =
     let (l, n, f) = lifted b in
     let both : (a +ℤ b) +ℤ pos ((k + l) * 2 ^ 64) ≡ pos (m + n) = omega (arith, ints) in
     word_of_is (a +ℤ b) (k + l) (m + n) both
-    ∙ sym (ap (λ (x : ℕ). (x + word_of b) % 2 ^ 64) (word_of_is a k m e) ∙ ap (λ (x : ℕ). (m % 2 ^ 64 + x) % 2 ^ 64) (word_of_is b l n f) ∙ mod-add-mod m (2 ^ 64) (n % 2 ^ 64) ∙ add-mod-mod m n (2 ^ 64))
+    ∙ sym (ap (λ (x : ℕ). (x + word_of b) % 2 ^ 64) (word_of_is a k m e) ∙ ap (λ (x : ℕ). (m % 2 ^ 64 + x) % 2 ^ 64) (word_of_is b l n f)
+    ∙ mod-add-mod m (2 ^ 64) (n % 2 ^ 64) ∙ add-mod-mod m n (2 ^ 64))
 
 pub word_of_natural : (n : ℕ) → n < 2 ^ 64 → word_of (pos n) ≡ n
 word_of_natural n lt = mod-eq_of_lt lt
@@ -42,7 +44,8 @@ word_of_signed (negsuc n) fits = (let f = fits.sfits in let e : n % 2 ^ 64 ≡ n
 pub cast_signed-word_of : (z : ℤ) → FitsSigned w64 z → cast_signed w64 (word_of z) ≡ z
 cast_signed-word_of z fits = ap (cast_signed w64) (word_of_signed z fits) ∙ to_z-of_z w64 z fits
 
-word_of_change : {V : Type 0} (before after : Option V) → cast_unsigned w64 (cast_signed w64 (cast_unsigned w64 (change_of_count before after))) ≡ word_of (change_of_count before after)
+word_of_change : {V : Type 0} (before after : Option V)
+    → cast_unsigned w64 (cast_signed w64 (cast_unsigned w64 (change_of_count before after))) ≡ word_of (change_of_count before after)
 word_of_change None None = refl
 word_of_change None (Some y) = refl
 word_of_change (Some x) None = refl
@@ -63,7 +66,8 @@ total_of-push : {X : Type 0} (f : X → ℤ) (xs : List X) (x : X) → total_of 
 total_of-push f [] x = omega (arith, ints)
 total_of-push f (y ∷ ys) x = ap (λ z. f y +ℤ z) (total_of-push f ys x) ∙ sym (add_assoc_ℤ (f y) (total_of f ys) (f x))
 
-pub total_of_more : {X : Type 0} (f : X → ℤ) (xs : List X) (i : ℕ) (d : X) → i < length xs → total_of f (take (i + 1) xs) ≡ total_of f (take i xs) +ℤ f (get_or xs i d)
+pub total_of_more : {X : Type 0} (f : X → ℤ) (xs : List X) (i : ℕ) (d : X) → i < length xs
+    → total_of f (take (i + 1) xs) ≡ total_of f (take i xs) +ℤ f (get_or xs i d)
 total_of_more f xs i d l = ap (total_of f) (take_more xs i d l) ∙ total_of-push f (take i xs) (get_or xs i d)
 
 pub most_calls-le : (form : Form) → most_calls form ≤ 144115188075855872
@@ -83,7 +87,8 @@ sum_of_deltas_bounds (r ∷ rs) =
     let ih = sum_of_deltas_bounds rs in
     (omega (arith, ints, d.0, ih.0), omega (arith, ints, d.1, ih.1))
 
-pub total_made_bounds : {K V F : Type 0} (ledger : LedgerView K V) (passes : List (PassView K V F)) → All (IsPassOf ledger) passes → (neg_ℤ (pos (144115188075855872 * length passes)) ≤ℤ total_made passes) × (total_made passes ≤ℤ pos (144115188075855872 * length passes))
+pub total_made_bounds : {K V F : Type 0} (ledger : LedgerView K V) (passes : List (PassView K V F)) → All (IsPassOf ledger) passes
+    → (neg_ℤ (pos (144115188075855872 * length passes)) ≤ℤ total_made passes) × (total_made passes ≤ℤ pos (144115188075855872 * length passes))
 total_made_bounds ledger [] a = (omega (arith, ints), omega (arith, ints))
 total_made_bounds ledger (p ∷ ps) a =
     let one = sum_of_deltas_bounds p.made in

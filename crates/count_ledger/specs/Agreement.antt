@@ -8,7 +8,8 @@ use Rattle.bin_history.specs.declared.call.Call.{Call}
 use Rattle.count_ledger.specs.Views.{RoleView}
 
 -- they have one class and one salt, and the bin is what the role's records made of its opening pairs
-pub record Agree {K V F : Type 0} (same_key : K → K → Bool) (after : Call K V F → Option V → Option V) (b : BinView K V F) (r : RoleView K V F) : Type 0 where
+pub record BinAgrees {K V F : Type 0} (same_key : K → K → Bool) (after : Call K V F → Option V → Option V) (b : BinView K V F) (r : RoleView K V F) :
+    Type 0 where
   pub class : b.class ≡ r.class
   pub salt : b.salt ≡ r.salt
   pub history : HasHistory same_key after r.opening r.kept b

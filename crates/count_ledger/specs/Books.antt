@@ -14,9 +14,9 @@ module _ {K V F : Type 0} where
   AreNumbered client first [] = Unit {0}
   AreNumbered client first (r ∷ rs) = (r.client ≡ client) × (r.ordinal ≡ first) × AreNumbered client (first + 1) rs
 
-  -- of the records kept, those of the client are, in order, what it made on the keys that pass
+  -- of the records kept, those of the client are, in order, what it made on the keys for which the test holds
   abbrev pub AgreeOn : (K → Bool) → ℕ → List (RecordView K V F) → List (RecordView K V F) → Type 0
-  AgreeOn passes client made kept = by_client client kept ≡ part_of_records passes made
+  AgreeOn test client made kept = by_client client kept ≡ part_of_records test made
 
   -- the books of a pass and of a role agree: the role keeps, in order, just those of the client's calls that are on keys of its class
   abbrev pub BooksAgree : (K → ℕ) → PassView K V F → RoleView K V F → Type 0
@@ -36,5 +36,5 @@ module _ {K V F : Type 0} where
     pub of_class : All (λ x. is_of code r.salt r.class (key_of x.call) ≡ true) r.kept
 
   -- the classes of roles
-  abbrev pub classes_of : List (RoleView K V F) → List ClassView
-  classes_of roles = map (λ r. r.class) roles
+  abbrev pub classes_of_roles : List (RoleView K V F) → List ClassView
+  classes_of_roles roles = map (λ r. r.class) roles

@@ -10,15 +10,15 @@ use Rattle.count_ledger.specs.Views.{LedgerId, PassView, RoleView}
 abbrev pub lists_of : {X Y Z : Type 0} → Vec (Vec X Y) Z → List (List X)
 lists_of v = map (λ b. b.items) v.items
 
--- the base at a place
+-- the base at an index
 abbrev pub base_at : {X : Type 0} → List (List X) → ℕ → List X
 base_at bases i = slice_index_or bases i []
 
--- the class at a place, of as many as there are bases
+-- the class at an index, of as many as there are bases
 abbrev pub class_at : {X : Type 0} → List (List X) → ℕ → ClassView
 class_at bases i = record { n = length bases; index = i }
 
--- each base has keys of the class at its place alone
+-- each base has keys of the class at its index alone
 abbrev pub AreOfTheirClasses : {K V : Type 0} → (K → ℕ) → Salt → List (List (K × V)) → Type 0
 AreOfTheirClasses code salt bases = (i : ℕ) → i < length bases → All (λ e. is_of code salt (class_at bases i) e.0 ≡ true) (base_at bases i)
 
@@ -30,7 +30,7 @@ new_pass id client = record { ledger = id; client = client; made = [] }
 abbrev pub new_passes : {K V F : Type 0} → LedgerId → ℕ → List (PassView K V F)
 new_passes id clients = map (new_pass id) (range_with_len 0 clients)
 
--- a role that keeps nothing, over the base at a place
+-- a role that keeps nothing, over the base at an index
 abbrev pub new_role : {K V F : Type 0} → LedgerId → Salt → List (List (K × V)) → ℕ → RoleView K V F
 new_role id salt bases i = record { ledger = id; salt = salt; class = class_at bases i; opening = base_at bases i; kept = [] }
 

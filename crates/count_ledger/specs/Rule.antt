@@ -36,10 +36,13 @@ pub record AmongSeats {A : Type 0} (P : A → Type 0) (R : A → A → Type 0) (
 
 module _ {K V F : Type 0} where
   module _ (code : K → ℕ) where
-    -- of one book, where the count words are these and all calls were made in this order: a pass made those by its client, and a role kept those on keys of its class
+    -- of one book, where the count words are these and all calls were made in this order: a
+    -- pass made those by its client, and a role kept those on keys of its class
     abbrev pub IsSound : TermsView K V → List ℕ → List (RecordView K V F) → Book K V F → Type 0
-    IsSound t words calls (Pass c made) = (c < t.clients) × AreNumbered c 0 made × (length made ≤ most_calls t.form) × (slice_index words (8 * (c + 1)) ≡ word_of (sum_of_deltas made)) × (by_client c calls ≡ made)
-    IsSound t words calls (Role salt class pairs kept) = (salt ≡ t.salt) × (pairs ≡ part_of_entries (is_of code salt class) (opening_of t)) × All (λ r. r.client < t.clients) kept × (part_of_records (is_of code salt class) calls ≡ kept)
+    IsSound t words calls (Pass c made) = (c < t.clients) × AreNumbered c 0 made × (length made ≤ most_calls t.form)
+        × (slice_index words (8 * (c + 1)) ≡ word_of (sum_of_deltas made)) × (by_client c calls ≡ made)
+    IsSound t words calls (Role salt class pairs kept) = (salt ≡ t.salt) × (pairs ≡ part_of_entries (is_of code salt class) (opening_of t))
+        × All (λ r. r.client < t.clients) kept × (part_of_records (is_of code salt class) calls ≡ kept)
 
     -- of two books: two passes have two clients, and two roles have no hash in common
     abbrev pub AreTogether : Book K V F → Book K V F → Type 0

@@ -12,34 +12,34 @@ use Rattle.count_ledger.specs.declared.books.Book.TheVariants.{Pass, Role}
 
 module _ {K V F : Type 0} where
   -- what the first book says was made
-  abbrev pub made_in : List (Book K V F) → List (RecordView K V F)
-  made_in (Pass c made ∷ _) = made
-  made_in _ = []
+  abbrev pub made_of_pass : List (Book K V F) → List (RecordView K V F)
+  made_of_pass (Pass c made ∷ _) = made
+  made_of_pass _ = []
 
   -- what the one book of a role says
-  abbrev pub salt_in : List (List (Book K V F)) → Salt
-  salt_in ((Role salt class opening kept ∷ _) ∷ _) = salt
-  salt_in _ = record { 0 = 0 }
+  abbrev pub salt_of_role : List (List (Book K V F)) → Salt
+  salt_of_role ((Role salt class opening kept ∷ _) ∷ _) = salt
+  salt_of_role _ = record { 0 = 0 }
 
-  abbrev pub opening_in : List (List (Book K V F)) → List (K × V)
-  opening_in ((Role salt class opening kept ∷ _) ∷ _) = opening
-  opening_in _ = []
+  abbrev pub opening_of_role : List (List (Book K V F)) → List (K × V)
+  opening_of_role ((Role salt class opening kept ∷ _) ∷ _) = opening
+  opening_of_role _ = []
 
-  abbrev pub kept_in : List (List (Book K V F)) → List (RecordView K V F)
-  kept_in ((Role salt class opening kept ∷ _) ∷ _) = kept
-  kept_in _ = []
+  abbrev pub kept_of_role : List (List (Book K V F)) → List (RecordView K V F)
+  kept_of_role ((Role salt class opening kept ∷ _) ∷ _) = kept
+  kept_of_role _ = []
 
   -- a seat with the book of a client, who has a word and made so many calls
   pub record IsPass (words client calls : ℕ) (me : Me (Unit {0}) (List (Book K V F))) : Type 0 where
     pub word : 8 * (client + 1) < words
-    pub book : me ≡ (Pass client (made_in me.0) ∷ [], [])
-    pub counted : calls ≡ length (made_in me.0)
+    pub book : me ≡ (Pass client (made_of_pass me.0) ∷ [], [])
+    pub counted : calls ≡ length (made_of_pass me.0)
     pub at_most : calls ≤ most_calls Lean
     pub few : client < 32
 
   -- a badge with the book of a role of this class
   abbrev pub IsRole : ClassView → List (List (Book K V F)) → Type 0
-  IsRole class views = views ≡ (Role (salt_in views) class (opening_in views) (kept_in views) ∷ []) ∷ []
+  IsRole class views = views ≡ (Role (salt_of_role views) class (opening_of_role views) (kept_of_role views) ∷ []) ∷ []
 
   -- the book of a pass, and that of a role
   abbrev pub pass_book : PassView K V F → Book K V F

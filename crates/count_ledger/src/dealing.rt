@@ -4,7 +4,7 @@ ghost use Rattle.std.specs.List.{range_with_len};
 ghost use Rattle.hashkeys.specs.Classes.{IsTableSize};
 ghost use Rattle.count_ledger.specs.Opening.{AreOfTheirClasses, lists_of, new_passes, new_roles};
 ghost use Rattle.count_ledger.specs.Rule.{first_books, new_role_book};
-ghost use Rattle.count_ledger.specs.Steps.{first_of, rest_of, view_of};
+ghost use Rattle.count_ledger.specs.Steps.{first_of, rest_of, only_view};
 
 use crate::books::{Books, LedgerRule, Terms, View};
 use crate::ledger::{Ledger, WORDS_PER_LINE, word_at};
@@ -43,11 +43,11 @@ fn take_first<K: HashKey, V, F, A: Allocator>(
 ) -> Seat<(), View<K, V, F>>
     requires table { all.old.table_id ≡ shared.now.table_id }
     requires words { 0 < shared.now.table_id.words }
-    requires view { all.old.views ≡ view_of all.old.views ∷ [] }
+    requires view { all.old.views ≡ only_view all.old.views ∷ [] }
     ensures seat { result.table_id ≡ all.old.table_id }
-    ensures first { result.me ≡ (first_of (view_of all.old.views), []) }
+    ensures first { result.me ≡ (first_of (only_view all.old.views), []) }
     ensures all { all.new.table_id ≡ all.old.table_id }
-    ensures others { all.new.views ≡ rest_of (view_of all.old.views) ∷ [] }
+    ensures others { all.new.views ≡ rest_of (only_view all.old.views) ∷ [] }
 {
     let mut seat = mem::replace(all, Badge::blank()).into_seat();
     part(shared, &mut seat, all);

@@ -11,9 +11,9 @@ ghost use Rattle.bin_history.specs.Lawful.{BinView, IsLawful};
 ghost use Rattle.bin_history.specs.Plain.{IsLegal};
 ghost use Rattle.bin_history.specs.Readiness.{KeepsOrFolds};
 ghost use Rattle.bin_history.specs.Records.{RecordView};
-ghost use Rattle.count_ledger.specs.Agreement.{Agree, part_of_role};
+ghost use Rattle.count_ledger.specs.Agreement.{BinAgrees, part_of_role};
 ghost use Rattle.count_ledger.specs.Books.{IsPassOf};
-ghost use Rattle.count_ledger.specs.Settled.{AllAgree};
+ghost use Rattle.count_ledger.specs.Settled.{AreReconciled};
 ghost use Rattle.count_ledger.specs.Views.{LedgerView, PassView, RoleView};
 ghost use Rattle.count_ledger.specs.Words.{word_of, total_of, total_made, total_kept};
 
@@ -26,28 +26,28 @@ use hashkeys::HashKey;
 pub fn agreement_laws<K: HashKey, V: Eq, F: Remap<K, V>>()
     ensures new { (b : BinView K V F) (r : RoleView K V F)
         → b.class ≡ r.class → b.salt ≡ r.salt → HasDistinctKeys K.eq b.base → b.base ≡ r.opening → b.records ≡ [] → r.kept ≡ []
-        → Agree K.eq (after V.eq F.remapped F.merged) b r }
+        → BinAgrees K.eq (after V.eq F.remapped F.merged) b r }
     ensures gone_on { (b c : BinView K V F) (r s : RoleView K V F) (more : List (RecordView K V F))
-        → Agree K.eq (after V.eq F.remapped F.merged) b r
+        → BinAgrees K.eq (after V.eq F.remapped F.merged) b r
         → c.class ≡ b.class → c.salt ≡ b.salt → GoesOn K.eq (after V.eq F.remapped F.merged) b more c
         → s ≡ record r { kept = r.kept ++ more }
-        → Agree K.eq (after V.eq F.remapped F.merged) c s }
+        → BinAgrees K.eq (after V.eq F.remapped F.merged) c s }
     ensures prepared { (b c : BinView K V F) (r : RoleView K V F)
-        → Agree K.eq (after V.eq F.remapped F.merged) b r
+        → BinAgrees K.eq (after V.eq F.remapped F.merged) b r
         → IsLawful K.eq K.code (after V.eq F.remapped F.merged) b
         → c.class ≡ b.class → c.salt ≡ b.salt → KeepsOrFolds K.eq b c
-        → Agree K.eq (after V.eq F.remapped F.merged) c r }
+        → BinAgrees K.eq (after V.eq F.remapped F.merged) c r }
     ensures divided { (b c : BinView K V F) (r s : RoleView K V F) (half : ClassView → ClassView)
-        → Agree K.eq (after V.eq F.remapped F.merged) b r
+        → BinAgrees K.eq (after V.eq F.remapped F.merged) b r
         → c.class ≡ half b.class → IsPartOf K.code b c → s ≡ part_of_role K.code (half r.class) r
-        → Agree K.eq (after V.eq F.remapped F.merged) c s }
+        → BinAgrees K.eq (after V.eq F.remapped F.merged) c s }
     ensures replay { (b : BinView K V F) (r : RoleView K V F)
-        → Agree K.eq (after V.eq F.remapped F.merged) b r
+        → BinAgrees K.eq (after V.eq F.remapped F.merged) b r
         → IsLawful K.eq K.code (after V.eq F.remapped F.merged) b
         → b.entries ≡ replay K.eq b.base b.records
         → IsLegal K.eq (after V.eq F.remapped F.merged) (lookup K.eq r.opening) r.kept × (b.entries ≡ replay K.eq r.opening r.kept) }
     ensures count { (b : BinView K V F) (r : RoleView K V F)
-        → Agree K.eq (after V.eq F.remapped F.merged) b r
+        → BinAgrees K.eq (after V.eq F.remapped F.merged) b r
         → IsLawful K.eq K.code (after V.eq F.remapped F.merged) b
         → b.entries ≡ replay K.eq b.base b.records
         → pos (length b.entries) ≡ pos (length r.opening) +ℤ sum_of_deltas r.kept }
@@ -57,10 +57,10 @@ pub fn agreement_laws<K: HashKey, V: Eq, F: Remap<K, V>>()
 /// opening pairs of the ledger are those of its roles.
 pub fn totals_of_all<K: HashKey, V, F>()
     ensures deltas { (ledger : LedgerView K V) (passes : List (PassView K V F)) (roles : List (RoleView K V F))
-        → AllAgree K.code ledger passes roles
+        → AreReconciled K.code ledger passes roles
         → total_made passes ≡ total_kept roles }
     ensures count { (ledger : LedgerView K V) (passes : List (PassView K V F)) (roles : List (RoleView K V F))
-        → AllAgree K.code ledger passes roles
+        → AreReconciled K.code ledger passes roles
         → pos (length ledger.opening) +ℤ total_made passes ≡ total_of (λ r. pos (length r.opening) +ℤ sum_of_deltas r.kept) roles }
 {}
 

@@ -1,7 +1,7 @@
 //! The steps of a ledger, on its seats.
 ghost use Rattle.std.specs.Prelude.{◌≡◌, ℕ, ◌+◌, ◌%◌, ◌^◌, ◌<◌, Some, List, [], ◌∷◌, ◌++◌, slice_index};
 ghost use Rattle.count_ledger.specs.Rule.{Holds, Among, IsSound, AreTogether};
-ghost use Rattle.count_ledger.specs.Steps.{Keeps, posted, first_of, rest_of, view_of};
+ghost use Rattle.count_ledger.specs.Steps.{Keeps, books_with_record, first_of, rest_of, only_view};
 ghost use Rattle.count_ledger.specs.Words.{word_of};
 ghost use Rattle.bin_history.specs.Deltas.{delta};
 ghost use Rattle.bin_history.specs.Records.{RecordView};
@@ -26,7 +26,8 @@ pub(crate) fn look<K: HashKey, V, F, A: Allocator, T: Told<K, V, F>>(
     requires rule { Keeps (Holds K.code shared.now.key) seat.old.id seat.old.me.0 word (λ n. n) (T.change seat.old.me.0) }
     ensures seat { seat.new.table_id ≡ seat.old.table_id }
     ensures books { seat.new.me ≡ (T.change seat.old.me.0, seat.old.me.1) }
-    ensures told { (words : List ℕ) × (calls : List (RecordView K V F)) × (result ≡ slice_index words word) × Among (IsSound K.code shared.now.key words calls) (AreTogether K.code) seat.old.me.0 }
+    ensures told { (words : List ℕ) × (calls : List (RecordView K V F)) × (result ≡ slice_index words word)
+        × Among (IsSound K.code shared.now.key words calls) (AreTogether K.code) seat.old.me.0 }
 {
     shared.load::<Tells<T>>(seat, word)
 }
@@ -40,12 +41,13 @@ pub(crate) fn add_delta<K: HashKey, V, F, A: Allocator, T: Told<K, V, F>>(
     entry: &Trace<K, V, F>,
 )
     requires terms { T.terms ≡ Some shared.now.key }
-    requires change { T.change ≡ posted entry.now }
+    requires change { T.change ≡ books_with_record entry.now }
     requires seat { seat.old.table_id ≡ shared.now.table_id }
     requires word { word < shared.now.table_id.words }
-    requires rule { Keeps (Holds K.code shared.now.key) seat.old.id seat.old.me.0 word (λ n. (n + word_of (delta entry.now)) % 2 ^ 64) (posted entry.now seat.old.me.0) }
+    requires rule { Keeps (Holds K.code shared.now.key) seat.old.id seat.old.me.0 word (λ n. (n + word_of (delta entry.now)) % 2 ^ 64)
+        (books_with_record entry.now seat.old.me.0) }
     ensures seat { seat.new.table_id ≡ seat.old.table_id }
-    ensures books { seat.new.me ≡ (posted entry.now seat.old.me.0, seat.old.me.1) }
+    ensures books { seat.new.me ≡ (books_with_record entry.now seat.old.me.0, seat.old.me.1) }
     ensures told { (words : List ℕ) × (calls : List (RecordView K V F)) × Among (IsSound K.code shared.now.key words calls) (AreTogether K.code) seat.old.me.0 }
 {
     let delta = entry.delta();
@@ -65,9 +67,9 @@ pub(crate) fn join<K: HashKey, V, F, A: Allocator>(
     requires seat { seat.old.table_id ≡ shared.now.table_id }
     requires badge { badge.old.table_id ≡ shared.now.table_id }
     requires words { 0 < shared.now.table_id.words }
-    requires view { badge.old.views ≡ view_of badge.old.views ∷ [] }
+    requires view { badge.old.views ≡ only_view badge.old.views ∷ [] }
     ensures seat { seat.new.table_id ≡ seat.old.table_id }
-    ensures books { seat.new.me ≡ (seat.old.me.0 ++ view_of badge.old.views, seat.old.me.1) }
+    ensures books { seat.new.me ≡ (seat.old.me.0 ++ only_view badge.old.views, seat.old.me.1) }
 {
     let other = mem::replace(badge, Badge::blank());
     shared.join_seat::<Together>(seat, other.into_seat());

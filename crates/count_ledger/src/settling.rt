@@ -1,10 +1,10 @@
 //! The end of a ledger: all its books come together.
 ghost use Rattle.std.specs.Prelude.{◌≡◌, ◌*◌, ◌++◌, ◌∷◌, ◌<◌, ◌≤◌, ◌⊎◌, [], length, map, All, IfOk, IfErr, MatchBool};
 ghost use Rattle.hashkeys.specs.Classes.{CoverAll};
-ghost use Rattle.count_ledger.specs.Books.{classes_of};
+ghost use Rattle.count_ledger.specs.Books.{classes_of_roles};
 ghost use Rattle.count_ledger.specs.Rule.{ledger_of};
-ghost use Rattle.count_ledger.specs.Settled.{AllAgree};
-ghost use Rattle.count_ledger.specs.Steps.{view_of};
+ghost use Rattle.count_ledger.specs.Settled.{AreReconciled};
+ghost use Rattle.count_ledger.specs.Steps.{only_view};
 ghost use Rattle.count_ledger.specs.Tokens.{pass_book, role_book, AreWide};
 ghost use Rattle.count_ledger.specs.Words.{word_of, total_made};
 
@@ -19,7 +19,7 @@ use std::marker::Brand;
 
 /// Whether disjoint classes of these sizes cover every hash: of `MOST_BINS` hashes side by side they have as many together.
 fn are_wide<K, V, F>(roles: &[BinRole<K, V, F>]) -> bool
-    ensures { MatchBool result (AreWide (classes_of roles.now)) (CoverAll (classes_of roles.now) → ⊥) }
+    ensures { MatchBool result (AreWide (classes_of_roles roles.now)) (CoverAll (classes_of_roles roles.now) → ⊥) }
 {
     let mut left = MOST_BINS;
     for role in roles {
@@ -37,10 +37,10 @@ fn gather<K: HashKey, V, F, A: Allocator>(
     requires table { all.old.table_id ≡ shared.now.table_id }
     requires seat { seat.table_id ≡ shared.now.table_id }
     requires words { 0 < shared.now.table_id.words }
-    requires view { all.old.views ≡ view_of all.old.views ∷ [] }
+    requires view { all.old.views ≡ only_view all.old.views ∷ [] }
     requires slots { seat.me.1 ≡ [] }
     ensures table { all.new.table_id ≡ shared.now.table_id }
-    ensures view { all.new.views ≡ (seat.me.0 ++ view_of all.old.views) ∷ [] }
+    ensures view { all.new.views ≡ (seat.me.0 ++ only_view all.old.views) ∷ [] }
 {
     join(shared, &mut seat, all);
     *all = seat.into_badge();
@@ -54,9 +54,9 @@ fn gather_passes<K: HashKey, V, F, A: Allocator>(
     requires table { all.old.table_id ≡ shared.now.table_id }
     requires own { All (λ p. p.ledger ≡ shared.now.table_id) passes.items }
     requires words { 0 < shared.now.table_id.words }
-    requires view { all.old.views ≡ view_of all.old.views ∷ [] }
+    requires view { all.old.views ≡ only_view all.old.views ∷ [] }
     ensures table { all.new.table_id ≡ shared.now.table_id }
-    ensures view { all.new.views ≡ (map pass_book passes.items ++ view_of all.old.views) ∷ [] }
+    ensures view { all.new.views ≡ (map pass_book passes.items ++ only_view all.old.views) ∷ [] }
 {
     while let Some(pass) = passes.pop() {
         gather(shared, all, pass.into_seat());
@@ -72,9 +72,9 @@ fn gather_roles<K: HashKey, V, F, A: Allocator>(
     requires table { all.old.table_id ≡ shared.now.table_id }
     requires own { All (λ r. r.ledger ≡ shared.now.table_id) roles.items }
     requires words { 0 < shared.now.table_id.words }
-    requires view { all.old.views ≡ view_of all.old.views ∷ [] }
+    requires view { all.old.views ≡ only_view all.old.views ∷ [] }
     ensures table { all.new.table_id ≡ shared.now.table_id }
-    ensures view { all.new.views ≡ (map role_book roles.items ++ view_of all.old.views) ∷ [] }
+    ensures view { all.new.views ≡ (map role_book roles.items ++ only_view all.old.views) ∷ [] }
 {
     while let Some(role) = roles.pop() {
         gather(shared, all, role.into_seat());
@@ -93,8 +93,8 @@ fn gather_all<K: HashKey, V, F, A: Allocator>(
     requires enough { shared.now.key.clients ≤ length passes.items }
     requires passes { All (λ p. p.ledger ≡ shared.now.table_id) passes.items }
     requires roles { All (λ r. r.ledger ≡ shared.now.table_id) roles.items }
-    requires wide { AreWide (classes_of roles.items) }
-    ensures { AllAgree K.code (ledger_of shared.now.table_id shared.now.key) passes.items roles.items }
+    requires wide { AreWide (classes_of_roles roles.items) }
+    ensures { AreReconciled K.code (ledger_of shared.now.table_id shared.now.key) passes.items roles.items }
 {
     let Some(last) = passes.pop() else {
         unreachable!()
@@ -125,10 +125,10 @@ impl<K: HashKey, V, F, A: Allocator> Ledger<K, V, F, A> {
         requires passes { All (λ p. p.ledger ≡ self.id) passes.items }
         requires roles { All (λ r. r.ledger ≡ self.id) roles.items }
         ensures sum { IfOk result (λ n. n ≡ word_of (total_made passes.items)) }
-        ensures agree { IfOk result (λ _. AllAgree K.code self passes.items roles.items) }
+        ensures agree { IfOk result (λ _. AreReconciled K.code self passes.items roles.items) }
         ensures enough { IfOk result (λ _. self.clients ≤ length passes.items) }
-        ensures cover { IfOk result (λ _. CoverAll (classes_of roles.items)) }
-        ensures refused { IfErr result (λ _. (length passes.items < self.clients) ⊎ (CoverAll (classes_of roles.items) → ⊥)) }
+        ensures cover { IfOk result (λ _. CoverAll (classes_of_roles roles.items)) }
+        ensures refused { IfErr result (λ _. (length passes.items < self.clients) ⊎ (CoverAll (classes_of_roles roles.items) → ⊥)) }
         ensures ledger { IfErr result (λ u. u.ledger ≡ self) }
         ensures passes { IfErr result (λ u. u.passes ≡ passes) }
         ensures roles { IfErr result (λ u. u.roles ≡ roles) }
@@ -154,8 +154,8 @@ impl<K: HashKey, V, F, A: Allocator> Ledger<K, V, F, A> {
     /// Whether there are as many passes as clients, and roles for all hashes.
     fn has_all(&self, passes: &[Pass<K, V, F>], roles: &[BinRole<K, V, F>]) -> bool
         ensures { MatchBool result
-            ((self.now.clients ≤ length passes.now) × AreWide (classes_of roles.now))
-            ((length passes.now < self.now.clients) ⊎ (CoverAll (classes_of roles.now) → ⊥)) }
+            ((self.now.clients ≤ length passes.now) × AreWide (classes_of_roles roles.now))
+            ((length passes.now < self.now.clients) ⊎ (CoverAll (classes_of_roles roles.now) → ⊥)) }
     {
         if passes.len() < self.clients as usize {
             false

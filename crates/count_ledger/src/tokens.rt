@@ -22,11 +22,11 @@ pub(crate) type Apart = [u64; 14];
 
 impl<K, V, F> Model for Pass<K, V, F> {
     ghost use Rattle.count_ledger.specs.Views.{PassView};
-    ghost use Rattle.count_ledger.specs.Tokens.{IsPass, made_in};
+    ghost use Rattle.count_ledger.specs.Tokens.{IsPass, made_of_pass};
 
     ghost Value = { PassView K V F };
 
-    ghost view = { λ p. record { ledger = p.seat.table_id; client = p.client; made = made_in p.seat.me.0 } };
+    ghost view = { λ p. record { ledger = p.seat.table_id; client = p.client; made = made_of_pass p.seat.me.0 } };
 
     ghost invariant = { λ p. IsPass p.seat.table_id.words p.client p.made p.seat.me };
 }
@@ -41,11 +41,17 @@ pub struct BinRole<K, V, F> {
 
 impl<K, V, F> Model for BinRole<K, V, F> {
     ghost use Rattle.count_ledger.specs.Views.{RoleView};
-    ghost use Rattle.count_ledger.specs.Tokens.{IsRole, salt_in, opening_in, kept_in};
+    ghost use Rattle.count_ledger.specs.Tokens.{IsRole, salt_of_role, opening_of_role, kept_of_role};
 
     ghost Value = { RoleView K V F };
 
-    ghost view = { λ r. record { ledger = r.badge.table_id; salt = salt_in r.badge.views; class = r.class; opening = opening_in r.badge.views; kept = kept_in r.badge.views } };
+    ghost view = { λ r. record {
+      ledger = r.badge.table_id;
+      salt = salt_of_role r.badge.views;
+      class = r.class;
+      opening = opening_of_role r.badge.views;
+      kept = kept_of_role r.badge.views;
+    } };
 
     ghost invariant = { λ r. IsRole r.class r.badge.views };
 }

@@ -1,7 +1,9 @@
 -- The answers of queries but searches are a function of the map.
-use Rattle.std.proofs.Common.{◌≡◌, ℕ, ℤ, zero, suc, pos, negsuc, Bool, true, false, cond, ◌++◌, ◌+ℤ◌, ◌≤ℤ◌, Option, Some, None, List, [], ◌∷◌, length, refl, sym, ap, ◌∙◌, arith, sum_by, All, Contains, IsPermutation, decimal}
+use Rattle.std.proofs.Common.{◌≡◌, ℕ, ℤ, zero, suc, pos, negsuc, Bool, true, false, cond, ◌++◌, ◌+ℤ◌, ◌≤ℤ◌, Option, Some, None, List, [], ◌∷◌, length, refl}
+use Rattle.std.proofs.Common.{sym, ap, ◌∙◌, arith, sum_by, All, Contains, IsPermutation, decimal}
 use Rattle.std.proofs.lemmas.Int.{ints}
-use Rattle.std.proofs.lemmas.List.Sorted.{IsPermutation-sym, IsPermutation-trans, IsPermutation-map, Contains-permutation, length_permutation, sum_by-IsPermutation}
+use Rattle.std.proofs.lemmas.List.Sorted.{IsPermutation-sym, IsPermutation-trans, IsPermutation-map, Contains-permutation, length_permutation}
+use Rattle.std.proofs.lemmas.List.Sorted.{sum_by-IsPermutation}
 use Rattle.std.proofs.lemmas.List.Sums.{sum_by-cons}
 use Rattle.std.specs.Cmp.Lexicographic.{bytes_decides}
 use Rattle.std.specs.Fmt.{signed_decimal}
@@ -11,7 +13,7 @@ use Rattle.script.specs.declared.script.Query.{Query}
 use Rattle.script.specs.declared.script.Query.TheVariants.{Count, ReduceSum, ReduceMax, SearchAbove, List as Listing}
 use Rattle.facing_cli.specs.Determined.{HasNoSearch}
 use Rattle.facing_cli.specs.Outcomes.{same_key}
-use Rattle.facing_cli.specs.Texts.{ended, option_text, pair_text, sum_of, IsGreatest, Answers, AnswersAll}
+use Rattle.facing_cli.specs.Texts.{output_line, option_text, pair_text, sum_of, IsGreatest, Answers, AnswersAll}
 use Rattle.facing_cli.proofs.Sorted.{Pair, OneEach, same_sorted}
 
 -- how far a number is above 0, and how far below
@@ -57,7 +59,8 @@ same_greatest vs ws (Some v) (Some w) p h g =
 -- where no key stands twice, each pair is looked up
 looked_up : (es : List Pair) (x : Pair) → HasDistinctKeys same_key es → Contains es x → lookup same_key es x.0 ≡ Some x.1
 looked_up [] x d (k, l, is) = absurd (omega arith)
-looked_up (e ∷ es) x d (zero, l, is) = let own = (bytes_decides x.0 x.0).1 refl in let key : e.0 ≡ x.0 = ap (λ (p : Pair). p.0) is in let value : e.1 ≡ x.1 = ap (λ (p : Pair). p.1) is in rw (key, own, value) refl
+looked_up (e ∷ es) x d (zero, l, is) = let own = (bytes_decides x.0 x.0).1 refl in let key : e.0 ≡ x.0 = ap (λ (p : Pair). p.0) is in
+    let value : e.1 ≡ x.1 = ap (λ (p : Pair). p.1) is in rw (key, own, value) refl
 looked_up (e ∷ es) x d (suc k, l, is) =
     let rest = looked_up es x d.1 (k, omega arith, is) in
     let apart = (bytes_decides e.0 x.0).0 in
@@ -76,16 +79,19 @@ one_each es d a b p q e =
     λ i. (e i, values i)
 
 -- the answers of a query but a search are those of any list of the same pairs
-same_answer : (ps qs : List Pair) (q : Query) (t u : List ℕ) → IsPermutation ps qs → HasDistinctKeys same_key ps → HasNoSearch (q ∷ []) → Answers ps q t → Answers qs q u → t ≡ u
-same_answer ps qs Count t u p d n a b = a ∙ ap (λ (k : ℕ). ended (decimal k)) (sym (length_permutation ps qs p)) ∙ sym b
-same_answer ps qs (ReduceSum th) t u p d n a b = a ∙ ap (λ (z : ℤ). ended (signed_decimal z)) (same_sum _ _ (IsPermutation-map (λ (e : Pair). e.1) ps qs p)) ∙ sym b
+same_answer : (ps qs : List Pair) (q : Query) (t u : List ℕ) → IsPermutation ps qs → HasDistinctKeys same_key ps → HasNoSearch (q ∷ []) → Answers ps q t
+    → Answers qs q u → t ≡ u
+same_answer ps qs Count t u p d n a b = a ∙ ap (λ (k : ℕ). output_line (decimal k)) (sym (length_permutation ps qs p)) ∙ sym b
+same_answer ps qs (ReduceSum th) t u p d n a b = a
+    ∙ ap (λ (z : ℤ). output_line (signed_decimal z)) (same_sum _ _ (IsPermutation-map (λ (e : Pair). e.1) ps qs p)) ∙ sym b
 same_answer ps qs (ReduceMax th) t u p d n (v, h, is) (w, g, is') =
-    is ∙ ap (λ (o : Option ℤ). ended (option_text o)) (same_greatest _ _ v w (IsPermutation-map (λ (e : Pair). e.1) ps qs p) h g) ∙ sym is'
+    is ∙ ap (λ (o : Option ℤ). output_line (option_text o)) (same_greatest _ _ v w (IsPermutation-map (λ (e : Pair). e.1) ps qs p) h g) ∙ sym is'
 same_answer ps qs (SearchAbove v th) t u p d n a b = absurd n
 same_answer ps qs (Listing th) t u p d n (s, sp, ss, is) (r, rp, rs, is') =
     let both : IsPermutation s r = IsPermutation-trans s ps r (IsPermutation-sym ps s sp) (IsPermutation-trans ps qs r p rp) in
-    let one : OneEach s = λ a b x y e. one_each ps d a b (Contains-permutation s ps a (IsPermutation-sym ps s sp) x) (Contains-permutation s ps b (IsPermutation-sym ps s sp) y) e in
-    is ∙ ap (flat_map (λ (e : Pair). ended (pair_text e))) (same_sorted s r ss rs (λ f. sym (sum_by-IsPermutation f s r both)) one) ∙ sym is'
+    let one : OneEach s = λ a b x y e. one_each ps d a b (Contains-permutation s ps a (IsPermutation-sym ps s sp) x)
+    (Contains-permutation s ps b (IsPermutation-sym ps s sp) y) e in
+    is ∙ ap (flat_map (λ (e : Pair). output_line (pair_text e))) (same_sorted s r ss rs (λ f. sym (sum_by-IsPermutation f s r both)) one) ∙ sym is'
 
 no_search_first : (q : Query) (qs : List Query) → HasNoSearch (q ∷ qs) → HasNoSearch (q ∷ [])
 no_search_first Count qs n = tt
@@ -101,7 +107,8 @@ no_search_rest (ReduceMax t) qs n = n
 no_search_rest (SearchAbove v t) qs n = absurd n
 no_search_rest (Listing t) qs n = n
 
-pub same_answers : (ps rs : List Pair) (qs : List Query) (t u : List ℕ) → IsPermutation ps rs → HasDistinctKeys same_key ps → HasNoSearch qs → AnswersAll ps qs t → AnswersAll rs qs u → t ≡ u
+pub same_answers : (ps rs : List Pair) (qs : List Query) (t u : List ℕ) → IsPermutation ps rs → HasDistinctKeys same_key ps → HasNoSearch qs
+    → AnswersAll ps qs t → AnswersAll rs qs u → t ≡ u
 same_answers ps rs [] t u p d n a b = a ∙ sym b
 same_answers ps rs (q ∷ qs) t u p d n (x, y, one, more, is) (x', y', one', more', is') =
     let first = same_answer ps rs q x x' p d (no_search_first q qs n) one one' in

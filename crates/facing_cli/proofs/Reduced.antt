@@ -1,5 +1,6 @@
 -- What bulk operations on pairs answer, as queries ask it.
-use Rattle.std.proofs.Common.{◌≡◌, T, not, ℤ, pos, ◌+ℤ◌, ◌≤ℤ◌, ◌<ℤ◌, Bool, true, false, cond, Option, Some, None, List, [], ◌∷◌, ◌++◌, map, fold, All, Contains, refl, sym, ap, subst, ◌∙◌, arith, append_assoc}
+use Rattle.std.proofs.Common.{◌≡◌, T, not, ℤ, pos, ◌+ℤ◌, ◌≤ℤ◌, ◌<ℤ◌, Bool, true, false, cond, Option, Some, None, List, [], ◌∷◌, ◌++◌, map, fold, All, Contains}
+use Rattle.std.proofs.Common.{refl, sym, ap, subst, ◌∙◌, arith, append_assoc}
 use Rattle.std.proofs.lemmas.Int.{ints, clamps}
 use Rattle.std.proofs.Math.ListN.{get_or-map}
 use Rattle.std.proofs.lemmas.List.{append-nil, length-map}
@@ -44,7 +45,8 @@ sum_onto (v ∷ vs) a = let rest = sum_onto vs (a +ℤ v) in omega (arith, ints)
 
 greatest_onto : (vs done : List ℤ) (b : ℤ) → IsGreatest done (Some b) → IsGreatest (done ++ vs) (Some (fold int_max b vs))
 greatest_onto [] done b is = subst (λ (l : List ℤ). IsGreatest l (Some b)) (sym (append-nil done)) is
-greatest_onto (v ∷ vs) done b is = subst (λ (l : List ℤ). IsGreatest l (Some (fold int_max (int_max b v) vs))) (append_assoc done (v ∷ []) vs) (greatest_onto vs (done ++ v ∷ []) (int_max b v) (IsGreatest-push done (Some b) v is))
+greatest_onto (v ∷ vs) done b is = subst (λ (l : List ℤ). IsGreatest l (Some (fold int_max (int_max b v) vs))) (append_assoc done (v ∷ []) vs)
+    (greatest_onto vs (done ++ v ∷ []) (int_max b v) (IsGreatest-push done (Some b) v is))
 
 found_above : (bound v u : ℤ) → above bound v ≡ Some u → (bound <ℤ v) × (v ≡ u)
 found_above bound v u is = go (lt_z bound v) refl is where
@@ -73,8 +75,10 @@ module _ {K : Type 0} where
   greatest-folded (e ∷ es) = greatest_onto (map (λ x. x.1) es) (e.1 ∷ []) e.1 (IsGreatest-push [] None e.1 refl)
 
   -- what a search for values above a bound finds is one, and none where there is none
-  pub above-searched : (bound : ℤ) (es : List (K × ℤ)) (found : Option ℤ) → IsSearched (λ (k : K) v. above bound v) es found → IsAbove bound (map (λ e. e.1) es) found
-  above-searched bound es None none = All-map (λ x. x ≤ℤ bound) (λ (e : K × ℤ). e.1) es (All-weaker (λ (e : K × ℤ). above bound e.1 ≡ None) (λ e. e.1 ≤ℤ bound) (λ e is. none_above bound e.1 is) es none)
+  pub above-searched : (bound : ℤ) (es : List (K × ℤ)) (found : Option ℤ) → IsSearched (λ (k : K) v. above bound v) es found
+      → IsAbove bound (map (λ e. e.1) es) found
+  above-searched bound es None none = All-map (λ x. x ≤ℤ bound) (λ (e : K × ℤ). e.1) es
+      (All-weaker (λ (e : K × ℤ). above bound e.1 ≡ None) (λ e. e.1 ≤ℤ bound) (λ e is. none_above bound e.1 is) es none)
   above-searched bound es (Some u) (e, there, is) =
       let (over, same) = found_above bound e.1 u is in
       subst (λ (v : ℤ). Contains (map (λ (x : K × ℤ). x.1) es) v × (bound <ℤ v)) same (contains_map (λ (x : K × ℤ). x.1) es e there, over)

@@ -1,5 +1,6 @@
 -- Clients, their passes, and what they made.
-use Rattle.std.proofs.Common.{◌≡◌, ℕ, ℤ, ◌<◌, ◌≤◌, List, [], ◌∷◌, ◌++◌, Option, Some, None, IfSome, Result, Ok, Err, IfOk, Vec, All, length, map, take, slice_index_or, sym, ap, subst, ◌∙◌, arith}
+use Rattle.std.proofs.Common.{◌≡◌, ℕ, ℤ, ◌<◌, ◌≤◌, List, [], ◌∷◌, ◌++◌, Option, Some, None, IfSome, Result, Ok, Err, IfOk, Vec, All, length, map, take}
+use Rattle.std.proofs.Common.{slice_index_or, sym, ap, subst, ◌∙◌, arith}
 use Rattle.std.specs.List.{remove}
 use Rattle.std.proofs.Math.Seq.{take-append_seam}
 use Rattle.std.proofs.lemmas.List.{get_or-map, length-map, ext_get_or}
@@ -50,7 +51,8 @@ module _ {A : Type 0} (id : LedgerId) (blocks : List (Vec ScriptCall A)) (before
   as_many = sym (length-map before (λ (c : Client A). c.pass)) ∙ new-length id (length blocks) (passes_of before) passes
 
   pass-at : (c : ℕ) (d : Client A) → c < length blocks → (slice_index_or before c d).pass ≡ new_pass id c
-  pass-at c d lt = sym (get_or-map (λ (x : Client A). x.pass) before c d d.pass (let n = as_many in omega arith)) ∙ new-at id (length blocks) (passes_of before) passes c d.pass lt
+  pass-at c d lt = sym (get_or-map (λ (x : Client A). x.pass) before c d d.pass (let n = as_many in omega arith))
+      ∙ new-at id (length blocks) (passes_of before) passes c d.pass lt
 
   calls-at : (c : ℕ) (d : Client A) (b : Vec ScriptCall A) → c < length blocks → (slice_index_or before c d).calls ≡ Some (slice_index_or blocks c b)
   calls-at c d b lt =
@@ -65,11 +67,13 @@ module _ {A : Type 0} (id : LedgerId) (blocks : List (Vec ScriptCall A)) (before
       record {
         ledger = ap (λ (p : ScriptPass). p.ledger) (pass-at c d many);
         fresh = ap (λ (p : ScriptPass). p.made) (pass-at c d many);
-        short = subst (λ (o : Option (Vec ScriptCall A)). IfSome o (λ calls. length calls.items ≤ 1000000)) (sym (calls-at c d b many)) (All-unmap (λ (b : List ScriptCall). length b ≤ 1000000) (λ (b : Vec ScriptCall A). b.items) blocks short c b many);
+        short = subst (λ (o : Option (Vec ScriptCall A)). IfSome o (λ calls. length calls.items ≤ 1000000)) (sym (calls-at c d b many))
+            (All-unmap (λ (b : List ScriptCall). length b ≤ 1000000) (λ (b : Vec ScriptCall A). b.items) blocks short c b many);
         none = none c d lt;
       }
 
-  module _ (after : List (Client A)) (long : length after ≡ length before) (ended : (i : ℕ) (d : Client A) → i < length before → HasEnded (slice_index_or before i d) (slice_index_or after i d)) where
+  module _ (after : List (Client A)) (long : length after ≡ length before)
+      (ended : (i : ℕ) (d : Client A) → i < length before → HasEnded (slice_index_or before i d) (slice_index_or after i d)) where
     client : ScriptPass → Client A
     client p = record { pass = p; calls = None; replies = None }
 
@@ -86,9 +90,11 @@ module _ {A : Type 0} (id : LedgerId) (blocks : List (Vec ScriptCall A)) (before
 
     module _ (replies : List (Vec (Reply ℤ) A)) (gathered : map (λ c. c.replies) after ≡ map Some replies) where
       as_many_replies : length replies ≡ length blocks
-      as_many_replies = sym (length-map replies (λ (r : Vec (Reply ℤ) A). Some r)) ∙ sym (ap length gathered) ∙ length-map after (λ (x : Client A). x.replies) ∙ long ∙ as_many
+      as_many_replies = sym (length-map replies (λ (r : Vec (Reply ℤ) A). Some r)) ∙ sym (ap length gathered) ∙ length-map after (λ (x : Client A). x.replies)
+          ∙ long ∙ as_many
 
-      made-at : (c : ℕ) (p : ScriptPass) → c < length blocks → HasMade (slice_index_or (map (λ b. b.items) blocks) c []) (slice_index_or (map (λ r. r.items) replies) c []) (slice_index_or (passes_of after) c p).made
+      made-at : (c : ℕ) (p : ScriptPass) → c < length blocks → HasMade (slice_index_or (map (λ b. b.items) blocks) c [])
+          (slice_index_or (map (λ r. r.items) replies) c []) (slice_index_or (passes_of after) c p).made
       made-at c p lt =
           let n = as_many in
           let m = as_many_replies in
@@ -99,9 +105,15 @@ module _ {A : Type 0} (id : LedgerId) (blocks : List (Vec ScriptCall A)) (before
           sym (get_or-map (λ (x : Client A). x.replies) after c (client p) None (omega arith))
           ∙ ap (λ (rs : List (Option (Vec (Reply ℤ) A))). slice_index_or rs c None) gathered
           ∙ get_or-map Some replies c r None (omega arith) in
-          let first = subst (λ (o : Option (Vec ScriptCall A)). IfSome o (λ calls. IfSome own.replies (λ replies. HasMade calls.items replies.items own.pass.made))) (calls-at c (client p) b lt) (has_ended c p lt).made in
-          let second = subst (λ (o : Option (Vec (Reply ℤ) A)). IfSome o (λ replies. HasMade (slice_index_or blocks c b).items replies.items own.pass.made)) replies_is first in
-          rw (get_or-map (λ (x : Vec ScriptCall A). x.items) blocks c b [] lt, get_or-map (λ (x : Vec (Reply ℤ) A). x.items) replies c r [] (omega arith), after-pass c p lt) second
+          let first = subst (λ (o : Option (Vec ScriptCall A)). IfSome o
+          (λ calls. IfSome own.replies (λ replies. HasMade calls.items replies.items own.pass.made))) (calls-at c (client p) b lt) (has_ended c p lt).made in
+          let second = subst (λ (o : Option (Vec (Reply ℤ) A)). IfSome o (λ replies. HasMade (slice_index_or blocks c b).items replies.items own.pass.made))
+          replies_is first in
+          rw (
+            get_or-map (λ (x : Vec ScriptCall A). x.items) blocks c b [] lt,
+            get_or-map (λ (x : Vec (Reply ℤ) A). x.items) replies c r [] (omega arith),
+            after-pass c p lt,
+          ) second
 
       pub ArePlayed-gathered : ArePlayed (map (λ b. b.items) blocks) (map (λ r. r.items) replies) (passes_of after)
       ArePlayed-gathered =
@@ -119,6 +131,7 @@ module _ {A : Type 0} (id : LedgerId) (blocks : List (Vec ScriptCall A)) (before
                 (λ c lt.
                 let few : c < length rs = let l = length-map rs length in omega arith in
                 get_or-map length rs c [] 0 few ∙ (made-at c some_pass (omega arith)).1 ∙ sym (get_or-map length bs c [] 0 (omega arith)));
-            clients = λ c p lt. ap (λ (x : ScriptPass). x.client) (after-pass c p (omega arith)) ∙ (has_ended c p (omega arith)).client ∙ ap (λ (x : ScriptPass). x.client) (pass-at c (client p) (omega arith));
+            clients = λ c p lt. ap (λ (x : ScriptPass). x.client) (after-pass c p (omega arith)) ∙ (has_ended c p (omega arith)).client
+                ∙ ap (λ (x : ScriptPass). x.client) (pass-at c (client p) (omega arith));
             made = λ c p lt. made-at c p (omega arith);
           }

@@ -1,5 +1,6 @@
 -- Two sorted lists of the same pairs, no key of which stands twice, are the same list.
-use Rattle.std.proofs.Common.{◌≡◌, ℕ, ℤ, suc, Bool, true, false, cond, ◌+◌, ◌<◌, ◌&&◌, List, [], ◌∷◌, refl, sym, ap, ◌∙◌, subst, arith, add-one, sum_by, Contains, IsSortedByKey, is_lt}
+use Rattle.std.proofs.Common.{◌≡◌, ℕ, ℤ, suc, Bool, true, false, cond, ◌+◌, ◌<◌, ◌&&◌, List, [], ◌∷◌, refl, sym, ap, ◌∙◌, subst, arith, add-one, sum_by}
+use Rattle.std.proofs.Common.{Contains, IsSortedByKey, is_lt}
 use Rattle.std.proofs.lemmas.Grind.{common_steps}
 use Rattle.std.proofs.lemmas.Cmp.{nat_list_cmp_total}
 use Rattle.std.proofs.lemmas.List.Elements.{Contains-append_right}
@@ -84,4 +85,5 @@ same_sorted (x ∷ xs) (y ∷ ys) u v w o =
     let P : Pair → Type 0 = λ z. SameWeights (x ∷ xs) (z ∷ ys) in
     let both = subst P (sym one) w in
     let rest : SameWeights xs ys = λ f. let e = both f in omega (arith, sum_by-cons f x xs, sum_by-cons f x ys) in
-    λ i. one i ∷ same_sorted xs ys (Sorted-tail x xs u) (Sorted-tail y ys v) rest (λ a b p q. o a b (Contains-append_right (x ∷ []) xs a p) (Contains-append_right (x ∷ []) xs b q)) i
+    λ i. one i ∷ same_sorted xs ys (Sorted-tail x xs u) (Sorted-tail y ys v) rest
+    (λ a b p q. o a b (Contains-append_right (x ∷ []) xs a p) (Contains-append_right (x ∷ []) xs b q)) i

@@ -5,7 +5,7 @@ use Rattle.clap.specs.Words.{App, Row, Rule, Text, first_of, matches_of, new_app
 use Rattle.clap.specs.declared.builder.action.ArgAction.TheVariants.{Set}
 use Rattle.clap.specs.declared.builder.value_parser.ValueParser.{ValueParser}
 use Rattle.clap.specs.declared.builder.value_parser.ValueParser.TheVariants as parser
-use Rattle.facing_cli.specs.Choices.{OptionsView}
+use Rattle.facing_cli.specs.Options.{OptionsView}
 
 -- an option that takes a number, with the text of its default
 abbrev pub number_rule : Text → ValueParser → Text → Rule

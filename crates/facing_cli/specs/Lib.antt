@@ -1,6 +1,6 @@
 pub mod Devices
 pub mod Failures
-pub mod Choices
+pub mod Options
 pub mod Outcomes
 pub mod Played
 pub mod Texts

@@ -27,8 +27,8 @@ pub record Outcome : Type 0 where
   pub pairs : List (List ℕ × ℤ)
 
 -- the call of a record, and what it replied
-abbrev pub told : RecordView (List ℕ) ℤ Function → ScriptCall × Reply ℤ
-told r = (r.call, reply int_eq r.call r.before r.after)
+abbrev pub call_and_reply : RecordView (List ℕ) ℤ Function → ScriptCall × Reply ℤ
+call_and_reply r = (r.call, reply int_eq r.call r.before r.after)
 
 -- a client's calls on a key, with their replies
 abbrev pub made_on : List ℕ → List ScriptCall → List (Reply ℤ) → List (ScriptCall × Reply ℤ)
@@ -39,10 +39,11 @@ abbrev pub nothing : List ℕ → Option ℤ
 nothing k = None
 
 module _ (blocks : List (List ScriptCall)) (o : Outcome) where
-  -- the calls of all clients in one order: each client's are its block, in order, with its replies; and they are those of a one-thread map that begins empty and ends with the pairs
+  -- the calls of all clients in one order: each client's are its block, in order, with its
+  -- replies; and they are those of a one-thread map that begins empty and ends with the pairs
   pub record IsOrderOf (calls : List (RecordView (List ℕ) ℤ Function)) : Type 0 where
     pub clients : All (λ r. r.client < length blocks) calls
-    pub made : (c : ℕ) → c < length blocks → map told (by_client c calls) ≡ zip (slice_index_or blocks c []) (slice_index_or o.replies c [])
+    pub made : (c : ℕ) → c < length blocks → map call_and_reply (by_client c calls) ≡ zip (slice_index_or blocks c []) (slice_index_or o.replies c [])
     pub legal : IsLegal same_key value_after nothing calls
     pub final : (k : List ℕ) → lookup same_key o.pairs k ≡ run same_key nothing calls k
 
@@ -55,6 +56,6 @@ module _ (blocks : List (List ScriptCall)) (o : Outcome) where
   -- these records are a history of the key: of its calls of each client, in that client's order and with the replies, as those of one cell
   pub record IsHistoryOf (k : List ℕ) (rs : List (RecordView (List ℕ) ℤ Function)) : Type 0 where
     pub clients : All (λ r. r.client < length blocks) rs
-    pub made : (c : ℕ) → c < length blocks → map told (by_client c rs) ≡ made_on k (slice_index_or blocks c []) (slice_index_or o.replies c [])
+    pub made : (c : ℕ) → c < length blocks → map call_and_reply (by_client c rs) ≡ made_on k (slice_index_or blocks c []) (slice_index_or o.replies c [])
     pub legal : IsCellHistory value_after None rs
     pub final : cell_after None rs ≡ lookup same_key o.pairs k

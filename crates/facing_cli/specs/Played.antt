@@ -11,7 +11,7 @@ use Rattle.count_ledger.specs.Opening.{lists_of}
 use Rattle.count_ledger.specs.Views.{LedgerId, PassView}
 use Rattle.script.specs.Grammar.{ScriptCall}
 use Rattle.script.specs.declared.function.Function.{Function}
-use Rattle.facing_cli.specs.Outcomes.{Outcome, told}
+use Rattle.facing_cli.specs.Outcomes.{Outcome, call_and_reply}
 use Rattle.facing_cli.specs.declared.client.Client.{Client}
 
 abbrev pub ScriptRecord : Type 0
@@ -25,7 +25,7 @@ ScriptQuiet = QuietView (List ℕ) ℤ Function
 
 -- the records are of just these calls, in their order, and replied this
 abbrev pub HasMade : List ScriptCall → List (Reply ℤ) → List ScriptRecord → Type 0
-HasMade calls replies made = (map told made ≡ zip calls replies) × (length replies ≡ length calls)
+HasMade calls replies made = (map call_and_reply made ≡ zip calls replies) × (length replies ≡ length calls)
 
 -- a client with a pass of this ledger, before its calls
 pub record IsSeated {A : Type 0} (id : LedgerId) (c : Client A) : Type 0 where

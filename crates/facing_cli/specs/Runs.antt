@@ -17,7 +17,8 @@ IsScript text blocks queries = IsJust text (whole blocks queries)
 
 -- the bytes are an output text of an allowed outcome of the script that the text is
 abbrev pub IsOutputOf : List ℕ → List ℕ → Type 0
-IsOutputOf text bytes = (blocks : List (List ScriptCall)) × (queries : List Query) × (o : Outcome) × IsScript text blocks queries × IsAllowed blocks o × IsOutput queries o bytes
+IsOutputOf text bytes = (blocks : List (List ScriptCall)) × (queries : List Query) × (o : Outcome) × IsScript text blocks queries × IsAllowed blocks o
+    × IsOutput queries o bytes
 
 -- why a text gave no script: memory ran out, or its first bad line
 abbrev pub IsUnread : List ℕ → Fault → Type 0
@@ -32,7 +33,8 @@ IsUnread text (Help words) = ⊥
 
 -- why a text gave no output: the same, or it is a script, and bins of its map were missing
 abbrev pub IsRefusalOf : List ℕ → Fault → Type 0
-IsRefusalOf text fault = IsUnread text fault ⊎ ((fault ≡ BinMissing) × (blocks : List (List ScriptCall)) × (queries : List Query) × IsScript text blocks queries)
+IsRefusalOf text fault = IsUnread text fault
+    ⊎ ((fault ≡ BinMissing) × (blocks : List (List ScriptCall)) × (queries : List Query) × IsScript text blocks queries)
 
 -- a text that is all that an input had left, where that is known, and for which this holds
 abbrev pub OfInput : Option (List ℕ) → (List ℕ → Type 0) → Type 0

@@ -1,7 +1,7 @@
 -- How the program tells of the end of a run, and how a command line may end it.
 use Rattle.std.specs.Prelude.{ℕ, Bool, true, false, List, ◌++◌, codes, string_bytes}
 use Rattle.script.specs.Kinds.{fault_text}
-use Rattle.facing_cli.specs.Texts.{ended}
+use Rattle.facing_cli.specs.Texts.{output_line}
 use Rattle.facing_cli.specs.declared.fault.Fault.{Fault}
 use Rattle.facing_cli.specs.declared.fault.Fault.TheVariants.{NoMemory, BadCapacity, BadWorkers, ScriptFault, Device, BinMissing, Usage, Help}
 
@@ -31,12 +31,12 @@ EndsWords BinMissing = ⊥
 abbrev pub line_of : Fault → List ℕ
 line_of (Usage text) = string_bytes text
 line_of (Help text) = string_bytes text
-line_of (ScriptFault line kind) = ended (codes "mapcli: " ++ fault_text line kind)
-line_of NoMemory = ended (codes "mapcli: no memory")
-line_of Device = ended (codes "mapcli: device")
-line_of BinMissing = ended (codes "mapcli: bins missing")
-line_of BadCapacity = ended (codes "mapcli: the capacity is not 1 to 4096")
-line_of BadWorkers = ended (codes "mapcli: the workers are not 1 to 16")
+line_of (ScriptFault line kind) = output_line (codes "mapcli: " ++ fault_text line kind)
+line_of NoMemory = output_line (codes "mapcli: no memory")
+line_of Device = output_line (codes "mapcli: device")
+line_of BinMissing = output_line (codes "mapcli: bins missing")
+line_of BadCapacity = output_line (codes "mapcli: the capacity is not 1 to 4096")
+line_of BadWorkers = output_line (codes "mapcli: the workers are not 1 to 16")
 
 -- help was asked
 abbrev pub is_help : Fault → Bool

@@ -1,5 +1,6 @@
 -- The output text of a script and an outcome.
-use Rattle.std.specs.Prelude.{◌≡◌, ℕ, ℤ, pos, ◌+◌, ◌+ℤ◌, ◌≤ℤ◌, ◌<ℤ◌, true, false, Option, Some, None, MatchOption, List, [], ◌∷◌, ◌++◌, length, All, Contains, IsPermutation, IsSortedByKey, map, codes, decimal}
+use Rattle.std.specs.Prelude.{◌≡◌, ℕ, ℤ, pos, ◌+◌, ◌+ℤ◌, ◌≤ℤ◌, ◌<ℤ◌, true, false, Option, Some, None, MatchOption, List, [], ◌∷◌, ◌++◌, length, All, Contains}
+use Rattle.std.specs.Prelude.{IsPermutation, IsSortedByKey, map, codes, decimal}
 use Rattle.std.specs.List.{flat_map}
 use Rattle.std.specs.Ordering.{nat_cmp}
 use Rattle.std.specs.Fmt.{signed_decimal}
@@ -11,8 +12,8 @@ use Rattle.script.specs.declared.script.Query.TheVariants.{Count, ReduceSum, Red
 use Rattle.facing_cli.specs.Outcomes.{Outcome}
 
 -- a line of the output
-abbrev pub ended : List ℕ → List ℕ
-ended l = l ++ 10 ∷ []
+abbrev pub output_line : List ℕ → List ℕ
+output_line l = l ++ 10 ∷ []
 
 abbrev pub option_text : Option ℤ → List ℕ
 option_text None = codes "none"
@@ -25,7 +26,7 @@ reply_text (Truth false) = codes "false"
 
 -- a client's line, and then those of its replies
 abbrev pub client_text : ℕ → List (Reply ℤ) → List ℕ
-client_text i replies = ended (codes "client " ++ decimal i) ++ flat_map (λ r. ended (reply_text r)) replies
+client_text i replies = output_line (codes "client " ++ decimal i) ++ flat_map (λ r. output_line (reply_text r)) replies
 
 -- the lines of the clients from a number on
 abbrev pub clients_text : ℕ → List (List (Reply ℤ)) → List ℕ
@@ -49,11 +50,12 @@ pair_text e = e.0 ++ codes " " ++ signed_decimal e.1
 
 -- the lines that answer a query of a map with these pairs
 abbrev pub Answers : List (List ℕ × ℤ) → Query → List ℕ → Type 0
-Answers pairs Count text = text ≡ ended (decimal (length pairs))
-Answers pairs (ReduceSum t) text = text ≡ ended (signed_decimal (sum_of (map (λ e. e.1) pairs)))
-Answers pairs (ReduceMax t) text = (best : Option ℤ) × IsGreatest (map (λ e. e.1) pairs) best × (text ≡ ended (option_text best))
-Answers pairs (SearchAbove v t) text = (found : Option ℤ) × IsAbove v (map (λ e. e.1) pairs) found × (text ≡ ended (option_text found))
-Answers pairs (Listing t) text = (sorted : List (List ℕ × ℤ)) × IsPermutation pairs sorted × IsSortedByKey (λ e. e.0) (slice_cmp nat_cmp) sorted × (text ≡ flat_map (λ e. ended (pair_text e)) sorted)
+Answers pairs Count text = text ≡ output_line (decimal (length pairs))
+Answers pairs (ReduceSum t) text = text ≡ output_line (signed_decimal (sum_of (map (λ e. e.1) pairs)))
+Answers pairs (ReduceMax t) text = (best : Option ℤ) × IsGreatest (map (λ e. e.1) pairs) best × (text ≡ output_line (option_text best))
+Answers pairs (SearchAbove v t) text = (found : Option ℤ) × IsAbove v (map (λ e. e.1) pairs) found × (text ≡ output_line (option_text found))
+Answers pairs (Listing t) text = (sorted : List (List ℕ × ℤ)) × IsPermutation pairs sorted × IsSortedByKey (λ e. e.0) (slice_cmp nat_cmp) sorted
+    × (text ≡ flat_map (λ e. output_line (pair_text e)) sorted)
 
 -- the lines that answer the queries, in their order
 abbrev pub AnswersAll : List (List ℕ × ℤ) → List Query → List ℕ → Type 0

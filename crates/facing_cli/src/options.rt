@@ -19,7 +19,7 @@ pub struct Options {
 impl Model for Options {
     ghost use Rattle.chm.specs.Refusals.{IsCapacity};
     ghost use Rattle.bulk_tasks.specs.Plans.{AreWorkers};
-    ghost use Rattle.facing_cli.specs.Choices.{OptionsView};
+    ghost use Rattle.facing_cli.specs.Options.{OptionsView};
 
     ghost Value = { OptionsView };
 

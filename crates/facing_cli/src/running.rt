@@ -50,7 +50,8 @@ fn output_of<
 
 /// Reads the whole input, runs the script that it is, and writes the output text. The clients make their calls at the
 /// same time, each in a thread of its own, or in one that there is where no more can be started; each client's calls are
-/// made in their order, and the gate is called before each. Queries are answered by the workers of a pool. Nothing is written before all queries are answered; where a
+/// made in their order, and the gate is called before each. Queries are answered by the
+/// workers of a pool. Nothing is written before all queries are answered; where a
 /// write fails, a beginning of the output text was written. It waits for its threads.
 pub fn run<
     R: Threads + Wait + AllocGlobal + Sync,
@@ -62,7 +63,8 @@ pub fn run<
     ensures ok { OnOk result (OfOutput (I.remaining input.old) (λ bytes. Appends (O.contents output.old) (O.contents output.new) bytes)) }
     ensures fault { IfErr result (λ fault. (fault ≡ Fault.Device) ⊎ OfInput (I.remaining input.old) (λ text. IsRefusalOf text fault)) }
     ensures unwritten { OnErr result (O.failures output.new ≡ O.failures output.old → Keeps (O.contents output.old) (O.contents output.new)) }
-    ensures beginning { O.failures output.new ≢ O.failures output.old → OfOutput (I.remaining input.old) (λ bytes. AppendsFront (O.contents output.old) (O.contents output.new) bytes) }
+    ensures beginning { O.failures output.new ≢ O.failures output.old
+        → OfOutput (I.remaining input.old) (λ bytes. AppendsFront (O.contents output.old) (O.contents output.new) bytes) }
     ensures counts { OneCounts result (I.failures input.old) (I.failures input.new) (O.failures output.old) (O.failures output.new) }
     ensures device { IsErrOf result Fault.Device ↔ ((I.failures input.new ≢ I.failures input.old) ⊎ (O.failures output.new ≢ O.failures output.old)) }
 {

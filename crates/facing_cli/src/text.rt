@@ -1,7 +1,7 @@
 //! The lines of the output.
 ghost use Rattle.std.specs.Prelude.{◌≡◌, ◌++◌, codes, IfOk, OnOk, map};
 ghost use Rattle.std.specs.List.{flat_map};
-ghost use Rattle.facing_cli.specs.Texts.{ended, option_text, reply_text, clients_text, client_text, pair_text};
+ghost use Rattle.facing_cli.specs.Texts.{output_line, option_text, reply_text, clients_text, client_text, pair_text};
 
 use bin_history::Reply;
 use hashkeys::Key;
@@ -32,7 +32,7 @@ pub(crate) fn push_number_line<I: Integer, A: Allocator>(
     text: &mut Vec<u8, A>,
     number: I,
 ) -> Result<(), AllocError>
-    ensures { OnOk result (text.new.items ≡ text.old.items ++ ended (I.text number)) }
+    ensures { OnOk result (text.new.items ≡ text.old.items ++ output_line (I.text number)) }
 {
     push_number(text, number)?;
     push(text, b"\n")
@@ -43,7 +43,7 @@ pub(crate) fn push_option<A: Allocator>(
     text: &mut Vec<u8, A>,
     value: Option<i64>,
 ) -> Result<(), AllocError>
-    ensures { OnOk result (text.new.items ≡ text.old.items ++ ended (option_text value)) }
+    ensures { OnOk result (text.new.items ≡ text.old.items ++ output_line (option_text value)) }
 {
     match value {
         None => push(text, b"none\n"),
@@ -57,7 +57,7 @@ pub(crate) fn push_option<A: Allocator>(
 
 /// Appends the line of a reply.
 fn push_reply<A: Allocator>(text: &mut Vec<u8, A>, reply: &Reply<i64>) -> Result<(), AllocError>
-    ensures { OnOk result (text.new.items ≡ text.old.items ++ ended (reply_text reply.now)) }
+    ensures { OnOk result (text.new.items ≡ text.old.items ++ output_line (reply_text reply.now)) }
 {
     match reply {
         Reply::Value(value) => push_option(text, *value),
@@ -101,7 +101,7 @@ pub(crate) fn push_pairs<A: Allocator>(
     text: &mut Vec<u8, A>,
     pairs: &[(Key, i64)],
 ) -> Result<(), AllocError>
-    ensures { OnOk result (text.new.items ≡ text.old.items ++ flat_map (λ e. ended (pair_text e)) pairs.now) }
+    ensures { OnOk result (text.new.items ≡ text.old.items ++ flat_map (λ e. output_line (pair_text e)) pairs.now) }
 {
     for (key, value) in pairs {
         push(text, key.bytes())?;

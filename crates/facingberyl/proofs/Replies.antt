@@ -8,8 +8,10 @@ use Rattle.chm.specs.Called.{IsCalled}
 use Rattle.chm.specs.declared.fault.Fault.{Fault}
 use Rattle.chm.specs.declared.fault.Fault.TheVariants.{PassFull}
 
-module _ {K V F : Type 0} (same_key : K → K → Bool) (code : K → ℕ) (same_value : V → V → Bool) (remapped : F → K → Option V → Option V) (merged : F → V → V → Option V) where
-  pub stands_for : {T : Type 0} (reply_of : T → Reply V) (ledger : LedgerView K V) (call : Call K V F) (old new : PassView K V F) (reply : Reply V) (answer : T) → reply ≡ reply_of answer
+module _ {K V F : Type 0} (same_key : K → K → Bool) (code : K → ℕ) (same_value : V → V → Bool) (remapped : F → K → Option V → Option V)
+    (merged : F → V → V → Option V) where
+  pub stands_for : {T : Type 0} (reply_of : T → Reply V) (ledger : LedgerView K V) (call : Call K V F) (old new : PassView K V F) (reply : Reply V) (answer : T)
+      → reply ≡ reply_of answer
       → IsAnswered same_key code same_value remapped merged ledger call old new (Ok reply)
       → IsAnsweredAs same_key code same_value remapped merged reply_of ledger call old new (Ok answer)
   stands_for reply_of ledger call old new reply answer is answered = record {

@@ -1,5 +1,6 @@
 -- A key to which clients only added 1 has as its value how often they did.
-use Rattle.std.proofs.Common.{◌≡◌, ℕ, zero, suc, ◌+◌, ◌*◌, ◌^◌, ◌<◌, ◌≤◌, Bool, true, false, cond, ◌⊎◌, inl, inr, ◌==◌, Option, Some, None, List, [], ◌∷◌, Vec, length, map, take, count_by, sum_by, All, slice_index_or, refl, sym, ap, ◌∙◌, subst, arith}
+use Rattle.std.proofs.Common.{◌≡◌, ℕ, zero, suc, ◌+◌, ◌*◌, ◌^◌, ◌<◌, ◌≤◌, Bool, true, false, cond, ◌⊎◌, inl, inr, ◌==◌, Option, Some, None, List, [], ◌∷◌, Vec}
+use Rattle.std.proofs.Common.{length, map, take, count_by, sum_by, All, slice_index_or, refl, sym, ap, ◌∙◌, subst, arith}
 use Rattle.std.proofs.lemmas.List.{take_all}
 use Rattle.std.proofs.lemmas.List.Elements.{All-nil, All-cons, All-head, All-tail, All-filter}
 use Rattle.std.proofs.lemmas.Bool.{cases_eq, eq-eqb, ne_eqb}
@@ -15,7 +16,7 @@ use Rattle.chm.specs.Quiets.{QuietView, entries_of}
 use Rattle.functions.specs.declared.numbers.Add.{Add}
 use Rattle.bin_history.specs.Records.{RecordView}
 use Rattle.count_ledger.specs.Views.{PassView}
-use Rattle.facingberyl.specs.Tallies.{AddsOne, AllCounted, told, times, times_in_all}
+use Rattle.facingberyl.specs.Tallies.{AddsOne, AllCounted, stored_count, times, times_in_all}
 
 abbrev amount : Option ℕ → ℕ
 amount None = 0
@@ -30,17 +31,20 @@ added-some : (m n : ℕ) → added (Some m) n ≡ Some (m + n)
 added-some m zero = ap Some (omega arith)
 added-some m (suc n) = refl
 
-added-none : (n : ℕ) → added None n ≡ told n
+added-none : (n : ℕ) → added None n ≡ stored_count n
 added-none zero = refl
 added-none (suc n) = refl
 
 -- a cell that is only added 1 to
-module _ {K : Type 0} (after : Call K ℕ Add → Option ℕ → Option ℕ) (none : (k : K) (f : Add) → after (Merge k 1 f) None ≡ Some 1) (some : (k : K) (f : Add) (n : ℕ) → n + 1 < 2 ^ 64 → after (Merge k 1 f) (Some n) ≡ Some (n + 1)) where
-  step : (r : RecordView K ℕ Add) (cell : Option ℕ) → amount cell + 1 < 2 ^ 64 → AddsOne r → r.before ≡ cell → r.after ≡ after r.call r.before → r.after ≡ added cell 1
+module _ {K : Type 0} (after : Call K ℕ Add → Option ℕ → Option ℕ) (none : (k : K) (f : Add) → after (Merge k 1 f) None ≡ Some 1)
+    (some : (k : K) (f : Add) (n : ℕ) → n + 1 < 2 ^ 64 → after (Merge k 1 f) (Some n) ≡ Some (n + 1)) where
+  step : (r : RecordView K ℕ Add) (cell : Option ℕ) → amount cell + 1 < 2 ^ 64 → AddsOne r → r.before ≡ cell → r.after ≡ after r.call r.before
+      → r.after ≡ added cell 1
   step r None room (f, is) before left = left ∙ (λ i. after (is i) (before i)) ∙ none (key_of r.call) f
   step r (Some n) room (f, is) before left = left ∙ (λ i. after (is i) (before i)) ∙ some (key_of r.call) f n room
 
-  counts-up : (cell : Option ℕ) (rs : List (RecordView K ℕ Add)) → amount cell + length rs < 2 ^ 64 → All AddsOne rs → IsCellHistory after cell rs → cell_after cell rs ≡ added cell (length rs)
+  counts-up : (cell : Option ℕ) (rs : List (RecordView K ℕ Add)) → amount cell + length rs < 2 ^ 64 → All AddsOne rs → IsCellHistory after cell rs
+      → cell_after cell rs ≡ added cell (length rs)
   counts-up cell [] room ones legal = refl
   counts-up cell (r ∷ rs) room ones (before, left, rest) =
       let next = step r cell (omega arith) (All-head AddsOne r rs ones) before left in
@@ -106,15 +110,18 @@ module _ {K : Type 0} where
   length-clients n [] known = total-zero n
   length-clients n (r ∷ rs) known =
       let rest = length-clients n rs (All-tail (λ (x : RecordView K ℕ Add). x.client < n) r rs known) in
-      let bump = total-bump (λ c. length (by_client c rs)) (λ c. length (by_client c (r ∷ rs))) r.client n (λ c. length-cond (r.client == c) r (by_client c rs)) (All-head (λ (x : RecordView K ℕ Add). x.client < n) r rs known) in
+      let bump = total-bump (λ c. length (by_client c rs)) (λ c. length (by_client c (r ∷ rs))) r.client n (λ c. length-cond (r.client == c) r (by_client c rs))
+      (All-head (λ (x : RecordView K ℕ Add). x.client < n) r rs known) in
       omega arith
 
   -- what holds of each client's records holds of all
-  all-clients : (P : RecordView K ℕ Add → Type 0) (n : ℕ) (rs : List (RecordView K ℕ Add)) → All (λ r. r.client < n) rs → ((c : ℕ) → c < n → All P (by_client c rs)) → All P rs
+  all-clients : (P : RecordView K ℕ Add → Type 0) (n : ℕ) (rs : List (RecordView K ℕ Add)) → All (λ r. r.client < n) rs
+      → ((c : ℕ) → c < n → All P (by_client c rs)) → All P rs
   all-clients P n [] known each = All-nil P
   all-clients P n (r ∷ rs) known each =
       All-cons P r rs
-      (All-head P r (by_client r.client rs) (subst (λ (b : Bool). All P (cond b (r ∷ by_client r.client rs) (by_client r.client rs))) (eq-eqb r.client r.client refl) (each r.client (All-head (λ (x : RecordView K ℕ Add). x.client < n) r rs known))))
+      (All-head P r (by_client r.client rs) (subst (λ (b : Bool). All P (cond b (r ∷ by_client r.client rs) (by_client r.client rs)))
+      (eq-eqb r.client r.client refl) (each r.client (All-head (λ (x : RecordView K ℕ Add). x.client < n) r rs known))))
       (all-clients P n rs (All-tail (λ (x : RecordView K ℕ Add). x.client < n) r rs known) (λ c lt. go c (r.client == c) (each c lt)))
     where
       go : (c : ℕ) (b : Bool) → All P (cond b (r ∷ by_client c rs) (by_client c rs)) → All P (by_client c rs)
@@ -147,8 +154,10 @@ module _ {K : Type 0} (same : K → K → Bool) where
     go true ih e = omega arith
     go false ih e = omega arith
 
-  module _ (after : Call K ℕ Add → Option ℕ → Option ℕ) (none : (k : K) (f : Add) → after (Merge k 1 f) None ≡ Some 1) (some : (k : K) (f : Add) (n : ℕ) → n + 1 < 2 ^ 64 → after (Merge k 1 f) (Some n) ≡ Some (n + 1))
-      (q : QuietView K ℕ Add) (lists : List (List K)) (clients : q.ledger.clients ≡ length lists) (as_many : length q.passes ≡ length lists) (opening : q.ledger.opening ≡ []) (counted : AllCounted lists q.passes) where
+  module _ (after : Call K ℕ Add → Option ℕ → Option ℕ) (none : (k : K) (f : Add) → after (Merge k 1 f) None ≡ Some 1)
+      (some : (k : K) (f : Add) (n : ℕ) → n + 1 < 2 ^ 64 → after (Merge k 1 f) (Some n) ≡ Some (n + 1))
+      (q : QuietView K ℕ Add) (lists : List (List K)) (clients : q.ledger.clients ≡ length lists) (as_many : length q.passes ≡ length lists)
+      (opening : q.ledger.opening ≡ []) (counted : AllCounted lists q.passes) where
     module _ (w : K) (rs : List (RecordView K ℕ Add)) (room : times_in_all same w lists < 2 ^ 64) (h : IsHistoryOfKey same after q w rs) where
       some_pass : PassView K ℕ Add
       some_pass = record { ledger = q.ledger.id; client = 0; made = [] }
@@ -164,7 +173,8 @@ module _ {K : Type 0} (same : K → K → Bool) where
 
       ones : All AddsOne rs
       ones = all-clients AddsOne (length lists) rs known
-          (λ c lt. subst (All AddsOne) (sym (own c lt)) (All-filter (λ (r : RecordView K ℕ Add). same (key_of r.call) w) AddsOne (pass c).made (counted c some_pass lt).2))
+          (λ c lt. subst (All AddsOne) (sym (own c lt))
+          (All-filter (λ (r : RecordView K ℕ Add). same (key_of r.call) w) AddsOne (pass c).made (counted c some_pass lt).2))
 
       each_list : (c : ℕ) → c < length lists → length (by_client c rs) ≡ times same w (slice_index_or lists c [])
       each_list c lt =
@@ -183,13 +193,16 @@ module _ {K : Type 0} (same : K → K → Bool) where
       empty : lookup same q.ledger.opening w ≡ None
       empty = ap (λ (es : List (K × ℕ)). lookup same es w) opening
 
-      told-as-often : lookup same (entries_of q.bins) w ≡ told (times_in_all same w lists)
-      told-as-often = h.final ∙ ap (λ (cell : Option ℕ). cell_after cell rs) empty ∙ counts-up after none some None rs (let n = as_often in omega arith) ones (subst (λ (cell : Option ℕ). IsCellHistory after cell rs) empty h.legal) ∙ added-none (length rs) ∙ ap told as_often
+      stored_count-as-often : lookup same (entries_of q.bins) w ≡ stored_count (times_in_all same w lists)
+      stored_count-as-often = h.final ∙ ap (λ (cell : Option ℕ). cell_after cell rs) empty ∙ counts-up after none some None rs (let n = as_often in omega arith)
+          ones (subst (λ (cell : Option ℕ). IsCellHistory after cell rs) empty h.legal) ∙ added-none (length rs) ∙ ap stored_count as_often
 
-    pub told-of-key : ((k : K) → (rs : List (RecordView K ℕ Add)) × IsHistoryOfKey same after q k rs) → (w : K) → times_in_all same w lists < 2 ^ 64 → lookup same (entries_of q.bins) w ≡ told (times_in_all same w lists)
-    told-of-key histories w room = let (rs, h) = histories w in told-as-often w rs room h
+    pub stored_count-of-key : ((k : K) → (rs : List (RecordView K ℕ Add)) × IsHistoryOfKey same after q k rs) → (w : K) → times_in_all same w lists < 2 ^ 64
+        → lookup same (entries_of q.bins) w ≡ stored_count (times_in_all same w lists)
+    stored_count-of-key histories w room = let (rs, h) = histories w in stored_count-as-often w rs room h
 
-  pub times-few : {A : Type 0} (w : K) (n : ℕ) (vs : List (Vec K A)) → All (λ v. length v.items ≤ n) vs → times_in_all same w (map (λ v. v.items) vs) ≤ length vs * n
+  pub times-few : {A : Type 0} (w : K) (n : ℕ) (vs : List (Vec K A)) → All (λ v. length v.items ≤ n) vs
+      → times_in_all same w (map (λ v. v.items) vs) ≤ length vs * n
   times-few w n [] few = omega arith
   times-few {A} w n (v ∷ vs) few =
       let P : Vec K A → Type 0 = λ x. length x.items ≤ n in

@@ -1,7 +1,8 @@
 -- Whether a call asked its function.
 use Rattle.std.specs.Prelude.{◌≡◌, Bool, true, false, not, is_some, Option, [], ◌∷◌, ◌++◌}
 use Rattle.bin_history.specs.declared.call.Call.{Call}
-use Rattle.bin_history.specs.declared.call.Call.TheVariants.{Get, Contains, Put, PutIfAbsent, Remove, RemoveIf, Replace, ReplaceIf, ComputeIfAbsent, ComputeIfPresent, Compute, Merge}
+use Rattle.bin_history.specs.declared.call.Call.TheVariants.{Get, Contains, Put, PutIfAbsent, Remove, RemoveIf, Replace, ReplaceIf, ComputeIfAbsent}
+use Rattle.bin_history.specs.declared.call.Call.TheVariants.{ComputeIfPresent, Compute, Merge}
 use Rattle.bin_history.specs.Records.{RecordView}
 use Rattle.count_ledger.specs.Views.{PassView}
 

@@ -15,7 +15,8 @@ module _ {K : Type 0} where
   abbrev pub AllCounted : List (List K) → List (PassView K ℕ Add) → Type 0
   AllCounted lists passes =
       (c : ℕ) (p : PassView K ℕ Add) → c < length lists
-      → ((slice_index_or passes c p).client ≡ c) × (map (λ r. key_of r.call) (slice_index_or passes c p).made ≡ slice_index_or lists c []) × All AddsOne (slice_index_or passes c p).made
+      → ((slice_index_or passes c p).client ≡ c) × (map (λ r. key_of r.call) (slice_index_or passes c p).made ≡ slice_index_or lists c [])
+      × All AddsOne (slice_index_or passes c p).made
 
 module _ {K : Type 0} (same_key : K → K → Bool) where
   -- how often a key stands in a list, and in several
@@ -26,6 +27,6 @@ module _ {K : Type 0} (same_key : K → K → Bool) where
   times_in_all k lists = sum_by (times k) lists
 
 -- a count, of which 0 is not told
-abbrev pub told : ℕ → Option ℕ
-told zero = None
-told (suc n) = Some (suc n)
+abbrev pub stored_count : ℕ → Option ℕ
+stored_count zero = None
+stored_count (suc n) = Some (suc n)

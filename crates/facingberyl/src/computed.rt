@@ -66,7 +66,8 @@ impl<
         function: F,
     ) -> Result<Computed<V>, Fault>
         requires exact { AreExact K.is_clone V.is_clone F.is_clone }
-        ensures answered { IsAnsweredAs K.eq K.code V.eq F.remapped F.merged (λ answer. Value answer.value) self.old.map.now.ledger (ComputeIfAbsent key function) self.old.pass.now self.new.pass.now result }
+        ensures answered { IsAnsweredAs K.eq K.code V.eq F.remapped F.merged (λ answer. Value answer.value) self.old.map.now.ledger
+            (ComputeIfAbsent key function) self.old.pass.now self.new.pass.now result }
         ensures used { IfOk result (λ answer. IsTold (ComputeIfAbsent key function) self.old.pass.now self.new.pass.now answer.used) }
         ensures map { self.new.map.now ≡ self.old.map.now }
     {
@@ -90,7 +91,8 @@ impl<
         function: F,
     ) -> Result<Computed<V>, Fault>
         requires exact { AreExact K.is_clone V.is_clone F.is_clone }
-        ensures answered { IsAnsweredAs K.eq K.code V.eq F.remapped F.merged (λ answer. Value answer.value) self.old.map.now.ledger (ComputeIfPresent key function) self.old.pass.now self.new.pass.now result }
+        ensures answered { IsAnsweredAs K.eq K.code V.eq F.remapped F.merged (λ answer. Value answer.value) self.old.map.now.ledger
+            (ComputeIfPresent key function) self.old.pass.now self.new.pass.now result }
         ensures used { IfOk result (λ answer. IsTold (ComputeIfPresent key function) self.old.pass.now self.new.pass.now answer.used) }
         ensures map { self.new.map.now ≡ self.old.map.now }
     {
@@ -115,7 +117,8 @@ impl<
         function: F,
     ) -> Result<Computed<V>, Fault>
         requires exact { AreExact K.is_clone V.is_clone F.is_clone }
-        ensures answered { IsAnsweredAs K.eq K.code V.eq F.remapped F.merged (λ answer. Value answer.value) self.old.map.now.ledger (Merge key value function) self.old.pass.now self.new.pass.now result }
+        ensures answered { IsAnsweredAs K.eq K.code V.eq F.remapped F.merged (λ answer. Value answer.value) self.old.map.now.ledger
+            (Merge key value function) self.old.pass.now self.new.pass.now result }
         ensures used { IfOk result (λ answer. IsTold (Merge key value function) self.old.pass.now self.new.pass.now answer.used) }
         ensures map { self.new.map.now ≡ self.old.map.now }
     {

@@ -22,7 +22,8 @@ impl<
     /// The same as `get`, with the key borrowed. The value at the key.
     pub fn get_by<R: Wait>(&mut self, rt: &R, key: &K) -> Result<Option<V>, Fault>
         requires exact { AreExact K.is_clone V.is_clone F.is_clone }
-        ensures answered { IsAnsweredAs K.eq K.code V.eq F.remapped F.merged Value self.old.map.now.ledger (Get key.now) self.old.pass.now self.new.pass.now result }
+        ensures answered { IsAnsweredAs K.eq K.code V.eq F.remapped F.merged Value self.old.map.now.ledger
+            (Get key.now) self.old.pass.now self.new.pass.now result }
         ensures map { self.new.map.now ≡ self.old.map.now }
     {
         let reply = self.map.get_by(rt, self.pass, key)?;
@@ -32,7 +33,8 @@ impl<
     /// The same as `contains_key`, with the key borrowed. Whether the key has a value.
     pub fn contains_key_by<R: Wait>(&mut self, rt: &R, key: &K) -> Result<bool, Fault>
         requires exact { AreExact K.is_clone V.is_clone F.is_clone }
-        ensures answered { IsAnsweredAs K.eq K.code V.eq F.remapped F.merged Truth self.old.map.now.ledger (Contains key.now) self.old.pass.now self.new.pass.now result }
+        ensures answered { IsAnsweredAs K.eq K.code V.eq F.remapped F.merged Truth self.old.map.now.ledger
+            (Contains key.now) self.old.pass.now self.new.pass.now result }
         ensures map { self.new.map.now ≡ self.old.map.now }
     {
         let reply = self.map.contains_key_by(rt, self.pass, key)?;
@@ -42,7 +44,8 @@ impl<
     /// The same as `remove`, with the key borrowed. Takes the key away, and answers the value before.
     pub fn remove_by<R: Wait>(&mut self, rt: &R, key: &K) -> Result<Option<V>, Fault>
         requires exact { AreExact K.is_clone V.is_clone F.is_clone }
-        ensures answered { IsAnsweredAs K.eq K.code V.eq F.remapped F.merged Value self.old.map.now.ledger (Remove key.now) self.old.pass.now self.new.pass.now result }
+        ensures answered { IsAnsweredAs K.eq K.code V.eq F.remapped F.merged Value self.old.map.now.ledger
+            (Remove key.now) self.old.pass.now self.new.pass.now result }
         ensures map { self.new.map.now ≡ self.old.map.now }
     {
         let reply = self.map.remove_by(rt, self.pass, key)?;
@@ -52,7 +55,8 @@ impl<
     /// The same as `replace`, with the key borrowed. Gives the key this value where it has one, and answers the value before.
     pub fn replace_by<R: Wait>(&mut self, rt: &R, key: &K, value: V) -> Result<Option<V>, Fault>
         requires exact { AreExact K.is_clone V.is_clone F.is_clone }
-        ensures answered { IsAnsweredAs K.eq K.code V.eq F.remapped F.merged Value self.old.map.now.ledger (Replace key.now value) self.old.pass.now self.new.pass.now result }
+        ensures answered { IsAnsweredAs K.eq K.code V.eq F.remapped F.merged Value self.old.map.now.ledger
+            (Replace key.now value) self.old.pass.now self.new.pass.now result }
         ensures map { self.new.map.now ≡ self.old.map.now }
     {
         let reply = self.map.replace_by(rt, self.pass, key, value)?;

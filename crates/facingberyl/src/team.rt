@@ -97,7 +97,8 @@ impl<
         A: Send + Sync,
         ensures map { self.new.map ≡ self.old.map }
         ensures len { length self.new.passes ≡ length self.old.passes }
-        ensures done { (i : ℕ) (d : PassView K V F) → i < length self.old.passes → W.does work.now (slice_index_or self.old.passes i d) (slice_index_or self.new.passes i d) }
+        ensures done { (i : ℕ) (d : PassView K V F) → i < length self.old.passes
+            → W.does work.now (slice_index_or self.old.passes i d) (slice_index_or self.new.passes i d) }
     {
         self.map.share(rt, &mut self.passes, &Lent { work });
     }

@@ -49,7 +49,8 @@ impl<
     ///     client.get(rt, 1)? == Some(5)
     pub fn get<R: Wait>(&mut self, rt: &R, key: K) -> Result<Option<V>, Fault>
         requires exact { AreExact K.is_clone V.is_clone F.is_clone }
-        ensures answered { IsAnsweredAs K.eq K.code V.eq F.remapped F.merged Value self.old.map.now.ledger (Get key) self.old.pass.now self.new.pass.now result }
+        ensures answered { IsAnsweredAs K.eq K.code V.eq F.remapped F.merged Value self.old.map.now.ledger
+            (Get key) self.old.pass.now self.new.pass.now result }
         ensures map { self.new.map.now ≡ self.old.map.now }
     {
         let reply = self.map.get(rt, self.pass, key)?;
@@ -77,7 +78,8 @@ impl<
     ///     client.contains_key(rt, 1)?
     pub fn contains_key<R: Wait>(&mut self, rt: &R, key: K) -> Result<bool, Fault>
         requires exact { AreExact K.is_clone V.is_clone F.is_clone }
-        ensures answered { IsAnsweredAs K.eq K.code V.eq F.remapped F.merged Truth self.old.map.now.ledger (Contains key) self.old.pass.now self.new.pass.now result }
+        ensures answered { IsAnsweredAs K.eq K.code V.eq F.remapped F.merged Truth self.old.map.now.ledger
+            (Contains key) self.old.pass.now self.new.pass.now result }
         ensures map { self.new.map.now ≡ self.old.map.now }
     {
         let reply = self.map.contains_key(rt, self.pass, key)?;
@@ -90,7 +92,8 @@ impl<
     ///     client.put(rt, 1, 6)? == Some(5)
     pub fn put<R: Wait>(&mut self, rt: &R, key: K, value: V) -> Result<Option<V>, Fault>
         requires exact { AreExact K.is_clone V.is_clone F.is_clone }
-        ensures answered { IsAnsweredAs K.eq K.code V.eq F.remapped F.merged Value self.old.map.now.ledger (Put key value) self.old.pass.now self.new.pass.now result }
+        ensures answered { IsAnsweredAs K.eq K.code V.eq F.remapped F.merged Value self.old.map.now.ledger
+            (Put key value) self.old.pass.now self.new.pass.now result }
         ensures map { self.new.map.now ≡ self.old.map.now }
     {
         let reply = self.map.put(rt, self.pass, key, value)?;
@@ -103,7 +106,8 @@ impl<
     ///     client.put_if_absent(rt, 1, 6)? == Some(5)
     pub fn put_if_absent<R: Wait>(&mut self, rt: &R, key: K, value: V) -> Result<Option<V>, Fault>
         requires exact { AreExact K.is_clone V.is_clone F.is_clone }
-        ensures answered { IsAnsweredAs K.eq K.code V.eq F.remapped F.merged Value self.old.map.now.ledger (PutIfAbsent key value) self.old.pass.now self.new.pass.now result }
+        ensures answered { IsAnsweredAs K.eq K.code V.eq F.remapped F.merged Value self.old.map.now.ledger
+            (PutIfAbsent key value) self.old.pass.now self.new.pass.now result }
         ensures map { self.new.map.now ≡ self.old.map.now }
     {
         let reply = self.map.put_if_absent(rt, self.pass, key, value)?;
@@ -116,7 +120,8 @@ impl<
     ///     client.remove(rt, 1)? == Some(5)
     pub fn remove<R: Wait>(&mut self, rt: &R, key: K) -> Result<Option<V>, Fault>
         requires exact { AreExact K.is_clone V.is_clone F.is_clone }
-        ensures answered { IsAnsweredAs K.eq K.code V.eq F.remapped F.merged Value self.old.map.now.ledger (Remove key) self.old.pass.now self.new.pass.now result }
+        ensures answered { IsAnsweredAs K.eq K.code V.eq F.remapped F.merged Value self.old.map.now.ledger
+            (Remove key) self.old.pass.now self.new.pass.now result }
         ensures map { self.new.map.now ≡ self.old.map.now }
     {
         let reply = self.map.remove(rt, self.pass, key)?;
@@ -129,7 +134,8 @@ impl<
     ///     !client.remove_if(rt, 1, 6)?
     pub fn remove_if<R: Wait>(&mut self, rt: &R, key: K, value: V) -> Result<bool, Fault>
         requires exact { AreExact K.is_clone V.is_clone F.is_clone }
-        ensures answered { IsAnsweredAs K.eq K.code V.eq F.remapped F.merged Truth self.old.map.now.ledger (RemoveIf key value) self.old.pass.now self.new.pass.now result }
+        ensures answered { IsAnsweredAs K.eq K.code V.eq F.remapped F.merged Truth self.old.map.now.ledger
+            (RemoveIf key value) self.old.pass.now self.new.pass.now result }
         ensures map { self.new.map.now ≡ self.old.map.now }
     {
         let reply = self.map.remove_if(rt, self.pass, key, value)?;
@@ -142,7 +148,8 @@ impl<
     ///     client.replace(rt, 1, 6)? == None
     pub fn replace<R: Wait>(&mut self, rt: &R, key: K, value: V) -> Result<Option<V>, Fault>
         requires exact { AreExact K.is_clone V.is_clone F.is_clone }
-        ensures answered { IsAnsweredAs K.eq K.code V.eq F.remapped F.merged Value self.old.map.now.ledger (Replace key value) self.old.pass.now self.new.pass.now result }
+        ensures answered { IsAnsweredAs K.eq K.code V.eq F.remapped F.merged Value self.old.map.now.ledger
+            (Replace key value) self.old.pass.now self.new.pass.now result }
         ensures map { self.new.map.now ≡ self.old.map.now }
     {
         let reply = self.map.replace(rt, self.pass, key, value)?;
@@ -155,7 +162,8 @@ impl<
     ///     client.replace_if(rt, 1, 5, 6)?
     pub fn replace_if<R: Wait>(&mut self, rt: &R, key: K, old: V, new: V) -> Result<bool, Fault>
         requires exact { AreExact K.is_clone V.is_clone F.is_clone }
-        ensures answered { IsAnsweredAs K.eq K.code V.eq F.remapped F.merged Truth self.old.map.now.ledger (ReplaceIf key old new) self.old.pass.now self.new.pass.now result }
+        ensures answered { IsAnsweredAs K.eq K.code V.eq F.remapped F.merged Truth self.old.map.now.ledger
+            (ReplaceIf key old new) self.old.pass.now self.new.pass.now result }
         ensures map { self.new.map.now ≡ self.old.map.now }
     {
         let reply = self.map.replace_if(rt, self.pass, key, old, new)?;
@@ -169,7 +177,8 @@ impl<
     ///     client.compute(rt, 1, Add)? == Some(5)
     pub fn compute<R: Wait>(&mut self, rt: &R, key: K, function: F) -> Result<Option<V>, Fault>
         requires exact { AreExact K.is_clone V.is_clone F.is_clone }
-        ensures answered { IsAnsweredAs K.eq K.code V.eq F.remapped F.merged Value self.old.map.now.ledger (Compute key function) self.old.pass.now self.new.pass.now result }
+        ensures answered { IsAnsweredAs K.eq K.code V.eq F.remapped F.merged Value self.old.map.now.ledger
+            (Compute key function) self.old.pass.now self.new.pass.now result }
         ensures map { self.new.map.now ≡ self.old.map.now }
     {
         let reply = self.map.compute(rt, self.pass, key, function)?;

@@ -1,5 +1,6 @@
 -- Places in a table by their index, and tables by their exponent.
-use Rattle.std.proofs.Common.{◌≡◌, inl, inr, ℕ, zero, suc, ◌+◌, ◌-◌, ◌<◌, ◌≤◌, ◌%◌, ◌^◌, true, List, [], ◌∷◌, ◌++◌, length, get_or, map, sym, ap, subst, refl, ◌∙◌, arith}
+use Rattle.std.proofs.Common.{◌≡◌, inl, inr, ℕ, zero, suc, ◌+◌, ◌-◌, ◌<◌, ◌≤◌, ◌%◌, ◌^◌, true, List, [], ◌∷◌, ◌++◌, length, get_or, map, sym, ap, subst, refl}
+use Rattle.std.proofs.Common.{◌∙◌, arith}
 use Rattle.std.specs.Int.Bits.{bit_and}
 use Rattle.std.specs.Int.Count.{count_trailing_zeros}
 use Rattle.std.specs.List.{range_with_len}
@@ -11,7 +12,7 @@ use Rattle.std.proofs.lemmas.List.FromFn.{get_or-map-range_with_len}
 use Rattle.std.proofs.lemmas.Nat.{and_mask, pow_pos}
 use Rattle.boxcar.specs.Slot.{Named}
 use Rattle.hashkeys.specs.Classes.{IsTableSize, covers}
-use Rattle.generations.specs.Inside.{IsTable, IsSlotOf}
+use Rattle.generations.specs.Generations.{IsTable, IsSlotOf}
 use Rattle.generations.specs.Views.{GenerationsView, place_of}
 use Rattle.generations.specs.declared.state.PlaceTag.{PlaceTag}
 
@@ -19,7 +20,8 @@ use Rattle.generations.specs.declared.state.PlaceTag.{PlaceTag}
 abbrev pub tag_at : GenerationsView → ℕ → ℕ → PlaceTag
 tag_at m n i = place_of m (record { n = n; index = i })
 
-pub IsTable-all : (m : GenerationsView) (n : ℕ) (places : List PlaceTag) → IsTableSize n → m.n ≤ n → length places ≡ n → places ≡ map (tag_at m n) (range_with_len 0 n) → IsTable m n places
+pub IsTable-all : (m : GenerationsView) (n : ℕ) (places : List PlaceTag) → IsTableSize n → m.n ≤ n → length places ≡ n
+    → places ≡ map (tag_at m n) (range_with_len 0 n) → IsTable m n places
 IsTable-all m n places size least count is = record {
   size = size;
   least = least;
@@ -35,7 +37,8 @@ pub size_pos : (n : ℕ) → IsTableSize n → 0 < n
 size_pos n (e, le, is) = omega (arith, is, pow_pos e)
 
 -- the place of a table at a hash's remainder is of the map, and covers the hash
-module _ (m : GenerationsView) (n : ℕ) (places : List PlaceTag) (table : IsTable m n places) (hash index : ℕ) (at : index ≡ bit_and hash (length places - 1)) (p : PlaceTag) (is : p ≡ get_or places index p) where
+module _ (m : GenerationsView) (n : ℕ) (places : List PlaceTag) (table : IsTable m n places) (hash index : ℕ) (at : index ≡ bit_and hash (length places - 1))
+    (p : PlaceTag) (is : p ≡ get_or places index p) where
   index_is : index ≡ hash % n
   index_is = at ∙ ap (λ (x : ℕ). bit_and hash (x - 1)) table.count ∙ mask_is hash n table.size
 
@@ -79,5 +82,6 @@ pub slots_push : (m : GenerationsView) (slots more : List Named) (slot : Named) 
 slots_push m slots more slot is of all e d lt = subst (λ (l : List Named). IsSlotOf m e (get_or l e d)) (sym is)
     (elim (cases_lt e (length slots)) [
       | inl l ↦ subst (IsSlotOf m e) (sym (get_or_append_left slots (slot ∷ []) d e l)) (all e d l)
-      | inr ge ↦ (let same : e ≡ length slots = omega arith in subst (λ (x : ℕ). IsSlotOf m x (get_or (slots ++ slot ∷ []) x d)) (sym same) (subst (IsSlotOf m (length slots)) (sym (get_or-append_seam slots slot [] d)) of))
+      | inr ge ↦ (let same : e ≡ length slots = omega arith in subst (λ (x : ℕ). IsSlotOf m x (get_or (slots ++ slot ∷ []) x d)) (sym same)
+          (subst (IsSlotOf m (length slots)) (sym (get_or-append_seam slots slot [] d)) of))
     ])

@@ -1,12 +1,14 @@
 -- Walk order, at classes and at their halves.
-use Rattle.std.proofs.Common.{◌≡◌, ◌≢◌, ℕ, zero, suc, ◌+◌, ◌-◌, ◌*◌, ◌/◌, ◌%◌, ◌^◌, ◌<◌, ◌≤◌, ◌⊎◌, inl, inr, ◌↔◌, ◌||◌, Bool, true, false, sym, ap, subst, refl, ◌∙◌, add-one, arith, Option, Some, None, IfSome, IfNone}
+use Rattle.std.proofs.Common.{◌≡◌, ◌≢◌, ℕ, zero, suc, ◌+◌, ◌-◌, ◌*◌, ◌/◌, ◌%◌, ◌^◌, ◌<◌, ◌≤◌, ◌⊎◌, inl, inr, ◌↔◌, ◌||◌, Bool, true, false, sym, ap, subst, refl}
+use Rattle.std.proofs.Common.{◌∙◌, add-one, arith, Option, Some, None, IfSome, IfNone}
 use Rattle.std.specs.Int.{◌∣◌}
-use Rattle.std.proofs.Math.Nat.{mod-mod_of_dvd, mod-lt, mod-le, mod-eq_of_lt, mod-eq-sub-mod, dvd-mul_left, add-mul-mod_self_right, mul_assoc, mul_comm, mul-add}
+use Rattle.std.proofs.Math.Nat.{mod-mod_of_dvd, mod-lt, mod-le, mod-eq_of_lt, mod-eq-sub-mod, dvd-mul_left, add-mul-mod_self_right, mul_assoc, mul_comm}
+use Rattle.std.proofs.Math.Nat.{mul-add}
 use Rattle.std.proofs.lemmas.Bool.{cases_lt, eqb-true, eq-eqb}
 use Rattle.std.proofs.lemmas.Nat.{pow-add, pow_below}
 use Rattle.hashkeys.proofs.Halves.{covers-halves}
 use Rattle.hashkeys.specs.Classes.{ClassView, IsClass, IsTableSize, covers}
-use Rattle.generations.specs.Walks.{Precedes, HasPassed, IsFirstAfter, IsLast}
+use Rattle.generations.specs.Walks.{Precedes, HasPassed, IsFirstAfter, IsLastInWalk}
 
 -- a table's size is a doubling of each that is no greater
 pub doubled : (n m : ℕ) → IsTableSize n → IsTableSize m → n ≤ m → (k : ℕ) × (m ≡ n * 2 ^ k)
@@ -36,8 +38,10 @@ class_is c n i e f = λ x. record { n = e x; index = f x }
 
 module _ (n : ℕ) where
   multiple : (j k : ℕ) → j ≤ k → n * 2 ^ k ≡ 2 ^ (k - j) * (n * 2 ^ j)
-  multiple j k le = let sum : (k - j) + j ≡ k = omega arith in let p = pow-add 2 (k - j) j in let q : 2 ^ k ≡ 2 ^ (k - j) * 2 ^ j = ap (λ (x : ℕ). 2 ^ x) (sym sum) ∙ p in
-      ap (λ (x : ℕ). n * x) q ∙ sym (mul_assoc n (2 ^ (k - j)) (2 ^ j)) ∙ ap (λ (x : ℕ). x * 2 ^ j) (mul_comm n (2 ^ (k - j))) ∙ mul_assoc (2 ^ (k - j)) n (2 ^ j)
+  multiple j k le = let sum : (k - j) + j ≡ k = omega arith in let p = pow-add 2 (k - j) j in
+      let q : 2 ^ k ≡ 2 ^ (k - j) * 2 ^ j = ap (λ (x : ℕ). 2 ^ x) (sym sum) ∙ p in
+      ap (λ (x : ℕ). n * x) q ∙ sym (mul_assoc n (2 ^ (k - j)) (2 ^ j)) ∙ ap (λ (x : ℕ). x * 2 ^ j) (mul_comm n (2 ^ (k - j)))
+      ∙ mul_assoc (2 ^ (k - j)) n (2 ^ j)
 
   -- the remainder by a size, of the remainder by a greater one
   down : (j k h : ℕ) → j ≤ k → h % (n * 2 ^ k) % (n * 2 ^ j) ≡ h % (n * 2 ^ j)
@@ -107,13 +111,15 @@ module _ (n : ℕ) where
       )
 
   -- who has passed a high half has passed what was halved
-  pub passed_whole : (k : ℕ) (p c : ClassView) → p.n ≡ n * 2 ^ k → p.index < p.n → c.n ≡ 2 * p.n → c.index ≡ p.index + p.n → (hash : ℕ) → HasPassed n c hash ↔ HasPassed n p hash
+  pub passed_whole : (k : ℕ) (p c : ClassView) → p.n ≡ n * 2 ^ k → p.index < p.n → c.n ≡ 2 * p.n → c.index ≡ p.index + p.n → (hash : ℕ)
+      → HasPassed n c hash ↔ HasPassed n p hash
   passed_whole k p c p_is lt n_is index_is hash =
       let double : 2 * p.n ≡ n * 2 ^ (k + 1) = (let d = doubles k in omega arith) in
       let low : ClassView = record { n = 2 * p.n; index = p.index } in
       let next : IsFirstAfter n low c = IsFirstAfter-low k low c double (omega arith) (omega arith) in
       let halves = covers-halves p.n p.index hash lt in
-      let either : covers p hash ≡ (covers low hash || covers c hash) = halves ∙ ap (λ (x : ClassView). covers low hash || covers x hash) (sym (class_is c (2 * p.n) (p.index + p.n) n_is index_is)) in (
+      let either : covers p hash ≡ (covers low hash || covers c hash) = halves
+      ∙ ap (λ (x : ClassView). covers low hash || covers x hash) (sym (class_is c (2 * p.n) (p.index + p.n) n_is index_is)) in (
         (λ s. elim s [
           | inl q ↦ elim ((next hash).1 q) [ inl r ↦ inl r | inr of ↦ inr (either ∙ ap (λ (b : Bool). b || covers c hash) of) ]
           | inr of ↦ inr (either ∙ or_right _ _ of)
@@ -154,8 +160,8 @@ module _ (n : ℕ) where
         (λ p. passed.1 (first.0 (subst (Precedes n hash) next_is p))),
       )
 
-  pub IsLast-opening : (c : ClassView) → c.n ≡ n → c.index + 1 ≡ n → IsLast n c
-  IsLast-opening c is last hash = (passed_opening c hash is (omega arith)).1 (let l : hash % n < n = mod-lt hash (omega arith) in omega arith)
+  pub IsLastInWalk-opening : (c : ClassView) → c.n ≡ n → c.index + 1 ≡ n → IsLastInWalk n c
+  IsLastInWalk-opening c is last hash = (passed_opening c hash is (omega arith)).1 (let l : hash % n < n = mod-lt hash (omega arith) in omega arith)
 
 half_size : (m : ℕ) → IsTableSize m → m ≡ 2 * (m / 2) → IsTableSize (m / 2)
 half_size m (zero, le, is) even = absurd (omega arith)
@@ -177,23 +183,27 @@ at_least n zero lt = absurd (omega arith)
 at_least n (suc m) lt = let e : n * suc m ≡ n * m + n = omega arith in omega arith
 
 -- a class that is a low half is followed by the high half
-pub after_low : (n : ℕ) (c next : ClassView) → IsTableSize n → IsClass c → n ≤ c.n → c.n ≢ n → c.index < c.n / 2 → next.index ≡ c.index + c.n / 2 → IsFirstAfter n c next
+pub after_low : (n : ℕ) (c next : ClassView) → IsTableSize n → IsClass c → n ≤ c.n → c.n ≢ n → c.index < c.n / 2 → next.index ≡ c.index + c.n / 2
+    → IsFirstAfter n c next
 after_low n c next size class le differ low next_is =
     let (k, half, even, _) = halved n c.n size class.0 le differ in
     let double = doubles n k in
     IsFirstAfter-low n k c next (omega arith) (omega arith) (omega arith)
 
 -- who has passed a class that is a high half has passed what was halved
-pub after_high : (n : ℕ) (p c : ClassView) → IsTableSize n → IsClass c → n ≤ c.n → c.n ≢ n → c.n / 2 ≤ c.index → p.n ≡ c.n / 2 → p.index ≡ c.index - c.n / 2 → (hash : ℕ) → HasPassed n c hash ↔ HasPassed n p hash
+pub after_high : (n : ℕ) (p c : ClassView) → IsTableSize n → IsClass c → n ≤ c.n → c.n ≢ n → c.n / 2 ≤ c.index → p.n ≡ c.n / 2 → p.index ≡ c.index - c.n / 2
+    → (hash : ℕ) → HasPassed n c hash ↔ HasPassed n p hash
 after_high n p c size class le differ high n_is index_is =
     let (k, half, even, _) = halved n c.n size class.0 le differ in
     let lt = class.1 in
     passed_whole n k p c (n_is ∙ half) (omega arith) (omega arith) (omega arith)
 
-pub IsFirstAfter-high : (n : ℕ) (p c : ClassView) → ((hash : ℕ) → HasPassed n c hash ↔ HasPassed n p hash) → (next : Option ClassView) → IfSome next (IsFirstAfter n p) → IfSome next (IsFirstAfter n c)
+pub IsFirstAfter-high : (n : ℕ) (p c : ClassView) → ((hash : ℕ) → HasPassed n c hash ↔ HasPassed n p hash) → (next : Option ClassView)
+    → IfSome next (IsFirstAfter n p) → IfSome next (IsFirstAfter n c)
 IsFirstAfter-high n p c same (Some next) first = λ hash. ((λ s. (first hash).0 ((same hash).0 s)), (λ q. (same hash).1 ((first hash).1 q)))
 IsFirstAfter-high n p c same None first = first
 
-pub IsLast-high : (n : ℕ) (p c : ClassView) → ((hash : ℕ) → HasPassed n c hash ↔ HasPassed n p hash) → (next : Option ClassView) → IfNone next (IsLast n p) → IfNone next (IsLast n c)
-IsLast-high n p c same (Some next) last = last
-IsLast-high n p c same None last = λ hash. (same hash).1 (last hash)
+pub IsLastInWalk-high : (n : ℕ) (p c : ClassView) → ((hash : ℕ) → HasPassed n c hash ↔ HasPassed n p hash) → (next : Option ClassView)
+    → IfNone next (IsLastInWalk n p) → IfNone next (IsLastInWalk n c)
+IsLastInWalk-high n p c same (Some next) last = last
+IsLastInWalk-high n p c same None last = λ hash. (same hash).1 (last hash)

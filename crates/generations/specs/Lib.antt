@@ -1,8 +1,8 @@
 pub mod Views
 pub mod Places
 pub mod States
-pub mod Seen
-pub mod Inside
+pub mod Shown
+pub mod Generations
 pub mod Walks
-pub mod Leaves
-pub mod Left
+pub mod BinsWithRoles
+pub mod NotLeft

@@ -15,11 +15,11 @@ pub record GenerationsView : Type 0 where
 
 -- the map's place for a bin of the class
 abbrev pub place_of : GenerationsView → ClassView → PlaceTag
-place_of map class = record { class = class; form = map.form; salt = map.salt; ledger = map.ledger }
+place_of home class = record { class = class; form = home.form; salt = home.salt; ledger = home.ledger }
 
 -- the place is of the map: of its form, its salt and its ledger, and no wider than its opening bins
-pub record IsOfMap (map : GenerationsView) (p : PlaceTag) : Type 0 where
-  pub form : p.form ≡ map.form
-  pub salt : p.salt ≡ map.salt
-  pub ledger : p.ledger ≡ map.ledger
-  pub least : map.n ≤ p.class.n
+pub record IsPlaceOf (home : GenerationsView) (p : PlaceTag) : Type 0 where
+  pub form : p.form ≡ home.form
+  pub salt : p.salt ≡ home.salt
+  pub ledger : p.ledger ≡ home.ledger
+  pub least : home.n ≤ p.class.n

@@ -24,8 +24,8 @@ module _ (n : ℕ) where
   IsFirstAfter c next = (hash : ℕ) → HasPassed c hash ↔ Precedes hash next.index
 
   -- no hash stands after the class
-  abbrev pub IsLast : ClassView → Type 0
-  IsLast c = (hash : ℕ) → HasPassed c hash
+  abbrev pub IsLastInWalk : ClassView → Type 0
+  IsLastInWalk c = (hash : ℕ) → HasPassed c hash
 
   -- the classes stand in walk order, have every hash, each once, and are no wider than the opening ones
   pub record IsWalk (classes : List ClassView) : Type 0 where

@@ -1,8 +1,8 @@
 //! All places of a map, and the way from a hash to its place.
 ghost use Rattle.std.specs.Prelude.{◌≡◌, ℕ, ◌≤◌, ◌^◌, true, IfSome, IfOk, length};
 ghost use Rattle.hashkeys.specs.Classes.{covers, IsTableSize};
-ghost use Rattle.generations.specs.Inside.{IsTable};
-ghost use Rattle.generations.specs.Views.{GenerationsView, IsOfMap, place_of};
+ghost use Rattle.generations.specs.Generations.{IsTable};
+ghost use Rattle.generations.specs.Views.{GenerationsView, IsPlaceOf, place_of};
 
 use crate::place::Place;
 use crate::state::{PlaceTag, State};
@@ -35,11 +35,11 @@ impl<K: HashKey, V: Clone + Eq, F: Remap<K, V> + Clone, A: Allocator> Model
 
     ghost Value = { GenerationsView };
 
-    ghost use Rattle.generations.specs.Inside.{view_of, IsMap};
+    ghost use Rattle.generations.specs.Generations.{generations_view, IsGenerations};
 
-    ghost view = { λ g. view_of g.ledger g.form g.salt g.opening.items };
+    ghost view = { λ g. generations_view g.ledger g.form g.salt g.opening.items };
 
-    ghost invariant = { λ g. IsMap g.ledger g.form g.salt g.opening.items g.tables.items };
+    ghost invariant = { λ g. IsGenerations g.ledger g.form g.salt g.opening.items g.tables.items };
 }
 
 /// The place of a table that has the hash.
@@ -48,7 +48,7 @@ fn place_in<'a, K: HashKey, V: Clone + Eq, F: Remap<K, V> + Clone, A: Allocator>
     hash: u32,
 ) -> &'a Place<K, V, F, A>
     requires { (map : GenerationsView) × (n : ℕ) × IsTable map n places.now.items }
-    ensures of_map { (map : GenerationsView) (n : ℕ) → IsTable map n places.now.items → IsOfMap map result.now }
+    ensures of_map { (map : GenerationsView) (n : ℕ) → IsTable map n places.now.items → IsPlaceOf map result.now }
     ensures covers { covers result.now.class hash ≡ true }
 {
     &places[hash as usize & (places.len() - 1)]
@@ -95,7 +95,7 @@ impl<K: HashKey, V: Clone + Eq, F: Remap<K, V> + Clone, A: Allocator> Generation
 
     /// The place of the hash in the widest table.
     pub(crate) fn widest_place(&self, hash: u32) -> &Place<K, V, F, A>
-        ensures of_map { IsOfMap self.now result.now }
+        ensures of_map { IsPlaceOf self.now result.now }
         ensures covers { covers result.now.class hash ≡ true }
     {
         let widest = self.widest.load(SeqCst).min(u64::from(SIZES)) as u32;
@@ -107,7 +107,7 @@ impl<K: HashKey, V: Clone + Eq, F: Remap<K, V> + Clone, A: Allocator> Generation
 
     /// The place of the hash in the widest table where it was begun, and else its opening place.
     pub(crate) fn find(&self, hash: u32) -> &Place<K, V, F, A>
-        ensures of_map { IsOfMap self.now result.now }
+        ensures of_map { IsPlaceOf self.now result.now }
         ensures covers { covers result.now.class hash ≡ true }
     {
         let widest = self.widest.load(SeqCst).min(u64::from(SIZES)) as u32;
@@ -130,7 +130,7 @@ impl<
     A: Allocator + Clone,
 > Generations<K, V, F, A> {
     /// The map with these opening places and no tables of later ones.
-    pub(crate) fn around(
+    pub(crate) fn with_opening(
         alloc: A,
         form: Form,
         salt: Salt,
@@ -216,7 +216,8 @@ impl<
         Ok(&places[class.index() as usize])
     }
 
-    /// Makes the table of this many places, a power of two from 1 to 65,536, if there is none yet: so many bins the map can then be moved to. For want of memory
+    /// Makes the table of this many places, a power of two from 1 to 65,536, if there
+    /// is none yet: so many bins the map can then be moved to. For want of memory
     /// there is none, and nothing is changed. It waits while another thread puts the same table in.
     pub fn widen<R: Wait>(&self, rt: &R, size: u32) -> Result<(), AllocError>
         requires size { IsTableSize size }

@@ -5,7 +5,7 @@ ghost use Rattle.bin_history.specs.Calls.{after};
 ghost use Rattle.bin_history.specs.Copies.{IsExact};
 ghost use Rattle.bin_history.specs.Lawful.{IsLawful};
 ghost use Rattle.generations.specs.Places.{AreAt};
-ghost use Rattle.generations.specs.Views.{IsOfMap};
+ghost use Rattle.generations.specs.Views.{IsPlaceOf};
 
 use crate::generations::Generations;
 use crate::place::{AWAY, Place};
@@ -29,7 +29,7 @@ pub struct Held<'a, K: HashKey, V: Clone + Eq, F: Remap<K, V> + Clone, A: Alloca
     claim: Claim<'a, State<K, V, F, A>>,
     ghost writes: { claim.right ≡ 2 },
     ghost here: { claim.tag ≡ place.now },
-    ghost at_home: { IsOfMap home.now place.now },
+    ghost at_home: { IsPlaceOf home.now place.now },
 }
 
 impl<
@@ -44,7 +44,7 @@ impl<
         ensures at { AreAt K.eq (after V.eq F.remapped F.merged) result.place.now result.bin.value result.role }
         ensures covers { covers result.bin.value.class hash ≡ true }
         ensures lawful { IsLawful K.eq K.code (after V.eq F.remapped F.merged) result.bin.value }
-        ensures of_map { IsOfMap self.now result.place.now }
+        ensures of_map { IsPlaceOf self.now result.place.now }
         ensures home { result.home.now ≡ self.now }
     {
         let place = self.widest_place(hash);
@@ -63,7 +63,7 @@ impl<
         ensures at { AreAt K.eq (after V.eq F.remapped F.merged) result.place.now result.bin.value result.role }
         ensures covers { covers result.bin.value.class hash ≡ true }
         ensures lawful { IsLawful K.eq K.code (after V.eq F.remapped F.merged) result.bin.value }
-        ensures of_map { IsOfMap self.now result.place.now }
+        ensures of_map { IsPlaceOf self.now result.place.now }
         ensures home { result.home.now ≡ self.now }
     {
         let backoff = Backoff::new();
@@ -82,7 +82,7 @@ impl<
         rt: &R,
         place: &'a Place<K, V, F, A>,
     ) -> Option<Held<'a, K, V, F, A>>
-        requires { IsOfMap self.now place.now }
+        requires { IsPlaceOf self.now place.now }
         ensures at { IfSome result (λ h. AreAt K.eq (after V.eq F.remapped F.merged) place.now h.bin.value h.role) }
         ensures lawful { IfSome result (λ h. IsLawful K.eq K.code (after V.eq F.remapped F.merged) h.bin.value) }
         ensures place { IfSome result (λ h. h.place.now ≡ place.now) }
@@ -100,7 +100,7 @@ impl<
         place: &'a Place<K, V, F, A>,
         claim: Claim<'a, State<K, V, F, A>>,
     ) -> Option<Held<'a, K, V, F, A>>
-        requires of_map { IsOfMap self.now place.now }
+        requires of_map { IsPlaceOf self.now place.now }
         requires claim { (claim.right ≡ 2) × (claim.tag ≡ place.now) }
         ensures at { IfSome result (λ h. AreAt K.eq (after V.eq F.remapped F.merged) place.now h.bin.value h.role) }
         ensures lawful { IfSome result (λ h. IsLawful K.eq K.code (after V.eq F.remapped F.merged) h.bin.value) }

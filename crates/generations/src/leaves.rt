@@ -1,10 +1,10 @@
 //! The bins of a map that nobody else has, taken out in walk order.
 ghost use Rattle.std.specs.Prelude.{◌≡◌, true, IsTrue, IfSome, IfOk, IfErr, [], ◌∷◌, ◌++◌};
 ghost use Rattle.bin_history.specs.Calls.{after};
-ghost use Rattle.count_ledger.specs.Books.{classes_of};
-ghost use Rattle.generations.specs.Leaves.{IsLeaf, AreLeaves, classes_of_bins};
-ghost use Rattle.generations.specs.Left.{IfKept};
-ghost use Rattle.generations.specs.Views.{IsOfMap};
+ghost use Rattle.count_ledger.specs.Books.{classes_of_roles};
+ghost use Rattle.generations.specs.BinsWithRoles.{IsBinWithRole, AreBinsWithRoles, classes_of_bins};
+ghost use Rattle.generations.specs.NotLeft.{IfKept};
+ghost use Rattle.generations.specs.Views.{IsPlaceOf};
 ghost use Rattle.generations.specs.Walks.{IsWalk};
 
 use crate::generations::Generations;
@@ -45,14 +45,14 @@ impl<
     }
 
     /// The bin of a place, with its role. Nothing stays there.
-    fn take_leaf<R: Wait>(
+    fn take_bin<R: Wait>(
         &self,
         rt: &R,
         place: &Place<K, V, F, A>,
     ) -> Option<(Bin<K, V, F, A>, BinRole<K, V, F>)>
-        requires { IsOfMap self.now place.now }
+        requires { IsPlaceOf self.now place.now }
         ensures class { IfSome result (λ p. p.0.class ≡ place.now.class) }
-        ensures leaf { IfSome result (λ p. IsLeaf K.eq K.code (after V.eq F.remapped F.merged) self.now p.0 p.1) }
+        ensures with_role { IfSome result (λ p. IsBinWithRole K.eq K.code (after V.eq F.remapped F.merged) self.now p.0 p.1) }
     {
         let (bin, role) = self.try_hold(rt, place)?.take();
         Some((Box::into_inner(bin), role))
@@ -68,7 +68,7 @@ impl<
         requires bins { bins.old.items ≡ [] }
         requires roles { roles.old.items ≡ [] }
         ensures walk { IsTrue result → IsWalk self.now.n (classes_of_bins bins.new.items) }
-        ensures leaves { IsTrue result → AreLeaves K.eq K.code (after V.eq F.remapped F.merged) self.now bins.new.items roles.new.items }
+        ensures with_roles { IsTrue result → AreBinsWithRoles K.eq K.code (after V.eq F.remapped F.merged) self.now bins.new.items roles.new.items }
     {
         let n = self.n();
         let mut next = Class::new(n, 0);
@@ -78,7 +78,7 @@ impl<
             if class.n() < next.n() {
                 return false;
             }
-            let Some((bin, role)) = self.take_leaf(rt, place) else {
+            let Some((bin, role)) = self.take_bin(rt, place) else {
                 return false;
             };
             bins.push_reserved(bin);
@@ -97,8 +97,8 @@ impl<
         rt: &R,
     ) -> Result<(Vec<Bin<K, V, F, A>, A>, Vec<BinRole<K, V, F>, A>), NotLeft<K, V, F, A>>
         ensures walk { IfOk result (λ p. IsWalk self.n (classes_of_bins p.0.items)) }
-        ensures leaves { IfOk result (λ p. AreLeaves K.eq K.code (after V.eq F.remapped F.merged) self p.0.items p.1.items) }
-        ensures classes { IfOk result (λ p. classes_of p.1.items ≡ classes_of_bins p.0.items) }
+        ensures with_roles { IfOk result (λ p. AreBinsWithRoles K.eq K.code (after V.eq F.remapped F.merged) self p.0.items p.1.items) }
+        ensures classes { IfOk result (λ p. classes_of_roles p.1.items ≡ classes_of_bins p.0.items) }
         ensures refused { IfErr result (λ e. IfKept e (λ g. g ≡ self)) }
     {
         let count = self.count_bins() as usize;

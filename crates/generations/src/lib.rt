@@ -1,8 +1,11 @@
-//! The locked bins of a map, each in a place of its own with a lock. Places stand in tables, one for each size: the opening table has a place for each class among
-//! n, and the table of 2n places, made when the map is to grow, one for each half of those. Where a bin is replaced by its halves these are put into their places
+//! The locked bins of a map, each in a place of its own with a lock. Places stand
+//! in tables, one for each size: the opening table has a place for each class among
+//! n, and the table of 2n places, made when the map is to grow, one for each half
+//! of those. Where a bin is replaced by its halves these are put into their places
 //! of the wider table. Whoever looks for a hash begins at the widest table and takes the first place that was begun.
 //!
-//! Whoever gets the lock of a place finds a lawful bin of the place's class, and a role of this map's ledger that agrees with it. No call but `new`, `widen`, `halve`,
+//! Whoever gets the lock of a place finds a lawful bin of the place's class, and a role
+//! of this map's ledger that agrees with it. No call but `new`, `widen`, `halve`,
 //! `forward` and `into_leaves` takes memory. Calls that may wait for another thread take a `Wait`.
 #![tactic(auto)]
 

@@ -4,7 +4,7 @@ ghost use Rattle.hashkeys.specs.Classes.{IsTableSize, is_of};
 ghost use Rattle.bin_history.specs.Calls.{after};
 ghost use Rattle.bin_history.specs.Copies.{IsExact};
 ghost use Rattle.bin_history.specs.Entries.{HasDistinctKeys};
-ghost use Rattle.generations.specs.Inside.{IsTable};
+ghost use Rattle.generations.specs.Generations.{IsTable};
 ghost use Rattle.count_ledger.specs.Opening.{AreOfTheirClasses, lists_of, new_roles};
 ghost use Rattle.count_ledger.specs.Views.{LedgerId};
 
@@ -95,7 +95,8 @@ impl<
     F: Remap<K, V> + Clone + Drop,
     A: Allocator + Clone,
 > Generations<K, V, F, A> {
-    /// The map of `n` opening bins of the form, the bin at each place made of the base and the role at that place, which are as `Ledger::new` made the roles of these bases.
+    /// The map of `n` opening bins of the form, the bin at each place made of the base and
+    /// the role at that place, which are as `Ledger::new` made the roles of these bases.
     pub fn new(
         alloc: A,
         form: Form,
@@ -118,6 +119,6 @@ impl<
     {
         let ledger = LedgerName::of(&roles[0]);
         let places = opening_places(alloc.clone()?, form, salt, n, bases, roles)?;
-        Generations::around(alloc, form, salt, ledger, places)
+        Generations::with_opening(alloc, form, salt, ledger, places)
     }
 }

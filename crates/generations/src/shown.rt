@@ -3,9 +3,9 @@ ghost use Rattle.std.specs.Prelude.{◌≡◌, true, IfSome, IsSomeAnd};
 ghost use Rattle.hashkeys.specs.Classes.{covers};
 ghost use Rattle.bin_history.specs.Calls.{after};
 ghost use Rattle.bin_history.specs.Lawful.{IsLawful};
-ghost use Rattle.generations.specs.Leaves.{IsLeaf};
+ghost use Rattle.generations.specs.BinsWithRoles.{IsBinWithRole};
 ghost use Rattle.generations.specs.Places.{AreAt};
-ghost use Rattle.generations.specs.Views.{IsOfMap};
+ghost use Rattle.generations.specs.Views.{IsPlaceOf};
 
 use crate::generations::Generations;
 use crate::place::Place;
@@ -31,11 +31,11 @@ impl<'a, K: HashKey, V: Clone + Eq, F: Remap<K, V> + Clone, A: Allocator> Model
 
     ghost Value = { Option (BinView K V F × RoleView K V F) };
 
-    ghost use Rattle.generations.specs.Seen.{seen};
+    ghost use Rattle.generations.specs.Shown.{pair_shown};
 
-    ghost view = { λ s. seen s.claim.value };
+    ghost view = { λ s. pair_shown s.claim.value };
 
-    ghost invariant = { λ s. (s.claim.right ≡ 1) × IsSome (seen s.claim.value) };
+    ghost invariant = { λ s. (s.claim.right ≡ 1) × IsSome (pair_shown s.claim.value) };
 }
 
 impl<'a, K: HashKey, V: Clone + Eq, F: Remap<K, V> + Clone, A: Allocator + Clone> Shown<
@@ -95,7 +95,7 @@ impl<
 > Generations<K, V, F, A> {
     /// Lets readers come to a place that was never held.
     fn open_up<R: Wait>(&self, rt: &R, place: &Place<K, V, F, A>)
-        requires { IsOfMap self.now place.now }
+        requires { IsPlaceOf self.now place.now }
     {
         if place.is_begun() {
             return;
@@ -108,7 +108,7 @@ impl<
     /// Waits for the bin of the hash, to read it beside others.
     pub fn read<R: Wait>(&self, rt: &R, hash: u32) -> Shown<'_, K, V, F, A>
         ensures covers { IsSomeAnd result (λ p. covers p.0.class hash ≡ true) }
-        ensures leaf { IsSomeAnd result (λ p. IsLeaf K.eq K.code (after V.eq F.remapped F.merged) self.now p.0 p.1) }
+        ensures with_role { IsSomeAnd result (λ p. IsBinWithRole K.eq K.code (after V.eq F.remapped F.merged) self.now p.0 p.1) }
     {
         let backoff = Backoff::new();
         for _ in rt.forever() {

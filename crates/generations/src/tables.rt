@@ -1,6 +1,6 @@
 //! The tables of a map's later places, one for each size: in the table of n places the place at an index is for the class of that index among n.
 ghost use Rattle.std.specs.Prelude.{◌≡◌, ◌^◌, IfOk};
-ghost use Rattle.generations.specs.Inside.{AreSlots, map_named, size_named};
+ghost use Rattle.generations.specs.Generations.{AreSlots, generations_named, size_named};
 
 use crate::place::Place;
 use bin_history::{Form, Remap};
@@ -22,9 +22,9 @@ pub struct OfSize;
 impl<K: HashKey, V: Clone + Eq, F: Remap<K, V> + Clone, A: Allocator> SlotRule<
     Vec<Place<K, V, F, A>, A>,
 > for OfSize {
-    ghost use Rattle.generations.specs.Inside.{IsTable, map_named, size_named};
+    ghost use Rattle.generations.specs.Generations.{IsTable, generations_named, size_named};
 
-    ghost holds = { λ tag places. IsTable (map_named tag) (size_named tag) places.items };
+    ghost holds = { λ tag places. IsTable (generations_named tag) (size_named tag) places.items };
 }
 
 /// The slots of a map's tables: at each exponent that of the table of 2 to the exponent places.
@@ -43,13 +43,13 @@ struct OfSlotName;
 
 impl Names<SlotName> for OfSlotName {
     ghost use Rattle.std.specs.Prelude.{◌∷◌};
-    ghost use Rattle.generations.specs.Inside.{form_number};
+    ghost use Rattle.generations.specs.Generations.{form_number};
 
     ghost numbers = { λ m. m.exponent ∷ m.n ∷ form_number m.form ∷ m.salt.0 ∷ m.ledger.numbers };
 }
 
 fn tag_of(exponent: u32, n: u32, form: Form, salt: Salt, ledger: &LedgerName) -> Tag
-    ensures map { map_named result.numbers ≡ record { ledger = ledger.now; form = form; salt = salt; n = n } }
+    ensures map { generations_named result.numbers ≡ record { ledger = ledger.now; form = form; salt = salt; n = n } }
     ensures size { size_named result.numbers ≡ 2 ^ exponent }
 {
     let name = SlotName {

@@ -1,20 +1,21 @@
 //! Walk order: opening bins by their index, and in place of a forwarded bin its low half and then its high half.
 ghost use Rattle.std.specs.Prelude.{◌≡◌, ◌≤◌, ℕ, true, IfSome, IfNone, List, [], ◌∷◌, ◌++◌};
 ghost use Rattle.hashkeys.specs.Classes.{ClassView, IsClass, IsTableSize, covers};
-ghost use Rattle.generations.specs.Walks.{IsFirstAfter, IsLast, IsWalk, IsWalkTo};
+ghost use Rattle.generations.specs.Walks.{IsFirstAfter, IsLastInWalk, IsWalk, IsWalkTo};
 
 use hashkeys::Class;
 
 /// The widest class that begins where this one ends in walk order; none after the last. `n` is the number of opening bins.
 ///
-/// A walk begins at the class `(n, 0)`. At each class it goes to the bin of the class's index: where that bin is no wider than the class, it is the first of the
+/// A walk begins at the class `(n, 0)`. At each class it goes to the bin of the
+/// class's index: where that bin is no wider than the class, it is the first of the
 /// class's bins, and the walk goes on after it.
 pub fn next_in_walk(n: u32, class: Class) -> Option<Class>
     requires size { IsTableSize n }
     requires least { n ≤ class.n }
     ensures next { IfSome result (λ c. IsFirstAfter n class c) }
     ensures least { IfSome result (λ c. n ≤ c.n) }
-    ensures last { IfNone result (IsLast n class) }
+    ensures last { IfNone result (IsLastInWalk n class) }
 {
     let index = class.index();
     if class.n() == n {
@@ -42,5 +43,5 @@ pub fn walk_laws()
     ensures last { (n : ℕ) (classes : List ClassView) (next class : ClassView)
         → IsTableSize n → IsClass next → IsClass class → n ≤ class.n
         → IsWalkTo n classes next → covers class next.index ≡ true → next.n ≤ class.n
-        → IsLast n class → IsWalk n (classes ++ class ∷ []) }
+        → IsLastInWalk n class → IsWalk n (classes ++ class ∷ []) }
 {}

@@ -1,5 +1,6 @@
 -- From the mask of 32 lanes to the bytes that they are.
-use Rattle.std.proofs.Common.{◌≡◌, ℕ, ◌+◌, ◌*◌, ◌%◌, ◌^◌, ◌<◌, ◌≤◌, zero, suc, eqb, Bool, true, false, not, ◌&&◌, cond, List, [], ◌∷◌, ◌++◌, map, length, take, drop, get_or, Fits, w8, refl, sym, ap, ◌∙◌, arith}
+use Rattle.std.proofs.Common.{◌≡◌, ℕ, ◌+◌, ◌*◌, ◌%◌, ◌^◌, ◌<◌, ◌≤◌, zero, suc, eqb, Bool, true, false, not, ◌&&◌, cond, List, [], ◌∷◌, ◌++◌, map, length, take}
+use Rattle.std.proofs.Common.{drop, get_or, Fits, w8, refl, sym, ap, ◌∙◌, arith}
 use Rattle.std.proofs.lemmas.Bool.Decides.{nat_tests}
 use Rattle.std.proofs.Math.Seq.{take-append_seam}
 use Rattle.std.proofs.lemmas.Bool.{agree_below, agree_below_at, ne_eqb}
@@ -15,7 +16,8 @@ one_more false true zero r h e = e
 one_more false true (suc m) r h e = ne_eqb _ _ (omega arith) ∙ sym (ne_eqb (suc m) 0 (omega arith)) ∙ e
 one_more false false m r h e = absurd (cc)
 
-no_bits : (p : ℕ → Bool) → ((x : ℕ) → x < 256 → p x ≡ not (is_word_byte x)) → (v : List ℕ) → ((k : ℕ) → Fits w8 (get_or v k 0)) → eqb (mask_l (map p v)) 0 ≡ are_word_bytes v
+no_bits : (p : ℕ → Bool) → ((x : ℕ) → x < 256 → p x ≡ not (is_word_byte x)) → (v : List ℕ) → ((k : ℕ) → Fits w8 (get_or v k 0))
+    → eqb (mask_l (map p v)) 0 ≡ are_word_bytes v
 no_bits p h [] fits = refl
 no_bits p h (x ∷ v) fits = one_more (p x) (is_word_byte x) _ _ (h x (fits 0).fits) (no_bits p h v (λ k. fits (suc k)))
 
@@ -25,7 +27,8 @@ pub are_word_bytes-mask : (d z : List ℕ) (f : ℕ → ℕ) → length d ≡ 32
 are_word_bytes-mask d z f long fits lanes all =
     let stops : ℕ → Bool = λ x. top 7 (f x) in
     let whole : chunk 0 32 d ≡ d = take_all 32 d (omega (arith, long)) in
-    let mask = ap (λ l. mask_l l % 2 ^ 64) (ap (map (top 7)) (lanes ∙ ap (map f) whole) ∙ map-map (top 7) f d) ∙ mask_l-mod (map stops d) 64 (omega (arith, length-map d stops, long)) in
+    let mask = ap (λ l. mask_l l % 2 ^ 64) (ap (map (top 7)) (lanes ∙ ap (map f) whole) ∙ map-map (top 7) f d)
+    ∙ mask_l-mod (map stops d) 64 (omega (arith, length-map d stops, long)) in
     ap (λ m. eqb m 0) mask ∙ no_bits stops (λ x few. agree_below_at stops (λ y. not (is_word_byte y)) 256 x all few) d fits
 
 -- bytes that are filled up with word bytes

@@ -32,11 +32,13 @@ IsMerger-with_number (Max m) w u n h = (h.0, refl)
 IsMerger-with_number (Set m) w u n h = (h.0, refl)
 IsMerger-with_number Drop w u n h = h
 
-wrong_at : (ss : List Slot) (kind : Kind) (old : List Word) (w : Word) (new : List Word) (name : Word) → old ≡ w ∷ new → w ≡ name → IsWrong (a_function ∷ ss) (name ∷ new) kind → IsWrong (a_function ∷ ss) old kind
+wrong_at : (ss : List Slot) (kind : Kind) (old : List Word) (w : Word) (new : List Word) (name : Word) → old ≡ w ∷ new → w ≡ name
+    → IsWrong (a_function ∷ ss) (name ∷ new) kind → IsWrong (a_function ∷ ss) old kind
 wrong_at ss kind old w new name e h wrong = subst (λ (ws : List Word). IsWrong (a_function ∷ ss) ws kind) (sym (e ∙ (λ i. h i ∷ new))) wrong
 
 -- where its number is wrong, the function is
-pub FailsAt-number : (f : Function) (old new : List Word) (w : Word) (u : ℤ) (kind : Kind) → IsMerger w u f → f ≢ Drop → old ≡ w ∷ new → FailsAt a_number new kind → FailsAt a_function old kind
+pub FailsAt-number : (f : Function) (old new : List Word) (w : Word) (u : ℤ) (kind : Kind) → IsMerger w u f → f ≢ Drop → old ≡ w ∷ new
+    → FailsAt a_number new kind → FailsAt a_function old kind
 FailsAt-number (Sum m) old new w u kind h some e wrong = λ ss. wrong_at ss kind old w new (codes "sum") e h.0 (inr ((0, omega arith, refl), wrong ss))
 FailsAt-number (Max m) old new w u kind h some e wrong = λ ss. wrong_at ss kind old w new (codes "max") e h.0 (inr ((1, omega arith, refl), wrong ss))
 FailsAt-number (Set m) old new w u kind h some e wrong = λ ss. wrong_at ss kind old w new (codes "set") e h.0 (inr ((2, omega arith, refl), wrong ss))

@@ -1,8 +1,10 @@
 -- Words that are numbers are text, and are read back.
-use Rattle.std.proofs.Common.{◌≡◌, ◌≢◌, ℕ, ℤ, pos, negsuc, zero, suc, ◌-◌, ◌<◌, ◌≤◌, ◌^◌, true, false, nat_eq, Option, Some, None, MatchOption, Result, Ok, FitsSigned, w64, List, [], ◌∷◌, length, take, drop, slice_index, subst, sym, ap, ◌∙◌, arith}
+use Rattle.std.proofs.Common.{◌≡◌, ◌≢◌, ℕ, ℤ, pos, negsuc, zero, suc, ◌-◌, ◌<◌, ◌≤◌, ◌^◌, true, false, nat_eq, Option, Some, None, MatchOption, Result, Ok}
+use Rattle.std.proofs.Common.{FitsSigned, w64, List, [], ◌∷◌, length, take, drop, slice_index, subst, sym, ap, ◌∙◌, arith}
 use Rattle.std.specs.Prelude.{decimal}
 use Rattle.std.proofs.lemmas.Int.{ints}
-use Rattle.std.proofs.lemmas.Fmt.{IsAscii-decimal, parse-decimal, decimal_nonempty, length-decimal-le, decimal_digit, first_decimal, decimal_injective, decimal_is_IsNumeral, decimal-digits_value}
+use Rattle.std.proofs.lemmas.Fmt.{IsAscii-decimal, parse-decimal, decimal_nonempty, length-decimal-le, decimal_digit, first_decimal, decimal_injective}
+use Rattle.std.proofs.lemmas.Fmt.{decimal_is_IsNumeral, decimal-digits_value}
 use Rattle.std.proofs.lemmas.List.{length-take-le, take_all}
 use Rattle.std.proofs.lemmas.Bool.Decides.{nat_tests}
 use Rattle.std.specs.List.{starts_with}
@@ -41,7 +43,8 @@ decimal_leads zero h lead = ap length (decimal_digit 0 (omega arith))
 decimal_leads (suc n) h lead = absurd (omega (arith, first_decimal (suc n) (omega arith) (omega arith)))
 
 -- a word by the value of its digits
-pub size_from_value : (w : Word) (r : Option ℕ) → 0 < length w → length w ≤ 19 → (slice_index w 0 ≡ 48 → length w ≡ 1) → MatchOption r (AllDigits 10 w → ⊥) (λ n. AllDigits 10 w × (n ≡ digits_value 10 w)) → MatchOption r ((n : ℕ) → n < 10 ^ 19 → w ≢ decimal n) (λ n. (n < 10 ^ 19) × (w ≡ decimal n))
+pub size_from_value : (w : Word) (r : Option ℕ) → 0 < length w → length w ≤ 19 → (slice_index w 0 ≡ 48 → length w ≡ 1) → MatchOption r (AllDigits 10 w → ⊥)
+    (λ n. AllDigits 10 w × (n ≡ digits_value 10 w)) → MatchOption r ((n : ℕ) → n < 10 ^ 19 → w ≢ decimal n) (λ n. (n < 10 ^ 19) × (w ≡ decimal n))
 size_from_value w None some short lead none = λ n h e. none (subst (AllDigits 10) (sym e) (decimal_is_IsNumeral n (omega arith)).0.1)
 size_from_value w (Some n) some short lead (digits, is) =
     let own = numerals_by_value (AllDigits 10) tells_digits in
@@ -54,13 +57,18 @@ minus_head [] h = absurd (cc)
 minus_head (b ∷ w) h = grind (arith, nat_tests)
 
 -- a number's word that begins with a minus is it and the digits of a size
-pub below_zero : (w : Word) (n : ℤ) → starts_with nat_eq w (45 ∷ []) ≡ true → IsNumber w n → (k : ℕ) × (k < 2 ^ 63) × (take (length w - 1) (drop 1 w) ≡ decimal (suc k))
+pub below_zero : (w : Word) (n : ℤ) → starts_with nat_eq w (45 ∷ []) ≡ true → IsNumber w n
+    → (k : ℕ) × (k < 2 ^ 63) × (take (length w - 1) (drop 1 w) ≡ decimal (suc k))
 below_zero w (pos m) starts h =
     let is = (decimal_is_IsNumeral m (omega (arith, ints, h.0))).0 in
     let range = digit_at (decimal m) 0 is.1 is.0 in
     absurd (omega (arith, range, minus_head w starts, ap (λ (v : Word). slice_index v 0) h.1))
-below_zero w (negsuc k) starts h =
-    (k, omega (arith, ints, h.0), ap (λ (v : Word). take (length v - 1) (drop 1 v)) h.1 ∙ take_all (length (45 ∷ decimal (suc k)) - 1) (decimal (suc k)) (omega arith))
+below_zero w (negsuc k) starts h = (
+  k,
+  omega (arith, ints, h.0),
+  ap (λ (v : Word). take (length v - 1) (drop 1 v)) h.1
+      ∙ take_all (length (45 ∷ decimal (suc k)) - 1) (decimal (suc k)) (omega arith),
+)
 
 -- another is the digits of a size
 pub not_below_zero : (w : Word) (n : ℤ) → starts_with nat_eq w (45 ∷ []) ≡ false → IsNumber w n → (k : ℕ) × (k < 2 ^ 63) × (w ≡ decimal k)

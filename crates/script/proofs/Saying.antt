@@ -1,11 +1,13 @@
 -- The words of a line make one line at most, and where they make one, none of them is wrong.
-use Rattle.std.proofs.Common.{◌≡◌, ℕ, ℤ, inl, inr, List, [], ◌∷◌, ◌++◌, Option, Some, None, MatchOption, slice_index, slice_index_or, refl, sym, ap, ◌∙◌, subst, arith}
+use Rattle.std.proofs.Common.{◌≡◌, ℕ, ℤ, inl, inr, List, [], ◌∷◌, ◌++◌, Option, Some, None, MatchOption, slice_index, slice_index_or, refl, sym, ap, ◌∙◌, subst}
+use Rattle.std.proofs.Common.{arith}
 use Rattle.std.specs.Prelude.{codes}
 use Rattle.std.proofs.lemmas.Fmt.{signed_decimal_injective, decimal_injective}
 use Rattle.script.proofs.Numbers.{mag_small}
 use Rattle.script.proofs.Functions.{named, IsMerger-fits}
 use Rattle.script.specs.Lines.{Word, IsNumber, IsThreshold}
-use Rattle.script.specs.Grammar.{Line, ask, IsFunction, IsMerger, Form, alone, key, key_number, key_numbers, key_function, key_merger, threshold, sum_or_max, above, form_of, Says, Reads}
+use Rattle.script.specs.Grammar.{Line, ask, IsFunction, IsMerger, Form, alone, key, key_number, key_numbers, key_function, key_merger, threshold, sum_or_max}
+use Rattle.script.specs.Grammar.{above, form_of, Says, Reads}
 use Rattle.script.specs.Faults.{Slot, a_key, a_number, a_threshold, a_function, a_merger, a_sum_or_max, the_above, slots_of, Fits, following, IsWrong, AreWrong}
 use Rattle.script.specs.declared.function.Function.{Function}
 use Rattle.script.specs.declared.function.Function.TheVariants.{Sum, Max, Set, Drop}
@@ -13,7 +15,8 @@ use Rattle.script.specs.declared.fault.Kind.{Kind}
 use Rattle.script.specs.declared.fault.Kind.TheVariants as kinds
 
 -- a word that fits leaves the fault to the words after it
-passes : (s : Slot) (w : Word) (ss : List Slot) (ws : List Word) (kind : Kind) → Fits s w → (IsWrong (following s w ++ ss) ws kind → ⊥) → IsWrong (s ∷ ss) (w ∷ ws) kind → ⊥
+passes : (s : Slot) (w : Word) (ss : List Slot) (ws : List Word) (kind : Kind) → Fits s w → (IsWrong (following s w ++ ss) ws kind → ⊥)
+    → IsWrong (s ∷ ss) (w ∷ ws) kind → ⊥
 passes s w ss ws kind fits rest (inl bad) = bad.0 fits
 passes s w ss ws kind fits rest (inr wrong) = rest wrong.1
 
@@ -42,18 +45,24 @@ Says-fits (key made) ws line kind (k, is, e, made_is) = at_words (a_key ∷ []) 
 Says-fits (key_number made) ws line kind (k, w, v, is, num, e, made_is) =
     at_words (a_key ∷ a_number ∷ []) kind ws (k ∷ w ∷ []) e (passes a_key k (a_number ∷ []) (w ∷ []) kind is (passes a_number w [] [] kind (v, num) (λ g. g)))
 Says-fits (key_numbers made) ws line kind (k, w, x, u, v, is, num, more, e, made_is) =
-    at_words (a_key ∷ a_number ∷ a_number ∷ []) kind ws (k ∷ w ∷ x ∷ []) e (passes a_key k (a_number ∷ a_number ∷ []) (w ∷ x ∷ []) kind is (passes a_number w (a_number ∷ []) (x ∷ []) kind (u, num) (passes a_number x [] [] kind (v, more) (λ g. g))))
+    at_words (a_key ∷ a_number ∷ a_number ∷ []) kind ws (k ∷ w ∷ x ∷ []) e (passes a_key k (a_number ∷ a_number ∷ []) (w ∷ x ∷ []) kind is
+    (passes a_number w (a_number ∷ []) (x ∷ []) kind (u, num) (passes a_number x [] [] kind (v, more) (λ g. g))))
 Says-fits (key_function made) ws line kind (k, fs, f, is, fun, e, made_is) =
     at_words (a_key ∷ a_function ∷ []) kind ws (k ∷ fs) e (passes a_key k (a_function ∷ []) fs kind is (function_fits fs f kind fun))
 Says-fits (key_merger made) ws line kind (k, w, m, v, f, is, num, mer, e, made_is) =
-    at_words (a_key ∷ a_number ∷ a_merger ∷ []) kind ws (k ∷ w ∷ m ∷ []) e (passes a_key k (a_number ∷ a_merger ∷ []) (w ∷ m ∷ []) kind is (passes a_number w (a_merger ∷ []) (m ∷ []) kind (v, num) (passes a_merger m [] [] kind (IsMerger-fits f m v mer) (λ g. g))))
-Says-fits (threshold made) ws line kind (w, t, is, e, made_is) = at_words (a_threshold ∷ []) kind ws (w ∷ []) e (passes a_threshold w [] [] kind (t, is) (λ g. g))
+    at_words (a_key ∷ a_number ∷ a_merger ∷ []) kind ws (k ∷ w ∷ m ∷ []) e (passes a_key k (a_number ∷ a_merger ∷ []) (w ∷ m ∷ []) kind is
+    (passes a_number w (a_merger ∷ []) (m ∷ []) kind (v, num) (passes a_merger m [] [] kind (IsMerger-fits f m v mer) (λ g. g))))
+Says-fits (threshold made) ws line kind (w, t, is, e, made_is) =
+    at_words (a_threshold ∷ []) kind ws (w ∷ []) e (passes a_threshold w [] [] kind (t, is) (λ g. g))
 Says-fits (sum_or_max sum max) ws line kind (w, t, is, inl h) =
-    at_words (a_sum_or_max ∷ a_threshold ∷ []) kind ws (codes "sum" ∷ w ∷ []) h.0 (passes a_sum_or_max (codes "sum") (a_threshold ∷ []) (w ∷ []) kind (0, omega arith, refl) (passes a_threshold w [] [] kind (t, is) (λ g. g)))
+    at_words (a_sum_or_max ∷ a_threshold ∷ []) kind ws (codes "sum" ∷ w ∷ []) h.0
+    (passes a_sum_or_max (codes "sum") (a_threshold ∷ []) (w ∷ []) kind (0, omega arith, refl) (passes a_threshold w [] [] kind (t, is) (λ g. g)))
 Says-fits (sum_or_max sum max) ws line kind (w, t, is, inr h) =
-    at_words (a_sum_or_max ∷ a_threshold ∷ []) kind ws (codes "max" ∷ w ∷ []) h.0 (passes a_sum_or_max (codes "max") (a_threshold ∷ []) (w ∷ []) kind (1, omega arith, refl) (passes a_threshold w [] [] kind (t, is) (λ g. g)))
+    at_words (a_sum_or_max ∷ a_threshold ∷ []) kind ws (codes "max" ∷ w ∷ []) h.0
+    (passes a_sum_or_max (codes "max") (a_threshold ∷ []) (w ∷ []) kind (1, omega arith, refl) (passes a_threshold w [] [] kind (t, is) (λ g. g)))
 Says-fits (above made) ws line kind (w, x, v, t, num, is, e, made_is) =
-    at_words (the_above ∷ a_number ∷ a_threshold ∷ []) kind ws (codes "above" ∷ w ∷ x ∷ []) e (passes the_above (codes "above") (a_number ∷ a_threshold ∷ []) (w ∷ x ∷ []) kind refl (passes a_number w (a_threshold ∷ []) (x ∷ []) kind (v, num) (passes a_threshold x [] [] kind (t, is) (λ g. g))))
+    at_words (the_above ∷ a_number ∷ a_threshold ∷ []) kind ws (codes "above" ∷ w ∷ x ∷ []) e (passes the_above (codes "above") (a_number ∷ a_threshold ∷ [])
+    (w ∷ x ∷ []) kind refl (passes a_number w (a_threshold ∷ []) (x ∷ []) kind (v, num) (passes a_threshold x [] [] kind (t, is) (λ g. g))))
 
 -- a word is one number
 number_same : (w x : Word) (m n : ℤ) → w ≡ x → IsNumber w m → IsNumber x n → m ≡ n
@@ -84,7 +93,8 @@ merger_letter w v (Max n) h = ap letter h.0
 merger_letter w v (Set n) h = ap letter h.0
 merger_letter w v Drop h = ap letter h
 
-number_of_words : (ws vs : List Word) (w x : Word) (first : Word) (m n : ℤ) → ws ≡ vs → ws ≡ first ∷ w ∷ [] → vs ≡ first ∷ x ∷ [] → IsNumber w m → IsNumber x n → m ≡ n
+number_of_words : (ws vs : List Word) (w x : Word) (first : Word) (m n : ℤ) → ws ≡ vs → ws ≡ first ∷ w ∷ [] → vs ≡ first ∷ x ∷ [] → IsNumber w m → IsNumber x n
+    → m ≡ n
 number_of_words ws vs w x first m n same e d h g = number_same w x m n (cc) h g
 
 -- words are one function
@@ -170,6 +180,7 @@ IsWrong-same (w ∷ ws) (s ∷ ss) kind other (inr h) (inr g) = IsWrong-same ws 
 pub AreWrong-same : (forms : List (Word × Form)) (ws : List Word) (kind other : Kind) → AreWrong forms ws kind → AreWrong forms ws other → kind ≡ other
 AreWrong-same forms [] kind other h g = absurd h
 AreWrong-same forms (first ∷ rest) kind other h g = go (form_of forms first) h g where
-  go : (o : Option Form) → MatchOption o (kind ≡ kinds.Word) (λ form. IsWrong (slots_of form) rest kind) → MatchOption o (other ≡ kinds.Word) (λ form. IsWrong (slots_of form) rest other) → kind ≡ other
+  go : (o : Option Form) → MatchOption o (kind ≡ kinds.Word) (λ form. IsWrong (slots_of form) rest kind)
+      → MatchOption o (other ≡ kinds.Word) (λ form. IsWrong (slots_of form) rest other) → kind ≡ other
   go None h g = h ∙ sym g
   go (Some form) h g = IsWrong-same rest (slots_of form) kind other h g

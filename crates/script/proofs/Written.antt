@@ -1,5 +1,6 @@
 -- Words that make a line have no bad bytes.
-use Rattle.std.proofs.Common.{◌≡◌, ◌≢◌, ℕ, ℤ, pos, negsuc, suc, ◌<◌, ◌≤◌, ◌^◌, Bool, true, false, ◌&&◌, inl, inr, nat_eq, Option, Some, None, MatchOption, List, [], ◌∷◌, ◌++◌, length, All, map, refl, sym, subst, arith}
+use Rattle.std.proofs.Common.{◌≡◌, ◌≢◌, ℕ, ℤ, pos, negsuc, suc, ◌<◌, ◌≤◌, ◌^◌, Bool, true, false, ◌&&◌, inl, inr, nat_eq, Option, Some, None, MatchOption, List}
+use Rattle.std.proofs.Common.{[], ◌∷◌, ◌++◌, length, All, map, refl, sym, subst, arith}
 use Rattle.std.specs.Prelude.{decimal}
 use Rattle.std.specs.List.{join_with_byte}
 use Rattle.std.specs.Str.Parse.{AllDigits}
@@ -12,8 +13,9 @@ use Rattle.std.proofs.lemmas.List.Splits.{join_with_byte-slice_split}
 use Rattle.std.proofs.lemmas.Str.Parse.{digit_from_value}
 use Rattle.hashkeys.specs.Text.{is_word_byte, are_word_bytes, is_key}
 use Rattle.script.specs.Lines.{Word, words, is_printable, IsPrintable, IsSpaced, IsNumber, IsThreshold}
-use Rattle.script.specs.Grammar.{Line, Form, alone, key, key_number, key_numbers, key_function, key_merger, threshold, sum_or_max, above, IsFunction, IsMerger, form_of, Says, Reads}
-use Rattle.script.specs.Reading.{Place, start, calls, queries, forms_at}
+use Rattle.script.specs.Grammar.{Line, Form, alone, key, key_number, key_numbers, key_function, key_merger, threshold, sum_or_max, above, IsFunction, IsMerger}
+use Rattle.script.specs.Grammar.{form_of, Says, Reads}
+use Rattle.script.specs.Reading.{Section, start, calls, queries, forms_at}
 use Rattle.script.specs.declared.function.Function.{Function}
 use Rattle.script.specs.declared.function.Function.TheVariants.{Sum, Max, Set, Drop}
 
@@ -123,9 +125,11 @@ says_written : (form : Form) (ws : List Word) (line : Line) → Says form ws lin
 says_written (alone made) ws line h = at_words ws [] h.0 tt
 says_written (key made) ws line (k, is, e, m) = at_words ws _ e (key_written k is, tt)
 says_written (key_number made) ws line (k, w, v, is, num, e, m) = at_words ws _ e (key_written k is, (number_written w v num, tt))
-says_written (key_numbers made) ws line (k, w, x, u, v, is, num, more, e, m) = at_words ws _ e (key_written k is, (number_written w u num, (number_written x v more, tt)))
+says_written (key_numbers made) ws line (k, w, x, u, v, is, num, more, e, m) =
+    at_words ws _ e (key_written k is, (number_written w u num, (number_written x v more, tt)))
 says_written (key_function made) ws line (k, fs, f, is, fun, e, m) = at_words ws _ e (key_written k is, function_written fs f fun)
-says_written (key_merger made) ws line (k, w, x, v, f, is, num, mer, e, m) = at_words ws _ e (key_written k is, (number_written w v num, (merger_written x v f mer, tt)))
+says_written (key_merger made) ws line (k, w, x, v, f, is, num, mer, e, m) =
+    at_words ws _ e (key_written k is, (number_written w v num, (merger_written x v f mer, tt)))
 says_written (threshold made) ws line (w, t, is, e, m) = at_words ws _ e (threshold_written w t is, tt)
 says_written (sum_or_max sum max) ws line (w, t, is, inl h) = at_words ws _ h.0 (refl, (threshold_written w t is, tt))
 says_written (sum_or_max sum max) ws line (w, t, is, inr h) = at_words ws _ h.0 (refl, (threshold_written w t is, tt))
@@ -149,13 +153,13 @@ reads_written forms (first ∷ rest) line h reads = go (form_of forms first) ref
   go None e said = absurd said
   go (Some form) e said = (first_written forms first form h e, says_written form rest line said)
 
-names_written : (p : Place) → AreWritten (names (forms_at p))
+names_written : (p : Section) → AreWritten (names (forms_at p))
 names_written start = (refl, tt)
 names_written (calls blocks block) = (refl, (refl, (refl, (refl, (refl, (refl, (refl, (refl, (refl, (refl, (refl, (refl, (refl, (refl, tt))))))))))))))
 names_written (queries blocks asked) = (refl, (refl, (refl, (refl, tt))))
 
 -- a line whose words make one is printable, and single spaces stand between them alone
-module _ (p : Place) (l : List ℕ) (line : Line) (reads : Reads (forms_at p) (words l) line) where
+module _ (p : Section) (l : List ℕ) (line : Line) (reads : Reads (forms_at p) (words l) line) where
   written : AreWritten (words l)
   written = reads_written (forms_at p) (words l) line (names_written p) reads
 

@@ -4,7 +4,7 @@ use Rattle.std.specs.declared.vec.Vec.{Vec}
 use Rattle.script.specs.Lines.{words, IsPrintable, IsSpaced}
 use Rattle.script.specs.Grammar.{ScriptCall, Line, client, query, call}
 use Rattle.script.specs.Faults.{AreWrong}
-use Rattle.script.specs.Reading.{Place, start, calls, queries, forms_at, IsTooMany, FirstFails, IsBeyond, IsBad}
+use Rattle.script.specs.Reading.{Section, start, calls, queries, forms_at, IsTooMany, FirstFails, IsBeyond, IsBad}
 use Rattle.script.specs.declared.draft.Draft.{Draft}
 use Rattle.script.specs.declared.draft.Draft.TheVariants as drafts
 use Rattle.script.specs.declared.fault.LineError.{LineError}
@@ -17,13 +17,13 @@ use Rattle.script.specs.declared.forms.BlockLine.{BlockLine}
 use Rattle.script.specs.declared.forms.BlockLine.TheVariants as blocks
 
 -- in a block of these calls, after these blocks
-abbrev pub in_block : {A : Type 0} → List (Vec ScriptCall A) → List ScriptCall → Place
+abbrev pub in_block : {A : Type 0} → List (Vec ScriptCall A) → List ScriptCall → Section
 in_block blocks block = calls (map (λ b. b.items) blocks) block
 
-abbrev pub place_of : {A : Type 0} → Draft A → Place
-place_of drafts.Start = start
-place_of (drafts.Calls blocks block) = in_block blocks.items block.items
-place_of (drafts.Queries blocks asked) = queries (map (λ b. b.items) blocks.items) asked.items
+abbrev pub section_of : {A : Type 0} → Draft A → Section
+section_of drafts.Start = start
+section_of (drafts.Calls blocks block) = in_block blocks.items block.items
+section_of (drafts.Queries blocks asked) = queries (map (λ b. b.items) blocks.items) asked.items
 
 abbrev pub line_of : BlockLine → Line
 line_of blocks.Client = client
@@ -35,17 +35,17 @@ abbrev pub HasBadBytes : List ℕ → Kind → Type 0
 HasBadBytes l kind = FirstFails (IsPrintable l) kinds.Bytes (λ k. (¬ IsSpaced l) × (k ≡ kinds.Spaces)) kind
 
 -- a refusal that is not for want of memory says that the line is bad
-abbrev pub IsRefused : Place → List ℕ → LineError → Type 0
+abbrev pub IsRefused : Section → List ℕ → LineError → Type 0
 IsRefused p l NoMemory = Unit {0}
 IsRefused p l (Bad kind) = IsBad p l kind
 
 -- a refusal of a line's words that is not for want of memory says which is wrong, or that the line is one too many
-abbrev pub IsMisread : Place → List ℕ → LineError → Type 0
+abbrev pub IsMisread : Section → List ℕ → LineError → Type 0
 IsMisread p l NoMemory = Unit {0}
 IsMisread p l (Bad kind) = AreWrong (forms_at p) (words l) kind ⊎ IsBeyond p l kind
 
 -- or that it is one too many
-abbrev pub IsRefusedAtLimit : Place → Line → LineError → Type 0
+abbrev pub IsRefusedAtLimit : Section → Line → LineError → Type 0
 IsRefusedAtLimit p line NoMemory = Unit {0}
 IsRefusedAtLimit p line (Bad kind) = IsTooMany p line × (kind ≡ kinds.Limit)
 

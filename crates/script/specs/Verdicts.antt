@@ -3,7 +3,7 @@ use Rattle.std.specs.Prelude.{◌≡◌, ℕ, ◌<◌, ◌≤◌, List, length, 
 use Rattle.bin_history.specs.Limits.{most_clients, most_calls}
 use Rattle.bin_history.specs.declared.form.Form.TheVariants.{Recorded}
 use Rattle.script.specs.Grammar.{ScriptCall}
-use Rattle.script.specs.Reading.{start, Verdict, whole, faulty, IsRead}
+use Rattle.script.specs.Reading.{start, Verdict, whole, faulty, HasVerdictFrom}
 use Rattle.script.specs.declared.script.Script.{Script}
 use Rattle.script.specs.declared.fault.Kind.{Kind}
 use Rattle.script.specs.declared.fault.ParseError.{ParseError}
@@ -11,7 +11,7 @@ use Rattle.script.specs.declared.fault.ParseError.TheVariants.{NoMemory, Fault}
 
 -- what the whole text is
 abbrev pub HasVerdict : List ℕ → Verdict → Type 0
-HasVerdict text v = IsRead start 1 text v
+HasVerdict text v = HasVerdictFrom start 1 text v
 
 -- the text is this, and nothing else
 pub record IsJust (text : List ℕ) (v : Verdict) : Type 0 where

@@ -33,7 +33,7 @@ fn run_before(text: &[u8], at: usize, byte: u8) -> usize
     }
 }
 
-/// The place of the first such byte before the end, or the end where there is none. The text may go on after the end,
+/// The index of the first such byte before the end, or the end where there is none. The text may go on after the end,
 /// so that its bytes can be looked at together there too.
 #[inline(always)]
 pub(crate) fn place_before(text: &[u8], end: usize, byte: u8) -> usize

@@ -3,7 +3,7 @@ ghost use Rattle.std.specs.Prelude.{List, OnOk, IfErr};
 ghost use Rattle.script.specs.Lines.{words, IsPrintable, IsSpaced};
 ghost use Rattle.script.specs.Grammar.{ScriptCall as CallView, Line, Reads, client, call as call_line};
 ghost use Rattle.script.specs.Reading.{calls, forms_at, IsLine, Leads};
-ghost use Rattle.script.specs.Drafts.{in_block, place_of, HasBadBytes, IsRefused, IsMisread, IsRefusedAtLimit};
+ghost use Rattle.script.specs.Drafts.{in_block, section_of, HasBadBytes, IsRefused, IsMisread, IsRefusedAtLimit};
 
 use crate::fault::{Kind, LineError};
 use crate::forms::{BlockLine, read_in_block, read_query, read_start};
@@ -50,9 +50,9 @@ impl<A: Allocator + Clone> Draft<A> {
     /// Takes one more line. Where all words are right, so are the bytes: they are looked at only where
     /// one is wrong.
     pub(crate) fn take(&mut self, alloc: A, line: &TextLine<'_>) -> Result<(), LineError>
-        ensures ok { OnOk result ((said : Line) × IsLine (place_of self.old) line.now said
-            × Leads (place_of self.old) said (place_of self.new)) }
-        ensures err { IfErr result (IsRefused (place_of self.old) line.now) }
+        ensures ok { OnOk result ((said : Line) × IsLine (section_of self.old) line.now said
+            × Leads (section_of self.old) said (section_of self.new)) }
+        ensures err { IfErr result (IsRefused (section_of self.old) line.now) }
     {
         match self.take_words(alloc, line) {
             Ok(()) => Ok(()),
@@ -66,9 +66,9 @@ impl<A: Allocator + Clone> Draft<A> {
 
     /// Takes what the words of one more line say.
     fn take_words(&mut self, alloc: A, line: &TextLine<'_>) -> Result<(), LineError>
-        ensures ok { OnOk result ((said : Line) × Reads (forms_at (place_of self.old)) (words line.now) said
-            × Leads (place_of self.old) said (place_of self.new)) }
-        ensures err { IfErr result (IsMisread (place_of self.old) line.now) }
+        ensures ok { OnOk result ((said : Line) × Reads (forms_at (section_of self.old)) (words line.now) said
+            × Leads (section_of self.old) said (section_of self.new)) }
+        ensures err { IfErr result (IsMisread (section_of self.old) line.now) }
     {
         let (first, rest) = first_word(line);
         match self {

@@ -14,7 +14,7 @@ pub enum Kind {
     Bytes,
     /// It is empty, begins or ends with a space, or has two spaces side by side.
     Spaces,
-    /// Its first word is not allowed at its place.
+    /// Its first word is not allowed in its section.
     Word,
     /// A word is missing, or there is one too many.
     Count,

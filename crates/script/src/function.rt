@@ -19,11 +19,11 @@ pub enum Function {
 }
 
 impl Function {
-    ghost use Rattle.script.specs.Functions.{applied, with_number};
+    ghost use Rattle.script.specs.Functions.{result_of, with_number};
 
     /// What the function makes of a value, or of none.
     pub fn apply(&self, value: Option<i64>) -> Option<i64>
-        ensures { result ≡ applied self.now value }
+        ensures { result ≡ result_of self.now value }
     {
         match value {
             None => match self {

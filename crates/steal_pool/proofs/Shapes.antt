@@ -1,5 +1,6 @@
 -- A crew, when a way is lent or comes back.
-use Rattle.std.proofs.Common.{◌≡◌, ℕ, zero, suc, ◌+◌, ◌*◌, ◌-◌, ◌<◌, Bool, true, false, cond, ◌==◌, List, [], ◌∷◌, ◌++◌, length, map, take, get_or, set, sum_by, refl, sym, ap, ◌∙◌, subst, ⊎_elim, arith}
+use Rattle.std.proofs.Common.{◌≡◌, ℕ, zero, suc, ◌+◌, ◌*◌, ◌-◌, ◌<◌, Bool, true, false, cond, ◌==◌, List, [], ◌∷◌, ◌++◌, length, map, take, get_or, set, sum_by}
+use Rattle.std.proofs.Common.{refl, sym, ap, ◌∙◌, subst, ⊎_elim, arith}
 use Rattle.std.specs.Prelude.{All}
 use Rattle.std.proofs.lemmas.List.{append_assoc, length-set, length-map, map-set, map_push, take_more_set}
 use Rattle.std.proofs.lemmas.List.Elements.{All-nil, All-cons, All-head, All-tail, All-push}
@@ -8,7 +9,7 @@ use Rattle.std.proofs.lemmas.Bool.{eqb-true, eq-eqb}
 use Rattle.std.proofs.Math.ListN.{get_or-map}
 use Rattle.std.proofs.Math.Nat.{suc-mul, zero-mul, eq-zero-or-pos}
 use Rattle.std.proofs.Math.Seq.{map-set_same}
-use Rattle.steal_pool.specs.Shapes.{Shape, AreCrew, countdown, numbers, led, out_by, own_ways}
+use Rattle.steal_pool.specs.Shapes.{Shape, AreCrew, countdown, numbers, weight_led, weight_out, own_ways}
 
 -- one member changes, and what lies loose
 changed_at : (loose loose' : List ℕ) (ss : List Shape) (i : ℕ) (s' s d : Shape) → AreCrew loose ss → i < length ss → s ≡ get_or ss i d
@@ -44,7 +45,7 @@ at_only true n j k is some = (omega arith, eqb-true k j is)
 at_only false n j k is some = absurd (omega arith)
 
 -- where a way into the deque of j is out, j is the number of a member
-numbered_home : (j : ℕ) (ss : List Shape) → numbers ss ≡ countdown (length ss) → 0 < out_by (at j) ss
+numbered_home : (j : ℕ) (ss : List Shape) → numbers ss ≡ countdown (length ss) → 0 < weight_out (at j) ss
     → (j < length ss) × ((d : Shape) → (0 < (get_or ss (length ss - 1 - j) d).out) × ((get_or ss (length ss - 1 - j) d).number ≡ j))
 numbered_home j [] is some = absurd (omega arith)
 numbered_home j (s ∷ ss) is some =
@@ -53,7 +54,7 @@ numbered_home j (s ∷ ss) is some =
     let all = sum_by-cons (λ (u : Shape). u.out * at j u.number) s ss in
     let P : Shape → ℕ → Type 0 = λ d k. (0 < (get_or (s ∷ ss) k d).out) × ((get_or (s ∷ ss) k d).number ≡ j) in
     ⊎_elim (λ (none : s.out * at j s.number ≡ 0).
-    let more : 0 < out_by (at j) ss = omega arith in
+    let more : 0 < weight_out (at j) ss = omega arith in
     let later = numbered_home j ss rest more in
     let below : j < length ss = later.0 in
     let place : suc (length ss - 1 - j) ≡ suc (length ss) - 1 - j = omega arith in
@@ -65,25 +66,26 @@ numbered_home j (s ∷ ss) is some =
     (omega arith, λ d. subst (P d) place mine))
     (eq-zero-or-pos (s.out * at j s.number))
 
-led_none : (f : ℕ → ℕ) (ss : List Shape) → All (λ (ws : List ℕ). ws ≡ []) (own_ways ss) → led f ss ≡ 0
+led_none : (f : ℕ → ℕ) (ss : List Shape) → All (λ (ws : List ℕ). ws ≡ []) (own_ways ss) → weight_led f ss ≡ 0
 led_none f [] none = refl
 led_none f (s ∷ ss) none =
     let here : sum_by f s.ways ≡ 0 = ap (sum_by f) (All-head (λ (ws : List ℕ). ws ≡ []) s.ways (own_ways ss) none) in
     let rest = led_none f ss (All-tail (λ (ws : List ℕ). ws ≡ []) s.ways (own_ways ss) none) in
     omega (arith, sum_by-cons (λ (u : Shape). sum_by f u.ways) s ss)
 
-none_out : (ss : List Shape) → out_by (λ k. 1) ss ≡ 0 → All (λ (s : Shape). s.out ≡ 0) ss
+none_out : (ss : List Shape) → weight_out (λ k. 1) ss ≡ 0 → All (λ (s : Shape). s.out ≡ 0) ss
 none_out [] none = All-nil (λ (s : Shape). s.out ≡ 0)
 none_out (s ∷ ss) none =
     let all = sum_by-cons (λ (u : Shape). u.out * 1) s ss in
     let here : s.out ≡ 0 = omega arith in
-    let rest : out_by (λ k. 1) ss ≡ 0 = omega arith in
+    let rest : weight_out (λ k. 1) ss ≡ 0 = omega arith in
     All-cons (λ (s : Shape). s.out ≡ 0) s ss here (none_out ss rest)
 
 module _ {X : Type 0} (of : X → Shape) where
   changed : (loose loose' : List ℕ) (xs : List X) (i : ℕ) (x d : X) → AreCrew loose (map of xs) → i < length xs
       → (of x).number ≡ (of (get_or xs i d)).number
-      → ((f : ℕ → ℕ) → let s : Shape = of (get_or xs i d) in sum_by f loose' + sum_by f (of x).ways + s.out * f s.number ≡ sum_by f loose + sum_by f s.ways + (of x).out * f s.number)
+      → ((f : ℕ → ℕ) → let s : Shape = of (get_or xs i d) in
+      sum_by f loose' + sum_by f (of x).ways + s.out * f s.number ≡ sum_by f loose + sum_by f s.ways + (of x).out * f s.number)
       → AreCrew loose' (map of (set xs i x))
   changed loose loose' xs i x d crew here same books =
       let in' : i < length (map of xs) = omega (arith, length-map xs of) in
@@ -181,7 +183,7 @@ module _ {X : Type 0} (of : X → Shape) where
       let it : get_or (map of xs) k (of d) ≡ of (get_or xs k d) = get_or-map of xs k d in
       let led' = led_none (λ n. 1) (map of xs) none in
       let all = crew.ways (λ n. 1) in
-      let zero' : out_by (λ n. 1) (map of xs) ≡ 0 = omega arith in
+      let zero' : weight_out (λ n. 1) (map of xs) ≡ 0 = omega arith in
       let out = none_out (map of xs) zero' k (of d) in' in
       let way : get_or (own_ways (map of xs)) k (of d).ways ≡ [] = none k (of d).ways in'' in
       let same : get_or (own_ways (map of xs)) k (of d).ways ≡ (get_or (map of xs) k (of d)).ways =
@@ -213,14 +215,14 @@ module _ {X : Type 0} (of : X → Shape) (all new : List X) (x : X) (is : new �
       ∙ (ap (λ (n : ℕ). numbers (map of all) ++ countdown n) (sym less) ∙ so_far))
 
   -- one more member has no way, and none into its deque is out
-  pub one_alone : (of x).out ≡ 0 → (of x).ways ≡ [] → ((f : ℕ → ℕ) → (led f (map of all) ≡ 0) × (out_by f (map of all) ≡ 0))
-      → (f : ℕ → ℕ) → (led f (map of new) ≡ 0) × (out_by f (map of new) ≡ 0)
+  pub one_alone : (of x).out ≡ 0 → (of x).ways ≡ [] → ((f : ℕ → ℕ) → (weight_led f (map of all) ≡ 0) × (weight_out f (map of all) ≡ 0))
+      → (f : ℕ → ℕ) → (weight_led f (map of new) ≡ 0) × (weight_out f (map of new) ≡ 0)
   one_alone out ways so_far f =
       let own : Shape → ℕ = λ u. sum_by f u.ways in
       let out_of : Shape → ℕ = λ u. u.out * f u.number in
       let more : map of new ≡ map of all ++ of x ∷ [] = ap (map of) is ∙ map_push of all x in
-      let l : led f (map of new) ≡ led f (map of all) + own (of x) = ap (led f) more ∙ sum_by_push own (map of all) (of x) in
-      let o : out_by f (map of new) ≡ out_by f (map of all) + out_of (of x) = ap (out_by f) more ∙ sum_by_push out_of (map of all) (of x) in
+      let l : weight_led f (map of new) ≡ weight_led f (map of all) + own (of x) = ap (weight_led f) more ∙ sum_by_push own (map of all) (of x) in
+      let o : weight_out f (map of new) ≡ weight_out f (map of all) + out_of (of x) = ap (weight_out f) more ∙ sum_by_push out_of (map of all) (of x) in
       let l' : own (of x) ≡ 0 = ap (sum_by f) ways in
       let o' : out_of (of x) ≡ 0 = ap (λ (n : ℕ). n * f (of x).number) out ∙ zero-mul (f (of x).number) in
       let z = so_far f in (omega arith, omega arith)
@@ -236,5 +238,6 @@ hands of xs i x one k y two to crew in' at lent is_to in'' at' got =
     let got' : of y ≡ record (of (get_or (set xs i x) k two)) { ways = (of (get_or (set xs i x) k two)).ways ++ to ∷ [] } =
     got ∙ ap (λ z. record (of z) { ways = (of z).ways ++ to ∷ [] }) at' in
     let to' : (of (get_or xs i one)).number ≡ to = ap (λ z. (of z).number) (sym at) ∙ sym is_to in
-    let loose : AreCrew (to ∷ []) (map of (set xs i x)) = subst (λ (n : ℕ). AreCrew (n ∷ []) (map of (set xs i x))) to' (lends of [] xs i x one crew in' lent') in
+    let loose : AreCrew (to ∷ []) (map of (set xs i x)) =
+    subst (λ (n : ℕ). AreCrew (n ∷ []) (map of (set xs i x))) to' (lends of [] xs i x one crew in' lent') in
     gets of [] to (set xs i x) k y two loose in'' got'

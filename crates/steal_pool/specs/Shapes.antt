@@ -37,15 +37,15 @@ abbrev pub own_ways : List Shape → List (List ℕ)
 own_ways ss = map (λ s. s.ways) ss
 
 -- the members' own ways, each with the weight of the member that it leads to
-abbrev pub led : (ℕ → ℕ) → List Shape → ℕ
-led f ss = sum_by (λ s. sum_by f s.ways) ss
+abbrev pub weight_led : (ℕ → ℕ) → List Shape → ℕ
+weight_led f ss = sum_by (λ s. sum_by f s.ways) ss
 
 -- the ways that are out, each with the weight of the member whose deque it leads into
-abbrev pub out_by : (ℕ → ℕ) → List Shape → ℕ
-out_by f ss = sum_by (λ s. s.out * f s.number) ss
+abbrev pub weight_out : (ℕ → ℕ) → List Shape → ℕ
+weight_out f ss = sum_by (λ s. s.out * f s.number) ss
 
 -- The members' numbers go down to 0. Of each member as many ways are out as lead to it, whether they lie loose, with these targets, or other members have them:
 -- so it is however members are weighed.
 pub record AreCrew (loose : List ℕ) (ss : List Shape) : Type 0 where
   pub numbered : numbers ss ≡ countdown (length ss)
-  pub ways : (f : ℕ → ℕ) → sum_by f loose + led f ss ≡ out_by f ss
+  pub ways : (f : ℕ → ℕ) → sum_by f loose + weight_led f ss ≡ weight_out f ss

@@ -1,6 +1,9 @@
-//! Workers that share the work on a range of bins. A body says what a leaf, a part of the range, gives, and how parts side by side are joined. `run` halves the range into a tree of
-//! counted completers, and its workers take the leaves: each pushes what it forks to a deque of its own, takes its newest task, or else the oldest of another worker's.
-//! What `run` answers is the part of the whole range, whoever did which leaf. A run ends with a settlement: each task that somebody took was pushed, and each was taken at most once.
+//! Workers that share the work on a range of bins. A body says what a leaf, a part of the
+//! range, gives, and how parts side by side are joined. `run` halves the range into a tree of
+//! counted completers, and its workers take the leaves: each pushes what it forks to a
+//! deque of its own, takes its newest task, or else the oldest of another worker's.
+//! What `run` answers is the part of the whole range, whoever did which leaf. A run ends with a
+//! settlement: each task that somebody took was pushed, and each was taken at most once.
 #![tactic(auto)]
 
 mod body;

@@ -175,10 +175,13 @@ where
     }
 }
 
-/// The part of the bins from 0 up to `bins`, of which there is at least one. There are 1 to 16 `workers`, of which the caller is number 0; the others have threads of their own, which
-/// end with the call. A range is halved while its batch, at most 64 at the root, is above 0, and each half gets half of the batch, rounded down. The gate is called before each leaf.
+/// The part of the bins from 0 up to `bins`, of which there is at least one. There are 1 to 16
+/// `workers`, of which the caller is number 0; the others have threads of their own, which
+/// end with the call. A range is halved while its batch, at most 64 at the root, is above 0,
+/// and each half gets half of the batch, rounded down. The gate is called before each leaf.
 ///
-/// It waits for its workers. There are no more of them than leaves, and one that can't be started is left out. Where memory for the tree or the deques is refused, the caller does one
+/// It waits for its workers. There are no more of them than leaves, and one that can't be
+/// started is left out. Where memory for the tree or the deques is refused, the caller does one
 /// leaf over everything, without the gate.
 pub fn run<B: Body + Sync, G: Gate + Sync, Rt: Threads + Wait + Sync>(
     rt: &Rt,

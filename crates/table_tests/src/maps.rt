@@ -3,7 +3,7 @@ ghost use Rattle.std.specs.Prelude.{◌≡◌, ◌<◌, ◌≤◌, true, [], All
 ghost use Rattle.hashkeys.specs.Classes.{IsTableSize, is_of};
 ghost use Rattle.bin_history.specs.Calls.{after, key_of};
 ghost use Rattle.bin_history.specs.Copies.{IsExact};
-ghost use Rattle.count_ledger.specs.Agreement.{Agree};
+ghost use Rattle.count_ledger.specs.Agreement.{BinAgrees};
 ghost use Rattle.count_ledger.specs.Limits.{most_calls};
 
 use bin_history::{Bin, Call, Form, Remap};
@@ -173,10 +173,10 @@ fn make<
     requires role { role.old.ledger ≡ ledger.now.id }
     requires room { length pass.old.made < most_calls ledger.now.form }
     requires key { is_of K.code bin.old.salt bin.old.class (key_of call) ≡ true }
-    requires agree { Agree K.eq (after V.eq F.remapped F.merged) bin.old role.old }
+    requires agree { BinAgrees K.eq (after V.eq F.remapped F.merged) bin.old role.old }
     ensures pass { pass.new.ledger ≡ ledger.now.id }
     ensures role { role.new.ledger ≡ ledger.now.id }
-    ensures agree { Agree K.eq (after V.eq F.remapped F.merged) bin.new role.new }
+    ensures agree { BinAgrees K.eq (after V.eq F.remapped F.merged) bin.new role.new }
     ensures form { bin.new.form ≡ bin.old.form }
     ensures class { bin.new.class ≡ bin.old.class }
     ensures salt { bin.new.salt ≡ bin.old.salt }

@@ -21,7 +21,8 @@ has-bin : (bin : ℕ) (r : Range) → 0 < cover bin r → HasBin bin r
 has-bin bin r h = (grind (arith, nat_tests), grind (arith, nat_tests))
 
 -- where the books' lists weigh something for a bin, one of them has a range with it
-some-has-bin : (part : Book → List Range) (bin : ℕ) (books : List Book) → 0 < sum_by (λ b. sum_by (cover bin) (part b)) books → Any (λ b. Any (HasBin bin) (part b)) books
+some-has-bin : (part : Book → List Range) (bin : ℕ) (books : List Book) → 0 < sum_by (λ b. sum_by (cover bin) (part b)) books
+    → Any (λ b. Any (HasBin bin) (part b)) books
 some-has-bin part bin books h =
     let b = some_weighs (λ b. sum_by (cover bin) (part b)) books h in
     let r = some_weighs (cover bin) (part b.1) b.4 in
@@ -31,7 +32,8 @@ some-has-bin part bin books h =
 module _ (n : ℕ) (books : List Book) (claimed : IsSharedOut (λ b. b.claimed) books (ranges n (claims books))) (each : All (IsBook n (claims books)) books) where
   finished-le : (f : Range → ℕ) → sum_by (λ b. sum_by f b.finished) books ≤ sum_by f (ranges n (claims books))
   finished-le f =
-      let below = sum-le (λ b. sum_by f b.finished) (λ b. sum_by f b.claimed) books (All-weaker (IsBook n (claims books)) (λ b. sum_by f b.finished ≤ sum_by f b.claimed) (λ b k. k.finished f) books each) in
+      let below = sum-le (λ b. sum_by f b.finished) (λ b. sum_by f b.claimed) books
+      (All-weaker (IsBook n (claims books)) (λ b. sum_by f b.finished ≤ sum_by f b.claimed) (λ b k. k.finished f) books each) in
       omega (arith, below, claimed f)
 
   pub finished-within : sum_by (λ b. sum_by width b.finished) books ≤ n
@@ -59,7 +61,8 @@ module _ (n cw fw : ℕ) (books : List Book) (m : IsMove n cw fw books) where
       ap (λ (f : Book → ℕ). sum_by f books) (λ i b. (ap (λ (f : Range → ℕ). sum_by f b.finished) (λ j r. cut r j) ∙ sum-add rest (cover bin) b.finished) i)
       ∙ sum-add (λ b. sum_by rest b.finished) (λ b. sum_by (cover bin) b.finished) books in
       some-has-bin (λ b. b.finished) bin books
-      (let w = width-ranges n c in let most = finished-within n books m.claimed m.each in let most' = finished-le n books m.claimed m.each width in let others = finished-le n books m.claimed m.each rest in let word = m.finished in
+      (let w = width-ranges n c in let most = finished-within n books m.claimed m.each in let most' = finished-le n books m.claimed m.each width in
+      let others = finished-le n books m.claimed m.each rest in let word = m.finished in
       let there : bin < 16 * c = omega arith in
       let some = cover-ranges bin n c h there in omega arith)
 
@@ -83,13 +86,17 @@ module _ (n cw fw : ℕ) (books : List Book) (m : IsMove n cw fw books) where
     -- its ranges end where the claim word stands, or before
     pub claimed-past : All (λ r. r.hi ≤ cw) b.claimed
     claimed-past =
-        let none : sum_by (λ r. r.hi - 16 * claims books) b.claimed ≡ 0 = omega (arith, claimed-le (λ r. r.hi - 16 * claims books), past-ranges n (claims books)) in
-        All-weaker (λ r. r.hi - 16 * claims books ≡ 0) (λ r. r.hi ≤ cw) (λ r e. omega (arith, e, m.moved)) b.claimed (none_weighs (λ r. r.hi - 16 * claims books) b.claimed none)
+        let none : sum_by (λ r. r.hi - 16 * claims books) b.claimed ≡ 0 =
+        omega (arith, claimed-le (λ r. r.hi - 16 * claims books), past-ranges n (claims books)) in
+        All-weaker (λ r. r.hi - 16 * claims books ≡ 0) (λ r. r.hi ≤ cw) (λ r e. omega (arith, e, m.moved)) b.claimed
+        (none_weighs (λ r. r.hi - 16 * claims books) b.claimed none)
 
     pub finished-past : All (λ r. r.hi ≤ cw) b.finished
     finished-past =
-        let none : sum_by (λ r. r.hi - 16 * claims books) b.finished ≡ 0 = omega (arith, is-book.finished (λ r. r.hi - 16 * claims books), claimed-le (λ r. r.hi - 16 * claims books), past-ranges n (claims books)) in
-        All-weaker (λ r. r.hi - 16 * claims books ≡ 0) (λ r. r.hi ≤ cw) (λ r e. omega (arith, e, m.moved)) b.finished (none_weighs (λ r. r.hi - 16 * claims books) b.finished none)
+        let none : sum_by (λ r. r.hi - 16 * claims books) b.finished ≡ 0 =
+        omega (arith, is-book.finished (λ r. r.hi - 16 * claims books), claimed-le (λ r. r.hi - 16 * claims books), past-ranges n (claims books)) in
+        All-weaker (λ r. r.hi - 16 * claims books ≡ 0) (λ r. r.hi ≤ cw) (λ r e. omega (arith, e, m.moved)) b.finished
+        (none_weighs (λ r. r.hi - 16 * claims books) b.finished none)
 
     -- and none of them is empty
     pub claimed-wide : (r : Range) → Contains b.claimed r → 0 < width r

@@ -1,5 +1,6 @@
 -- Each step of a mover keeps the rule.
-use Rattle.std.proofs.Common.{◌≡◌, ℕ, suc, ◌+◌, ◌-◌, ◌*◌, ◌%◌, ◌^◌, ◌<◌, ◌≤◌, true, false, ltb, eqb, List, [], ◌∷◌, ◌++◌, length, set, refl, sym, ap, subst, zero-add, ◌∙◌, arith, ⊎_elim}
+use Rattle.std.proofs.Common.{◌≡◌, ℕ, suc, ◌+◌, ◌-◌, ◌*◌, ◌%◌, ◌^◌, ◌<◌, ◌≤◌, true, false, ltb, eqb, List, [], ◌∷◌, ◌++◌, length, set, refl, sym, ap, subst}
+use Rattle.std.proofs.Common.{zero-add, ◌∙◌, arith, ⊎_elim}
 use Rattle.std.specs.Prelude.{sum_by, slice_index, All, Contains}
 use Rattle.std.specs.List.{range_with_len}
 use Rattle.std.proofs.lemmas.List.{length-set, get_or-set_same, get_or-set_other, length_push}
@@ -12,12 +13,14 @@ use Rattle.atomic_table.specs.Table.{Me, keeps, Allows, Splits}
 use Rattle.transfer.specs.declared.range.Range.{Range}
 use Rattle.transfer.specs.declared.book.Book.{Book}
 use Rattle.transfer.specs.Ranges.{range_from, ranges, width}
-use Rattle.transfer.specs.Books.{IsMove, IsBook, IsPartOf, Holds, AllClaimed, AllFinished, claims, numbers, once, first_book, dealt, without_next, rest_of, next_number}
+use Rattle.transfer.specs.Books.{IsMove, IsBook, IsSubmultisetOf, Holds, AllClaimed, AllFinished, claims, numbers, once, first_book, spare_book, without_next}
+use Rattle.transfer.specs.Books.{rest_of, next_number}
 use Rattle.transfer.specs.Steps.{with_claim, with_finish, IsAmong, Claims, Finishes}
-use Rattle.transfer.specs.Views.{TableId, IsSpare, move_of, view_of, new_mover}
+use Rattle.transfer.specs.Views.{TableId, IsSpare, move_of, mover_of, new_mover}
 use Rattle.transfer.proofs.Weights.{sum-set, weighs_at_most, part-push, contains_set}
 use Rattle.transfer.proofs.Tiles.{weigh-more, weigh-all}
-use Rattle.transfer.proofs.Known.{all-claimed, all-finished, finish-word-le, finished-within, claims-le, is-book, claimed-past, finished-past, claimed-wide, claimed-few}
+use Rattle.transfer.proofs.Known.{all-claimed, all-finished, finish-word-le, finished-within, claims-le, is-book, claimed-past, finished-past, claimed-wide}
+use Rattle.transfer.proofs.Known.{claimed-few}
 
 module _ (n cw fw : ℕ) (books : List Book) (m : IsMove n cw fw books) (id : ℕ) (b : Book) (at : get_elem? books id ≡ some b) where
   -- what the books weigh once this one is w
@@ -26,7 +29,8 @@ module _ (n cw fw : ℕ) (books : List Book) (m : IsMove n cw fw books) (id : �
 
   -- the other books, where more is claimed
   others : (d : ℕ) → claims books ≤ d → All (IsBook n d) books
-  others d le = All-weaker (IsBook n (claims books)) (IsBook n d) (λ x k. record { bins = k.bins; finished = k.finished; ended = λ e. omega (arith, k.ended e, le) }) books m.each
+  others d le = All-weaker (IsBook n (claims books)) (IsBook n d)
+      (λ x k. record { bins = k.bins; finished = k.finished; ended = λ e. omega (arith, k.ended e, le) }) books m.each
 
   weigh-at : (f : Range → ℕ) (c d : ℕ) → c ≡ d → sum_by f (ranges n c) ≡ sum_by f (ranges n d)
   weigh-at f c d e = ap (λ k. sum_by f (ranges n k)) e
@@ -84,9 +88,11 @@ module _ (n cw fw : ℕ) (books : List Book) (m : IsMove n cw fw books) (id : �
       let own = is-book n cw fw books m id b at in
       ⊎_elim
       (λ left. subst (λ (w : Book). IsMove n (cw + 16) fw (set books id w))
-      (sym (cond-true (ltb cw b.bins) (record b { claimed = b.claimed ++ range_from b.bins cw ∷ [] }) (record b { ended = true }) (lt-ltb cw b.bins (omega (arith, left, own.bins))))) (claims-range left))
+      (sym (cond-true (ltb cw b.bins) (record b { claimed = b.claimed ++ range_from b.bins cw ∷ [] }) (record b { ended = true })
+      (lt-ltb cw b.bins (omega (arith, left, own.bins))))) (claims-range left))
       (λ past. subst (λ (w : Book). IsMove n (cw + 16) fw (set books id w))
-      (sym (cond-false (ltb cw b.bins) (record b { claimed = b.claimed ++ range_from b.bins cw ∷ [] }) (record b { ended = true }) (le-ltb cw b.bins (omega (arith, past, own.bins))))) (claims-none past had))
+      (sym (cond-false (ltb cw b.bins) (record b { claimed = b.claimed ++ range_from b.bins cw ∷ [] }) (record b { ended = true })
+      (le-ltb cw b.bins (omega (arith, past, own.bins))))) (claims-none past had))
       (cases_lt cw n)
 
   -- a finish of a range that the mover claimed and has not finished
@@ -96,7 +102,7 @@ module _ (n cw fw : ℕ) (books : List Book) (m : IsMove n cw fw books) (id : �
       let c : ℕ = claims books in
       let own = is-book n cw fw books m id b at in
       let same : claims (set books id w) ≡ c = omega (arith, changed w (λ b. length b.claimed + once b.ended)) in
-      let part : IsPartOf (b.finished ++ r ∷ []) b.claimed = part-push b.finished b.claimed r own.finished there none in
+      let part : IsSubmultisetOf (b.finished ++ r ∷ []) b.claimed = part-push b.finished b.claimed r own.finished there none in
       let next : (f : Range → ℕ) → sum_by f w.finished ≡ sum_by f b.finished + f r = λ f. sum_by_push f b.finished r in
       let word : fw + width r ≡ sum_by (λ b. sum_by width b.finished) (set books id w) =
       omega (arith, changed w (λ b. sum_by width b.finished), m.finished, next width) in
@@ -125,13 +131,13 @@ module _ (n cw fw : ℕ) (books : List Book) (m : IsMove n cw fw books) (id : �
       }
 
   -- a spare mover is dealt
-  deals-on : (k : ℕ) (ks : List ℕ) → b.spare ≡ k ∷ ks → IsMove n cw fw (set books id (without_next b) ++ dealt b ∷ [])
+  deals-on : (k : ℕ) (ks : List ℕ) → b.spare ≡ k ∷ ks → IsMove n cw fw (set books id (without_next b) ++ spare_book b ∷ [])
   deals-on k ks has =
       let c : ℕ = claims books in
       let own = is-book n cw fw books m id b at in
-      let all = set books id (without_next b) ++ dealt b ∷ [] in
-      let sums : (f : Book → ℕ) → sum_by f all + f b ≡ sum_by f books + f (without_next b) + f (dealt b) =
-      λ f. omega (arith, changed (without_next b) f, sum_by_push f (set books id (without_next b)) (dealt b)) in
+      let all = set books id (without_next b) ++ spare_book b ∷ [] in
+      let sums : (f : Book → ℕ) → sum_by f all + f b ≡ sum_by f books + f (without_next b) + f (spare_book b) =
+      λ f. omega (arith, changed (without_next b) f, sum_by_push f (set books id (without_next b)) (spare_book b)) in
       let same : claims all ≡ c = omega (arith, sums (λ b. length b.claimed + once b.ended)) in
       record {
         numbered = λ f.
@@ -139,7 +145,7 @@ module _ (n cw fw : ℕ) (books : List Book) (m : IsMove n cw fw books) (id : �
             sum_by-cons f b.number b.spare ∙ ap (λ (w : ℕ). f b.number + w) (ap (sum_by f) has ∙ sum_by-cons f k ks) in
             let left : sum_by f (numbers (without_next b)) ≡ f b.number + sum_by f ks =
             sum_by-cons f b.number (without_next b).spare ∙ ap (λ (l : List ℕ). f b.number + sum_by f (rest_of l)) has in
-            let right : sum_by f (numbers (dealt b)) ≡ f k =
+            let right : sum_by f (numbers (spare_book b)) ≡ f k =
             ap (λ (l : List ℕ). sum_by f (next_number l ∷ [])) has ∙ zero-add (f k) in
             omega (arith, sums (λ b. sum_by f (numbers b)), own, left, right, m.numbered f));
         moved = omega (arith, same, m.moved);
@@ -150,14 +156,16 @@ module _ (n cw fw : ℕ) (books : List Book) (m : IsMove n cw fw books) (id : �
         last = (let e = sums (λ b. once b.last) in let l = m.last in omega (arith, e, l));
         each =
             (let rest = others (claims all) (omega (arith, same)) in
-            let mine : IsBook n (claims all) (without_next b) = record { bins = own.bins; finished = own.finished; ended = λ e. omega (arith, own.ended e, same) } in
-            All-push (IsBook n (claims all)) (set books id (without_next b)) (dealt b)
+            let mine : IsBook n (claims all) (without_next b) =
+            record { bins = own.bins; finished = own.finished; ended = λ e. omega (arith, own.ended e, same) } in
+            All-push (IsBook n (claims all)) (set books id (without_next b)) (spare_book b)
             (All-set (IsBook n (claims all)) books id (without_next b) mine rest)
             record { bins = own.bins; finished = λ f. omega arith; ended = λ e. absurd (false≢true e) });
       }
 
 module _ (n : ℕ) (few : n ≤ 65536) where
-  pub holds-claims : (slots id : ℕ) (me : Me (Unit {0}) Book) → me.0.ended ≡ false → Allows (Holds n) slots id me 0 (λ k. (k + 16) % 2 ^ 64) (λ k m. Claims me.0 k m.0)
+  pub holds-claims : (slots id : ℕ) (me : Me (Unit {0}) Book) → me.0.ended ≡ false
+      → Allows (Holds n) slots id me 0 (λ k. (k + 16) % 2 ^ 64) (λ k m. Claims me.0 k m.0)
   holds-claims slots id me had s h len at fits =
       let b : Book = me.0 in
       let cw : ℕ = slice_index s.words 0 in
@@ -172,8 +180,10 @@ module _ (n : ℕ) (few : n ≤ 65536) where
         tt,
         (
           length-set s.words 0 ((cw + 16) % 2 ^ 64) ∙ h.0,
-          subst (λ (x : ℕ). IsMove n x (slice_index (set s.words 0 ((cw + 16) % 2 ^ 64)) 1) (set s.views id w)) (sym (get_or-set_same s.words 0 ((cw + 16) % 2 ^ 64) 0 (omega (arith, h.0)) ∙ next))
-              (subst (λ (x : ℕ). IsMove n (cw + 16) x (set s.views id w)) (sym (get_or-set_other s.words 0 1 ((cw + 16) % 2 ^ 64) 0 (λ e. omega (arith, e)))) kept),
+          subst (λ (x : ℕ). IsMove n x (slice_index (set s.words 0 ((cw + 16) % 2 ^ 64)) 1) (set s.views id w))
+              (sym (get_or-set_same s.words 0 ((cw + 16) % 2 ^ 64) 0 (omega (arith, h.0)) ∙ next))
+              (subst (λ (x : ℕ). IsMove n (cw + 16) x (set s.views id w))
+              (sym (get_or-set_other s.words 0 1 ((cw + 16) % 2 ^ 64) 0 (λ e. omega (arith, e)))) kept),
         ),
         record {
           book = refl;
@@ -182,8 +192,14 @@ module _ (n : ℕ) (few : n ≤ 65536) where
           claimed = claimed-past n cw fw s.views m id b at;
           finished = finished-past n cw fw s.views m id b at;
           none = λ past.
-              subst (λ (k : ℕ). IsAmong k w (AllClaimed k)) (sym own.bins)
-              (cw + 16, fw, set s.views id w, kept, contains_set s.views id b w at, all-claimed n (cw + 16) fw (set s.views id w) kept (omega (arith, past, own.bins)));
+              subst (λ (k : ℕ). IsAmong k w (AllClaimed k)) (sym own.bins) (
+                cw + 16,
+                fw,
+                set s.views id w,
+                kept,
+                contains_set s.views id b w at,
+                all-claimed n (cw + 16) fw (set s.views id w) kept (omega (arith, past, own.bins)),
+              );
         },
       )
 
@@ -204,19 +220,27 @@ module _ (n : ℕ) (few : n ≤ 65536) where
         tt,
         (
           length-set s.words 1 ((fw + width r) % 2 ^ 64) ∙ h.0,
-          subst (λ (x : ℕ). IsMove n (slice_index (set s.words 1 ((fw + width r) % 2 ^ 64)) 0) x (set s.views id w)) (sym (get_or-set_same s.words 1 ((fw + width r) % 2 ^ 64) 0 (omega (arith, h.0)) ∙ next))
-              (subst (λ (x : ℕ). IsMove n x (fw + width r) (set s.views id w)) (sym (get_or-set_other s.words 1 0 ((fw + width r) % 2 ^ 64) 0 (λ e. omega (arith, e)))) kept),
+          subst (λ (x : ℕ). IsMove n (slice_index (set s.words 1 ((fw + width r) % 2 ^ 64)) 0) x (set s.views id w))
+              (sym (get_or-set_same s.words 1 ((fw + width r) % 2 ^ 64) 0 (omega (arith, h.0)) ∙ next))
+              (subst (λ (x : ℕ). IsMove n x (fw + width r) (set s.views id w))
+              (sym (get_or-set_other s.words 1 0 ((fw + width r) % 2 ^ 64) 0 (λ e. omega (arith, e)))) kept),
         ),
         record {
           book = refl;
           within = omega (arith, within, own.bins);
           all = λ whole.
-              subst (λ (k : ℕ). IsAmong k w (AllFinished k)) (sym own.bins)
-              (cw, fw + width r, set s.views id w, kept, contains_set s.views id b w at, all-finished n cw (fw + width r) (set s.views id w) kept (omega (arith, whole, own.bins)));
+              subst (λ (k : ℕ). IsAmong k w (AllFinished k)) (sym own.bins) (
+                cw,
+                fw + width r,
+                set s.views id w,
+                kept,
+                contains_set s.views id b w at,
+                all-finished n cw (fw + width r) (set s.views id w) kept (omega (arith, whole, own.bins)),
+              );
         },
       )
 
-pub holds-deals : (n id : ℕ) (b : Book) (k : ℕ) (ks : List ℕ) → b.spare ≡ k ∷ ks → Splits (Holds n) id b (without_next b) (dealt b)
+pub holds-deals : (n id : ℕ) (b : Book) (k : ℕ) (ks : List ℕ) → b.spare ≡ k ∷ ks → Splits (Holds n) id b (without_next b) (spare_book b)
 holds-deals n id b k ks has s h at = (h.0, deals-on n (slice_index s.words 0) (slice_index s.words 1) s.views h.1 id b at k ks has)
 
 pub holds-first : (n : ℕ) → 0 < n → IsMove n 0 0 (first_book n ∷ [])
@@ -234,8 +258,9 @@ pub next-spare : (k : ℕ) → k < 64 → range_with_len k (64 - k) ≡ k ∷ ra
 next-spare k h = let e : 64 - k ≡ suc (64 - (k + 1)) = omega arith in ap (range_with_len k) e
 
 -- what a caller sees of a mover that was dealt
-pub dealt-spare : (t u : TableId) (n k : ℕ) (ks : List ℕ) (b w : Book) → u ≡ t → b.bins ≡ n → b.spare ≡ k ∷ ks → 0 < k → k < 64 → w ≡ dealt b → IsSpare (move_of t n) (view_of u w)
-dealt-spare t u n k ks b w here size has pos few is = record {
+pub spare_book-spare : (t u : TableId) (n k : ℕ) (ks : List ℕ) (b w : Book) → u ≡ t → b.bins ≡ n → b.spare ≡ k ∷ ks → 0 < k → k < 64 → w ≡ spare_book b
+    → IsSpare (move_of t n) (mover_of u w)
+spare_book-spare t u n k ks b w here size has pos few is = record {
   number = (let e : w.number ≡ k = ap (λ (x : Book). x.number) is ∙ ap next_number has in (omega arith, omega arith));
-  new = (λ i. view_of (here i) (is i)) ∙ (λ i. new_mover (move_of t (size i)) (sym (ap (λ (x : Book). x.number) is) i));
+  new = (λ i. mover_of (here i) (is i)) ∙ (λ i. new_mover (move_of t (size i)) (sym (ap (λ (x : Book). x.number) is) i));
 }

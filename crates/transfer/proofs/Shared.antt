@@ -25,10 +25,16 @@ mover_sync = search (sendable, seat_sync) depth 20
 -- over any allocator that threads may share, and whose blocks any of them may give back
 module _ (A : RattleType) (g : Ghosts A.Denot) (s : IsSend A) (y : IsSync A) (f : Frees g g.dealloc_token) where
   fields_send : AllSend (shape (inside.the_type A g)).fields
-  fields_send = (search (sendable, the_words.the_send, the_lease.the_send) depth 20, (search sendable, (search (sendable, crosses, the_place.the_send, mover_send) depth 20, tt)))
+  fields_send = (
+    search (sendable, the_words.the_send, the_lease.the_send) depth 20,
+    (search sendable, (search (sendable, crosses, the_place.the_send, mover_send) depth 20, tt)),
+  )
 
   fields_sync : AllSync (shape (inside.the_type A g)).fields
-  fields_sync = (search (sendable, the_words.the_sync, the_lease.the_sync) depth 20, (search sendable, (search (sendable, crosses, the_place.the_sync, mover_send, mover_sync) depth 20, tt)))
+  fields_sync = (
+    search (sendable, the_words.the_sync, the_lease.the_sync) depth 20,
+    (search sendable, (search (sendable, crosses, the_place.the_sync, mover_send, mover_sync) depth 20, tt)),
+  )
 
   pub strides_send : IsSend (strides.the_row A g)
   strides_send = search (sendable, fields_send) depth 20

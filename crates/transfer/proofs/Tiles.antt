@@ -22,7 +22,8 @@ pub weigh-all : (f : Range → ℕ) (n k : ℕ) → n ≤ 16 * k → sum_by f (r
 weigh-all f n k h = ap (sum_by f) (ranges-all n k h)
 
 -- by induction on the number of ranges: what holds of the weight of none, and with each further range
-module _ (f : Range → ℕ) (n : ℕ) (P : ℕ → ℕ → Type 0) (start : P 0 0) (more : (k w : ℕ) → 16 * k < n → P k w → P (suc k) (w + f (range_from n (16 * k)))) (all : (k w : ℕ) → n ≤ 16 * k → P k w → P (suc k) w) where
+module _ (f : Range → ℕ) (n : ℕ) (P : ℕ → ℕ → Type 0) (start : P 0 0) (more : (k w : ℕ) → 16 * k < n → P k w → P (suc k) (w + f (range_from n (16 * k))))
+    (all : (k w : ℕ) → n ≤ 16 * k → P k w → P (suc k) w) where
   weighs : (k : ℕ) → P k (sum_by f (ranges n k))
   weighs zero = start
   weighs (suc k) =
@@ -36,11 +37,13 @@ width-ranges n k = weighs width n (λ k w. w ≡ min (16 * k) n) (omega arith) (
 
 -- each of them holds a bin at least
 pub count-ranges : (n k : ℕ) → (sum_by (λ _. 1) (ranges n k) ≤ k) × (sum_by (λ _. 1) (ranges n k) ≤ n)
-count-ranges n k = weighs (λ _. 1) n (λ k w. (w ≤ k) × (w ≤ n)) (omega arith, omega arith) (λ k w h e. (omega (arith, e), omega (arith, h, e))) (λ k w h e. (omega (arith, e), e.1)) k
+count-ranges n k = weighs (λ _. 1) n (λ k w. (w ≤ k) × (w ≤ n)) (omega arith, omega arith) (λ k w h e. (omega (arith, e), omega (arith, h, e)))
+    (λ k w h e. (omega (arith, e), e.1)) k
 
 -- each of the first k ends at the bin 16 k or before
 pub past-ranges : (n k : ℕ) → sum_by (λ r. r.hi - 16 * k) (ranges n k) ≡ 0
-past-ranges n k = weighs (λ r. r.hi - 16 * k) n (λ j w. j ≤ k → w ≡ 0) (λ _. refl) (λ j w h e l. omega (arith, h, e (omega (arith, l)), l)) (λ j w h e l. e (omega (arith, l))) k (omega arith)
+past-ranges n k = weighs (λ r. r.hi - 16 * k) n (λ j w. j ≤ k → w ≡ 0) (λ _. refl) (λ j w h e l. omega (arith, h, e (omega (arith, l)), l))
+    (λ j w h e l. e (omega (arith, l))) k (omega arith)
 
 -- 1 for a range that holds the bin
 abbrev pub cover : ℕ → Range → ℕ
@@ -50,7 +53,8 @@ pub cover-le-width : (bin : ℕ) (r : Range) → cover bin r ≤ width r
 cover-le-width bin r = grind (arith, nat_tests)
 
 pub cover-ranges : (bin n k : ℕ) → bin < n → bin < 16 * k → 0 < sum_by (cover bin) (ranges n k)
-cover-ranges bin n k h l = weighs (cover bin) n (λ j w. bin < 16 * j → 0 < w) (λ l. absurd (omega (arith, l))) (λ j w g e l. grind (arith, nat_tests)) (λ j w g e l. e (omega (arith, g, h))) k l
+cover-ranges bin n k h l = weighs (cover bin) n (λ j w. bin < 16 * j → 0 < w) (λ l. absurd (omega (arith, l))) (λ j w g e l. grind (arith, nat_tests))
+    (λ j w g e l. e (omega (arith, g, h))) k l
 
 -- none of them is empty
 pub thin-ranges : (n k : ℕ) → sum_by (λ r. 1 - width r) (ranges n k) ≡ 0

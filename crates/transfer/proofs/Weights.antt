@@ -1,5 +1,6 @@
 -- Weights of lists: what a sum does where one element changes, and what it says of single elements.
-use Rattle.std.proofs.Common.{◌≡◌, ℕ, zero, suc, ◌+◌, ◌<◌, ◌≤◌, Bool, true, cond, eqb, ◌&&◌, List, [], ◌∷◌, ◌++◌, length, set, get_or, refl, sym, ap, subst, zero-add, ◌∙◌, arith, ⊎_elim}
+use Rattle.std.proofs.Common.{◌≡◌, ℕ, zero, suc, ◌+◌, ◌<◌, ◌≤◌, Bool, true, cond, eqb, ◌&&◌, List, [], ◌∷◌, ◌++◌, length, set, get_or, refl, sym, ap, subst}
+use Rattle.std.proofs.Common.{zero-add, ◌∙◌, arith, ⊎_elim}
 use Rattle.std.specs.Prelude.{sum_by, All, Any, Contains}
 use Rattle.std.proofs.lemmas.List.Sums.{sum_by-cons, sum_by_push, sum_by-le-sum_by}
 use Rattle.std.proofs.lemmas.List.Elements.{All-nil, All-cons, All-head, All-tail}
@@ -8,7 +9,7 @@ use Rattle.std.proofs.lemmas.Bool.Decides.{nat_tests}
 use mathlib.Core.Option.{some, some-injective, some-ne-none}
 use lib.ListN.{get_elem?}
 use Rattle.transfer.specs.declared.range.Range.{Range}
-use Rattle.transfer.specs.Books.{IsPartOf}
+use Rattle.transfer.specs.Books.{IsSubmultisetOf}
 
 module _ {A : Type 0} where
   pub sum-set : (f : A → ℕ) (xs : List A) (i : ℕ) (x y : A) → get_elem? xs i ≡ some x → sum_by f (set xs i y) + f x ≡ sum_by f xs + f y
@@ -36,7 +37,8 @@ module _ {A : Type 0} where
   some_weighs f [] h = absurd (omega (arith, h))
   some_weighs f (x ∷ xs) h =
       ⊎_elim (λ here. (0, x, (omega arith), refl, here))
-      (λ none. let rest = some_weighs f xs (omega (arith, h, none, sum_by-cons f x xs)) in (suc rest.0, rest.1, (let l = rest.2 in omega arith), rest.3, rest.4))
+      (λ none. let rest = some_weighs f xs (omega (arith, h, none, sum_by-cons f x xs)) in
+      (suc rest.0, rest.1, (let l = rest.2 in omega arith), rest.3, rest.4))
       (cases_lt 0 (f x))
 
   -- where the whole weighs nothing, each element weighs nothing
@@ -105,8 +107,14 @@ with_range_at f r (x ∷ xs) (suc k) h e =
 no_range : (f : Range → ℕ) (r : Range) (xs : List Range) → ¬ Contains xs r → sum_by f xs ≤ sum_by (without r f) xs
 no_range f r [] h = omega arith
 no_range f r (x ∷ xs) h =
-    omega (arith, sum_by-cons f x xs, sum_by-cons (without r f) x xs, without-else f r x (λ e. h (0, (omega arith), e)), no_range f r xs (λ c. h (suc c.0, (let l = c.1 in omega arith), c.2)))
+    omega (
+      arith,
+      sum_by-cons f x xs,
+      sum_by-cons (without r f) x xs,
+      without-else f r x (λ e. h (0, (omega arith), e)),
+      no_range f r xs (λ c. h (suc c.0, (let l = c.1 in omega arith), c.2)),
+    )
 
-pub part-push : (xs ys : List Range) (r : Range) → IsPartOf xs ys → Contains ys r → ¬ Contains xs r → IsPartOf (xs ++ r ∷ []) ys
+pub part-push : (xs ys : List Range) (r : Range) → IsSubmultisetOf xs ys → Contains ys r → ¬ Contains xs r → IsSubmultisetOf (xs ++ r ∷ []) ys
 part-push xs ys r part there none f =
     omega (arith, sum_by_push f xs r, no_range f r xs none, part (without r f), with_range_at f r ys there.0 there.1 there.2)

@@ -11,8 +11,8 @@ abbrev pub IsSharedOut : {A : Type 0} → (Book → List A) → List Book → Li
 IsSharedOut {A} part books whole = (weight : A → ℕ) → sum_by (λ b. sum_by weight (part b)) books ≡ sum_by weight whole
 
 -- the one list is a part of the other: whatever their elements weigh, it weighs no more
-abbrev pub IsPartOf : {A : Type 0} → List A → List A → Type 0
-IsPartOf {A} xs ys = (weight : A → ℕ) → sum_by weight xs ≤ sum_by weight ys
+abbrev pub IsSubmultisetOf : {A : Type 0} → List A → List A → Type 0
+IsSubmultisetOf {A} xs ys = (weight : A → ℕ) → sum_by weight xs ≤ sum_by weight ys
 
 -- 1 if it is so
 abbrev pub once : Bool → ℕ
@@ -30,7 +30,7 @@ claims books = sum_by (λ b. length b.claimed + once b.ended) books
 pub record IsBook (n claimed : ℕ) (b : Book) : Type 0 where
   pub bins : b.bins ≡ n
   -- it finished what it claimed, nothing twice
-  pub finished : IsPartOf b.finished b.claimed
+  pub finished : IsSubmultisetOf b.finished b.claimed
   -- it got none where all bins are claimed
   pub ended : b.ended ≡ true → n ≤ 16 * claimed
 
@@ -69,8 +69,8 @@ rest_of [] = []
 rest_of (k ∷ ks) = ks
 
 -- the next spare mover
-abbrev pub dealt : Book → Book
-dealt b = new_book b.bins (next_number b.spare) []
+abbrev pub spare_book : Book → Book
+spare_book b = new_book b.bins (next_number b.spare) []
 
 -- the book that dealt it
 abbrev pub without_next : Book → Book

@@ -15,7 +15,8 @@ pub record StridesView : Type 0 where
 abbrev pub move_of : TableId → ℕ → StridesView
 move_of identity bins = record { identity = identity; bins = bins }
 
--- a mover: its move, its number there, the ranges that it claimed and those of them that it finished, each in its order, and whether it got none and was told that it is last
+-- a mover: its move, its number there, the ranges that it claimed and those of them that it
+-- finished, each in its order, and whether it got none and was told that it is last
 pub record MoverView : Type 0 where
   pub strides : StridesView
   pub number : ℕ
@@ -24,8 +25,15 @@ pub record MoverView : Type 0 where
   pub ended : Bool
   pub last : Bool
 
-abbrev pub view_of : TableId → Book → MoverView
-view_of identity b = record { strides = move_of identity b.bins; number = b.number; claimed = b.claimed; finished = b.finished; ended = b.ended; last = b.last }
+abbrev pub mover_of : TableId → Book → MoverView
+mover_of identity b = record {
+  strides = move_of identity b.bins;
+  number = b.number;
+  claimed = b.claimed;
+  finished = b.finished;
+  ended = b.ended;
+  last = b.last;
+}
 
 abbrev pub book_of : MoverView → Book
 book_of m = record { bins = m.strides.bins; number = m.number; spare = []; claimed = m.claimed; finished = m.finished; ended = m.ended; last = m.last }

@@ -14,11 +14,11 @@ pub struct Mover {
 
 impl Model for Mover {
     ghost use Rattle.std.specs.Prelude.{◌≡◌, []};
-    ghost use Rattle.transfer.specs.Views.{MoverView, view_of};
+    ghost use Rattle.transfer.specs.Views.{MoverView, mover_of};
 
     ghost Value = { MoverView };
 
-    ghost view = { λ m. view_of m.seat.table_id m.seat.me.0 };
+    ghost view = { λ m. mover_of m.seat.table_id m.seat.me.0 };
 
     ghost invariant = { λ m. (m.ended ≡ m.seat.me.0.ended) × (m.seat.me.0.spare ≡ []) };
 }

@@ -39,9 +39,9 @@ impl<P: OfRange> Play<(), Book> for FinishStep<P> {
 pub(crate) struct DealStep;
 
 impl Split<Book> for DealStep {
-    ghost use Rattle.transfer.specs.Books.{dealt, without_next};
+    ghost use Rattle.transfer.specs.Books.{spare_book, without_next};
 
     ghost left = { without_next };
 
-    ghost right = { dealt };
+    ghost right = { spare_book };
 }

@@ -114,7 +114,8 @@ impl<A: Allocator> Strides<A> {
         drop(mover);
     }
 
-    /// The next 16 bins, from 0 upward, the last range cut at the number of bins. `None` says that all bins are claimed. A mover that got `None` claims no more, and gets it again.
+    /// The next 16 bins, from 0 upward, the last range cut at the number of bins. `None` says
+    /// that all bins are claimed. A mover that got `None` claims no more, and gets it again.
     #[must_use]
     pub fn claim(&self, mover: &mut Mover) -> Option<Range>
         requires { mover.old.strides ≡ self.now }

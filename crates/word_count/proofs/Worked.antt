@@ -11,7 +11,8 @@ use Rattle.functions.specs.declared.numbers.Add.{Add}
 use Rattle.facingberyl.specs.Tallies.{AddsOne, AllCounted}
 use Rattle.word_count.specs.Counted.{WordPass, WordRecord, HasCounted, HasWorked, AreWhole}
 
-pub HasCounted-push : (words : List (List ℕ)) (made : List WordRecord) (r : WordRecord) (w : List ℕ) (f : Add) → HasCounted words made → length made < length words → slice_index_or words (length made) w ≡ w → r.call ≡ Merge w 1 f → HasCounted words (made ++ r ∷ [])
+pub HasCounted-push : (words : List (List ℕ)) (made : List WordRecord) (r : WordRecord) (w : List ℕ) (f : Add) → HasCounted words made
+    → length made < length words → slice_index_or words (length made) w ≡ w → r.call ≡ Merge w 1 f → HasCounted words (made ++ r ∷ [])
 HasCounted-push words made r w f counted more is call =
     let key : key_of r.call ≡ w = ap key_of call in
     record {
@@ -51,7 +52,8 @@ module _ (id : LedgerId) (n : ℕ) (passes : List WordPass) (new : passes ≡ ne
       let part = slice_index_or parts (slice_index_or passes c p).client v in
       let part_is : part.items ≡ (slice_index_or parts c v).items = ap (λ (k : ℕ). (slice_index_or parts k v).items) own in (
         done.client ∙ own,
-        counted.keys ∙ take_all (length (slice_index_or after c p).made) part.items (let w = whole.each c p v few in let e = ap length part_is in omega arith) ∙ part_is
+        counted.keys ∙ take_all (length (slice_index_or after c p).made) part.items (let w = whole.each c p v few in let e = ap length part_is in omega arith)
+            ∙ part_is
             ∙ sym (get_or-map (λ (x : Vec (List ℕ) A). x.items) parts c v [] few),
         counted.ones,
       )

@@ -8,7 +8,7 @@ use Rattle.bin_history.specs.Limits.{most_calls}
 use Rattle.bin_history.specs.Records.{RecordView}
 use Rattle.bin_history.specs.declared.form.Form.TheVariants.{Lean}
 use Rattle.count_ledger.specs.Views.{PassView}
-use Rattle.facingberyl.specs.Tallies.{AddsOne, times_in_all, told}
+use Rattle.facingberyl.specs.Tallies.{AddsOne, times_in_all, stored_count}
 use Rattle.functions.specs.declared.numbers.Add.{Add}
 
 abbrev pub WordRecord : Type 0
@@ -39,4 +39,4 @@ pub record AreWhole {A : Type 0} (parts : List (Vec (List ℕ) A)) (passes : Lis
 -- each word stands once, with how often it stands in the parts
 pub record AreCounts (parts : List (List (List ℕ))) (counts : List (List ℕ × ℕ)) : Type 0 where
   pub distinct : HasDistinctKeys same_word counts
-  pub each : (w : List ℕ) → lookup same_word counts w ≡ told (times_in_all same_word w parts)
+  pub each : (w : List ℕ) → lookup same_word counts w ≡ stored_count (times_in_all same_word w parts)

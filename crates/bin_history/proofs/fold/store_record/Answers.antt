@@ -1,5 +1,5 @@
 use Rattle.bin_history.proofs.Keys.{key_tells}
-use Rattle.bin_history.proofs.Changes.{changed-to}
+use Rattle.bin_history.proofs.Changes.{entries_after-to}
 use Rattle.bin_history.proofs.fold.store_record.Goals as goal
 
 pub returns-clause-items : goal.returns-clause-items
@@ -8,4 +8,4 @@ returns-clause-items g c =
     let of = c.into_call-call.ensures in
     let found = rw (c.deref.ensures.value, c.into_key-key.ensures, of.call) at c.find-found.ensures in
     rw (c.carry_out.ensures.items, c.to.ensures, c.into_key-key.ensures, of.call, of.after)
-    (changed-to g.K.PartialEq.eq tells _ _ _ c.args.entry.after found)
+    (entries_after-to g.K.PartialEq.eq tells _ _ _ c.args.entry.after found)

@@ -18,4 +18,5 @@ returns-clause-passes c =
 pub returns-clause-roles : goal.returns-clause-roles
 returns-clause-roles c =
     IfOk-weaker c.new.result _ _
-    (λ r e. rw e (All-map (λ x. x.ledger ≡ r.0.id) (new_role r.0.id (record { 0 = 0 }) (lists_of c.in_ok-bases.bases)) (range_with_len 0 _) (λ k d inside. refl))) c.new.ensures.roles
+    (λ r e. rw e (All-map (λ x. x.ledger ≡ r.0.id) (new_role r.0.id (record { 0 = 0 }) (lists_of c.in_ok-bases.bases)) (range_with_len 0 _)
+    (λ k d inside. refl))) c.new.ensures.roles

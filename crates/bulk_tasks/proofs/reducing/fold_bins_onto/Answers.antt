@@ -14,7 +14,8 @@ returns-in_err-folded-clause-total g c = λ never n h few.
     let own : length c.entries.result.now ≡ length (get_or bins i c.bin-item.result).entries
     = ap length (c.entries.ensures ∙ ap (λ b. b.entries) c.bin-item.is) in
     let all = entries_few bins i c.bin-item.result c.loop-bin-test.true in
-    absurd (false≢true (c.in_err-folded.ensures.total never (n + length (entries_of (take i bins))) (c.loop-bin.invariant.1 n h) (omega (arith, own, all, few))))
+    absurd (false≢true (c.in_err-folded.ensures.total never (n + length (entries_of (take i bins))) (c.loop-bin.invariant.1 n h)
+    (omega (arith, own, all, few))))
 
 pub loop-bin-preserved : goal.loop-bin-preserved
 loop-bin-preserved g c =
@@ -27,7 +28,8 @@ loop-bin-preserved g c =
     let before = entries_of (take i bins) in
     let own = c.entries.result.now in
     let more : before ++ own ≡ entries_of (take (i + 1) bins)
-    = ap (λ (es : List _). before ++ es) (c.entries.ensures ∙ ap (λ b. b.entries) c.bin-item.is) ∙ entries_more bins i c.bin-item.result c.loop-bin-test.true in (
+    = ap (λ (es : List _). before ++ es) (c.entries.ensures ∙ ap (λ b. b.entries) c.bin-item.is)
+    ∙ entries_more bins i c.bin-item.result c.loop-bin-test.true in (
       c.in_ok-folded.ensures.fold
           ∙ ap (λ a. fold_from lift join a own) c.loop-bin.invariant.0
           ∙ sym (from_both lift join c.args.first before own)

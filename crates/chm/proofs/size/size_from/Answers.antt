@@ -1,7 +1,7 @@
 use Rattle.std.proofs.Common.{◌≡◌, ℕ, ◌<◌, ◌≤◌, inl, inr, ap, arith}
 use Rattle.std.proofs.lemmas.Bool.{cases_lt}
 use Rattle.hashkeys.proofs.Halves.{IsTableSize-double}
-use Rattle.chm.specs.Sizes.{threshold, HasRoom}
+use Rattle.chm.specs.Sizes.{threshold, IsWideEnough}
 use Rattle.chm.proofs.Sizes.{IsTableSize-wider}
 use Rattle.chm.proofs.size.size_from.Goals as goal
 
@@ -11,7 +11,7 @@ loop-n-preserved c =
     let narrow = c.loop-n-test.true in
     let full : threshold c.loop-n.n ≤ c.args.count = (let a = c.if-count-from.true in let b = c.from.ensures in let d = c.threshold.ensures in omega arith) in
     let double = IsTableSize-double c.loop-n.n narrow size in
-    let past : (m : ℕ) → HasRoom c.args.count m → c.loop-n.n ≤ m → c.loop-n.n < m =
+    let past : (m : ℕ) → IsWideEnough c.args.count m → c.loop-n.n ≤ m → c.loop-n.n < m =
     λ m room le. elim (cases_lt c.loop-n.n m) [
       | inl lt ↦ lt
       | inr ge ↦ elim room [

@@ -11,5 +11,6 @@ invariant-loop-client g l =
       room : l.clients ≤ vec_capacity l.passes;
       len : vec_len l.passes ≡ l.client;
       table : l.all.table_id ≡ l.initial.all.table_id;
-      view : l.all.views ≡ (map new_pass_book (range_with_len l.client (l.clients - l.client)) ++ map (new_role_book l.shared.key) (range_with_len 0 (length l.shared.key.bases))) ∷ [];
+      view : l.all.views ≡ (map new_pass_book (range_with_len l.client (l.clients - l.client))
+          ++ map (new_role_book l.shared.key) (range_with_len 0 (length l.shared.key.bases))) ∷ [];
     }

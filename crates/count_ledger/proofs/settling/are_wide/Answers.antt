@@ -3,15 +3,15 @@ use Rattle.std.proofs.lemmas.List.{map_more, take_all}
 use Rattle.std.proofs.lemmas.List.Elements.{All-push}
 use Rattle.std.proofs.lemmas.List.Sums.{sum_by_push}
 use Rattle.hashkeys.specs.Classes.{IsClass}
-use Rattle.count_ledger.specs.Books.{classes_of}
+use Rattle.count_ledger.specs.Books.{classes_of_roles}
 use Rattle.count_ledger.proofs.Covering.{wide_by_rest}
 use Rattle.count_ledger.proofs.settling.are_wide.Goals as goal
 
 pub loop-role-preserved : goal.loop-role-preserved
 loop-role-preserved g c =
     let role = c.role-item.result in
-    let before = classes_of (take c.loop-role.role-index c.args.roles.now) in
-    let next : classes_of (take (c.loop-role.role-index + 1) c.args.roles.now) ≡ before ++ role.class ∷ [] =
+    let before = classes_of_roles (take c.loop-role.role-index c.args.roles.now) in
+    let next : classes_of_roles (take (c.loop-role.role-index + 1) c.args.roles.now) ≡ before ++ role.class ∷ [] =
     map_more (λ r. r.class) c.args.roles.now c.loop-role.role-index role (omega arith) ∙ ap (λ r. before ++ r.class ∷ []) (sym c.role-item.is) in
     let size = c.n.ensures.value ∙ ap (λ k. k.n) c.class.ensures in
     record {
@@ -27,4 +27,4 @@ loop-role-preserved g c =
 pub returns : goal.returns
 returns g c =
     let whole = take_all c.loop-role.role-index c.args.roles.now c.loop-role-test.false in
-    wide_by_rest c.loop-role.left (classes_of c.args.roles.now) (rw whole at c.loop-role.invariant.left) (rw whole at c.loop-role.invariant.lawful)
+    wide_by_rest c.loop-role.left (classes_of_roles c.args.roles.now) (rw whole at c.loop-role.invariant.left) (rw whole at c.loop-role.invariant.lawful)

@@ -5,4 +5,5 @@ use Rattle.facing_cli.proofs.Reduced.{greatest-folded}
 use Rattle.facing_cli.proofs.answers.greatest.Goals as goal
 
 pub returns : goal.returns
-returns g c = subst (IsGreatest (map (λ e. e.1) (entries_of c.args.quiet.now.bins))) (sym c.in-Ok.ensures.fold) (greatest-folded (entries_of c.args.quiet.now.bins))
+returns g c = subst (IsGreatest (map (λ e. e.1) (entries_of c.args.quiet.now.bins))) (sym c.in-Ok.ensures.fold)
+    (greatest-folded (entries_of c.args.quiet.now.bins))

@@ -1,7 +1,7 @@
 use Rattle.std.proofs.Common.{◌∙◌, Some, codes, ap, sym, subst}
 use Rattle.clap.specs.Words.{found_of, one_of, rows_of}
 use Rattle.clap.proofs.WalkLemmas.{first_value-rows}
-use Rattle.facing_cli.specs.Choices.{OptionsView}
+use Rattle.facing_cli.specs.Options.{OptionsView}
 use Rattle.facing_cli.specs.CommandLine.{SaysNumber}
 use Rattle.facing_cli.proofs.command.read_matches.Goals as goal
 
@@ -13,5 +13,6 @@ returns-in_ok-from_str-in-Ok-clause-said c =
       workers = subst (SaysNumber (one_of (codes "workers") rows)) (sym (ap (λ (o : OptionsView). o.workers) options)) c.in-Some.ensures;
       capacity = subst (SaysNumber (one_of (codes "capacity") rows)) (sym (ap (λ (o : OptionsView). o.capacity) options)) c.in-Some-number.ensures;
       salt = subst (SaysNumber (one_of (codes "salt") rows)) (sym (ap (λ (o : OptionsView). o.salt.0) options)) c.in-Some-number-2.ensures;
-      file = sym (first_value-rows (found_of c.args.matches.now) (codes "FILE")) ∙ sym c.in-Some-get_str.ensures ∙ ap Some (sym c.in_ok-from_str-in-Ok.ensures.ok);
+      file = sym (first_value-rows (found_of c.args.matches.now) (codes "FILE")) ∙ sym c.in-Some-get_str.ensures
+          ∙ ap Some (sym c.in_ok-from_str-in-Ok.ensures.ok);
     }

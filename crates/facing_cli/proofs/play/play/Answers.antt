@@ -11,7 +11,8 @@ returns-in-Ok-close-clause-ok g c =
     let ledger = c.in-Ok-close.ensures.ledger in
     IsAllowed-closed (lists_of c.args.blocks) (lists_of c.in-Ok-play_blocks.replies) c.in-Ok-close.map c.lawful.ensures
     (ap (λ l. l.opening) ledger ∙ c.in-Ok.ensures.new.opening)
-    (let clients : c.in-Ok-close.map.ledger.clients ≡ c.len.result = ap (λ l. l.clients) ledger ∙ c.in-Ok.ensures.new.clients in omega (arith, c.len.ensures, length-map c.args.blocks.items (λ (b : Vec _ _). b.items)))
+    (let clients : c.in-Ok-close.map.ledger.clients ≡ c.len.result = ap (λ l. l.clients) ledger ∙ c.in-Ok.ensures.new.clients in
+    omega (arith, c.len.ensures, length-map c.args.blocks.items (λ (b : Vec _ _). b.items)))
     (subst (ArePlayed (lists_of c.args.blocks) (lists_of c.in-Ok-play_blocks.replies)) (sym c.in-Ok-close.ensures.passes) c.in-Ok-play_blocks.ensures.played)
 
 pub refused-requires-in-Err-close : goal.refused-requires-in-Err-close

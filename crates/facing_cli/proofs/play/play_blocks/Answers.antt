@@ -26,7 +26,8 @@ returns-clause-ledger g c =
     let before : List (Client g.row.A.Denot) = c.deref_mut.result.now in
     let after : List (Client g.row.A.Denot) = c.play_clients.new.clients in
     let is : before ≡ c.seat.new.clients.items = c.deref_mut.ensures.value in
-    let whole : take c.seat.new.clients.len (after ++ drop (length after) c.seat.new.clients.items) ≡ after = restored after _ _ (c.play_clients.ensures.len ∙ c.deref_mut.ensures.len) in
+    let whole : take c.seat.new.clients.len (after ++ drop (length after) c.seat.new.clients.items) ≡ after =
+    restored after _ _ (c.play_clients.ensures.len ∙ c.deref_mut.ensures.len) in
     subst (λ (ps : List ScriptPass). All (λ (p : ScriptPass). p.ledger ≡ c.args.map.now.ledger.id) ps) (sym (c.gather.ensures.passes ∙ ap passes_of whole))
     (AllLedger-after c.args.map.now.ledger.id c.args.blocks.items before
     (ap passes_of is ∙ c.seat.ensures.passes ∙ c.requires.fresh)

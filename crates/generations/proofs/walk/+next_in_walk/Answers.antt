@@ -1,14 +1,15 @@
 use Rattle.std.proofs.Common.{◌+◌, ◌/◌, ◌^◌, ◌≤◌, ◌∙◌, sym, ap, subst, arith}
 use Rattle.std.proofs.lemmas.Nat.{pow_pos}
 use Rattle.hashkeys.specs.Classes.{ClassView, IsTableSize}
-use Rattle.generations.proofs.Walks.{halved, IsFirstAfter-opening, IsLast-opening, after_low, after_high, at_least, IsFirstAfter-high, IsLast-high}
+use Rattle.generations.proofs.Walks.{halved, IsFirstAfter-opening, IsLastInWalk-opening, after_low, after_high, at_least, IsFirstAfter-high, IsLastInWalk-high}
 use Rattle.generations.proofs.walk.+next_in_walk.Goals as goal
 
 pub returns-then-index-n-clause-next : goal.returns-then-index-n-clause-next
 returns-then-index-n-clause-next t c =
     let index = c.index-index.ensures in
     let less = c.if-index-n.true in
-    IsFirstAfter-opening c.args.n c.args.class c.new.result (sym c.n.ensures.value ∙ c.if-n.true) (omega arith) (ap (λ (x : ClassView). x.index) c.new.ensures ∙ ap (λ x. x + 1) index)
+    IsFirstAfter-opening c.args.n c.args.class c.new.result (sym c.n.ensures.value ∙ c.if-n.true) (omega arith)
+    (ap (λ (x : ClassView). x.index) c.new.ensures ∙ ap (λ x. x + 1) index)
 
 pub returns-else-index-n-clause-last : goal.returns-else-index-n-clause-last
 returns-else-index-n-clause-last t c =
@@ -17,7 +18,7 @@ returns-else-index-n-clause-last t c =
     let size = c.n.ensures.value in
     let same = c.if-n.true in
     let no_less = c.if-index-n.false in
-    IsLast-opening c.args.n c.args.class (sym size ∙ same) (omega arith)
+    IsLastInWalk-opening c.args.n c.args.class (sym size ∙ same) (omega arith)
 
 pub new-requires-else-index-half : goal.new-requires-else-index-half
 new-requires-else-index-half t c =
@@ -36,7 +37,8 @@ returns-then-index-half-clause-next t c =
     let index = c.index-index.ensures in
     let low = c.if-index-half.true in
     let at = ap (λ (x : ClassView). x.index) c.new-then-index-half.ensures in
-    after_low c.args.n c.args.class c.new-then-index-half.result c.requires.size c.n.ensures.class c.requires.least (λ e. c.if-n.false (value ∙ e)) (omega arith) (omega arith)
+    after_low c.args.n c.args.class c.new-then-index-half.result c.requires.size c.n.ensures.class c.requires.least (λ e. c.if-n.false (value ∙ e))
+    (omega arith) (omega arith)
 
 pub returns-else-index-half-clause-next : goal.returns-else-index-half-clause-next
 returns-else-index-half-clause-next t c =
@@ -47,7 +49,8 @@ returns-else-index-half-clause-next t c =
     let n_is = ap (λ (x : ClassView). x.n) c.new-else-index-half.ensures in
     let at = ap (λ (x : ClassView). x.index) c.new-else-index-half.ensures in
     IsFirstAfter-high c.args.n c.new-else-index-half.result c.args.class
-    (after_high c.args.n c.new-else-index-half.result c.args.class c.requires.size c.n.ensures.class c.requires.least (λ e. c.if-n.false (value ∙ e)) (omega arith) (n_is ∙ ap (λ x. x / 2) size) (omega arith))
+    (after_high c.args.n c.new-else-index-half.result c.args.class c.requires.size c.n.ensures.class c.requires.least (λ e. c.if-n.false (value ∙ e))
+    (omega arith) (n_is ∙ ap (λ x. x / 2) size) (omega arith))
     _ c.next_in_walk.ensures.next
 
 pub returns-else-index-half-clause-last : goal.returns-else-index-half-clause-last
@@ -58,8 +61,9 @@ returns-else-index-half-clause-last t c =
     let high = c.if-index-half.false in
     let n_is = ap (λ (x : ClassView). x.n) c.new-else-index-half.ensures in
     let at = ap (λ (x : ClassView). x.index) c.new-else-index-half.ensures in
-    IsLast-high c.args.n c.new-else-index-half.result c.args.class
-    (after_high c.args.n c.new-else-index-half.result c.args.class c.requires.size c.n.ensures.class c.requires.least (λ e. c.if-n.false (value ∙ e)) (omega arith) (n_is ∙ ap (λ x. x / 2) size) (omega arith))
+    IsLastInWalk-high c.args.n c.new-else-index-half.result c.args.class
+    (after_high c.args.n c.new-else-index-half.result c.args.class c.requires.size c.n.ensures.class c.requires.least (λ e. c.if-n.false (value ∙ e))
+    (omega arith) (n_is ∙ ap (λ x. x / 2) size) (omega arith))
     _ c.next_in_walk.ensures.last
 
 pub next_in_walk-requires : goal.next_in_walk-requires

@@ -1,8 +1,9 @@
 use Rattle.std.proofs.Common.{sym, ap, ◌∙◌, arith}
 use Rattle.script.specs.Reading.{start}
-use Rattle.script.specs.Drafts.{place_of}
-use Rattle.script.proofs.Readings.{IsRead-within}
-use Rattle.script.proofs.Steps.{BeginsWith-shorter, some_left, none_left, so_far-more, told-bad, told-cut, told-missing, told-whole, not_queries-start, not_queries-calls}
+use Rattle.script.specs.Drafts.{section_of}
+use Rattle.script.proofs.Readings.{HasVerdictFrom-within}
+use Rattle.script.proofs.Steps.{BeginsWith-shorter, some_left, none_left, so_far-more, told-bad, told-cut, told-missing, told-whole, not_queries-start}
+use Rattle.script.proofs.Steps.{not_queries-calls}
 use Rattle.script.proofs.text.parse.Goals as goal
 
 pub returns-in_default-clause-fault : goal.returns-in_default-clause-fault
@@ -29,20 +30,22 @@ lines-preserved g c =
 pub returns-in-Queries-clause-script : goal.returns-in-Queries-clause-script
 returns-in-Queries-clause-script g c =
     let ended = none_left c.lines.rest.now (sym c.is_empty.ensures ∙ c.lines-test.false) in
-    told-whole c.args.text.now c.lines.draft c.lines.number _ c.lines.invariant.so_far _ _ ended (ap place_of c.in-Queries.is)
+    told-whole c.args.text.now c.lines.draft c.lines.number _ c.lines.invariant.so_far _ _ ended (ap section_of c.in-Queries.is)
 
 pub returns-in-Queries-clause-limits : goal.returns-in-Queries-clause-limits
 returns-in-Queries-clause-limits g c =
     let ended = none_left c.lines.rest.now (sym c.is_empty.ensures ∙ c.lines-test.false) in
-    let just = told-whole c.args.text.now c.lines.draft c.lines.number _ c.lines.invariant.so_far _ _ ended (ap place_of c.in-Queries.is) in
-    IsRead-within start 1 c.args.text.now _ just.holds tt
+    let just = told-whole c.args.text.now c.lines.draft c.lines.number _ c.lines.invariant.so_far _ _ ended (ap section_of c.in-Queries.is) in
+    HasVerdictFrom-within start 1 c.args.text.now _ just.holds tt
 
 pub returns-in-Start-clause-fault : goal.returns-in-Start-clause-fault
 returns-in-Start-clause-fault g c =
     let ended = none_left c.lines.rest.now (sym c.is_empty.ensures ∙ c.lines-test.false) in
-    rw c.missing_at.ensures (told-missing c.args.text.now c.lines.draft c.lines.number _ c.lines.invariant.so_far ended (not_queries-start c.lines.draft c.in-Start.is))
+    rw c.missing_at.ensures (told-missing c.args.text.now c.lines.draft c.lines.number _ c.lines.invariant.so_far ended
+    (not_queries-start c.lines.draft c.in-Start.is))
 
 pub returns-clause-fault : goal.returns-clause-fault
 returns-clause-fault g c =
     let ended = none_left c.lines.rest.now (sym c.is_empty.ensures ∙ c.lines-test.false) in
-    rw c.missing_at-in-Calls.ensures (told-missing c.args.text.now c.lines.draft c.lines.number _ c.lines.invariant.so_far ended (not_queries-calls c.lines.draft _ _ c.in-Calls.is))
+    rw c.missing_at-in-Calls.ensures (told-missing c.args.text.now c.lines.draft c.lines.number _ c.lines.invariant.so_far ended
+    (not_queries-calls c.lines.draft _ _ c.in-Calls.is))

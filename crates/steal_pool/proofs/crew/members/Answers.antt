@@ -42,8 +42,10 @@ loop-own-preserved g c =
           (Some c.in-Some.own) c.in-Some.ensures.items c.loop-own.invariant.shares).0;
       seats = other_seats worker_deque g.S.Seats.deque c.pop.new.self.items c.in-Some.own all;
       numbered = one_numbered of c.loop-own.all.items c.push.new.self.items _ c.in_ok-push.ensures.items c.len-workers.result
-          (vec_len c.loop-own.deques) (vec_len c.pop.new.self) (omega (arith, longer, c.loop-own.deques.ok.0, c.pop.new.self.ok.0)) (omega (arith, c.pop.new.self.ok.0)) c.loop-own.invariant.numbered;
-      ways = one_alone of c.loop-own.all.items c.push.new.self.items _ c.in_ok-push.ensures.items refl (ap targets c.new.ensures.items) c.loop-own.invariant.ways;
+          (vec_len c.loop-own.deques) (vec_len c.pop.new.self) (omega (arith, longer, c.loop-own.deques.ok.0, c.pop.new.self.ok.0))
+          (omega (arith, c.pop.new.self.ok.0)) c.loop-own.invariant.numbered;
+      ways = one_alone of c.loop-own.all.items c.push.new.self.items _ c.in_ok-push.ensures.items refl
+          (ap targets c.new.ensures.items) c.loop-own.invariant.ways;
     }
 
 pub loop-before-preserved : goal.loop-before-preserved

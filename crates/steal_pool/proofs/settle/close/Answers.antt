@@ -1,7 +1,7 @@
 use Rattle.std.proofs.Common.{◌≡◌, ℕ, ◌+◌, drop, length, sum_by, ap, ◌∙◌, arith}
 use Rattle.std.proofs.lemmas.List.{take_at}
 use Rattle.steal_pool.specs.declared.member.Member.{Member}
-use Rattle.steal_pool.specs.Books.{pushed_by, taken_by}
+use Rattle.steal_pool.specs.Books.{weight_pushed_by, weight_taken_by}
 use Rattle.steal_pool.specs.Logs.{weigh}
 use Rattle.steal_pool.proofs.settle.close.Goals as goal
 
@@ -14,8 +14,8 @@ returns g c =
       s.0,
       s.1,
       λ h.
-          let pushed : Member g.row.T.Denot g.row.S.Denot g.S.Seats → ℕ = pushed_by h in
-          let taken : Member g.row.T.Denot g.row.S.Denot g.S.Seats → ℕ = taken_by h in
+          let pushed : Member g.row.T.Denot g.row.S.Denot g.S.Seats → ℕ = weight_pushed_by h in
+          let taken : Member g.row.T.Denot g.row.S.Denot g.S.Seats → ℕ = weight_taken_by h in
           let p : sum_by pushed c.give_all_back.new.members ≡ sum_by pushed c.args.members.items =
           c.give_all_back.ensures.pushed h ∙ ap (sum_by pushed) c.as_mut_slice.ensures.value in
           let t : sum_by taken c.give_all_back.new.members ≡ sum_by taken c.args.members.items =

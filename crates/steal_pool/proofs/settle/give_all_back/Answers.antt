@@ -2,7 +2,7 @@ use Rattle.std.proofs.Common.{◌≡◌, ℕ, ◌<◌, ◌≤◌, ◌∙◌, Lis
 use Rattle.std.specs.Prelude.{All}
 use Rattle.std.proofs.lemmas.List.{length-map, take_all}
 use Rattle.steal_pool.specs.declared.member.Member.{Member}
-use Rattle.steal_pool.specs.Books.{pushed_by, stolen, taken_by}
+use Rattle.steal_pool.specs.Books.{weight_pushed_by, weight_stolen, weight_taken_by}
 use Rattle.steal_pool.specs.Shapes.{Shape, own_ways, shape, shapes}
 use Rattle.steal_pool.proofs.Sums.{kept, lent}
 use Rattle.steal_pool.proofs.Shapes.{all_home, lays, more_none, nil_from_map}
@@ -24,15 +24,16 @@ loop-place-preserved g c =
     let e = c.take_ways-ways.ensures in
     record {
       crew = c.give_back.ensures.crew;
-      none = more_none of ms c.loop-place.place c.take_ways-ways.new.self _ here (ap (λ (u : Shape). u.ways) e.shape.0) c.give_back.ensures.ways c.loop-place.invariant.none;
+      none = more_none of ms c.loop-place.place c.take_ways-ways.new.self _ here
+          (ap (λ (u : Shape). u.ways) e.shape.0) c.give_back.ensures.ways c.loop-place.invariant.none;
       pushed = λ h.
           c.give_back.ensures.pushed h
-          ∙ (kept (pushed_by {S = g.row.S.Denot} {g = g.S.Seats} h) ms c.loop-place.place c.take_ways-ways.new.self one here (e.pushed h)
+          ∙ (kept (weight_pushed_by {S = g.row.S.Denot} {g = g.S.Seats} h) ms c.loop-place.place c.take_ways-ways.new.self one here (e.pushed h)
           ∙ c.loop-place.invariant.pushed h);
       taken = λ h.
           c.give_back.ensures.taken h
-          ∙ (lent (taken_by {S = g.row.S.Denot} {g = g.S.Seats} h) ms c.loop-place.place c.take_ways-ways.new.self one
-          (stolen h c.take_ways-ways.result.items) here (e.taken h)
+          ∙ (lent (weight_taken_by {S = g.row.S.Denot} {g = g.S.Seats} h) ms c.loop-place.place c.take_ways-ways.new.self one
+          (weight_stolen h c.take_ways-ways.result.items) here (e.taken h)
           ∙ c.loop-place.invariant.taken h);
     }
 

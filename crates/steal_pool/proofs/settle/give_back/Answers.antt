@@ -2,7 +2,7 @@ use Rattle.std.proofs.Common.{◌≡◌, ℕ, ◌+◌, ◌-◌, ◌<◌, ◌∙�
 use Rattle.std.proofs.lemmas.List.Sums.{sum_by_push}
 use Rattle.steal_pool.specs.declared.member.Member.{Member}
 use Rattle.steal_pool.specs.declared.member.Way.{Way}
-use Rattle.steal_pool.specs.Books.{brought_by, pushed_by, taken_by}
+use Rattle.steal_pool.specs.Books.{weight_brought_by, weight_pushed_by, weight_taken_by}
 use Rattle.steal_pool.specs.Shapes.{Shape, shape}
 use Rattle.steal_pool.proofs.Sums.{kept, gained}
 use Rattle.steal_pool.proofs.Shapes.{home, popped, same_ways, takes_back}
@@ -47,11 +47,11 @@ loop-way-preserved g c =
       crew = takes_back of _ _ ms at c.take_back.new.self one crew here (it.1 one).1 e.shape.0 e.shape.1 e.shape.2;
       ways = same_ways of ms at c.take_back.new.self one here e.shape.2 ∙ c.loop-way.invariant.ways;
       pushed = λ h.
-          kept (pushed_by {S = g.row.S.Denot} {g = g.S.Seats} h) ms at c.take_back.new.self one here (e.pushed h)
+          kept (weight_pushed_by {S = g.row.S.Denot} {g = g.S.Seats} h) ms at c.take_back.new.self one here (e.pushed h)
           ∙ c.loop-way.invariant.pushed h;
       taken = λ h.
-          let brought : Way g.row.T.Denot g.row.S.Denot g.S.Seats → ℕ = brought_by h in
-          let more = gained (taken_by {S = g.row.S.Denot} {g = g.S.Seats} h) ms at c.take_back.new.self one (brought c.in-Some.way) here (e.taken h) in
+          let brought : Way g.row.T.Denot g.row.S.Denot g.S.Seats → ℕ = weight_brought_by h in
+          let more = gained (weight_taken_by {S = g.row.S.Denot} {g = g.S.Seats} h) ms at c.take_back.new.self one (brought c.in-Some.way) here (e.taken h) in
           let less : sum_by brought c.loop-way.ways.items ≡ sum_by brought c.pop.new.self.items + brought c.in-Some.way =
           ap (sum_by brought) c.in-Some.ensures.items ∙ sum_by_push brought c.pop.new.self.items c.in-Some.way in
           omega (arith, c.loop-way.invariant.taken h);

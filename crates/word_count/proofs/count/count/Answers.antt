@@ -6,7 +6,7 @@ use Rattle.bin_history.specs.declared.call.Call.{Call}
 use Rattle.count_ledger.specs.Views.{LedgerView}
 use Rattle.chm.specs.Quiets.{entries_of}
 use Rattle.functions.specs.declared.numbers.Add.{Add}
-use Rattle.facingberyl.proofs.Tallies.{told-of-key, times-few}
+use Rattle.facingberyl.proofs.Tallies.{stored_count-of-key, times-few}
 use Rattle.facingberyl.specs.Tallies.{AllCounted, times_in_all}
 use Rattle.word_count.proofs.Worked.{new-length, all-counted, pairs-same}
 use Rattle.word_count.specs.Counted.{WordPass, AreWhole, same_word}
@@ -18,7 +18,8 @@ exact n room = ap Some (omega arith)
 
 pub returns : goal.returns
 returns g c =
-    let after_calls : Call (List ℕ) ℕ Add → Option ℕ → Option ℕ = after nat_eq (λ (f : Add) (k : List ℕ) (v : Option ℕ). v) (λ (f : Add) (old given : ℕ). Some (min (old + given) 18446744073709551615)) in
+    let after_calls : Call (List ℕ) ℕ Add → Option ℕ
+    → Option ℕ = after nat_eq (λ (f : Add) (k : List ℕ) (v : Option ℕ). v) (λ (f : Add) (old given : ℕ). Some (min (old + given) 18446744073709551615)) in
     let parts : List (List (List ℕ)) = map (λ part. part.items) c.args.parts.now in
     let n : ℕ = length c.args.parts.now in
     let team = c.in_ok-team.team in
@@ -26,13 +27,15 @@ returns g c =
     let q = c.in_ok-map.map in
     let new = c.in_ok-team.ensures.new.passes in
     let wide : length parts ≡ n = length-map c.args.parts.now (λ (b : Vec (List ℕ) _). b.items) in
-    let lent : AreWhole c.args.parts.now c.passes.result.now = search (rules, c.if-not-are_counted.ensures, c.are_counted.ensures, c.if-not-are_counted.false) in
+    let lent : AreWhole c.args.parts.now c.passes.result.now =
+    search (rules, c.if-not-are_counted.ensures, c.are_counted.ensures, c.if-not-are_counted.false) in
     let whole : AreWhole c.args.parts.now passes = subst (AreWhole c.args.parts.now) c.passes.ensures lent in
     let made : AllCounted parts passes = all-counted team.map.ledger.id n team.passes new c.args.parts.now refl passes c.work.ensures.done whole in
     let ledger_is : q.ledger ≡ team.map.ledger = c.in_ok-map.ensures.ledger ∙ ap (λ m. m.ledger) c.work.ensures.map in
     let clients : q.ledger.clients ≡ length parts = ap (λ (l : LedgerView (List ℕ) ℕ). l.clients) ledger_is ∙ c.in_ok-team.ensures.new.clients ∙ sym wide in
     let opening : q.ledger.opening ≡ [] = ap (λ (l : LedgerView (List ℕ) ℕ). l.opening) ledger_is ∙ c.in_ok-team.ensures.new.opening in
-    let as_many : length q.passes ≡ length parts = ap length c.in_ok-map.ensures.passes ∙ c.work.ensures.len ∙ new-length team.map.ledger.id n team.passes new ∙ sym wide in
+    let as_many : length q.passes ≡ length parts = ap length c.in_ok-map.ensures.passes ∙ c.work.ensures.len ∙ new-length team.map.ledger.id n team.passes new
+    ∙ sym wide in
     let counted : AllCounted parts q.passes = subst (AllCounted parts) (sym c.in_ok-map.ensures.passes) made in
     let items : c.in_ok-for_each.field-0.items ≡ entries_of q.bins = c.in_ok-for_each.ensures.answers ∙ pairs-same (entries_of q.bins) in
     record {
@@ -40,5 +43,6 @@ returns g c =
       each = λ w.
           let few = times-few same_word w 144115188075855872 c.args.parts.now whole.few in
           let room : times_in_all same_word w parts < 2 ^ 64 = omega (arith, few) in
-          ap (λ (es : List (List ℕ × ℕ)). lookup same_word es w) items ∙ told-of-key same_word after_calls (λ k f. refl) (λ k f m. exact m) q parts clients as_many opening counted c.histories.ensures.each_key w room;
+          ap (λ (es : List (List ℕ × ℕ)). lookup same_word es w) items ∙ stored_count-of-key same_word after_calls (λ k f. refl)
+          (λ k f m. exact m) q parts clients as_many opening counted c.histories.ensures.each_key w room;
     }

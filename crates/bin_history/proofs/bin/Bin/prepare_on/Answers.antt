@@ -2,13 +2,14 @@ use Rattle.std.proofs.Common.{◌≡◌, ◌-◌, ℕ, Option, List, vec_len, ve
 use Rattle.std.proofs.lemmas.Bool.{true≢false}
 use Rattle.bin_history.specs.Logs.{form_of, base_of, records_of, IsKeptOrFolded}
 use Rattle.bin_history.specs.Ops.{key_in}
-use Rattle.bin_history.specs.Changes.{IsFound}
+use Rattle.bin_history.specs.Changes.{IsIndexOf}
 use Rattle.bin_history.proofs.Changes.{key-call_on, lookup_absent}
 use Rattle.bin_history.proofs.Keys.{key_tells}
 use Rattle.bin_history.proofs.Lawful.{IsReplayed-kept, KeepsOrFolds-of}
 use Rattle.bin_history.proofs.bin.Bin.prepare_on.Goals as goal
 
-kept : (g : _) (c : goal.After-fold_in g) (es : List _) → IsKeptOrFolded g.K.PartialEq.eq (base_of c.self.inside.log es) (records_of c.self.inside.log) (base_of c.fold_in.new.log es) (records_of c.fold_in.new.log)
+kept : (g : _) (c : goal.After-fold_in g) (es : List _) → IsKeptOrFolded g.K.PartialEq.eq (base_of c.self.inside.log es) (records_of c.self.inside.log)
+    (base_of c.fold_in.new.log es) (records_of c.fold_in.new.log)
 kept g c es =
     let log = c.reserve_in.new.log in
     let after = c.fold_in.new.log in
@@ -23,21 +24,25 @@ returns-in_err-make_room_for-clause-succeeds g c sure =
     let has = rw (← c.self.view_is) at sure in
     let es = c.self.inside.entries.items in
     let k = key_in c.args.key in
-    let Found : Option ℕ → Type 0 = IsFound g.K.PartialEq.eq es k in
+    let Found : Option ℕ → Type 0 = IsIndexOf g.K.PartialEq.eq es k in
     let found : Found c.find-found.result = rw (c.deref.ensures.value, c.get.ensures) at c.find-found.ensures in
-    absurd (true≢false (sym (c.in_err-make_room_for.ensures.succeeds (λ none adds. let more = has.entry_room (lookup_absent g.K.PartialEq.eq tells es k (subst Found none found)) adds in omega arith))))
+    absurd (true≢false (sym (c.in_err-make_room_for.ensures.succeeds
+    (λ none adds. let more = has.entry_room (lookup_absent g.K.PartialEq.eq tells es k (subst Found none found)) adds in omega arith))))
 
 pub invariant_of-self-in_err-reserve_in : goal.invariant_of-self-in_err-reserve_in
 invariant_of-self-in_err-reserve_in g c =
-    rw (c.in_err-reserve_in.ensures.base c.make_room_for.new.entries.items, c.in_err-reserve_in.ensures.records, c.in_ok-make_room_for.ensures.items) c.self.invariant
+    rw (c.in_err-reserve_in.ensures.base c.make_room_for.new.entries.items, c.in_err-reserve_in.ensures.records, c.in_ok-make_room_for.ensures.items)
+    c.self.invariant
 
 pub invariant_of-self-2 : goal.invariant_of-self-2
 invariant_of-self-2 g c =
-    rw (c.in_ok-reserve_in.ensures.base c.make_room_for.new.entries.items, c.in_ok-reserve_in.ensures.records, c.in_ok-make_room_for.ensures.items) c.self.invariant
+    rw (c.in_ok-reserve_in.ensures.base c.make_room_for.new.entries.items, c.in_ok-reserve_in.ensures.records, c.in_ok-make_room_for.ensures.items)
+    c.self.invariant
 
 pub invariant_of-self-in_err-ready : goal.invariant_of-self-in_err-ready
 invariant_of-self-in_err-ready g c =
-    rw (c.in_ok-reserve_in.ensures.base c.make_room_for.new.entries.items, c.in_ok-reserve_in.ensures.records, c.in_ok-make_room_for.ensures.items) c.self.invariant
+    rw (c.in_ok-reserve_in.ensures.base c.make_room_for.new.entries.items, c.in_ok-reserve_in.ensures.records, c.in_ok-make_room_for.ensures.items)
+    c.self.invariant
 
 pub invariant_of-self-3 : goal.invariant_of-self-3
 invariant_of-self-3 g c =

@@ -53,6 +53,7 @@ returns-in_err-fold_bins_onto g c =
     = λ r. IsFolded (g.R.Reducer.lifted reducer) (g.R.Reducer.joined reducer) (g.R.Reducer.within reducer) g.R.Reducer.never_refuses (entries_of bins) r in
     let is = err_from_is_err_and c.from_residual-in_err-fold_bins_onto.result c.from_residual-in_err-fold_bins_onto.ensures.1 in
     subst P (sym is.1) (λ never.
-    let many : 18446744073709551616 < length (entries_of bins) + 1 = lt_of_not-le (λ few. false≢true (c.in_err-fold_bins_onto.ensures.total never (1 + length others)
+    let many : 18446744073709551616 < length (entries_of bins) + 1 =
+    lt_of_not-le (λ few. false≢true (c.in_err-fold_bins_onto.ensures.total never (1 + length others)
     (c.in_ok-begun.ensures.within 1 c.in_ok-lifted.ensures.within) (omega (arith, few, len)))) in
     omega (arith, many))

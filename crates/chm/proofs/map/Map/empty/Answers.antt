@@ -20,9 +20,11 @@ pub loop-pass-preserved : goal.loop-pass-preserved
 loop-pass-preserved g c =
     let inv = c.loop-pass.invariant in
     let more = subst (λ (s : Salt). HasRemovedIn g.K.HashKey.code s c.args.bin.now.class c.loop-pass.pass c.remove_first.new.pass) inv.salt
-    (subst (λ (k : ClassView). HasRemovedIn g.K.HashKey.code c.loop-pass.bin.salt k c.loop-pass.pass c.remove_first.new.pass) inv.class c.remove_first.ensures.removed) in
+    (subst (λ (k : ClassView). HasRemovedIn g.K.HashKey.code c.loop-pass.bin.salt k c.loop-pass.pass c.remove_first.new.pass) inv.class
+    c.remove_first.ensures.removed) in
     record {
-      removed = removed_in-more g.K.HashKey.code c.args.bin.now.salt c.args.bin.now.class c.args.pass.now c.loop-pass.pass c.remove_first.new.pass inv.removed more;
+      removed = removed_in-more g.K.HashKey.code c.args.bin.now.salt c.args.bin.now.class c.args.pass.now c.loop-pass.pass c.remove_first.new.pass inv.removed
+          more;
       class = c.remove_first.ensures.class ∙ inv.class;
       form = c.remove_first.ensures.form ∙ inv.form;
       salt = c.remove_first.ensures.salt ∙ inv.salt;
@@ -34,5 +36,6 @@ pub returns-in_err-remove_first-clause-removed : goal.returns-in_err-remove_firs
 returns-in_err-remove_first-clause-removed g c =
     let inv = c.loop-pass.invariant in
     let more = subst (λ (s : Salt). HasRemovedIn g.K.HashKey.code s c.args.bin.now.class c.loop-pass.pass c.remove_first.new.pass) inv.salt
-    (subst (λ (k : ClassView). HasRemovedIn g.K.HashKey.code c.loop-pass.bin.salt k c.loop-pass.pass c.remove_first.new.pass) inv.class c.remove_first.ensures.removed) in
+    (subst (λ (k : ClassView). HasRemovedIn g.K.HashKey.code c.loop-pass.bin.salt k c.loop-pass.pass c.remove_first.new.pass) inv.class
+    c.remove_first.ensures.removed) in
     removed_in-more g.K.HashKey.code c.args.bin.now.salt c.args.bin.now.class c.args.pass.now c.loop-pass.pass c.remove_first.new.pass inv.removed more

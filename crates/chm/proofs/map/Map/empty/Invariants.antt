@@ -1,6 +1,6 @@
 use Rattle.std.proofs.Common.{◌≡◌, length}
 use Rattle.bin_history.specs.Calls.{after}
-use Rattle.count_ledger.specs.Agreement.{Agree}
+use Rattle.count_ledger.specs.Agreement.{BinAgrees}
 use Rattle.chm.specs.Cleared.{HasRemovedIn}
 use Rattle.chm.proofs.map.Map.empty.Given as goal
 
@@ -12,7 +12,7 @@ invariant-loop-pass g l =
       form : l.bin.form ≡ l.initial.bin.form;
       salt : l.bin.salt ≡ l.initial.bin.salt;
       ledger : l.role.ledger ≡ l.initial.role.ledger;
-      agree : Agree g.K.PartialEq.eq (after g.V.PartialEq.eq g.F.Remap.remapped g.F.Remap.merged) l.bin l.role;
+      agree : BinAgrees g.K.PartialEq.eq (after g.V.PartialEq.eq g.F.Remap.remapped g.F.Remap.merged) l.bin l.role;
     }
 
 abbrev pub decreases-loop-pass : goal.decreases-loop-pass

@@ -4,7 +4,7 @@ use Rattle.hashkeys.specs.Classes.{ClassView, is_of}
 use Rattle.hashkeys.specs.declared.hashing.Salt.{Salt}
 use Rattle.bin_history.specs.Calls.{after}
 use Rattle.bin_history.specs.Lawful.{BinView}
-use Rattle.count_ledger.specs.Agreement.{Agree}
+use Rattle.count_ledger.specs.Agreement.{BinAgrees}
 use Rattle.count_ledger.specs.Views.{PassView, RoleView}
 use Rattle.chm.specs.Cleared.{HasRemovedIn}
 use Rattle.chm.proofs.Clearing.{passed_on}
@@ -22,23 +22,31 @@ release-requires g c =
       form = c.empty-done.ensures.form ∙ ap (λ (b : BinView _ _ _). b.form) same_bin ∙ at.form;
       salt = c.empty-done.ensures.salt ∙ ap (λ (b : BinView _ _ _). b.salt) same_bin ∙ at.salt;
       ledger = ap (λ (r : RoleView _ _ _). r.ledger) same ∙ c.empty-done.ensures.ledger ∙ at.ledger;
-      agree = subst (λ (r : RoleView _ _ _). Agree g.K.PartialEq.eq (after g.V.PartialEq.eq g.F.Remap.remapped g.F.Remap.merged) c.empty-done.new.bin r) (sym same) c.empty-done.ensures.agree;
+      agree = subst (λ (r : RoleView _ _ _). BinAgrees g.K.PartialEq.eq (after g.V.PartialEq.eq g.F.Remap.remapped g.F.Remap.merged) c.empty-done.new.bin r)
+          (sym same) c.empty-done.ensures.agree;
     }
 
 pub returns-clause-there : goal.returns-clause-there
 returns-clause-there g c =
-    subst (λ (p : PassView _ _ _). HasRemovedIn g.K.HashKey.code c.args.self.now.ledger.salt c.class-class.result c.args.pass.now p) (sym c.meet_under.ensures.same_pass)
+    subst (λ (p : PassView _ _ _). HasRemovedIn g.K.HashKey.code c.args.self.now.ledger.salt c.class-class.result c.args.pass.now p)
+    (sym c.meet_under.ensures.same_pass)
     (subst (λ (k : ClassView). HasRemovedIn g.K.HashKey.code c.args.self.now.ledger.salt k c.args.pass.now c.empty-done.new.pass) (sym c.class-class.ensures)
-    (subst (λ (s : Salt). HasRemovedIn g.K.HashKey.code s c.as_mut-bin.result.now.class c.args.pass.now c.empty-done.new.pass) (ap (λ (b : BinView _ _ _). b.salt) c.as_mut-bin.ensures.value ∙ c.hold_first-held.ensures.salt) c.empty-done.ensures.removed))
+    (subst (λ (s : Salt). HasRemovedIn g.K.HashKey.code s c.as_mut-bin.result.now.class c.args.pass.now c.empty-done.new.pass)
+    (ap (λ (b : BinView _ _ _). b.salt) c.as_mut-bin.ensures.value ∙ c.hold_first-held.ensures.salt) c.empty-done.ensures.removed))
 
 pub returns-clause-visit : goal.returns-clause-visit
 returns-clause-visit g c =
     let met = c.meet_under.ensures.met in
     let Visited : ClassView → PassView _ _ _ → Type 0 = λ class pass.
-    IsVisit g.K.PartialEq.eq g.K.HashKey.code (after g.V.PartialEq.eq g.F.Remap.remapped g.F.Remap.merged) c.args.self.now.ledger pass (record { class = class; entries = [] }) in
+    IsVisit g.K.PartialEq.eq g.K.HashKey.code (after g.V.PartialEq.eq g.F.Remap.remapped g.F.Remap.merged) c.args.self.now.ledger pass
+    (record { class = class; entries = [] }) in
     subst (Visited c.class-class.result) (sym c.meet_under.ensures.same_pass)
     (subst (λ (class : ClassView). Visited class c.empty-done.new.pass) (sym (c.class-class.ensures ∙ sym c.empty-done.ensures.class))
-    (record { distinct = tt; of_class = All-nil (λ (e : _ × _). is_of g.K.HashKey.code c.args.self.now.ledger.salt c.empty-done.new.bin.class e.0 ≡ true); history = (c.empty-done.new.role.kept, met.history, sym c.in_ok-done.ensures.empty ∙ met.entries) }))
+    (record {
+      distinct = tt;
+      of_class = All-nil (λ (e : _ × _). is_of g.K.HashKey.code c.args.self.now.ledger.salt c.empty-done.new.bin.class e.0 ≡ true);
+      history = (c.empty-done.new.role.kept, met.history, sym c.in_ok-done.ensures.empty ∙ met.entries);
+    }))
 
 pub returns-in_err-done-clause-left : goal.returns-in_err-done-clause-left
 returns-in_err-done-clause-left g c = λ full.
@@ -47,6 +55,17 @@ returns-in_err-done-clause-left g c = λ full.
     let bin = c.empty-done.new.bin in
     let salt = c.empty-done.ensures.salt ∙ ap (λ (b : BinView _ _ _). b.salt) c.as_mut-bin.ensures.value ∙ c.hold_first-held.ensures.salt in
     let some = c.in_err-done.ensures.left (passed_on c.from_residual.result c.in_err-done.field-0.0 PassFull c.from_residual.ensures.1 full) in
-    let visit : IsVisit g.K.PartialEq.eq g.K.HashKey.code (after g.V.PartialEq.eq g.F.Remap.remapped g.F.Remap.merged) c.args.self.now.ledger c.empty-done.new.pass (record { class = bin.class; entries = bin.entries }) =
-    record { distinct = lawful.distinct; of_class = subst (λ (s : Salt). All (λ (e : _ × _). is_of g.K.HashKey.code s bin.class e.0 ≡ true) bin.entries) salt lawful.of_class; history = (c.empty-done.new.role.kept, met.history, met.entries) } in
-    (record { class = bin.class; entries = bin.entries }, subst (λ (p : PassView _ _ _). IsVisit g.K.PartialEq.eq g.K.HashKey.code (after g.V.PartialEq.eq g.F.Remap.remapped g.F.Remap.merged) c.args.self.now.ledger p (record { class = bin.class; entries = bin.entries })) (sym c.meet_under.ensures.same_pass) visit, some)
+    let visit : IsVisit g.K.PartialEq.eq g.K.HashKey.code (after g.V.PartialEq.eq g.F.Remap.remapped g.F.Remap.merged) c.args.self.now.ledger
+    c.empty-done.new.pass (record { class = bin.class; entries = bin.entries }) =
+    record {
+      distinct = lawful.distinct;
+      of_class = subst (λ (s : Salt). All (λ (e : _ × _). is_of g.K.HashKey.code s bin.class e.0 ≡ true) bin.entries) salt
+          lawful.of_class;
+      history = (c.empty-done.new.role.kept, met.history, met.entries);
+    } in (
+      record { class = bin.class; entries = bin.entries },
+      subst (λ (p : PassView _ _ _). IsVisit g.K.PartialEq.eq g.K.HashKey.code
+          (after g.V.PartialEq.eq g.F.Remap.remapped g.F.Remap.merged) c.args.self.now.ledger p (record { class = bin.class; entries = bin.entries }))
+          (sym c.meet_under.ensures.same_pass) visit,
+      some,
+    )

@@ -11,7 +11,8 @@ use Rattle.chm.proofs.map.Map.mapping_count_all.Goals as goal
 pub returns-clause-count : goal.returns-clause-count
 returns-clause-count g c =
     let own : c.self.inside.ledger ≡ c.args.self.now.ledger = ap (λ (m : MapView _ _). m.ledger) c.self.view_is in
-    let opened : c.self.inside.opened ≡ length c.args.self.now.ledger.opening = c.self.invariant.opened_is ∙ ap (λ (l : LedgerView _ _). length l.opening) own in
+    let opened : c.self.inside.opened ≡ length c.args.self.now.ledger.opening = c.self.invariant.opened_is
+    ∙ ap (λ (l : LedgerView _ _). length l.opening) own in
     let clients : c.self.inside.ledger.clients ≡ c.args.self.now.ledger.clients = ap (λ (l : LedgerView _ _). l.clients) own in
     let few = c.self.invariant.clients in
     let all = c.requires.all in

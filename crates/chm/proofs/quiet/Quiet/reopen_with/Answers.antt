@@ -9,7 +9,7 @@ use Rattle.count_ledger.specs.Opening.{lists_of}
 use Rattle.chm.specs.Quiets.{QuietView, entries_of}
 use Rattle.chm.specs.Reopened.{in_classes}
 use Rattle.chm.specs.Sizes.{IsSizeFrom}
-use Rattle.chm.proofs.Dealing.{positive, length-dealt, distinct-dealt, of_class-dealt}
+use Rattle.chm.proofs.Dealing.{positive, length-parts_by_class, distinct-parts_by_class, of_class-parts_by_class}
 use Rattle.chm.proofs.Limits.{IsLimited-ok, IsLimited-refused}
 use Rattle.chm.proofs.Passes.{new_passes-ledger}
 use Rattle.chm.proofs.Homes.{distinct}
@@ -19,21 +19,25 @@ use Rattle.chm.proofs.quiet.Quiet.reopen_with.Goals as goal
 pub open-requires-clause-size : goal.open-requires-clause-size
 open-requires-clause-size g c =
     let len : length c.in_ok-bases.bases.items ≡ c.size_from-n.result =
-    sym (length-map c.in_ok-bases.bases.items (λ b. b.items)) ∙ ap (λ (l : List (List _)). length l) c.in_ok-bases.ensures.dealt ∙ length-dealt g.K.HashKey.code c.args.salt c.size_from-n.result c.entries.result in
+    sym (length-map c.in_ok-bases.bases.items (λ b. b.items)) ∙ ap (λ (l : List (List _)). length l) c.in_ok-bases.ensures.dealt
+    ∙ length-parts_by_class g.K.HashKey.code c.args.salt c.size_from-n.result c.entries.result in
     subst IsTableSize (sym len) c.size_from-n.ensures.size
 
 pub open-requires-clause-distinct : goal.open-requires-clause-distinct
 open-requires-clause-distinct g c =
     let tells = key_tells g.met.K.Eq.laws g.met.K.HashKey.equal_is_same in
-    let leaves = c.lawful.ensures.leaves in
+    let with_roles = c.lawful.ensures.with_roles in
     let walk = c.lawful.ensures.walk in
     let pairs : HasDistinctKeys g.K.PartialEq.eq (entries_of c.args.self.now.bins) =
-    distinct g.K.PartialEq.eq tells g.K.HashKey.code (after g.V.PartialEq.eq g.F.Remap.remapped g.F.Remap.merged) _ c.args.self.now.bins c.args.self.now.roles leaves
+    distinct g.K.PartialEq.eq tells g.K.HashKey.code
+    (after g.V.PartialEq.eq g.F.Remap.remapped g.F.Remap.merged) _ c.args.self.now.bins c.args.self.now.roles with_roles
     (λ k. (let one = walk.each_hash (hash_of c.args.self.now.ledger.salt (g.K.HashKey.code k)) in omega arith)) in
-    distinct-dealt g.K.PartialEq.eq tells g.K.HashKey.code c.args.salt c.size_from-n.result c.entries.result c.in_ok-bases.bases (subst (HasDistinctKeys g.K.PartialEq.eq) (sym c.entries.ensures) pairs) c.in_ok-bases.ensures.dealt
+    distinct-parts_by_class g.K.PartialEq.eq tells g.K.HashKey.code c.args.salt c.size_from-n.result c.entries.result c.in_ok-bases.bases
+    (subst (HasDistinctKeys g.K.PartialEq.eq) (sym c.entries.ensures) pairs) c.in_ok-bases.ensures.dealt
 
 pub open-requires-clause-of_class : goal.open-requires-clause-of_class
-open-requires-clause-of_class g c = of_class-dealt g.K.HashKey.code c.args.salt c.size_from-n.result c.entries.result (lists_of c.in_ok-bases.bases) c.in_ok-bases.ensures.dealt
+open-requires-clause-of_class g c = of_class-parts_by_class g.K.HashKey.code c.args.salt c.size_from-n.result c.entries.result
+    (lists_of c.in_ok-bases.bases) c.in_ok-bases.ensures.dealt
 
 pub returns-clause-new : goal.returns-clause-new
 returns-clause-new g c =
@@ -42,7 +46,7 @@ returns-clause-new g c =
     let len : length c.in_ok-bases.bases.items ≡ c.size_from-n.result =
     sym (length-map c.in_ok-bases.bases.items (λ b. b.items))
     ∙ ap (λ (l : List (List _)). length l) c.in_ok-bases.ensures.dealt
-    ∙ length-dealt g.K.HashKey.code c.args.salt c.size_from-n.result c.entries.result
+    ∙ length-parts_by_class g.K.HashKey.code c.args.salt c.size_from-n.result c.entries.result
     in
     let n_is = c.in_ok-open.ensures.n ∙ len in
     let own : c.self.inside.n ≡ c.args.self.now.n = ap (λ (q : QuietView _ _ _). q.n) c.self.view_is in
@@ -71,13 +75,17 @@ returns-clause-new g c =
     }
 
 pub returns-in_err-bases-clause-limits : goal.returns-in_err-bases-clause-limits
-returns-in_err-bases-clause-limits g c = IsLimited-refused _ _ _ c.from_residual-in_err-bases.ensures.1 (let count = c.mapping_count-count.ensures in let few = c.if-count-gt-MOST_PAIRS.false in omega (arith, count, few)) (search)
+returns-in_err-bases-clause-limits g c = IsLimited-refused _ _ _ c.from_residual-in_err-bases.ensures.1
+    (let count = c.mapping_count-count.ensures in let few = c.if-count-gt-MOST_PAIRS.false in omega (arith, count, few)) (search)
 
 pub returns-in_err-clone-2-clause-limits : goal.returns-in_err-clone-2-clause-limits
-returns-in_err-clone-2-clause-limits g c = IsLimited-refused _ _ _ c.from_residual-in_err-clone-2.ensures.1 (let count = c.mapping_count-count.ensures in let few = c.if-count-gt-MOST_PAIRS.false in omega (arith, count, few)) (search)
+returns-in_err-clone-2-clause-limits g c = IsLimited-refused _ _ _ c.from_residual-in_err-clone-2.ensures.1
+    (let count = c.mapping_count-count.ensures in let few = c.if-count-gt-MOST_PAIRS.false in omega (arith, count, few)) (search)
 
 pub returns-in_err-open-clause-limits : goal.returns-in_err-open-clause-limits
-returns-in_err-open-clause-limits g c = IsLimited-refused _ _ _ c.from_residual-in_err-open.ensures.1 (let count = c.mapping_count-count.ensures in let few = c.if-count-gt-MOST_PAIRS.false in omega (arith, count, few)) (search)
+returns-in_err-open-clause-limits g c = IsLimited-refused _ _ _ c.from_residual-in_err-open.ensures.1
+    (let count = c.mapping_count-count.ensures in let few = c.if-count-gt-MOST_PAIRS.false in omega (arith, count, few)) (search)
 
 pub returns-clause-limits : goal.returns-clause-limits
-returns-clause-limits g c = IsLimited-ok _ _ _ (let count = c.mapping_count-count.ensures in let few = c.if-count-gt-MOST_PAIRS.false in omega (arith, count, few)) (search)
+returns-clause-limits g c = IsLimited-ok _ _ _
+    (let count = c.mapping_count-count.ensures in let few = c.if-count-gt-MOST_PAIRS.false in omega (arith, count, few)) (search)

@@ -1,6 +1,6 @@
 use Rattle.std.proofs.Common.{rules, arith, ◌≡◌, ℕ, ◌+◌, ◌-◌, ◌*◌, ◌/◌, ◌%◌, ◌^◌, ◌<◌, ◌≤◌, [], length, sym, ap, ◌∙◌, subst}
 use Rattle.completers.specs.Rights.{nodes, head, tail, lower_half, upper_half, up_in}
-use Rattle.completers.specs.Steps.{forked}
+use Rattle.completers.specs.Steps.{forked_rights}
 use Rattle.completers.specs.Views.{after_fork}
 use Rattle.completers.specs.declared.rule.Right.TheVariants.{Opened}
 use Rattle.completers.proofs.Cells.{splits}
@@ -45,7 +45,7 @@ invariant_of-ticket g c =
     let few = c.tree.invariant.few_slots in
     record {
       rights = is_ticket _ n.node (n.forks + 1) c.args.mid n.hi 0 (up_in n.seat.me.0)
-          (split.4 ∙ (ap (λ m. (head m.0, [])) told ∙ ap (λ m. (head (forked c.args.mid m.0), [])) c.self.invariant.rights));
+          (split.4 ∙ (ap (λ m. (head m.0, [])) told ∙ ap (λ m. (head (forked_rights c.args.mid m.0), [])) c.self.invariant.rights));
       place = omega arith;
       inside = subst (λ t. 8 * n.node + 8 ≤ t.slots) (sym table) (has_places n.node n.level _ c.self.invariant.inside);
       range = (rw (← c.self.view_is) at c.requires.range).1;
@@ -75,7 +75,7 @@ invariant_of-supply g c =
       rights =
           split.4 ∙ (ap (λ u. (upper_half u.0, [])) first.2
           ∙ (ap (λ u. (upper_half (tail u.0), [])) told
-          ∙ (ap (λ u. (upper_half (tail (forked c.args.mid u.0)), [])) c.self.invariant.rights
+          ∙ (ap (λ u. (upper_half (tail (forked_rights c.args.mid u.0)), [])) c.self.invariant.rights
           ∙ (ap (λ l. (l, [])) (upper o m n.level some) ∙ ap (λ (k : ℕ). (nodes k h, [])) (sym shifted)))));
       inside = subst (λ t. 8 * (m + 1 * h % 18446744073709551616 + h) ≤ t.slots) (sym table)
           (let q : 8 * (m + 1 * h % 18446744073709551616 + h) ≤ slots = omega arith in q);

@@ -1,5 +1,5 @@
 use Rattle.std.proofs.Common.{rules, arith, ◌≡◌, ◌<◌, ◌≤◌, ℕ, ◌+◌, ◌-◌, ◌*◌, ◌/◌, ◌%◌, ◌∷◌, [], sym, ap, ◌∙◌, subst}
-use Rattle.completers.specs.Parts.{start_of, places_of, ends}
+use Rattle.completers.specs.Parts.{start_of, slots_of, ends}
 use Rattle.completers.specs.Rights.{head, tail}
 use Rattle.completers.specs.declared.rule.Right.TheVariants.{Waits}
 use Rattle.completers.proofs.Cells.{splits}
@@ -19,13 +19,13 @@ invariant_of-result g c =
     let r = c.requires.above in
     let lo : ℕ = r.0 in
     let hi : ℕ = r.1 in
-    let ps = c.args.places.now in
+    let ps = c.args.slots.now in
     let e = c.split_seat-above.ensures in
     let k : ℕ = c.args.code in
     let a = again lo hi c.args.self.now.bins k c.args.seat.table_id.slots c.args.seat.me.0 r.3 r.4 c.if-code-eq0.false r.5 in
     let start = ap start_of r.6.1 ∙ r.6.2 in
     let lo_is : c.lo.result ≡ lo = c.lo.ensures ∙ start in
-    let hi_is : c.hi.result ≡ hi = c.hi.ensures ∙ (ap (λ z. ends z (places_of ps)) start ∙ ends_at fits lo hi (places_of ps) r.2) in
+    let hi_is : c.hi.result ≡ hi = c.hi.ensures ∙ (ap (λ z. ends z (slots_of ps)) start ∙ ends_at fits lo hi (slots_of ps) r.2) in
     let less : lo < hi = not_empty fits lo hi r.6.0 _ ps.own r.6.1 r.2 in
     record {
       rights = is_ticket _ ((k - 1) / 8) ((k - 1) % 8) c.lo.result c.hi.result a.0 a.1

@@ -3,8 +3,8 @@ use lib.ListN.{get_elem?}
 use mathlib.Core.Option.{some}
 use Rattle.std.specs.Prelude.{false}
 use Rattle.completers.specs.Arrived.{IsWholeNode}
-use Rattle.completers.specs.Parts.{AreParts, present, places_of, stack}
-use Rattle.completers.specs.Rights.{IsAbove, node_in, path_of}
+use Rattle.completers.specs.Parts.{AreParts, present, slots_of, stack}
+use Rattle.completers.specs.Rights.{IsTicketAbove, node_in, path_of}
 use Rattle.completers.specs.Rights.{code as code_of}
 use Rattle.completers.specs.declared.rule.Right.{Right}
 use Rattle.completers.proofs.Arrivals.{arrives}
@@ -34,31 +34,31 @@ above-above-requires-clause-above g c =
     let key = c.self.inside.board.shared.key in
     let n : ℕ = c.args.ticket.node in
     let t = (rw c.place-seat.ensures.place at c.count_down.ensures.told).1 c.if-count_down-ne1.false in
-    let is = full n t.held _ c.empty_all-places.result t.places c.empty_all-places.ensures.found in
-    let rights = c.empty_all-places.ensures.rights in
-    let table = c.empty_all-places.ensures.table
+    let is = full n t.held _ c.empty_all-slots.result t.places c.empty_all-slots.ensures.found in
+    let rights = c.empty_all-slots.ensures.rights in
+    let table = c.empty_all-slots.ensures.table
     ∙ (c.count_down.ensures.table ∙ (c.place-seat.ensures.table ∙ ap (λ v. v.identity) (sym c.self.view_is))) in (
       t.lo,
       t.hi,
       subst (λ l. AreParts (g.B.Relation.relates c.args.self.now.relation) t.lo t.hi (present l)) (sym is)
           (subst (λ r. AreParts (g.B.Relation.relates r) t.lo t.hi (present (t.held 0 ∷ stack t.held 7)))
           (ap (λ v. v.relation) c.self.view_is) t.parts),
-      subst (λ b. IsAbove b t.lo t.hi c.empty_all-places.new.seat.me.0) (ap (λ v. v.bins) c.self.view_is)
-          (subst (IsAbove key.bins t.lo t.hi) (sym rights) t.above),
+      subst (λ b. IsTicketAbove b t.lo t.hi c.empty_all-slots.new.seat.me.0) (ap (λ v. v.bins) c.self.view_is)
+          (subst (IsTicketAbove key.bins t.lo t.hi) (sym rights) t.above),
       ap code_of rights ∙ t.coded,
       subst (λ (u : List Right × ℕ). (u.0 ≢ []) → 8 * node_in u.0 + 8 ≤ u.1) (λ k. (sym rights k, (sym table k).slots)) t.inside,
-      (t.first.0, own_is t.held c.empty_all-places.result is ∙ t.first.1, t.first.2),
+      (t.first.0, own_is t.held c.empty_all-slots.result is ∙ t.first.1, t.first.2),
     )
 
 pub returns-clause-last : goal.returns-clause-last
 returns-clause-last g c =
     let n : ℕ = c.args.ticket.node in
     let t = (rw c.place-seat.ensures.place at c.count_down.ensures.told).1 c.if-count_down-ne1.false in
-    let is = full n t.held _ c.empty_all-places.result t.places c.empty_all-places.ensures.found in
-    let rights = c.empty_all-places.ensures.rights in
+    let is = full n t.held _ c.empty_all-slots.result t.places c.empty_all-slots.ensures.found in
+    let rights = c.empty_all-slots.ensures.rights in
     rw c.of.ensures (
       subst (λ l. Contains (present l) c.args.partial) (sym is)
           (among t.held c.args.ticket.number c.args.partial c.place-seat.ensures.inside.2 t.mine),
       subst (λ up. IsWholeNode c.args.self.now (g.B.Relation.relates c.args.self.now.relation) up
-          (present (places_of c.empty_all-places.result)) c.above-above.result) (ap path_of rights ∙ t.path) c.above-above.ensures,
+          (present (slots_of c.empty_all-slots.result)) c.above-above.result) (ap path_of rights ∙ t.path) c.above-above.ensures,
     )

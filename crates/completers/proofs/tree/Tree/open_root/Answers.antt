@@ -1,6 +1,6 @@
 use Rattle.std.proofs.Common.{◌+◌, ◌*◌, ◌<◌, ◌≤◌, ◌-◌, ◌^◌, ◌∷◌, [], ap, sym, ◌∙◌, subst}
 use Rattle.completers.specs.Rights.{nodes}
-use Rattle.completers.specs.Steps.{opened}
+use Rattle.completers.specs.Steps.{opened_rights}
 use Rattle.completers.specs.declared.rule.Right.TheVariants.{Opened}
 use Rattle.completers.proofs.Ends.{is_node}
 use Rattle.completers.proofs.Forks.{opens_root}
@@ -24,7 +24,7 @@ invariant_of-result g c =
     let whole = ap (λ v. v.bins) c.self.view_is ∙ sym c.requires.range.1 in
     record {
       rights = is_node _ s.first 0 c.args.bins 1 [] (nodes (s.first + 1) (2 ^ s.level - 1))
-          (c.write_code.ensures.told ∙ (ap (λ m. (opened key.bins m.0, m.1)) rights
+          (c.write_code.ensures.told ∙ (ap (λ m. (opened_rights key.bins m.0, m.1)) rights
           ∙ ap (λ n. (Opened s.first 0 n 1 [] ∷ nodes (s.first + 1) (2 ^ s.level - 1), [])) whole));
       inside = subst (λ t. 8 * (s.first + 2 ^ s.level) ≤ t.slots) (sym c.write_code.ensures.table) c.supply.invariant.inside;
       few = c.supply.invariant.few;

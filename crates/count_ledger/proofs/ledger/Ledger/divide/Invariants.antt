@@ -1,6 +1,6 @@
 use Rattle.std.proofs.Common.{Some}
-use Rattle.count_ledger.specs.Steps.{divided}
+use Rattle.count_ledger.specs.Steps.{books_with_halves}
 use Rattle.count_ledger.proofs.ledger.Ledger.divide.Given as goal
 
 abbrev pub ghosts-look : goal.ghosts-look
-ghosts-look g a = record { terms = Some a.shared.now.key; change = divided g.K.HashKey.code }
+ghosts-look g a = record { terms = Some a.shared.now.key; change = books_with_halves g.K.HashKey.code }

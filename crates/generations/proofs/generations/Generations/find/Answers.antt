@@ -1,12 +1,14 @@
 use Rattle.std.proofs.Common.{ℕ, ◌-◌, ◌^◌, length, subst, sym}
-use Rattle.generations.specs.Inside.{IsTable}
+use Rattle.generations.specs.Generations.{IsTable}
 use Rattle.generations.specs.Views.{GenerationsView}
 use Rattle.generations.proofs.generations.Generations.find.Goals as goal
 
 pub returns-then-is_begun-clause-of_map : goal.returns-then-is_begun-clause-of_map
-returns-then-is_begun-clause-of_map g c = c.place_in-place.ensures.of_map c.args.self.now (2 ^ (c.min-widest.result - c.loop-narrower.narrower)) c.in-Some.ensures
+returns-then-is_begun-clause-of_map g c =
+    c.place_in-place.ensures.of_map c.args.self.now (2 ^ (c.min-widest.result - c.loop-narrower.narrower)) c.in-Some.ensures
 
 pub returns-clause-of_map : goal.returns-clause-of_map
 returns-clause-of_map g c =
     let opening = c.self.inside.opening.items in
-    c.place_in.ensures.of_map c.args.self.now (length opening) (subst (λ (m : GenerationsView). IsTable m (length opening) opening) c.self.view_is c.self.invariant.opening_is)
+    c.place_in.ensures.of_map c.args.self.now (length opening)
+    (subst (λ (m : GenerationsView). IsTable m (length opening) opening) c.self.view_is c.self.invariant.opening_is)

@@ -1,11 +1,12 @@
 use Rattle.std.proofs.Common.{◌≡◌, ℕ, ◌^◌, subst, sym}
 use Rattle.std.specs.Int.Count.{count_trailing_zeros}
-use Rattle.generations.specs.Inside.{IsTable}
+use Rattle.generations.specs.Generations.{IsTable}
 use Rattle.generations.proofs.Indexes.{exponent_is}
 use Rattle.generations.proofs.generations.Generations.table_made.Goals as goal
 
 pub keep_table-requires : goal.keep_table-requires
-keep_table-requires g c = subst (λ (n : ℕ). IsTable c.args.self.now n c.in_ok-places.places.items) (sym (exponent_is c.args.size c.requires.size)) c.in_ok-places.ensures
+keep_table-requires g c = subst (λ (n : ℕ). IsTable c.args.self.now n c.in_ok-places.places.items)
+    (sym (exponent_is c.args.size c.requires.size)) c.in_ok-places.ensures
 
 pub returns : goal.returns
 returns g c = subst (λ (n : ℕ). IsTable c.args.self.now n c.wait_for_table.result.now.items) (exponent_is c.args.size c.requires.size) c.wait_for_table.ensures

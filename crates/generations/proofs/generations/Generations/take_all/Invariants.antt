@@ -1,6 +1,6 @@
 use Rattle.std.proofs.Common.{◌-◌, vec_len, vec_capacity}
 use Rattle.bin_history.specs.Calls.{after}
-use Rattle.generations.specs.Leaves.{AreLeaves, classes_of_bins}
+use Rattle.generations.specs.BinsWithRoles.{AreBinsWithRoles, classes_of_bins}
 use Rattle.generations.specs.Walks.{IsWalkTo}
 use Rattle.generations.proofs.generations.Generations.take_all.Given as goal
 
@@ -8,7 +8,8 @@ abbrev pub invariant-loop-roles : goal.invariant-loop-roles
 invariant-loop-roles g l =
     record {
       walk : IsWalkTo l.n (classes_of_bins l.bins.items) l.next;
-      leaves : AreLeaves g.K.PartialEq.eq g.K.HashKey.code (after g.V.PartialEq.eq g.F.Remap.remapped g.F.Remap.merged) l.self l.bins.items l.roles.items;
+      with_roles : AreBinsWithRoles g.K.PartialEq.eq g.K.HashKey.code
+          (after g.V.PartialEq.eq g.F.Remap.remapped g.F.Remap.merged) l.self l.bins.items l.roles.items;
     }
 
 abbrev pub decreases-loop-roles : goal.decreases-loop-roles

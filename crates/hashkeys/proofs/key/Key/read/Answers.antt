@@ -13,12 +13,14 @@ pub invariant_of-result : goal.invariant_of-result
 invariant_of-result c =
     let bytes = c.args.bytes.now in
     let same = are_word_bytes-filled _ bytes _ (length bytes) c.copy_from_slice.ensures.after refl in
-    let key = is_key-from bytes (omega (arith, c.if-len-lt1.false)) c.if-len-gt32.false (sym same ∙ sym c.are_word_bytes.ensures ∙ c.if-not-are_word_bytes.false) in
+    let key = is_key-from bytes (omega (arith, c.if-len-lt1.false)) c.if-len-gt32.false
+    (sym same ∙ sym c.are_word_bytes.ensures ∙ c.if-not-are_word_bytes.false) in
     (c.if-len-gt32.false, subst (λ bs. is_key bs ≡ true) (sym (take-filled _ bytes _ c.copy_from_slice.ensures.after)) key)
 
 pub returns : goal.returns
 returns c =
     let bytes = c.args.bytes.now in
     let same = are_word_bytes-filled _ bytes _ (length bytes) c.copy_from_slice.ensures.after refl in
-    let key = is_key-from bytes (omega (arith, c.if-len-lt1.false)) c.if-len-gt32.false (sym same ∙ sym c.are_word_bytes.ensures ∙ c.if-not-are_word_bytes.false) in
+    let key = is_key-from bytes (omega (arith, c.if-len-lt1.false)) c.if-len-gt32.false
+    (sym same ∙ sym c.are_word_bytes.ensures ∙ c.if-not-are_word_bytes.false) in
     (take-filled _ bytes _ c.copy_from_slice.ensures.after, key)

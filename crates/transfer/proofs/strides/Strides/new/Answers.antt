@@ -3,7 +3,7 @@ use Rattle.std.proofs.lemmas.List.Elements.{All-push}
 use Rattle.transfer.specs.declared.book.Book.{Book}
 use Rattle.transfer.specs.Books.{new_book, rest_of, without_next}
 use Rattle.transfer.specs.Views.{StridesView, IsSpare}
-use Rattle.transfer.proofs.Moves.{holds-first, holds-deals, next-spare, dealt-spare}
+use Rattle.transfer.proofs.Moves.{holds-first, holds-deals, next-spare, spare_book-spare}
 use Rattle.transfer.proofs.strides.Strides.new.Goals as goal
 
 pub of_words-requires : goal.of_words-requires
@@ -33,6 +33,7 @@ loop-number-preserved g c =
           rw c.push_reserved.ensures.items
           (All-push (λ p. IsSpare move p.value) l.spare.items c.new.result l.invariant.spare
           (rw (c.new.ensures, c.of-tag.ensures)
-          (dealt-spare move.identity _ move.bins l._number _ l.seat.me.0 _ (cut.3 ∙ l.invariant.table) (ap (λ (b : Book). b.bins) l.invariant.book)
-          (ap (λ (b : Book). b.spare) l.invariant.book ∙ next-spare l._number c.loop-number-test.true) (let d = l.invariant.dealt in omega arith) c.loop-number-test.true (ap (λ m. m.0) cut.4))));
+          (spare_book-spare move.identity _ move.bins l._number _ l.seat.me.0 _ (cut.3 ∙ l.invariant.table) (ap (λ (b : Book). b.bins) l.invariant.book)
+          (ap (λ (b : Book). b.spare) l.invariant.book ∙ next-spare l._number c.loop-number-test.true)
+          (let d = l.invariant.dealt in omega arith) c.loop-number-test.true (ap (λ m. m.0) cut.4))));
     }

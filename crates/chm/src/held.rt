@@ -4,10 +4,10 @@ ghost use Rattle.hashkeys.specs.Classes.{is_of};
 ghost use Rattle.bin_history.specs.Calls.{after};
 ghost use Rattle.bin_history.specs.Copies.{IsExact};
 ghost use Rattle.bin_history.specs.Ops.{call_on, key_in};
-ghost use Rattle.count_ledger.specs.Agreement.{Agree};
+ghost use Rattle.count_ledger.specs.Agreement.{BinAgrees};
 ghost use Rattle.count_ledger.specs.Limits.{most_calls};
 ghost use Rattle.chm.specs.Called.{IsCalledOn};
-ghost use Rattle.chm.specs.Met.{IsMet};
+ghost use Rattle.chm.specs.Histories.{IsMet};
 
 use crate::map::Map;
 use bin_history::{Bin, Given, Op, Remap, Reply};
@@ -36,9 +36,10 @@ impl<
         requires pass { pass.old.ledger ≡ self.now.ledger.id }
         requires role { role.old.ledger ≡ self.now.ledger.id }
         requires room { length pass.old.made < most_calls self.now.ledger.form }
-        requires agree { Agree K.eq (after V.eq F.remapped F.merged) bin.old role.old }
+        requires agree { BinAgrees K.eq (after V.eq F.remapped F.merged) bin.old role.old }
         requires of_class { is_of K.code bin.old.salt bin.old.class (key_in key) ≡ true }
-        ensures called { IfOk result (λ r. IsCalledOn K.eq K.code V.eq F.remapped F.merged bin.old.entries bin.new.entries (call_on (key_in key.entry) op) pass.old pass.new r.0) }
+        ensures called { IfOk result (λ r. IsCalledOn K.eq K.code V.eq F.remapped F.merged bin.old.entries bin.new.entries
+            (call_on (key_in key.entry) op) pass.old pass.new r.0) }
         ensures met { OnOk result (IsMet K.eq K.code (after V.eq F.remapped F.merged) self.now.ledger pass.old bin.old role.old) }
         ensures refused { OnErr result (pass.new ≡ pass.old) }
         ensures stayed { OnErr result (bin.new.entries ≡ bin.old.entries) }
@@ -46,7 +47,7 @@ impl<
         ensures class { bin.new.class ≡ bin.old.class }
         ensures salt { bin.new.salt ≡ bin.old.salt }
         ensures ledger { role.new.ledger ≡ role.old.ledger }
-        ensures agree { Agree K.eq (after V.eq F.remapped F.merged) bin.new role.new }
+        ensures agree { BinAgrees K.eq (after V.eq F.remapped F.merged) bin.new role.new }
     {
         bin.lawful();
         let ready = bin.prepare_on(key, op)?;
@@ -64,7 +65,7 @@ impl<
     )
         requires pass { pass.old.ledger ≡ self.now.ledger.id }
         requires role { role.old.ledger ≡ self.now.ledger.id }
-        requires agree { Agree K.eq (after V.eq F.remapped F.merged) bin.now role.old }
+        requires agree { BinAgrees K.eq (after V.eq F.remapped F.merged) bin.now role.old }
         ensures met { IsMet K.eq K.code (after V.eq F.remapped F.merged) self.now.ledger pass.old bin.now role.old }
         ensures same_pass { pass.new ≡ pass.old }
         ensures same_role { role.new ≡ role.old }

@@ -10,6 +10,6 @@ abbrev pub pair_in : {K V F A : Type 0} → State K V F A → Option (BinView K 
 pair_in (Live b r) = Some (b.value, r)
 pair_in Away = None
 
-abbrev pub seen : {K V F A : Type 0} → Option (State K V F A) → Option (BinView K V F × RoleView K V F)
-seen (Some s) = pair_in s
-seen None = None
+abbrev pub pair_shown : {K V F A : Type 0} → Option (State K V F A) → Option (BinView K V F × RoleView K V F)
+pair_shown (Some s) = pair_in s
+pair_shown None = None

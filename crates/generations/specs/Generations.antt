@@ -10,15 +10,15 @@ use Rattle.count_ledger.specs.Views.{LedgerId}
 use Rattle.generations.specs.Views.{GenerationsView, place_of}
 use Rattle.generations.specs.declared.state.PlaceTag.{PlaceTag}
 
-abbrev pub view_of : LedgerId → Form → Salt → List PlaceTag → GenerationsView
-view_of ledger form salt opening = record { ledger = ledger; form = form; salt = salt; n = length opening }
+abbrev pub generations_view : LedgerId → Form → Salt → List PlaceTag → GenerationsView
+generations_view ledger form salt opening = record { ledger = ledger; form = form; salt = salt; n = length opening }
 
 -- a table of n places of the map, no smaller than its opening one: the place at each index is for the class of that index among n
-pub record IsTable (map : GenerationsView) (n : ℕ) (places : List PlaceTag) : Type 0 where
+pub record IsTable (home : GenerationsView) (n : ℕ) (places : List PlaceTag) : Type 0 where
   pub size : IsTableSize n
-  pub least : map.n ≤ n
+  pub least : home.n ≤ n
   pub count : length places ≡ n
-  pub by_index : (i : ℕ) (d : PlaceTag) → i < n → slice_index_or places i d ≡ place_of map (record { n = n; index = i })
+  pub by_index : (i : ℕ) (d : PlaceTag) → i < n → slice_index_or places i d ≡ place_of home (record { n = n; index = i })
 
 -- a form as a number
 abbrev pub form_number : Form → ℕ
@@ -31,9 +31,9 @@ form_numbered zero = Recorded
 form_numbered (suc n) = Lean
 
 -- the map that the tag of a slot for a table names: its n, its form, its salt and its ledger
-abbrev pub map_named : List ℕ → GenerationsView
-map_named (exponent ∷ n ∷ form ∷ salt ∷ ledger) = record { ledger = id_of ledger; form = form_numbered form; salt = record { 0 = salt }; n = n }
-map_named _ = record { ledger = id_of []; form = Recorded; salt = record { 0 = 0 }; n = 0 }
+abbrev pub generations_named : List ℕ → GenerationsView
+generations_named (exponent ∷ n ∷ form ∷ salt ∷ ledger) = record { ledger = id_of ledger; form = form_numbered form; salt = record { 0 = salt }; n = n }
+generations_named _ = record { ledger = id_of []; form = Recorded; salt = record { 0 = 0 }; n = 0 }
 
 -- the size of the table that it names
 abbrev pub size_named : List ℕ → ℕ
@@ -41,16 +41,16 @@ size_named (exponent ∷ _) = 2 ^ exponent
 size_named [] = 0
 
 -- the slot is for the map's table of 2 to the exponent places
-pub record IsSlotOf (map : GenerationsView) (exponent : ℕ) (slot : Named) : Type 0 where
-  pub of_map : map_named slot.tag ≡ map
+pub record IsSlotOf (home : GenerationsView) (exponent : ℕ) (slot : Named) : Type 0 where
+  pub of_map : generations_named slot.tag ≡ home
   pub of_size : size_named slot.tag ≡ 2 ^ exponent
 
 -- a slot for each size of a table
-pub record AreSlots (map : GenerationsView) (slots : List Named) : Type 0 where
+pub record AreSlots (home : GenerationsView) (slots : List Named) : Type 0 where
   pub count : length slots ≡ 17
-  pub by_exponent : (e : ℕ) (d : Named) → e < 17 → IsSlotOf map e (slice_index_or slots e d)
+  pub by_exponent : (e : ℕ) (d : Named) → e < 17 → IsSlotOf home e (slice_index_or slots e d)
 
 -- what a map keeps
-pub record IsMap (ledger : LedgerId) (form : Form) (salt : Salt) (opening : List PlaceTag) (slots : List Named) : Type 0 where
-  pub opening_is : IsTable (view_of ledger form salt opening) (length opening) opening
-  pub slots_are : AreSlots (view_of ledger form salt opening) slots
+pub record IsGenerations (ledger : LedgerId) (form : Form) (salt : Salt) (opening : List PlaceTag) (slots : List Named) : Type 0 where
+  pub opening_is : IsTable (generations_view ledger form salt opening) (length opening) opening
+  pub slots_are : AreSlots (generations_view ledger form salt opening) slots
