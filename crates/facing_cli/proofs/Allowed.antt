@@ -25,7 +25,7 @@ IsAllowed-closed blocks replies q quiet empty clients played =
     let opened : lookup same_key q.ledger.opening ≡ nothing = ap (lookup same_key) empty in
     record {
       answered = played.answered;
-      distinct = distinct same_key bytes_decides code_of value_after (bins_of (record { ledger = q.ledger; n = q.n })) q.bins q.roles quiet.leaves
+      distinct = distinct same_key bytes_decides code_of value_after (bins_of (record { ledger = q.ledger; n = q.n })) q.bins q.roles quiet.with_roles
           (λ k. let once = quiet.walk.each_hash (hash_of q.ledger.salt (code_of k)) in omega arith);
       order = (
         calls,
