@@ -44,7 +44,7 @@ fn the_widest_place_of_a_hash_is_found(rt: HostRuntime) -> Result<(), Fail> {
 }
 
 /// Makes the table of two places under an allocator that refuses the request after so many, and then moves the one bin,
-/// which is empty, with no request granted. Answers both.
+/// which is empty, with two requests granted: a room for each half. Answers both.
 fn widened<R: Wait>(
     rt: &R,
     alloc: &Refusing<Global>,
@@ -53,7 +53,7 @@ fn widened<R: Wait>(
     let (map, ledger) = open_quiet(alloc, Form::Lean, 1)?;
     alloc.refuse_after(granted);
     let made = map.widen(rt, 2).is_ok();
-    alloc.refuse_after(0);
+    alloc.refuse_after(2);
     let moved = map.forward(rt, &ledger, Class::new(1, 0)).is_ok();
     alloc.refuse_after(u64::MAX);
     drop(map);
