@@ -7,23 +7,26 @@ use std::marker::Model;
 pub const MOST_BINS: u32 = 65_536;
 
 /// The hashes that leave `index` when divided by `n`. `n` is a power of two from 1 to 65,536, and
-/// `index` is below it. A table of `n` bins has one bin for each class of size `n`.
+/// `index` is below it. A table of `n` bins has one bin for each class of size `n`. A class is four
+/// bytes, since each bin and its role have one.
 #[derive(Clone, Copy, PartialEq, Eq, Debug)]
 pub struct Class {
-    n: u32,
-    index: u32,
+    /// One less than `n`: what of a hash tells its class.
+    mask: u16,
+    index: u16,
 }
 
 impl Model for Class {
+    ghost use Rattle.std.specs.Prelude.{◌+◌, ◌-◌};
     ghost use Rattle.hashkeys.specs.Classes.{ClassView, IsClass};
 
     ghost Value = { ClassView };
 
-    ghost view = { λ c. record { n = c.n; index = c.index } };
+    ghost view = { λ c. record { n = c.mask + 1; index = c.index } };
 
-    ghost invariant = { λ c. IsClass (record { n = c.n; index = c.index }) };
+    ghost invariant = { λ c. IsClass (record { n = c.mask + 1; index = c.index }) };
 
-    ghost inverse = { λ c. record { n = c.n; index = c.index } };
+    ghost inverse = { λ c. record { mask = c.n - 1; index = c.index } };
 }
 
 impl Class {
@@ -35,7 +38,10 @@ impl Class {
         requires { IsClass (record { n = n; index = index }) }
         ensures { result ≡ record { n = n; index = index } }
     {
-        Class { n, index }
+        Class {
+            mask: (n - 1) as u16,
+            index: index as u16,
+        }
     }
 
     /// The size of the table that the class is of.
@@ -43,21 +49,21 @@ impl Class {
         ensures value { result ≡ self.now.n }
         ensures class { IsClass self.now }
     {
-        self.n
+        u32::from(self.mask) + 1
     }
 
     /// The class's place among those of its size.
     pub fn index(&self) -> u32
         ensures { result ≡ self.now.index }
     {
-        self.index
+        u32::from(self.index)
     }
 
     /// Whether the hash is in the class.
     pub fn covers(&self, hash: u32) -> bool
         ensures { result ≡ covers self.now hash }
     {
-        hash % self.n == self.index
+        hash & u32::from(self.mask) == u32::from(self.index)
     }
 
     /// The low and the high half: a hash of the class is in exactly one of them, and no other hash is.
@@ -68,14 +74,14 @@ impl Class {
         ensures one { (hash : ℕ) → covers self.now hash ≡ (covers result.0 hash || covers result.1 hash) }
         ensures apart { (hash : ℕ) → (covers result.0 hash && covers result.1 hash) ≡ false }
     {
-        let n = 2 * self.n;
+        let mask = 2 * self.mask + 1;
         let low = Class {
-            n,
+            mask,
             index: self.index,
         };
         let high = Class {
-            n,
-            index: self.index + self.n,
+            mask,
+            index: self.index + self.mask + 1,
         };
         (low, high)
     }
