@@ -5,7 +5,7 @@ use Rattle.std.proofs.lemmas.Bool.Decides.{nat_tests}
 use Rattle.std.proofs.Math.Seq.{take-append_seam}
 use Rattle.std.proofs.lemmas.Bool.{agree_below, agree_below_at, ne_eqb}
 use Rattle.std.proofs.lemmas.Simd.{map-map, mask_l-mod}
-use Rattle.std.proofs.lemmas.List.{length-map, take_all}
+use Rattle.std.proofs.lemmas.List.{length-map, length-take-le, take_all}
 use lib.Lanes.{chunk, mask_l, top}
 use Rattle.hashkeys.specs.Text.{is_word_byte, are_word_bytes, is_key}
 
@@ -47,16 +47,16 @@ are_word_bytes-drop (suc n) (x ∷ v) h = are_word_bytes-drop n v (go (is_word_b
   go true e = e
   go false e = absurd (cc)
 
-pub are_word_bytes-filled : (a b v : List ℕ) (n : ℕ) → a ≡ b → are_word_bytes v ≡ true → are_word_bytes (a ++ drop n v) ≡ are_word_bytes b
-are_word_bytes-filled a b v n e h = are_word_bytes-append a (drop n v) ∙ go (are_word_bytes a) (are_word_bytes-drop n v h) ∙ ap are_word_bytes e where
+pub are_word_bytes-filled : (b v : List ℕ) (n : ℕ) → are_word_bytes v ≡ true → are_word_bytes (b ++ drop n v) ≡ are_word_bytes b
+are_word_bytes-filled b v n h = are_word_bytes-append b (drop n v) ∙ go (are_word_bytes b) (are_word_bytes-drop n v h) where
   go : (p : Bool) → are_word_bytes (drop n v) ≡ true → (p && are_word_bytes (drop n v)) ≡ p
   go p d = ap (λ r. p && r) d ∙ both p where
     both : (p : Bool) → (p && true) ≡ p
     both true = refl
     both false = refl
 
-pub take-filled : (a b v : List ℕ) → a ≡ b → take (length b) (a ++ v) ≡ b
-take-filled a b v e = ap (λ (x : List ℕ). take (length b) (x ++ v)) e ∙ take-append_seam b v
+pub take-filled : (n : ℕ) (b v : List ℕ) → n ≤ length b → take n (take n b ++ v) ≡ take n b
+take-filled n b v le = ap (λ m. take m (take n b ++ v)) (sym (length-take-le n b le)) ∙ take-append_seam (take n b) v
 
 -- a key by its parts
 pub is_key-from : (bs : List ℕ) → 1 ≤ length bs → length bs ≤ 32 → are_word_bytes bs ≡ true → is_key bs ≡ true

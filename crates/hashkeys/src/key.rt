@@ -1,5 +1,5 @@
 //! The program's keys: short words of ASCII letters, digits and `_`.
-ghost use Rattle.std.specs.Prelude.{◌≡◌, true, false, MatchOption, length};
+ghost use Rattle.std.specs.Prelude.{◌≡◌, ◌≤◌, ◌++◌, true, false, MatchOption, length, take, drop, replicate};
 ghost use Rattle.hashkeys.specs.Text.{is_key, are_word_bytes, code_of};
 
 use crate::bytes::bytes_code;
@@ -29,6 +29,7 @@ impl Model for Key {
 }
 
 /// Whether these 32 bytes are all ASCII letters, digits or `_`. They are looked at together.
+#[inline(always)]
 fn are_word_bytes(bytes: &[u8]) -> bool
     requires { length bytes.now ≡ 32 }
     ensures { result ≡ are_word_bytes bytes.now }
@@ -42,17 +43,49 @@ fn are_word_bytes(bytes: &[u8]) -> bool
     others.to_bitmask() == 0
 }
 
+/// The places of 32 bytes.
+const PLACES: [u8; 32] = [
+    0, 1, 2, 3, 4, 5, 6, 7, 8, 9, 10, 11, 12, 13, 14, 15, 16, 17, 18, 19, 20, 21, 22, 23, 24, 25,
+    26, 27, 28, 29, 30, 31,
+];
+
+/// So many bytes from the front of a text, and `_` after them: 32 in all. Where the text has 32, they are moved together.
+#[inline(always)]
+fn filled(text: &[u8], len: usize) -> [u8; 32]
+    requires within { len ≤ length text.now }
+    requires few { len ≤ 32 }
+    ensures { result ≡ take len text.now ++ drop len (replicate 32 95) }
+{
+    if text.len() < 32 {
+        let mut copy = [b'_'; 32];
+        copy[..len].copy_from_slice(&text[..len]);
+        return copy;
+    }
+    let is_taken = u8x32::from_array(PLACES).simd_lt(u8x32::splat(len as u8));
+    is_taken
+        .select(u8x32::from_slice(text), u8x32::splat(b'_'))
+        .to_array()
+}
+
 impl Key {
     /// The key of these bytes, or none where they are no key.
     pub fn read(bytes: &[u8]) -> Option<Key>
         ensures { MatchOption result (is_key bytes.now ≡ false) (λ key. (key ≡ bytes.now) × (is_key bytes.now ≡ true)) }
     {
-        let len = bytes.len();
+        Key::read_front(bytes, bytes.len())
+    }
+
+    /// The key of so many bytes from the front of a text, or none where they are no key. What follows them in the text
+    /// changes nothing, but lets them be read together.
+    #[inline(always)]
+    pub fn read_front(text: &[u8], len: usize) -> Option<Key>
+        requires { len ≤ length text.now }
+        ensures { MatchOption result (is_key (take len text.now) ≡ false) (λ key. (key ≡ take len text.now) × (is_key (take len text.now) ≡ true)) }
+    {
         if len < 1 || len > 32 {
             return None;
         }
-        let mut copy = [b'_'; 32];
-        copy[..len].copy_from_slice(bytes);
+        let copy = filled(text, len);
         if !are_word_bytes(&copy) {
             return None;
         }

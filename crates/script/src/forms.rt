@@ -13,7 +13,6 @@ use crate::function::Function;
 use crate::script::{Query, ScriptCall};
 use crate::words::Words;
 use bin_history::Call;
-use hashkeys::Key;
 
 /// What a line says where calls may stand.
 #[derive(Drop)]
@@ -74,8 +73,8 @@ fn read_arguments(command: Command, mut words: Words<'_>) -> Result<ScriptCall, 
     ensures ok { IfOk result (λ c. Says (form command) words.entry (call c)) }
     ensures err { IfErr result (IsWrong (slots_of (form command)) words.entry) }
 {
-    let word = words.word()?;
-    let Some(key) = Key::read(word) else {
+    let word = words.front()?;
+    let Some(key) = word.key() else {
         return Err(Kind::Key);
     };
     Ok(match command {

@@ -1,12 +1,14 @@
 //! The lines of a text.
-ghost use Rattle.std.specs.Prelude.{◌≡◌, ◌≢◌, ◌∷◌, ◌++◌, ◌≤◌, All, MatchOption, length, take};
+ghost use Rattle.std.specs.Prelude.{◌≡◌, ◌≢◌, ◌∷◌, ◌++◌, ◌≤◌, All, MatchOption, length, take, true, false};
+ghost use Rattle.hashkeys.specs.Text.{is_key};
 ghost use Rattle.script.specs.Lines.{BeginsWith};
 
 use crate::bytes::place_before;
+use hashkeys::Key;
 use std::marker::Model;
 
-/// A line of a text, without its line feed. What follows it in the text is kept beside it, so that its last bytes can be
-/// looked at together with others. Contracts see the line's bytes.
+/// A line of a text, without its line feed, or a word of one. What follows it in the text is kept beside it, so that its
+/// last bytes can be looked at together with others. Contracts see the line's bytes.
 #[derive(Drop)]
 pub(crate) struct TextLine<'a> {
     text: &'a [u8],
@@ -36,22 +38,31 @@ pub(crate) fn first_line(text: &[u8]) -> Option<(TextLine<'_>, &[u8])>
 }
 
 impl<'a> TextLine<'a> {
-    /// The line's bytes.
+    /// The bytes.
+    #[inline(always)]
     pub(crate) fn bytes(&self) -> &'a [u8]
         ensures { result.now ≡ self.now }
     {
         &self.text[..self.len]
     }
 
-    /// The bytes before the first space, and what follows it, if there is one.
+    /// The key that these bytes are, or none.
     #[inline(always)]
-    pub(crate) fn split(&self) -> (&'a [u8], Option<TextLine<'a>>)
-        ensures before { All (λ b. b ≢ 32) result.0.now }
-        ensures parts { MatchOption result.1 (result.0.now ≡ self.now) (λ more. self.now ≡ result.0.now ++ 32 ∷ more) }
+    pub(crate) fn key(&self) -> Option<Key>
+        ensures { MatchOption result (is_key self.now ≡ false) (λ key. (key ≡ self.now) × (is_key self.now ≡ true)) }
+    {
+        Key::read_front(self.text, self.len)
+    }
+
+    /// What stands before the first space, and what follows it, if there is one.
+    #[inline(always)]
+    pub(crate) fn split(&self) -> (TextLine<'a>, Option<TextLine<'a>>)
+        ensures before { All (λ b. b ≢ 32) result.0 }
+        ensures parts { MatchOption result.1 (result.0 ≡ self.now) (λ more. self.now ≡ result.0 ++ 32 ∷ more) }
     {
         let text = self.text;
         let end = place_before(text, self.len, b' ');
-        let word = &text[..end];
+        let word = TextLine { text, len: end };
         if end >= self.len {
             return (word, None);
         }

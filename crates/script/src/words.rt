@@ -32,14 +32,14 @@ pub(crate) fn first_word<'a>(line: &TextLine<'a>) -> (&'a [u8], Words<'a>)
     ensures { words line.now ≡ result.0.now ∷ result.1 }
 {
     let (word, rest) = line.split();
-    (word, Words { rest })
+    (word.bytes(), Words { rest })
 }
 
 impl<'a> Words<'a> {
-    /// The next word.
+    /// The next word, with what follows it in the text.
     #[inline(always)]
-    pub(crate) fn word(&mut self) -> Result<&'a [u8], Kind>
-        ensures ok { IfOk result (λ w. self.old ≡ w.now ∷ self.new) }
+    pub(crate) fn front(&mut self) -> Result<TextLine<'a>, Kind>
+        ensures ok { IfOk result (λ w. self.old ≡ w ∷ self.new) }
         ensures err { IfErr result (λ kind. (kind ≡ Kind.Count) × (self.old ≡ [])) }
     {
         let Some(line) = self.rest.take() else {
@@ -48,6 +48,16 @@ impl<'a> Words<'a> {
         let (word, rest) = line.split();
         self.rest = rest;
         Ok(word)
+    }
+
+    /// The next word.
+    #[inline(always)]
+    fn word(&mut self) -> Result<&'a [u8], Kind>
+        ensures ok { IfOk result (λ w. self.old ≡ w.now ∷ self.new) }
+        ensures err { IfErr result (λ kind. (kind ≡ Kind.Count) × (self.old ≡ [])) }
+    {
+        let word = self.front()?;
+        Ok(word.bytes())
     }
 
     /// Whether no word is left, which is an error where one is.
