@@ -1,16 +1,17 @@
 //! Calls that are prepared.
-ghost use Rattle.std.specs.Prelude.{◌≡◌, ◌<◌, ℕ, None, true, false, IfOk, IsOk};
-ghost use Rattle.bin_history.specs.Changes.{IsIndexOf, Fits};
+ghost use Rattle.std.specs.Prelude.{◌≡◌, ◌<◌, ℕ, Option, None, true, false, IfOk, IsOk, option_copied};
+ghost use Rattle.bin_history.specs.Changes.{IsIndexOf, Fits, change_by, left_by};
 ghost use Rattle.bin_history.specs.Copies.{IsExact};
 ghost use Rattle.bin_history.specs.Entries.{lookup};
-ghost use Rattle.bin_history.specs.Ops.{call_on, key_in, may_add};
+ghost use Rattle.bin_history.specs.Ops.{call_on, key_in, may_add, value_of};
 ghost use Rattle.bin_history.specs.Readiness.{IsWorkedOut, kept_in};
 ghost use Rattle.bin_history.specs.Sure.{IsNeverRefused, asks};
+ghost use Rattle.bin_history.specs.declared.effect.Effect.TheVariants.{Give};
 
 use crate::call::{Call, Remap};
 use crate::change::{Change, value_at};
 use crate::copies::copy_of_option;
-use crate::effect::Answer;
+use crate::effect::{Answer, Effect};
 use crate::form::Form;
 use crate::given::Given;
 use crate::op::Op;
@@ -54,6 +55,40 @@ impl<K, V, F> Model for Ready<K, V, F> {
     } };
 }
 
+/// What a recorded bin does for a call of this effect, and keeps of it: the change and the record each have their own copies.
+fn recorded<K: Clone + Drop, V: Clone + Drop, F: Drop>(
+    found: Option<usize>,
+    key: Given<'_, K>,
+    op: Op<V, F>,
+    effect: Effect<V>,
+    before: Option<&V>,
+) -> Result<(Change<K, V>, Kept<K, V, F>), AllocError>
+    requires keys { IsExact K.is_clone }
+    requires values { IsExact V.is_clone }
+    ensures change { IfOk result (λ r. (value : Option V) × (effect ≡ Give → value ≡ value_of op) × (r.0 ≡ change_by found (key_in key.entry) effect value)) }
+    ensures kept { IfOk result (λ r. r.1 ≡ record {
+      call = call_on (key_in key.entry) op;
+      before = option_copied before.entry;
+      after = left_by op effect (option_copied before.entry);
+    }) }
+    ensures succeeds { K.is_infallible (key_in key.entry) → IsNeverRefused V.is_infallible → IsOk result }
+{
+    let value = effect.copy_given(&op)?;
+    let after = copy_of_option(effect.left(&op, before))?;
+    let before = copy_of_option(before)?;
+    let key = key.into_owned()?;
+    let change = Change::by(Given::Lent(&key), found, effect, value)?;
+    let call = Call::on(key, op);
+    Ok((
+        change,
+        Kept {
+            call,
+            before,
+            after,
+        },
+    ))
+}
+
 /// Works out all that a call does to the entries of a bin of this form, in which its key was looked for.
 pub(crate) fn work_out<K: HashKey, V: Clone + Eq, F: Remap<K, V> + Drop>(
     entries: &[(K, V)],
@@ -82,20 +117,8 @@ pub(crate) fn work_out<K: HashKey, V: Clone + Eq, F: Remap<K, V> + Drop>(
     };
     let (change, kept) = match form {
         Form::Recorded => {
-            let value = work.effect.copy_given(&op)?;
-            let before = copy_of_option(before)?;
-            let after = copy_of_option(after)?;
-            let key = key.into_owned()?;
-            let change = Change::by(Given::Lent(&key), found, work.effect, value)?;
-            let call = Call::on(key, op);
-            (
-                change,
-                Some(Kept {
-                    call,
-                    before,
-                    after,
-                }),
-            )
+            let (change, kept) = recorded(found, key, op, work.effect, before)?;
+            (change, Some(kept))
         }
         Form::Lean => {
             let value = op.into_value();

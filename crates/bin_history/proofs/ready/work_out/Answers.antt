@@ -9,7 +9,7 @@ use Rattle.bin_history.specs.declared.work.Work.{Work}
 use Rattle.bin_history.proofs.Keys.{key_tells}
 use Rattle.bin_history.proofs.Changes.{entries_after-by, taken-by, HasIndex-change_by, Fits-change_by, after_of_none, key-call_on, lookup_absent}
 use Rattle.bin_history.proofs.ready.work_out.Goals as goal
-use Rattle.bin_history.proofs.ready.work_out.Goals.{in-Recorded+in_ok-value-in-Recorded+in_ok-before-in-Recorded+in_ok-after-in-Recorded+in_ok-key-in-Recorded+in_ok-change-in-Recorded}
+use Rattle.bin_history.proofs.ready.work_out.Goals.{in-Recorded+in_ok-change-in-Recorded}
 use Rattle.bin_history.proofs.ready.work_out.Goals.{in-Lean+in_ok-by-in-Lean}
 
 -- the change is the effect's, with the value that the call brings where the effect is to give it
@@ -18,12 +18,10 @@ told : (g : _) (c : goal.Joined-form g)
     × (c.match-form.change.0 ≡ change_by c.args.found (key_in c.args.key) c.in_ok-work.work.effect value)
 told g c =
     elim c.match-form.branch [
-      | in-Recorded+in_ok-value-in-Recorded+in_ok-before-in-Recorded+in_ok-after-in-Recorded+in_ok-key-in-Recorded+in_ok-change-in-Recorded w ↦ (
-        w.in_ok-value-in-Recorded.value,
-        w.in_ok-value-in-Recorded.ensures.value,
-        ap (λ (x : _ × _). x.0) w.change-is ∙ w.in_ok-change-in-Recorded.ensures.change
-            ∙ ap (λ k. change_by c.args.found k c.in_ok-work.work.effect w.in_ok-value-in-Recorded.value) w.in_ok-key-in-Recorded.ensures.key,
-      )
+      | in-Recorded+in_ok-change-in-Recorded w ↦ (
+          let (value, given, change) = w.in_ok-change-in-Recorded.ensures.change in
+          (value, given, ap (λ (x : _ × _). x.0) w.change-is ∙ change)
+          )
       | in-Lean+in_ok-by-in-Lean w ↦ (
         w.into_value-value.result,
         (λ give. w.into_value-value.ensures),
@@ -36,7 +34,7 @@ told g c =
 answer_is : (g : _) (c : goal.Joined-form g) → c.match-form.work.answer ≡ c.in_ok-work.work.answer
 answer_is g c =
     elim c.match-form.branch [
-      | in-Recorded+in_ok-value-in-Recorded+in_ok-before-in-Recorded+in_ok-after-in-Recorded+in_ok-key-in-Recorded+in_ok-change-in-Recorded w ↦ ap
+      | in-Recorded+in_ok-change-in-Recorded w ↦ ap
           (λ (x : Work _). x.answer) w.work-is
       | in-Lean+in_ok-by-in-Lean w ↦ ap (λ (x : Work _). x.answer) w.work-is
     ]
