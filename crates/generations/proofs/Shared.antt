@@ -92,11 +92,11 @@ module _ (K V F A : RattleType) (hash : HashKey.Ghosts K.Denot) (key_eq : Eq.Gho
 
   place_fields_send : AllSend (shape (PlaceInside.the_type K V F A hash key_eq key_same key_clone value_clone value_eq value_same remap function_clone
       alloc)).fields
-  place_fields_send = (search sendable depth 20, (search (sendable, counted.the_send, state_send) depth 20, tt))
+  place_fields_send = (search (sendable, counted.the_send, state_send) depth 20, tt)
 
   place_fields_sync : AllSync (shape (PlaceInside.the_type K V F A hash key_eq key_same key_clone value_clone value_eq value_same remap function_clone
       alloc)).fields
-  place_fields_sync = (search sendable depth 20, (search (sendable, counted.the_sync, state_send, state_sync) depth 20, tt))
+  place_fields_sync = (search (sendable, counted.the_sync, state_send, state_sync) depth 20, tt)
 
   pub place_send : IsSend (Place.the_row K V F A hash key_eq key_same key_clone value_clone value_eq value_same remap function_clone alloc)
   place_send = search (sendable, place_fields_send) depth 30

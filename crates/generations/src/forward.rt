@@ -43,8 +43,8 @@ impl<
     {
         let backoff = Backoff::new();
         for _ in rt.forever() {
-            let place = self.find(class.index());
-            let size = place.class().n();
+            let (place, met) = self.find(class.index());
+            let size = met.n();
             if class.n() < size {
                 return Ok(Moved::Already);
             }

@@ -42,16 +42,19 @@ impl<K: HashKey, V: Clone + Eq, F: Remap<K, V> + Clone, A: Allocator> Model
     ghost invariant = { λ g. IsGenerations g.ledger g.form g.salt g.opening.items g.tables.items };
 }
 
-/// The place of a table that has the hash.
+/// The place of a table that has the hash, and its class, which is told by where it stands.
 fn place_in<'a, K: HashKey, V: Clone + Eq, F: Remap<K, V> + Clone, A: Allocator>(
     places: &'a Places<K, V, F, A>,
     hash: u32,
-) -> &'a Place<K, V, F, A>
+) -> (&'a Place<K, V, F, A>, Class)
     requires { (map : GenerationsView) × (n : ℕ) × IsTable map n places.now.items }
-    ensures of_map { (map : GenerationsView) (n : ℕ) → IsTable map n places.now.items → IsPlaceOf map result.now }
-    ensures covers { covers result.now.class hash ≡ true }
+    ensures of_map { (map : GenerationsView) (n : ℕ) → IsTable map n places.now.items → IsPlaceOf map result.0.now }
+    ensures covers { covers result.0.now.class hash ≡ true }
+    ensures class { result.1 ≡ result.0.now.class }
 {
-    &places[hash as usize & (places.len() - 1)]
+    let n = places.len() as u32;
+    let index = hash & (n - 1);
+    (&places[index as usize], Class::new(n, index))
 }
 
 impl<K: HashKey, V: Clone + Eq, F: Remap<K, V> + Clone, A: Allocator> Generations<K, V, F, A> {
@@ -100,22 +103,23 @@ impl<K: HashKey, V: Clone + Eq, F: Remap<K, V> + Clone, A: Allocator> Generation
     {
         let widest = self.widest.load(SeqCst).min(u64::from(SIZES)) as u32;
         match self.table(widest) {
-            Some(places) => place_in(places, hash),
-            None => place_in(&self.opening, hash),
+            Some(places) => place_in(places, hash).0,
+            None => place_in(&self.opening, hash).0,
         }
     }
 
-    /// The place of the hash in the widest table where it was begun, and else its opening place.
-    pub(crate) fn find(&self, hash: u32) -> &Place<K, V, F, A>
-        ensures of_map { IsPlaceOf self.now result.now }
-        ensures covers { covers result.now.class hash ≡ true }
+    /// The place of the hash in the widest table where it was begun, and else its opening place, with its class.
+    pub(crate) fn find(&self, hash: u32) -> (&Place<K, V, F, A>, Class)
+        ensures of_map { IsPlaceOf self.now result.0.now }
+        ensures covers { covers result.0.now.class hash ≡ true }
+        ensures class { result.1 ≡ result.0.now.class }
     {
         let widest = self.widest.load(SeqCst).min(u64::from(SIZES)) as u32;
         for narrower in 0..widest {
             if let Some(places) = self.table(widest - narrower) {
-                let place = place_in(places, hash);
+                let (place, class) = place_in(places, hash);
                 if place.is_begun() {
-                    return place;
+                    return (place, class);
                 }
             }
         }

@@ -68,7 +68,8 @@ impl<
     {
         let backoff = Backoff::new();
         for _ in rt.forever() {
-            if let Some(held) = self.try_hold(rt, self.find(hash)) {
+            let (place, _class) = self.find(hash);
+            if let Some(held) = self.try_hold(rt, place) {
                 return held;
             }
             backoff.snooze();
@@ -107,7 +108,7 @@ impl<
         ensures place { IfSome result (λ h. h.place.now ≡ place.now) }
         ensures home { IfSome result (λ h. h.home.now ≡ self.now) }
     {
-        let State::Live(bin, role) = claim.put(State::Away, AWAY) else {
+        let State::Live(role, bin) = claim.put(State::Away, AWAY) else {
             return None;
         };
         bin.lawful();
@@ -139,7 +140,7 @@ impl<
             home: _,
             claim,
         } = self;
-        drop(claim.put(State::Live(bin, role), PRESENT));
+        drop(claim.put(State::Live(role, bin), PRESENT));
     }
 
     /// Takes the bin and its role for good. Nothing stays in the place.

@@ -36,7 +36,8 @@ impl<
         let n = self.n();
         let mut next = Class::new(n, 0);
         for before in 0..MOST_BINS {
-            match next_in_walk(n, self.find(next.index()).class()) {
+            let (_place, class) = self.find(next.index());
+            match next_in_walk(n, class) {
                 Some(class) => next = class,
                 None => return before + 1,
             }
@@ -73,8 +74,7 @@ impl<
         let n = self.n();
         let mut next = Class::new(n, 0);
         while bins.len() < bins.capacity() && roles.len() < roles.capacity() {
-            let place = self.find(next.index());
-            let class = place.class();
+            let (place, class) = self.find(next.index());
             if class.n() < next.n() {
                 return false;
             }

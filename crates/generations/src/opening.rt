@@ -44,7 +44,7 @@ fn opening_place<
         ledger: LedgerName::of(&role),
     };
     let bin = Bin::new(alloc.clone()?, form, salt, class, base)?;
-    Ok(Place::new(&tag, State::Live(boxed(&alloc, bin)?, role)))
+    Ok(Place::new(&tag, State::Live(role, boxed(&alloc, bin)?)))
 }
 
 /// The places of the opening bins, each made of the base and the role at its place.

@@ -10,7 +10,7 @@ use bin_history::{Bin, Remap};
 use count_ledger::BinRole;
 use counted_slot::{Claim, Counted, FREE, MARKED, MOST_READERS, ONE_READER, PRESENT, TAKEN};
 use crossbeam_utils::Backoff;
-use hashkeys::{Class, HashKey};
+use hashkeys::HashKey;
 use std::alloc::Allocator;
 use std::marker::Model;
 use std::sync::Wait;
@@ -19,22 +19,19 @@ use std::sync::Wait;
 /// held or filled it is `PRESENT`, where readers may come. While its bin is held the word is `TAKEN`.
 pub(crate) const AWAY: u64 = MARKED;
 
-/// A place for one bin: the bin's class, and its lock with the bin. Contracts see what was fixed when it was made.
+/// A place for one bin: its lock with the bin. Contracts see what was fixed when it was made; the bin's class is told by
+/// where the place stands in its table.
 #[derive(Drop)]
 pub struct Place<K: HashKey, V: Clone + Eq, F: Remap<K, V> + Clone, A: Allocator> {
-    class: Class,
     lock: Counted<State<K, V, F, A>>,
 }
 
 impl<K: HashKey, V: Clone + Eq, F: Remap<K, V> + Clone, A: Allocator> Model for Place<K, V, F, A> {
-    ghost use Rattle.std.specs.Prelude.{◌≡◌};
     ghost use Rattle.generations.specs.declared.state.PlaceTag.{PlaceTag};
 
     ghost Value = { PlaceTag };
 
     ghost view = { λ p. p.lock };
-
-    ghost invariant = { λ p. p.class ≡ p.lock.class };
 }
 
 impl<K: HashKey, V: Clone + Eq, F: Remap<K, V> + Clone, A: Allocator> Place<K, V, F, A> {
@@ -43,16 +40,8 @@ impl<K: HashKey, V: Clone + Eq, F: Remap<K, V> + Clone, A: Allocator> Place<K, V
         ensures { result ≡ tag.now }
     {
         Place {
-            class: tag.class,
             lock: Counted::new(state, tag),
         }
-    }
-
-    /// The class whose bin the place is for.
-    pub fn class(&self) -> Class
-        ensures { result ≡ self.now.class }
-    {
-        self.class
     }
 
     /// Whether the place was held or filled since it was made. Once it was it stays so.
@@ -151,6 +140,6 @@ impl<K: HashKey + Drop, V: Clone + Eq + Drop, F: Remap<K, V> + Clone + Drop, A: 
         requires { AreAt K.eq (after V.eq F.remapped F.merged) self.now bin.value role }
     {
         let claim = self.claim_from(rt, FREE);
-        drop(claim.put(State::Live(bin, role), PRESENT));
+        drop(claim.put(State::Live(role, bin), PRESENT));
     }
 }

@@ -56,7 +56,7 @@ impl<'a, K: HashKey, V: Clone + Eq, F: Remap<K, V> + Clone, A: Allocator + Clone
     {
         let _ = place;
         let live = match claim.get() {
-            State::Live(bin, _) => {
+            State::Live(_, bin) => {
                 bin.lawful();
                 true
             }
@@ -75,7 +75,7 @@ impl<'a, K: HashKey, V: Clone + Eq, F: Remap<K, V> + Clone, A: Allocator + Clone
         ensures { IsSomeAnd self.now (λ p. result.now ≡ p.0) }
     {
         match self.claim.get() {
-            State::Live(bin, _) => bin.as_ref(),
+            State::Live(_, bin) => bin.as_ref(),
             State::Away => unreachable!(),
         }
     }
@@ -112,7 +112,7 @@ impl<
     {
         let backoff = Backoff::new();
         for _ in rt.forever() {
-            let place = self.find(hash);
+            let (place, _class) = self.find(hash);
             self.open_up(rt, place);
             if let Some(claim) = place.try_share() {
                 if let Some(shown) = Shown::of(place, claim) {

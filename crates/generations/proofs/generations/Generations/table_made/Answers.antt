@@ -1,5 +1,4 @@
-use Rattle.std.proofs.Common.{◌≡◌, ℕ, ◌^◌, subst, sym}
-use Rattle.std.specs.Int.Count.{count_trailing_zeros}
+use Rattle.std.proofs.Common.{ℕ, subst, sym}
 use Rattle.generations.specs.Generations.{IsTable}
 use Rattle.generations.proofs.Indexes.{exponent_is}
 use Rattle.generations.proofs.generations.Generations.table_made.Goals as goal

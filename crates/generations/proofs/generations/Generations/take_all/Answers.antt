@@ -21,15 +21,15 @@ pub loop-roles-preserved : goal.loop-roles-preserved
 loop-roles-preserved g c =
     let n_is = c.n-n.ensures.value in
     let size : IsTableSize c.n-n.result = subst IsTableSize (sym n_is) c.n-n.ensures.size in
-    let class_is = c.class-class.ensures in
-    let least : c.n-n.result ≤ c.class-class.result.n =
-    (let l = c.find-place.ensures.of_map.least in let e = ap (λ (x : ClassView). x.n) class_is in omega arith) in
-    let of : covers c.class-class.result c.loop-roles.next.index ≡ true = subst (λ (x : ClassView). covers x c.loop-roles.next.index ≡ true) (sym class_is)
-    (ap (λ i. covers c.find-place.result.now.class i) (sym c.index.ensures) ∙ c.find-place.ensures.covers) in
-    let wide : c.loop-roles.next.n ≤ c.class-class.result.n =
+    let class_is = c.find-class.ensures.class in
+    let least : c.n-n.result ≤ c.find-class.result.1.n =
+    (let l = c.find-class.ensures.of_map.least in let e = ap (λ (x : ClassView). x.n) class_is in omega arith) in
+    let of : covers c.find-class.result.1 c.loop-roles.next.index ≡ true = subst (λ (x : ClassView). covers x c.loop-roles.next.index ≡ true) (sym class_is)
+    (ap (λ i. covers c.find-class.result.0.now.class i) (sym c.index.ensures) ∙ c.find-class.ensures.covers) in
+    let wide : c.loop-roles.next.n ≤ c.find-class.result.1.n =
     (let a = c.n.ensures.value in let b = c.n-in-loop-roles.ensures.value in let ge = c.if-n.false in omega arith) in
     record {
-      walk = IsWalkTo-more c.n-n.result c.loop-roles.bins.items c.push_reserved.new.self.items c.in-Some.bin c.loop-roles.next c.class-class.result size
+      walk = IsWalkTo-more c.n-n.result c.loop-roles.bins.items c.push_reserved.new.self.items c.in-Some.bin c.loop-roles.next c.find-class.result.1 size
           c.n-in-loop-roles.ensures.class c.n.ensures.class least
           c.loop-roles.invariant.walk of wide (c.in-Some.ensures.class ∙ sym class_is) c.push_reserved.ensures.items c.in-Some-next_in_walk.class
           c.in-Some-next_in_walk.ensures.next;
@@ -43,15 +43,15 @@ pub returns-in-None-clause-walk : goal.returns-in-None-clause-walk
 returns-in-None-clause-walk g c = λ ok.
     let n_is = c.n-n.ensures.value in
     let size : IsTableSize c.n-n.result = subst IsTableSize (sym n_is) c.n-n.ensures.size in
-    let class_is = c.class-class.ensures in
-    let least : c.n-n.result ≤ c.class-class.result.n =
-    (let l = c.find-place.ensures.of_map.least in let e = ap (λ (x : ClassView). x.n) class_is in omega arith) in
-    let of : covers c.class-class.result c.loop-roles.next.index ≡ true = subst (λ (x : ClassView). covers x c.loop-roles.next.index ≡ true) (sym class_is)
-    (ap (λ i. covers c.find-place.result.now.class i) (sym c.index.ensures) ∙ c.find-place.ensures.covers) in
-    let wide : c.loop-roles.next.n ≤ c.class-class.result.n =
+    let class_is = c.find-class.ensures.class in
+    let least : c.n-n.result ≤ c.find-class.result.1.n =
+    (let l = c.find-class.ensures.of_map.least in let e = ap (λ (x : ClassView). x.n) class_is in omega arith) in
+    let of : covers c.find-class.result.1 c.loop-roles.next.index ≡ true = subst (λ (x : ClassView). covers x c.loop-roles.next.index ≡ true) (sym class_is)
+    (ap (λ i. covers c.find-class.result.0.now.class i) (sym c.index.ensures) ∙ c.find-class.ensures.covers) in
+    let wide : c.loop-roles.next.n ≤ c.find-class.result.1.n =
     (let a = c.n.ensures.value in let b = c.n-in-loop-roles.ensures.value in let ge = c.if-n.false in omega arith) in
     subst (λ m. IsWalk m (classes_of_bins c.push_reserved.new.self.items)) n_is
-    (IsWalk-all c.n-n.result c.loop-roles.bins.items c.push_reserved.new.self.items c.in-Some.bin c.loop-roles.next c.class-class.result size
+    (IsWalk-all c.n-n.result c.loop-roles.bins.items c.push_reserved.new.self.items c.in-Some.bin c.loop-roles.next c.find-class.result.1 size
     c.n-in-loop-roles.ensures.class c.n.ensures.class least
     c.loop-roles.invariant.walk of wide (c.in-Some.ensures.class ∙ sym class_is) c.push_reserved.ensures.items c.in-None.ensures.last)
 
