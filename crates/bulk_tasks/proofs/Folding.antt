@@ -1,12 +1,18 @@
 -- Folds of lists that lie side by side.
-use Rattle.std.proofs.Common.{◌≡◌, ℕ, ◌+◌, ◌<◌, List, [], ◌∷◌, ◌++◌, length, get_or, take, Option, Some, None, refl, ap, sym, ◌∙◌, subst}
-use Rattle.std.specs.Prelude.{fold, map, unwrap_or, MatchOption}
+use Rattle.std.proofs.Common.{◌≡◌, ℕ, ◌+◌, ◌<◌, ◌^◌, List, [], ◌∷◌, ◌++◌, length, get_or, take, Option, Some, None, refl, ap, sym, ◌∙◌, subst, arith}
+use Rattle.std.specs.Prelude.{fold, map, unwrap_or, IfSome, MatchOption}
 use Rattle.std.proofs.lemmas.Grind.{fold-append}
 use Rattle.std.proofs.lemmas.List.{map-append, take_more}
-use Rattle.bulk_tasks.specs.Folds.{fold_from, plain_fold, IsAssociative}
+use Rattle.bulk_tasks.specs.Folds.{fold_from, plain_fold, AreOfFew, IsAssociative}
 
 none_ne_some : {A : Type 0} (a : A) → None ≡ Some a → ⊥
 none_ne_some {A} a h = let P : Option A → Type 0 = λ o. MatchOption o (Unit {0}) (λ _. ⊥) in subst P h tt
+
+-- a basis, which is of no pairs, and a value of fewer than 2^64
+pub few_with_basis : {A : Type 0} → (within : ℕ → A → Type 0) (basis : A) (n : ℕ) (folded : Option A)
+    → n < 2 ^ 64 → within 0 basis → IfSome folded (within n) → IfSome folded (AreOfFew within basis)
+few_with_basis within basis n None few b h = tt
+few_with_basis within basis n (Some a) few b h = (0, n, b, h, omega (arith, few))
 
 module _ {K V A : Type 0} (lift : K → V → A) (join : A → A → A) where
   pub from_both : (a : A) (es fs : List (K × V)) → fold_from lift join a (es ++ fs) ≡ fold_from lift join (fold_from lift join a es) fs

@@ -2,7 +2,7 @@
 use Rattle.std.proofs.Common.{◌≡◌, ◌<◌, [], ◌∷◌, length, get_or, ℕ, ◌+◌, ◌-◌, ◌≤◌, List, ◌++◌, take, drop, ap, sym, ◌∙◌, arith}
 use Rattle.std.specs.Prelude.{slice_range}
 use Rattle.std.proofs.Math.Seq.{take-add}
-use Rattle.std.proofs.lemmas.List.{drop-drop, length-drop, take-append-drop, take_all, take_more, append-nil}
+use Rattle.std.proofs.lemmas.List.{drop-drop, length-append, length-drop, take-append-drop, take_all, take_more, append-nil}
 use Rattle.std.proofs.lemmas.Grind.{flat_map-append}
 use Rattle.std.proofs.lemmas.List.Folds.{length-flat_map-take}
 use Rattle.bin_history.specs.Lawful.{BinView}
@@ -48,3 +48,14 @@ entries_after_none bins i d h none =
 pub entries_few : {K V F : Type 0} → (bins : List (BinView K V F)) (i : ℕ) (d : BinView K V F) → i < length bins
     → length (entries_of (take i bins)) + length (get_or bins i d).entries ≤ length (entries_of bins)
 entries_few bins i d h = length-flat_map-take (λ b. b.entries) bins i d h
+
+-- nor has a range of them
+pub range_few : {K V F : Type 0} → (bins : List (BinView K V F)) (lo hi : ℕ) → length (entries_of (slice_range bins lo hi)) ≤ length (entries_of bins)
+range_few bins lo hi =
+    let rest = drop lo bins in
+    let own = entries_of (take (hi - lo) rest) in
+    let after = entries_of (drop (hi - lo) rest) in
+    let near : length own + length after ≡ length (entries_of rest) = sym (length-append own after) ∙ ap length (entries_rest rest (hi - lo)) in
+    let far : length (entries_of (take lo bins)) + length (entries_of rest) ≡ length (entries_of bins)
+    = sym (length-append (entries_of (take lo bins)) (entries_of rest)) ∙ ap length (entries_rest bins lo) in
+    omega (arith, near, far)

@@ -1,5 +1,5 @@
 //! What is collected from the pairs of bins, in parts that lie side by side.
-ghost use Rattle.std.specs.Prelude.{◌<◌, ◌++◌, List, length, slice_range};
+ghost use Rattle.std.specs.Prelude.{◌<◌, ◌+◌, ◌^◌, ◌++◌, List, length, slice_range};
 ghost use Rattle.chm.specs.Quiets.{entries_of};
 ghost use Rattle.completers.specs.Parts.{AreParts};
 
@@ -16,12 +16,14 @@ pub trait Collector<K: HashKey, V: Clone + Eq, F: Remap<K, V> + Clone, A: Alloca
     // Of the pairs of a list, in order.
     ghost collected: { Self → List (K × V) → Self.Part → Type 0 };
 
-    /// What the pairs of these bins give.
+    /// What the pairs of these bins give, of which there are fewer than 2^64.
     fn collect(&self, bins: &[Bin<K, V, F, A>]) -> Self::Part
+        requires few { length (entries_of bins.now) < 2 ^ 64 }
         ensures { collected self.now (entries_of bins.now) result };
 
-    /// The part of two parts side by side.
+    /// The part of two parts side by side, of fewer than 2^64 pairs together.
     fn append(&self, left: Self::Part, right: Self::Part) -> Self::Part
+        requires few { (es : List (K × V)) × (fs : List (K × V)) × collected self.now es left × collected self.now fs right × (length es + length fs < 2 ^ 64) }
         ensures { (es fs : List (K × V)) → collected self.now es left → collected self.now fs right → collected self.now (es ++ fs) result };
 }
 
@@ -37,6 +39,7 @@ pub(crate) struct Collecting<
 > {
     pub(crate) bins: &'a [Bin<K, V, F, A>],
     pub(crate) collector: &'a C,
+    ghost few: { length (entries_of bins.now) < 2 ^ 64 },
 }
 
 impl<

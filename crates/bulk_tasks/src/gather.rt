@@ -36,6 +36,11 @@ where
         return collector.collect(&bins[..0]);
     }
     let batch = batch(count, plan.threshold, plan.workers);
+    // One task needs no pool.
+    if batch == 0 {
+        plan.gate.leaf(0, 0, bins.len());
+        return collector.collect(bins);
+    }
     let body = Collecting { bins, collector };
     run(rt, alloc, plan.workers, plan.gate, &body, bins.len(), batch)
 }

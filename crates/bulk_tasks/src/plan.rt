@@ -6,7 +6,8 @@ use steal_pool::OpenGate;
 
 /// How a bulk operation is shared out. The threshold is the least number of entries worth a
 /// task of their own (`batch` has the whole rule); there are 1 to 16 workers, the caller among
-/// them; and the gate is called before each task.
+/// them; and the gate is called before each task. A single task is done by the caller, and starts
+/// no thread.
 #[derive(Drop, Debug)]
 pub struct Plan<'a, G> {
     pub threshold: u64,

@@ -2,7 +2,7 @@
 ghost use Rattle.std.specs.Prelude.{◌≡◌, ℕ, ◌+◌, ◌<◌, ◌^◌, List, length, IfOk, IfSome, IsOk, IsErrOf, IsTrue};
 ghost use Rattle.std.specs.List.Sorted.{IsPermutation};
 ghost use Rattle.chm.specs.Quiets.{entries_of};
-ghost use Rattle.bulk_tasks.specs.Folds.{fold_from, plain_fold, FoldsInAnyOrder};
+ghost use Rattle.bulk_tasks.specs.Folds.{fold_from, plain_fold, AreOfFew, FoldsInAnyOrder};
 ghost use Rattle.bulk_tasks.specs.Plans.{IsPlanned};
 
 use crate::collector::Collector;
@@ -24,9 +24,10 @@ fn fold_onto<K, V, R: Reducer<K, V>>(
     first: R::A,
     entries: &[(K, V)],
 ) -> Result<R::A, AllocError>
+    requires few { (n : ℕ) × R.within reducer.now n first × (n + length entries.now < 2 ^ 64) }
     ensures fold { IfOk result (λ a. a ≡ fold_from (R.lifted reducer.now) (R.joined reducer.now) first entries.now) }
     ensures within { (n : ℕ) → R.within reducer.now n first → IfOk result (R.within reducer.now (n + length entries.now)) }
-    ensures total { IsTrue R.never_refuses → (n : ℕ) → R.within reducer.now n first → n + length entries.now < 2 ^ 64 → IsOk result }
+    ensures total { IsTrue R.never_refuses → IsOk result }
 {
     let mut folded = first;
     for (key, value) in entries {
@@ -44,9 +45,10 @@ fn fold_bins_onto<
     A: Allocator + Clone,
     R: Reducer<K, V>,
 >(reducer: &R, first: R::A, bins: &[Bin<K, V, F, A>]) -> Result<R::A, AllocError>
+    requires few { (n : ℕ) × R.within reducer.now n first × (n + length (entries_of bins.now) < 2 ^ 64) }
     ensures fold { IfOk result (λ a. a ≡ fold_from (R.lifted reducer.now) (R.joined reducer.now) first (entries_of bins.now)) }
     ensures within { (n : ℕ) → R.within reducer.now n first → IfOk result (R.within reducer.now (n + length (entries_of bins.now))) }
-    ensures total { IsTrue R.never_refuses → (n : ℕ) → R.within reducer.now n first → n + length (entries_of bins.now) < 2 ^ 64 → IsOk result }
+    ensures total { IsTrue R.never_refuses → IsOk result }
 {
     let mut folded = first;
     for bin in bins {
@@ -115,9 +117,10 @@ fn join_onto<K, V, R: Reducer<K, V>>(
     basis: R::A,
     folded: Option<R::A>,
 ) -> Result<R::A, AllocError>
+    requires few { IfSome folded (AreOfFew (R.within reducer.now) basis) }
     ensures fold { IfOk result (λ a. (es : List (K × V)) → folded ≡ plain_fold (R.lifted reducer.now) (R.joined reducer.now) es
         → a ≡ fold_from (R.lifted reducer.now) (R.joined reducer.now) basis es) }
-    ensures total { IsTrue R.never_refuses → R.within reducer.now 0 basis → (n : ℕ) → n < 2 ^ 64 → IfSome folded (R.within reducer.now n) → IsOk result }
+    ensures total { IsTrue R.never_refuses → IsOk result }
 {
     match folded {
         None => Ok(basis),

@@ -1,15 +1,15 @@
 //! What a caller of a bulk operation gives. Each states the function that it works out;
 //! all may be refused memory, and a reducer or a probe may state that it never is.
-ghost use Rattle.std.specs.Prelude.{◌≡◌, ℕ, ◌+◌, ◌<◌, ◌^◌, IfOk, IsOk, IsTrue};
+ghost use Rattle.std.specs.Prelude.{◌≡◌, IfOk, IsOk, IsTrue};
 
 use std::alloc::AllocError;
 
 /// What makes one value of all pairs: each is lifted, and the lifted values are joined. Join is
 /// associative and commutative, so it does not matter which are joined first. A reducer states a
-/// bound within which the value of so many pairs lies: a join that is never refused need hold values of fewer than 2^64 pairs alone.
+/// bound within which the value of so many pairs lies, and is asked to join values of fewer than 2^64 pairs alone.
 pub trait Reducer<K, V> {
     ghost use Rattle.std.specs.Prelude.{ℕ, Bool};
-    ghost use Rattle.bulk_tasks.specs.Folds.{IsAssociative, IsCommutative, JoinsWithin};
+    ghost use Rattle.bulk_tasks.specs.Folds.{AreOfFew, IsAssociative, IsCommutative, JoinsWithin};
 
     /// What the pairs are reduced to.
     type A: Drop;
@@ -21,7 +21,7 @@ pub trait Reducer<K, V> {
     // What a value of so many pairs lies within.
     ghost within: { Self → ℕ → Self.A → Type 0 };
 
-    // Whether neither call, nor that of a basis, is ever refused, where there are fewer than 2^64 pairs.
+    // Whether neither call, nor that of a basis, is ever refused.
     ghost never_refuses: { Bool };
 
     /// The value of one pair.
@@ -30,10 +30,11 @@ pub trait Reducer<K, V> {
         ensures within { IfOk result (within self.now 1) }
         ensures total { IsTrue never_refuses → IsOk result };
 
-    /// The value of two.
+    /// The value of two, which are of fewer than 2^64 pairs together: a closed map has no more.
     fn join(&self, left: Self::A, right: Self::A) -> Result<Self::A, AllocError>
+        requires few { AreOfFew (within self.now) left right }
         ensures value { IfOk result (λ a. a ≡ joined self.now left right) }
-        ensures total { IsTrue never_refuses → (n m : ℕ) → within self.now n left → within self.now m right → n + m < 2 ^ 64 → IsOk result };
+        ensures total { IsTrue never_refuses → IsOk result };
 
     ghost associative: { (r : Self) → IsAssociative (joined r) };
 

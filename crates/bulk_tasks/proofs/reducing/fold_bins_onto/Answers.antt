@@ -1,5 +1,4 @@
 use Rattle.std.proofs.Common.{◌≡◌, ℕ, ◌+◌, List, ◌++◌, length, get_or, take, ap, subst, sym, ◌∙◌, arith}
-use Rattle.std.proofs.lemmas.Bool.{false≢true}
 use Rattle.std.proofs.lemmas.List.{length-append, take_all}
 use Rattle.chm.specs.Quiets.{entries_of}
 use Rattle.bulk_tasks.specs.Folds.{fold_from}
@@ -7,15 +6,15 @@ use Rattle.bulk_tasks.proofs.Folding.{from_both}
 use Rattle.bulk_tasks.proofs.Ranges.{entries_more, entries_few}
 use Rattle.bulk_tasks.proofs.reducing.fold_bins_onto.Goals as goal
 
-pub returns-in_err-folded-clause-total : goal.returns-in_err-folded-clause-total
-returns-in_err-folded-clause-total g c = λ never n h few.
+pub fold_onto-requires : goal.fold_onto-requires
+fold_onto-requires g c =
     let bins = c.args.bins.now in
     let i = c.loop-bin.bin-index in
+    let (n, h, few) = c.requires.few in
     let own : length c.entries.result.now ≡ length (get_or bins i c.bin-item.result).entries
     = ap length (c.entries.ensures ∙ ap (λ b. b.entries) c.bin-item.is) in
     let all = entries_few bins i c.bin-item.result c.loop-bin-test.true in
-    absurd (false≢true (c.in_err-folded.ensures.total never (n + length (entries_of (take i bins))) (c.loop-bin.invariant.1 n h)
-    (omega (arith, own, all, few))))
+    record { few = (n + length (entries_of (take i bins)), c.loop-bin.invariant.1 n h, omega (arith, own, all, few)) }
 
 pub loop-bin-preserved : goal.loop-bin-preserved
 loop-bin-preserved g c =

@@ -1,11 +1,7 @@
-use Rattle.std.proofs.Common.{◌≡◌, ℕ, suc, ◌+◌, ◌<◌, List, ◌∷◌, ◌++◌, Option, Some, Result, length, get_or, slice_range, ap, subst, sym, ◌∙◌, arith}
-use Rattle.std.proofs.Math.Nat.{lt_of_not-le}
-use Rattle.std.proofs.lemmas.Bool.{false≢true}
+use Rattle.std.proofs.Common.{◌≡◌, ℕ, suc, ◌+◌, List, ◌∷◌, ◌++◌, Some, length, get_or, slice_range, ap, subst, sym, ◌∙◌, arith}
 use Rattle.std.proofs.lemmas.List.{length-append}
-use Rattle.std.proofs.lemmas.Result.{err_from_is_err_and}
-use Rattle.std.specs.declared.alloc.AllocError.{AllocError}
 use Rattle.chm.specs.Quiets.{entries_of}
-use Rattle.bulk_tasks.specs.Folds.{fold_from, plain_fold, IsFolded}
+use Rattle.bulk_tasks.specs.Folds.{fold_from, plain_fold}
 use Rattle.bulk_tasks.proofs.Folding.{begun}
 use Rattle.bulk_tasks.proofs.Ranges.{entries_after_none}
 use Rattle.bulk_tasks.proofs.reducing.FoldingCollector.collect.Goals as goal
@@ -35,9 +31,8 @@ returns-in-Some g c =
           (c.in_ok-fold_bins_onto.ensures.within (1 + length others) (c.in_ok-begun.ensures.within 1 c.in_ok-lifted.ensures.within)),
     )
 
-pub returns-in_err-fold_bins_onto : goal.returns-in_err-fold_bins_onto
-returns-in_err-fold_bins_onto g c =
-    let reducer = c.args.self.now.reducer.now in
+pub fold_bins_onto-requires : goal.fold_bins_onto-requires
+fold_bins_onto-requires g c =
     let bins = c.args.bins.now in
     let i = c.loop-place.place in
     let first = c.in-Some.first.now in
@@ -48,12 +43,5 @@ returns-in_err-fold_bins_onto g c =
     let all : (first ∷ others) ++ rest ≡ entries_of bins
     = ap (λ (es : List _). es ++ rest) own ∙ entries_after_none bins i c.index-bins-place.result c.loop-place-test.true c.loop-place.invariant in
     let both : suc (length others) + length rest ≡ length (entries_of bins) = sym (length-append (first ∷ others) rest) ∙ ap length all in
-    let len : (1 + length others) + length rest ≡ length (entries_of bins) = omega (arith, both) in
-    let P : Result (Option g.row.R-A.Denot) AllocError → Type 0
-    = λ r. IsFolded (g.R.Reducer.lifted reducer) (g.R.Reducer.joined reducer) (g.R.Reducer.within reducer) g.R.Reducer.never_refuses (entries_of bins) r in
-    let is = err_from_is_err_and c.from_residual-in_err-fold_bins_onto.result c.from_residual-in_err-fold_bins_onto.ensures.1 in
-    subst P (sym is.1) (λ never.
-    let many : 18446744073709551616 < length (entries_of bins) + 1 =
-    lt_of_not-le (λ few. false≢true (c.in_err-fold_bins_onto.ensures.total never (1 + length others)
-    (c.in_ok-begun.ensures.within 1 c.in_ok-lifted.ensures.within) (omega (arith, few, len)))) in
-    omega (arith, many))
+    let few = c.requires.few in
+    record { few = (1 + length others, c.in_ok-begun.ensures.within 1 c.in_ok-lifted.ensures.within, omega (arith, both, few)) }
