@@ -1,15 +1,19 @@
 -- Clients, their passes, and what they made.
-use Rattle.std.proofs.Common.{◌≡◌, ℕ, ℤ, ◌<◌, ◌≤◌, List, [], ◌∷◌, ◌++◌, Option, Some, None, IfSome, Result, Ok, Err, IfOk, Vec, All, length, map, take}
-use Rattle.std.proofs.Common.{slice_index_or, sym, ap, subst, ◌∙◌, arith}
+use Rattle.std.proofs.Common.{◌≡◌, ℕ, ℤ, ◌<◌, ◌≤◌, List, [], ◌∷◌, ◌++◌, Option, Some, None, IfSome, IsSomeAnd, Result, Ok}
+use Rattle.std.proofs.Common.{Err, IfOk, MatchResult, Vec, All, length, map, take, ◌==◌, true, slice_index_or, sym, ap, subst, ◌∙◌, arith}
 use Rattle.std.specs.List.{remove}
 use Rattle.std.proofs.Math.Seq.{take-append_seam}
-use Rattle.std.proofs.lemmas.List.{get_or-map, length-map, ext_get_or}
+use Rattle.std.proofs.lemmas.List.{append-nil, get_or-map, length-map, ext_get_or}
+use Rattle.std.proofs.lemmas.Bool.Decides.{nat_tests}
+use Rattle.std.proofs.lemmas.List.Elements.{All-head, All-tail}
 use Rattle.std.proofs.lemmas.List.FromFn.{get_or-map-range_with_len, length-map-range_with_len}
 use Rattle.bin_history.specs.declared.call.Reply.{Reply}
+use Rattle.chm.specs.declared.fault.Fault.{Fault}
+use Rattle.chm.specs.declared.fault.Fault.TheVariants.{NoMemory}
 use Rattle.count_ledger.specs.Opening.{new_pass, new_passes}
 use Rattle.count_ledger.specs.Views.{LedgerId}
 use Rattle.script.specs.Grammar.{ScriptCall}
-use Rattle.facing_cli.specs.Played.{ScriptPass, HasMade, IsSeated, HasEnded, ArePlayed, passes_of}
+use Rattle.facing_cli.specs.Played.{ScriptPass, HasAnswer, HasMade, IsSeated, HasEnded, ArePlayed, passes_of}
 use Rattle.facing_cli.specs.declared.client.Client.{Client}
 
 -- the first of a list leaves it
@@ -32,6 +36,30 @@ restored xs rest n is = ap (λ (m : ℕ). take m (xs ++ rest)) (sym is) ∙ take
 pub IfOk-weaker : {T E : Type 0} (P Q : T → Type 0) (r : Result T E) → ((x : T) → P x → Q x) → IfOk r P → IfOk r Q
 IfOk-weaker P Q (Ok x) weaker p = weaker x p
 IfOk-weaker P Q (Err e) weaker p = tt
+
+-- the first of some leaves them, and what each was is so of it and of the others
+pub first-was : {X : Type 0} (P : X → Type 0) (xs ys : List X) (x : X) → x ∷ ys ≡ xs → All P xs → P x × All P ys
+first-was {X} P xs ys x is all =
+    let both : All P (x ∷ ys) = subst (λ (zs : List X). All P zs) (sym is) all in
+    (All-head P x ys both, All-tail P x ys both)
+
+pub nothing-left : {X Y : Type 0} (f : X → Y) (xs : List X) (ys zs : List Y) (n : ℕ) → (n == 0) ≡ true → length xs ≡ n → ys ++ map f xs ≡ zs → ys ≡ zs
+nothing-left f [] ys zs n none long is = sym (append-nil ys) ∙ is
+nothing-left f (x ∷ xs) ys zs n none long is = absurd (grind (arith, nat_tests))
+
+-- an answer that is there, and is a refusal
+pub refused-so : {T E : Type 0} (P : T → Type 0) (Q : E → Type 0) (o : Option (Result T E)) (e : E)
+    → IsSomeAnd o (λ r. MatchResult r P Q) → o ≡ Some (Err e) → Q e
+refused-so {T} {E} P Q o e a is = subst (λ (x : Option (Result T E)). IsSomeAnd x (λ r. MatchResult r P Q)) is a
+
+pub never-none : {T : Type 0} (P : T → Type 0) (o : Option T) → IsSomeAnd o P → o ≡ None → ⊥
+never-none {T} P o a is = subst (λ (x : Option T). IsSomeAnd x P) is a
+
+answered-somehow : {T E : Type 0} (P : T → Type 0) (Q : E → Type 0) (o : Option (Result T E)) → IsSomeAnd o (λ r. MatchResult r P Q)
+    → IsSomeAnd o (λ r. MatchResult r (λ x. Unit {0}) Q)
+answered-somehow P Q None a = a
+answered-somehow P Q (Some (Ok x)) a = tt
+answered-somehow P Q (Some (Err e)) a = a
 
 -- new passes are client after client's
 module _ (id : LedgerId) (n : ℕ) (passes : List ScriptPass) (new : passes ≡ new_passes id n) where
@@ -88,9 +116,29 @@ module _ {A : Type 0} (id : LedgerId) (blocks : List (Vec ScriptCall A)) (before
         let many : c < length blocks = let n = as_many in let m = length-map after (λ (x : Client A). x.pass) in omega arith in
         ap (λ (x : ScriptPass). x.ledger) (after-pass c p many) ∙ (has_ended c p many).ledger ∙ ap (λ (x : ScriptPass). x.ledger) (pass-at c (client p) many)
 
-    module _ (replies : List (Vec (Reply ℤ) A)) (gathered : map (λ c. c.replies) after ≡ map Some replies) where
+    has_answer : (c : ℕ) (d : Client A) (b : Vec ScriptCall A) → c < length blocks
+        → HasAnswer (λ replies. HasMade (slice_index_or blocks c b).items replies.items (slice_index_or after c d).pass.made) (slice_index_or after c d)
+    has_answer c d b lt =
+        let own : Client A = slice_index_or after c d in
+        subst (λ (o : Option (Vec ScriptCall A)). IfSome o (λ calls. HasAnswer (λ replies. HasMade calls.items replies.items own.pass.made) own))
+        (calls-at c d b lt) (ended c d (let n = as_many in omega arith)).made
+
+    pub HasAnswer-after : All (HasAnswer (λ r. Unit {0})) after
+    HasAnswer-after = λ c d lt.
+        let many : c < length blocks = let n = as_many in omega arith in
+        let b : Vec ScriptCall A = some_of blocks (omega arith) in
+        answered-somehow (λ replies. HasMade (slice_index_or blocks c b).items replies.items (slice_index_or after c d).pass.made) (λ fault. fault ≡ NoMemory)
+        (slice_index_or after c d).replies (has_answer c d b many)
+
+    module _ (replies : List (Vec (Reply ℤ) A)) (gathered : map (λ c. c.replies) after ≡ map (λ r. Some (Ok r)) replies) where
+      abbrev Answer : Type 0
+      Answer = Option (Result (Vec (Reply ℤ) A) Fault)
+
+      abbrev answer : Vec (Reply ℤ) A → Answer
+      answer r = Some (Ok r)
+
       as_many_replies : length replies ≡ length blocks
-      as_many_replies = sym (length-map replies (λ (r : Vec (Reply ℤ) A). Some r)) ∙ sym (ap length gathered) ∙ length-map after (λ (x : Client A). x.replies)
+      as_many_replies = sym (length-map replies answer) ∙ sym (ap length gathered) ∙ length-map after (λ (x : Client A). x.replies)
           ∙ long ∙ as_many
 
       made-at : (c : ℕ) (p : ScriptPass) → c < length blocks → HasMade (slice_index_or (map (λ b. b.items) blocks) c [])
@@ -101,19 +149,18 @@ module _ {A : Type 0} (id : LedgerId) (blocks : List (Vec ScriptCall A)) (before
           let b : Vec ScriptCall A = some_of blocks (omega arith) in
           let r : Vec (Reply ℤ) A = some_of replies (omega arith) in
           let own = slice_index_or after c (client p) in
-          let replies_is : own.replies ≡ Some (slice_index_or replies c r) =
+          let replies_is : own.replies ≡ answer (slice_index_or replies c r) =
           sym (get_or-map (λ (x : Client A). x.replies) after c (client p) None (omega arith))
-          ∙ ap (λ (rs : List (Option (Vec (Reply ℤ) A))). slice_index_or rs c None) gathered
-          ∙ get_or-map Some replies c r None (omega arith) in
-          let first = subst (λ (o : Option (Vec ScriptCall A)). IfSome o
-          (λ calls. IfSome own.replies (λ replies. HasMade calls.items replies.items own.pass.made))) (calls-at c (client p) b lt) (has_ended c p lt).made in
-          let second = subst (λ (o : Option (Vec (Reply ℤ) A)). IfSome o (λ replies. HasMade (slice_index_or blocks c b).items replies.items own.pass.made))
-          replies_is first in
+          ∙ ap (λ (rs : List Answer). slice_index_or rs c None) gathered
+          ∙ get_or-map answer replies c r None (omega arith) in
+          let made = subst (λ (o : Answer). IsSomeAnd o
+          (λ a. MatchResult a (λ replies. HasMade (slice_index_or blocks c b).items replies.items own.pass.made) (λ fault. fault ≡ NoMemory)))
+          replies_is (has_answer c (client p) b lt) in
           rw (
             get_or-map (λ (x : Vec ScriptCall A). x.items) blocks c b [] lt,
             get_or-map (λ (x : Vec (Reply ℤ) A). x.items) replies c r [] (omega arith),
             after-pass c p lt,
-          ) second
+          ) made
 
       pub ArePlayed-gathered : ArePlayed (map (λ b. b.items) blocks) (map (λ r. r.items) replies) (passes_of after)
       ArePlayed-gathered =

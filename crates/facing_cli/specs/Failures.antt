@@ -28,10 +28,10 @@ abbrev pub fault_of : ParseError → Fault
 fault_of errors.NoMemory = NoMemory
 fault_of (errors.Fault f) = ScriptFault f.line f.kind
 
--- the refusals of the map that a script can meet
-abbrev pub IsOfMap : map.Fault → Type 0
-IsOfMap fault = (fault ≡ of_map.NoMemory) ⊎ (fault ≡ of_map.BinMissing)
-
 -- playing a script's blocks ends early where memory runs out, or bins of the map were missing when it was closed
-abbrev pub IsOfPlay : Fault → Type 0
-IsOfPlay fault = (fault ≡ NoMemory) ⊎ (fault ≡ BinMissing)
+abbrev pub IsOfPlay : map.Fault → Type 0
+IsOfPlay fault = (fault ≡ of_map.NoMemory) ⊎ (fault ≡ of_map.BinMissing)
+
+-- such a refusal of the map, and the fault of the program that it is
+abbrev pub IsRefusedAs : map.Fault → Fault → Type 0
+IsRefusedAs refusal fault = ((refusal ≡ of_map.NoMemory) × (fault ≡ NoMemory)) ⊎ ((refusal ≡ of_map.BinMissing) × (fault ≡ BinMissing))

@@ -1,5 +1,5 @@
 -- What the calls of the clients do to a map.
-use Rattle.std.specs.Prelude.{◌≡◌, ℕ, ℤ, ◌<◌, ◌≤◌, None, IfSome, List, [], length, map, slice_index_or}
+use Rattle.std.specs.Prelude.{◌≡◌, ℕ, ℤ, ◌<◌, ◌≤◌, None, IfSome, IsSomeAnd, MatchResult, List, [], length, map, slice_index_or}
 use Rattle.std.specs.List.{zip}
 use Rattle.std.specs.declared.vec.Vec.{Vec}
 use Rattle.bin_history.specs.Records.{RecordView}
@@ -7,6 +7,7 @@ use Rattle.bin_history.specs.declared.call.Reply.{Reply}
 use Rattle.chm.specs.Quiets.{QuietView, entries_of}
 use Rattle.bin_history.specs.Limits.{most_calls}
 use Rattle.bin_history.specs.declared.form.Form.TheVariants.{Recorded}
+use Rattle.chm.specs.declared.fault.Fault.TheVariants.{NoMemory}
 use Rattle.count_ledger.specs.Opening.{lists_of}
 use Rattle.count_ledger.specs.Views.{LedgerId, PassView}
 use Rattle.script.specs.Grammar.{ScriptCall}
@@ -34,11 +35,15 @@ pub record IsSeated {A : Type 0} (id : LedgerId) (c : Client A) : Type 0 where
   pub short : IfSome c.calls (λ calls. length calls.items ≤ most_calls Recorded)
   pub none : c.replies ≡ None
 
--- the client after its calls: it has its own pass, and where it has replies they are those of its calls
+-- the client has replies, of which this holds, or was refused for want of memory
+abbrev pub HasAnswer : {A : Type 0} → (Vec (Reply ℤ) A → Type 0) → Client A → Type 0
+HasAnswer P c = IsSomeAnd c.replies (λ r. MatchResult r P (λ fault. fault ≡ NoMemory))
+
+-- the client after its calls: it has its own pass, and the replies of its calls, or one was refused for want of memory
 pub record HasEnded {A : Type 0} (before after : Client A) : Type 0 where
   pub ledger : after.pass.ledger ≡ before.pass.ledger
   pub client : after.pass.client ≡ before.pass.client
-  pub made : IfSome before.calls (λ calls. IfSome after.replies (λ replies. HasMade calls.items replies.items after.pass.made))
+  pub made : IfSome before.calls (λ calls. HasAnswer (λ replies. HasMade calls.items replies.items after.pass.made) after)
 
 -- the passes of clients, in their order
 abbrev pub passes_of : {A : Type 0} → List (Client A) → List ScriptPass

@@ -1,7 +1,8 @@
 //! One client of a script: its pass, and the calls of its block.
-ghost use Rattle.std.specs.Prelude.{◌≡◌, ◌≤◌, [], length, IfOk};
+ghost use Rattle.std.specs.Prelude.{◌≡◌, ◌≤◌, [], length, IfOk, IfErr};
 ghost use Rattle.bin_history.specs.Limits.{most_calls};
 ghost use Rattle.bin_history.specs.declared.form.Form.TheVariants.{Recorded};
+ghost use Rattle.chm.specs.declared.fault.Fault.TheVariants.{NoMemory};
 ghost use Rattle.facing_cli.specs.Played.{HasMade, IsSeated, HasEnded};
 
 use crate::gate::ClientGate;
@@ -10,7 +11,7 @@ use chm::{Fault, Map, Quiet};
 use count_ledger::Pass;
 use hashkeys::Key;
 use script::{Function, ScriptCall};
-use std::alloc::{AllocError, Allocator};
+use std::alloc::Allocator;
 use std::sync::Wait;
 
 /// A map of the program's keys and values.
@@ -22,11 +23,11 @@ pub(crate) type ScriptQuiet<A> = Quiet<Key, i64, Function, A>;
 /// The right of one client to make calls of it.
 pub(crate) type ScriptPass = Pass<Key, i64, Function>;
 
-/// A client: its calls until they are made, and the replies once all were.
+/// A client: its calls until they are made, and then their replies, or why one was refused.
 pub(crate) struct Client<A: Allocator> {
     pub(crate) pass: ScriptPass,
     pub(crate) calls: Option<Vec<ScriptCall, A>>,
-    pub(crate) replies: Option<Vec<Reply<i64>, A>>,
+    pub(crate) replies: Option<Result<Vec<Reply<i64>, A>, Fault>>,
 }
 
 /// Makes the calls of one client, and answers their replies. It is refused for want of memory alone.
@@ -36,22 +37,20 @@ fn make_calls<R: Wait, G: ClientGate, A: Allocator + Clone>(
     gate: &G,
     pass: &mut ScriptPass,
     calls: Vec<ScriptCall, A>,
-) -> Result<Vec<Reply<i64>, A>, AllocError>
+) -> Result<Vec<Reply<i64>, A>, Fault>
     requires pass { pass.old.ledger ≡ map.now.ledger.id }
     requires fresh { pass.old.made ≡ [] }
     requires short { length calls.items ≤ most_calls Recorded }
     ensures ledger { pass.new.ledger ≡ pass.old.ledger }
     ensures client { pass.new.client ≡ pass.old.client }
     ensures made { IfOk result (λ replies. HasMade calls.items replies.items pass.new.made) }
+    ensures fault { IfErr result (λ fault. fault ≡ NoMemory) }
 {
     let mut replies = Vec::with_capacity(calls.allocator().clone()?, calls.len())?;
     for call in calls {
         gate.call(pass.client() as usize, pass.made());
-        match map.call(rt, pass, call) {
-            Ok(reply) => replies.push_reserved(reply),
-            Err(Fault::NoMemory) => return Err(AllocError),
-            Err(_) => unreachable!(),
-        }
+        let reply = map.call(rt, pass, call)?;
+        replies.push_reserved(reply);
     }
     Ok(replies)
 }
@@ -63,7 +62,7 @@ impl<A: Allocator + Clone> Client<A> {
         ensures { HasEnded self.old self.new }
     {
         if let Some(calls) = self.calls.take() {
-            self.replies = make_calls(rt, map, gate, &mut self.pass, calls).ok();
+            self.replies = Some(make_calls(rt, map, gate, &mut self.pass, calls));
         }
     }
 }

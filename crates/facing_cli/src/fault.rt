@@ -1,5 +1,6 @@
 //! What a run can end with, and how it is told.
 ghost use Rattle.std.specs.Prelude.{◌≡◌};
+ghost use Rattle.facing_cli.specs.Failures.{IsOfPlay, IsRefusedAs};
 ghost use Rattle.facing_cli.specs.declared.fault.Fault.TheVariants.{NoMemory, Device};
 
 use crate::device::DeviceError;
@@ -49,6 +50,18 @@ impl<T: Drop> From<AllocFailed<T>> for Fault {
 
     fn from(_error: AllocFailed<T>) -> Fault {
         Fault::NoMemory
+    }
+}
+
+/// What a refusal of the map is to the program.
+pub(crate) fn refused(fault: chm::Fault) -> Fault
+    requires { IsOfPlay fault }
+    ensures { IsRefusedAs fault result }
+{
+    match fault {
+        chm::Fault::NoMemory => Fault::NoMemory,
+        chm::Fault::BinMissing => Fault::BinMissing,
+        _ => unreachable!(),
     }
 }
 

@@ -1,19 +1,19 @@
 //! The client blocks of a script, each played by a thread of its own on one map.
-ghost use Rattle.std.specs.Prelude.{◌≡◌, ◌≤◌, ◌<◌, ℕ, [], length, map, All, Some, None, IfOk, IfErr, vec_len, vec_capacity, slice_index_or};
+ghost use Rattle.std.specs.Prelude.{◌≡◌, ◌≤◌, ◌<◌, ℕ, [], length, map, All, Some, None, Ok, IfOk, IfErr, vec_len, vec_capacity, slice_index_or};
 ghost use Rattle.chm.specs.Quiets.{entries_of};
+ghost use Rattle.chm.specs.declared.fault.Fault.TheVariants.{NoMemory};
 ghost use Rattle.count_ledger.specs.Opening.{new_passes};
 ghost use Rattle.script.specs.Verdicts.{IsWithinLimits};
-ghost use Rattle.facing_cli.specs.Failures.{IsOfMap, IsOfPlay};
+ghost use Rattle.facing_cli.specs.Failures.{IsOfPlay};
 ghost use Rattle.facing_cli.specs.Outcomes.{IsAllowed};
 ghost use Rattle.count_ledger.specs.Opening.{lists_of};
-ghost use Rattle.facing_cli.specs.Played.{passes_of, outcome_of, ArePlayed, HasEnded, IsSeated};
+ghost use Rattle.facing_cli.specs.Played.{passes_of, outcome_of, ArePlayed, HasAnswer, HasEnded, IsSeated};
 
 use crate::client::{Client, ScriptMap, ScriptPass};
-use crate::fault::Fault;
 use crate::gate::ClientGate;
 use crate::options::Options;
 use bin_history::{MOST_CLIENTS, Reply};
-use chm::{Map, NotClosed, Quiet};
+use chm::{Fault, Map, NotClosed, Quiet};
 use count_ledger::retire_all;
 use hashkeys::Key;
 use script::{Function, ScriptCall};
@@ -80,18 +80,20 @@ fn play_clients<R: Threads + Wait + Sync, G: ClientGate + Sync, A: Allocator + C
     thread::for_each_mut(rt, clients, MOST_CLIENTS as usize, &play);
 }
 
-/// Takes the passes of the clients back, and their replies, where no client was refused.
+/// Takes the passes of the clients back, and their replies, where no call was refused.
 fn gather<A: Allocator>(
     mut clients: Vec<Client<A>, A>,
     passes: &mut Vec<ScriptPass, A>,
     mut replies: Replies<A>,
-) -> Result<Replies<A>, AllocError>
+) -> Result<Replies<A>, Fault>
+    requires ended { All (HasAnswer (λ r. Unit {0})) clients.items }
     requires none { (passes.old.items ≡ []) × (replies.items ≡ []) }
     requires room { (vec_len clients ≤ vec_capacity passes.old) × (vec_len clients ≤ vec_capacity replies) }
     ensures passes { passes.new.items ≡ passes_of clients.items }
-    ensures replies { IfOk result (λ r. map (λ c. c.replies) clients.items ≡ map Some r.items) }
+    ensures replies { IfOk result (λ r. map (λ c. c.replies) clients.items ≡ map (λ own. Some (Ok own)) r.items) }
+    ensures fault { IfErr result (λ fault. fault ≡ NoMemory) }
 {
-    let mut refused = false;
+    let mut refused = None;
     while !clients.is_empty() {
         let Client {
             pass,
@@ -100,15 +102,16 @@ fn gather<A: Allocator>(
         } = clients.remove(0);
         passes.push_reserved(pass);
         match own {
-            Some(own) => replies.push_reserved(own),
-            None => refused = true,
+            Some(Ok(own)) => replies.push_reserved(own),
+            Some(Err(fault)) => refused = Some(fault),
+            None => unreachable!(),
         }
     }
     clients.destroy_empty();
-    if refused {
-        return Err(AllocError);
+    match refused {
+        Some(fault) => Err(fault),
+        None => Ok(replies),
     }
-    Ok(replies)
 }
 
 /// Plays the blocks, the first with the first pass, and so on. All passes come back.
@@ -118,11 +121,12 @@ fn play_blocks<R: Threads + Wait + Sync, G: ClientGate + Sync, A: Allocator + Cl
     gate: &G,
     passes: &mut Vec<ScriptPass, A>,
     blocks: Vec<Vec<ScriptCall, A>, A>,
-) -> Result<Replies<A>, AllocError>
+) -> Result<Replies<A>, Fault>
     requires limits { IsWithinLimits (lists_of blocks) }
     requires fresh { passes.old.items ≡ new_passes map.now.ledger.id (length blocks.items) }
     ensures ledger { All (λ p. p.ledger ≡ map.now.ledger.id) passes.new.items }
     ensures played { IfOk result (λ replies. ArePlayed (lists_of blocks) (lists_of replies) passes.new.items) }
+    ensures fault { IfErr result (λ fault. fault ≡ NoMemory) }
 {
     let (mut clients, replies) = room_for(&blocks)?;
     seat(&mut clients, passes, blocks);
@@ -135,18 +139,6 @@ fn play_blocks<R: Threads + Wait + Sync, G: ClientGate + Sync, A: Allocator + Cl
 pub(crate) struct Played<A: Allocator> {
     pub(crate) replies: Replies<A>,
     pub(crate) map: Quiet<Key, i64, Function, A>,
-}
-
-/// What a refusal of the map is to the program.
-fn refused(fault: chm::Fault) -> Fault
-    requires { IsOfMap fault }
-    ensures { IsOfPlay result }
-{
-    match fault {
-        chm::Fault::NoMemory => Fault::NoMemory,
-        chm::Fault::BinMissing => Fault::BinMissing,
-        _ => unreachable!(),
-    }
 }
 
 /// Plays the client blocks on a new map, block 0 as client 0 and so on, and closes the map.
@@ -166,13 +158,13 @@ pub(crate) fn play<
     ensures fault { IfErr result IsOfPlay }
 {
     let (capacity, clients) = (options.capacity(), blocks.len() as u32);
-    let (map, mut passes) = match Map::lean(alloc, capacity, clients, options.salt()) {
-        Ok(opened) => opened,
-        Err(fault) => return Err(refused(fault)),
-    };
-    let Ok(replies) = play_blocks(rt, &map, gate, &mut passes, blocks) else {
-        retire_all(passes);
-        return Err(Fault::NoMemory);
+    let (map, mut passes) = Map::lean(alloc, capacity, clients, options.salt())?;
+    let replies = match play_blocks(rt, &map, gate, &mut passes, blocks) {
+        Ok(replies) => replies,
+        Err(fault) => {
+            retire_all(passes);
+            return Err(fault);
+        }
     };
     match map.close(rt, passes) {
         Ok(map) => {
@@ -186,7 +178,7 @@ pub(crate) fn play<
                 passes,
             } = not_closed;
             retire_all(passes);
-            Err(refused(fault))
+            Err(fault)
         }
     }
 }

@@ -7,7 +7,7 @@ ghost use Rattle.facing_cli.specs.Runs.{IsOutputOf, IsUnread, IsRefusalOf, OfInp
 
 use crate::answers::{Crew, push_answers};
 use crate::device::{Input, Output};
-use crate::fault::Fault;
+use crate::fault::{Fault, refused};
 use crate::gate::ClientGate;
 use crate::options::Options;
 use crate::play::play;
@@ -37,7 +37,10 @@ fn output_of<
     ensures { MatchResult result (λ bytes. IsOutputOf text.now bytes.items) (λ fault. IsRefusalOf text.now fault) }
 {
     let Script { blocks, queries } = parse(alloc.clone()?, text)?;
-    let played = play(rt, alloc.clone()?, options, blocks, gate)?;
+    let played = match play(rt, alloc.clone()?, options, blocks, gate) {
+        Ok(played) => played,
+        Err(fault) => return Err(refused(fault)),
+    };
     let mut bytes = Vec::new(alloc.clone()?);
     push_clients(&mut bytes, &played.replies)?;
     let crew = Crew {

@@ -9,14 +9,14 @@ use Rattle.facing_cli.proofs.play.play.Goals as goal
 pub returns-in-Ok-close-clause-ok : goal.returns-in-Ok-close-clause-ok
 returns-in-Ok-close-clause-ok g c =
     let ledger = c.in-Ok-close.ensures.ledger in
-    IsAllowed-closed (lists_of c.args.blocks) (lists_of c.in-Ok-play_blocks.replies) c.in-Ok-close.map c.lawful.ensures
-    (ap (λ l. l.opening) ledger ∙ c.in-Ok.ensures.new.opening)
-    (let clients : c.in-Ok-close.map.ledger.clients ≡ c.len.result = ap (λ l. l.clients) ledger ∙ c.in-Ok.ensures.new.clients in
+    IsAllowed-closed (lists_of c.args.blocks) (lists_of c.in-Ok.replies) c.in-Ok-close.map c.lawful.ensures
+    (ap (λ l. l.opening) ledger ∙ c.in_ok-map.ensures.new.opening)
+    (let clients : c.in-Ok-close.map.ledger.clients ≡ c.len.result = ap (λ l. l.clients) ledger ∙ c.in_ok-map.ensures.new.clients in
     omega (arith, c.len.ensures, length-map c.args.blocks.items (λ (b : Vec _ _). b.items)))
-    (subst (ArePlayed (lists_of c.args.blocks) (lists_of c.in-Ok-play_blocks.replies)) (sym c.in-Ok-close.ensures.passes) c.in-Ok-play_blocks.ensures.played)
+    (subst (ArePlayed (lists_of c.args.blocks) (lists_of c.in-Ok.replies)) (sym c.in-Ok-close.ensures.passes) c.in-Ok.ensures.played)
 
-pub refused-requires-in-Err-close : goal.refused-requires-in-Err-close
-refused-requires-in-Err-close g c =
+pub returns-in-Err-close-clause-fault : goal.returns-in-Err-close-clause-fault
+returns-in-Err-close-clause-fault g c =
     let refused = c.in-Err-close.ensures.refused in
     let same : c.not_closed.inside.fault ≡ c.in-Err-close.not_closed.fault = ap (λ (e : NotClosedView _ _ _). e.fault) c.not_closed.view_is in
     elim refused.faults [
@@ -25,8 +25,8 @@ refused-requires-in-Err-close g c =
           elim others [
             | inl missing ↦
                 let few = refused.missing.0 missing in
-                let clients = c.in-Ok.ensures.new.clients in
-                let many = c.in-Ok-play_blocks.ensures.played.as_many in
+                let clients = c.in_ok-map.ensures.new.clients in
+                let many = c.in-Ok.ensures.played.as_many in
                 absurd (omega (arith, c.len.ensures, length-map c.args.blocks.items (λ (b : Vec _ _). b.items)))
             | inr bins ↦ inr (same ∙ bins)
           ]

@@ -1,8 +1,8 @@
-use Rattle.std.proofs.Common.{◌≡◌, ◌++◌, List, None, Some, Vec, All, length, map, take, drop, ap, subst, sym, ◌∙◌}
+use Rattle.std.proofs.Common.{◌≡◌, ◌++◌, List, None, Some, Ok, Vec, All, length, map, take, drop, ap, subst, sym, ◌∙◌}
 use Rattle.count_ledger.specs.Opening.{lists_of}
-use Rattle.facing_cli.specs.Played.{ScriptPass, ArePlayed, passes_of}
+use Rattle.facing_cli.specs.Played.{ScriptPass, ArePlayed, HasAnswer, passes_of}
 use Rattle.facing_cli.specs.declared.client.Client.{Client}
-use Rattle.facing_cli.proofs.Seats.{new-length, new-ledger, restored, IfOk-weaker, AreSeated-seated, AllLedger-after, ArePlayed-gathered}
+use Rattle.facing_cli.proofs.Seats.{new-length, new-ledger, restored, IfOk-weaker, AreSeated-seated, AllLedger-after, HasAnswer-after, ArePlayed-gathered}
 use Rattle.facing_cli.proofs.play.play_blocks.Goals as goal
 
 pub returns-in_err-clients-clause-ledger : goal.returns-in_err-clients-clause-ledger
@@ -20,6 +20,18 @@ play_clients-requires-after_bounds g c = λ κs within.
     (ap (map (λ (x : Client g.row.A.Denot). x.calls)) is ∙ c.seat.ensures.calls)
     (subst (λ (cs : List (Client g.row.A.Denot)). All (λ (x : Client g.row.A.Denot). x.replies ≡ None) cs) (sym is) c.seat.ensures.replies)
     c.requires.limits.short
+
+pub gather-requires-clause-ended : goal.gather-requires-clause-ended
+gather-requires-clause-ended g c =
+    let before : List (Client g.row.A.Denot) = c.deref_mut.result.now in
+    let after : List (Client g.row.A.Denot) = c.play_clients.new.clients in
+    let is : before ≡ c.seat.new.clients.items = c.deref_mut.ensures.value in
+    subst (λ (cs : List (Client g.row.A.Denot)). All (HasAnswer (λ r. Unit {0})) cs)
+    (sym (restored after _ _ (c.play_clients.ensures.len ∙ c.deref_mut.ensures.len)))
+    (HasAnswer-after c.args.map.now.ledger.id c.args.blocks.items before
+    (ap passes_of is ∙ c.seat.ensures.passes ∙ c.requires.fresh)
+    (ap (map (λ (x : Client g.row.A.Denot). x.calls)) is ∙ c.seat.ensures.calls)
+    after c.play_clients.ensures.len c.play_clients.ensures.ended)
 
 pub returns-clause-ledger : goal.returns-clause-ledger
 returns-clause-ledger g c =
@@ -42,7 +54,7 @@ returns-clause-played g c =
     let cut : List (Client g.row.A.Denot) = take c.seat.new.clients.len (after ++ drop (length after) c.seat.new.clients.items) in
     let whole : cut ≡ after = restored after _ _ (c.play_clients.ensures.len ∙ c.deref_mut.ensures.len) in
     IfOk-weaker
-    (λ (r : Vec (Vec _ g.row.A.Denot) g.row.A.Denot). map (λ (x : Client g.row.A.Denot). x.replies) cut ≡ map Some r.items)
+    (λ (r : Vec (Vec _ g.row.A.Denot) g.row.A.Denot). map (λ (x : Client g.row.A.Denot). x.replies) cut ≡ map (λ own. Some (Ok own)) r.items)
     (λ (r : Vec (Vec _ g.row.A.Denot) g.row.A.Denot). ArePlayed (lists_of c.args.blocks) (lists_of r) c.gather.new.passes.items)
     c.gather.result
     (λ r gathered.
