@@ -1,7 +1,7 @@
 //! Bulk operations on small closed maps.
 use crate::gates::{all_workers, new_meeting};
 use crate::samples::{
-    Above, CountedAction, CountedProbe, Initials, KeyQuiet, ShortGreatest, closed,
+    Above, CountedAction, CountedProbe, Initials, KeyQuiet, ShortGreatest, assert_same, closed,
 };
 use bulk_tasks::{BulkFault, Greatest, Plan, Sum, batch, for_each, reduce, reduce_based, search};
 use hashkeys::Key;
@@ -12,7 +12,7 @@ use std::sync::atomic::AtomicU64;
 use std::sync::atomic::Ordering::SeqCst;
 use std::test::Fail;
 use std::thread::Threads;
-use steal_pool::OpenGate;
+use steal_pool::{Gate, OpenGate};
 
 #[test]
 fn batches(rt: HostRuntime) {
@@ -28,7 +28,7 @@ fn batches(rt: HostRuntime) {
         (64, u64::MAX, 16, 0),
     ];
     for (count, threshold, workers, wanted) in rows {
-        assert_eq!(rt; batch(count, threshold, workers), wanted);
+        assert_same(&rt, &batch(count, threshold, workers), &wanted);
     }
 }
 
@@ -84,33 +84,44 @@ fn open_plan(threshold: u64, workers: usize) -> Plan<'static, OpenGate> {
     }
 }
 
+/// What each operation answers: the sum, the sum over 0, a value above 0, and how many answers an action gives.
+type Answers = (
+    Result<Option<i128>, BulkFault>,
+    Result<i128, BulkFault>,
+    Result<Option<i64>, BulkFault>,
+    Option<usize>,
+);
+
+fn answers<Rt: Threads + Wait + Sync>(
+    rt: &Rt,
+    alloc: Global,
+    quiet: &KeyQuiet,
+    plan: &Plan<'_, OpenGate>,
+) -> Answers {
+    let list = for_each(rt, alloc, quiet, plan, &Initials { refused_at: 0 });
+    (
+        reduce(rt, alloc, quiet, plan, &Sum),
+        reduce_based(rt, alloc, quiet, plan, &Sum),
+        search(rt, alloc, quiet, plan, &Above(0)),
+        list.ok().map(|list| list.len()),
+    )
+}
+
 #[test]
 fn no_entries(rt: HostRuntime) -> Result<(), Fail> {
     let quiet = quiet_of(&rt, rt.alloc(), 16, &[])?;
-    let plan = open_plan(1, 4);
-    assert_eq!(rt; reduce(&rt, rt.alloc(), &quiet, &plan, &Sum), Ok(None));
-    assert_eq!(rt; reduce_based(&rt, rt.alloc(), &quiet, &plan, &Sum), Ok(0));
-    assert_eq!(rt; search(&rt, rt.alloc(), &quiet, &plan, &Above(0)), Ok(None));
-    let initials = Initials { refused_at: 0 };
-    let list = for_each(&rt, rt.alloc(), &quiet, &plan, &initials).expect(&rt, "a list");
-    assert_eq!(rt; list.len(), 0);
+    let found = answers(&rt, rt.alloc(), &quiet, &open_plan(1, 4));
+    assert_same(&rt, &found, &(Ok(None), Ok(0), Ok(None), Some(0)));
     Ok(())
 }
 
 #[test]
 fn bad_workers(rt: HostRuntime) -> Result<(), Fail> {
     let quiet = quiet_of(&rt, rt.alloc(), 16, &[(b"a", 1)])?;
+    let bad = BulkFault::BadWorkers;
     for workers in [0, 17] {
-        let plan = open_plan(1, workers);
-        let bad = BulkFault::BadWorkers;
-        assert_eq!(rt; reduce(&rt, rt.alloc(), &quiet, &plan, &Sum), Err(bad));
-        assert_eq!(rt;
-            reduce_based(&rt, rt.alloc(), &quiet, &plan, &Sum),
-            Err(bad)
-        );
-        assert_eq!(rt; search(&rt, rt.alloc(), &quiet, &plan, &Above(0)), Err(bad));
-        let refused = for_each(&rt, rt.alloc(), &quiet, &plan, &Initials { refused_at: 0 });
-        assert!(rt; refused.is_err());
+        let found = answers(&rt, rt.alloc(), &quiet, &open_plan(1, workers));
+        assert_same(&rt, &found, &(Err(bad), Err(bad), Err(bad), None));
     }
     Ok(())
 }
@@ -121,59 +132,56 @@ fn the_sum_of_1_to_64(rt: HostRuntime) -> Result<(), Fail> {
     for workers in 1..=16 {
         for threshold in [0, 1, 7, 64, 65, u64::MAX] {
             let plan = open_plan(threshold, workers);
-            assert_eq!(rt;
+            let found = (
                 reduce(&rt, rt.alloc(), &quiet, &plan, &Sum),
-                Ok(Some(2080))
-            );
-            assert_eq!(rt;
                 reduce_based(&rt, rt.alloc(), &quiet, &plan, &Sum),
-                Ok(2080)
-            );
-            assert_eq!(rt;
                 reduce(&rt, rt.alloc(), &quiet, &plan, &Greatest),
-                Ok(Some(64))
             );
+            assert_same(&rt, &found, &(Ok(Some(2080)), Ok(2080), Ok(Some(64))));
         }
     }
     Ok(())
 }
 
-#[test]
-fn two_tasks_at_once(rt: HostRuntime) -> Result<(), Fail> {
-    let quiet = counted(&rt, rt.alloc(), 64)?;
-    let gate = new_meeting(2, 10_000_000);
+/// The sum of the values 1 to 64 of a map, whose work is divided as far as it can be.
+fn sum_of_64<Rt: Threads + Wait + Sync + Abort, G: Gate + Sync>(
+    rt: &Rt,
+    alloc: Global,
+    workers: usize,
+    gate: &G,
+) -> Result<Option<i128>, BulkFault> {
+    let quiet = counted(rt, alloc, 64)?;
     let plan = Plan {
         threshold: 1,
-        workers: 2,
-        gate: &gate,
+        workers,
+        gate,
     };
-    assert_eq!(rt;
-        reduce(&rt, rt.alloc(), &quiet, &plan, &Sum),
-        Ok(Some(2080))
-    );
-    assert_eq!(rt; gate.late.load(SeqCst), 0);
-    assert!(rt; gate.begun.load(SeqCst) > 1);
-    Ok(())
+    reduce(rt, alloc, &quiet, &plan, &Sum)
 }
 
-// One worker does one task after the other.
 #[test]
-fn one_worker_is_late(rt: HostRuntime) -> Result<(), Fail> {
-    let quiet = counted(&rt, rt.alloc(), 64)?;
+fn two_tasks_at_once(rt: HostRuntime) {
+    let gate = new_meeting(2, 10_000_000);
+    let sum = sum_of_64(&rt, rt.alloc(), 2, &gate);
+    assert_same(&rt, &(sum, gate.late.load(SeqCst)), &(Ok(Some(2080)), 0));
+    assert!(rt; gate.begun.load(SeqCst) > 1);
+}
+
+// One worker does one task after the other. A batch of 4 gives 8 tasks, of 128 bins.
+#[test]
+fn one_worker_is_late(rt: HostRuntime) {
     let gate = new_meeting(2, 1000);
-    let plan = Plan {
-        threshold: 1,
-        workers: 1,
-        gate: &gate,
-    };
-    assert_eq!(rt;
-        reduce(&rt, rt.alloc(), &quiet, &plan, &Sum),
-        Ok(Some(2080))
-    );
-    assert_eq!(rt; gate.late.load(SeqCst), 1);
-    // A batch of 4 gives 8 tasks, of 128 bins.
-    assert_eq!(rt; gate.begun.load(SeqCst), 8);
-    Ok(())
+    let sum = sum_of_64(&rt, rt.alloc(), 1, &gate);
+    let found = (sum, gate.late.load(SeqCst), gate.begun.load(SeqCst));
+    assert_same(&rt, &found, &(Ok(Some(2080)), 1, 8));
+}
+
+#[test]
+fn four_workers_reduce(rt: HostRuntime) {
+    let gate = all_workers(0b1111);
+    let sum = sum_of_64(&rt, rt.alloc(), 4, &gate);
+    let found = (sum, gate.late.load(SeqCst), gate.seen.load(SeqCst));
+    assert_same(&rt, &found, &(Ok(Some(2080)), 0, 0b1111));
 }
 
 // How many tasks four workers do, over 16 bins.
@@ -189,19 +197,19 @@ fn tasks<Rt: Threads + Wait + Sync + Abort>(
         workers: 4,
         gate: &gate,
     };
-    assert_eq!(rt; reduce(rt, alloc, quiet, &plan, &Sum), Ok(Some(3)));
+    let sum = reduce(rt, alloc, quiet, &plan, &Sum);
+    assert_same(rt, &sum, &Ok(Some(3)));
     gate.begun.load(SeqCst)
 }
 
 #[test]
 fn tasks_by_threshold(rt: HostRuntime) -> Result<(), Fail> {
     let quiet = quiet_of(&rt, rt.alloc(), 16, &[(b"a", 1), (b"q", 2)])?;
-    assert_eq!(rt; quiet.bins().len(), 16);
-    assert_eq!(rt; tasks(&rt, rt.alloc(), &quiet, 0), 16);
-    assert_eq!(rt; tasks(&rt, rt.alloc(), &quiet, 1), 4);
-    assert_eq!(rt; tasks(&rt, rt.alloc(), &quiet, 2), 2);
-    assert_eq!(rt; tasks(&rt, rt.alloc(), &quiet, 3), 1);
-    assert_eq!(rt; tasks(&rt, rt.alloc(), &quiet, u64::MAX), 1);
+    assert_same(&rt, &quiet.bins().len(), &16);
+    for (threshold, wanted) in [(0, 16), (1, 4), (2, 2), (3, 1), (u64::MAX, 1)] {
+        let begun = tasks(&rt, rt.alloc(), &quiet, threshold);
+        assert_same(&rt, &(threshold, begun), &(threshold, wanted));
+    }
     Ok(())
 }
 
@@ -213,8 +221,9 @@ fn a_search_gives_up_after_a_find(rt: HostRuntime) -> Result<(), Fail> {
         calls: AtomicU64::new(0),
     };
     let found = search(&rt, rt.alloc(), &quiet, &open_plan(1, 1), &probe);
-    assert!(rt; found.expect(&rt, "a search").is_some());
-    assert_eq!(rt; probe.calls.load(SeqCst), 1);
+    drop(quiet);
+    let is_found = found.ok().flatten().is_some();
+    assert_same(&rt, &(is_found, probe.calls.load(SeqCst)), &(true, 1));
     Ok(())
 }
 
@@ -226,27 +235,9 @@ fn an_action_is_called_once_a_pair(rt: HostRuntime) -> Result<(), Fail> {
             calls: AtomicU64::new(0),
         };
         let list = for_each(&rt, rt.alloc(), &quiet, &open_plan(1, workers), &action);
-        assert_eq!(rt; list.expect(&rt, "a list").len(), 64);
-        assert_eq!(rt; action.calls.load(SeqCst), 64);
+        let len = list.ok().map(|list| list.len());
+        assert_same(&rt, &(len, action.calls.load(SeqCst)), &(Some(64), 64));
     }
-    Ok(())
-}
-
-#[test]
-fn four_workers_reduce(rt: HostRuntime) -> Result<(), Fail> {
-    let quiet = counted(&rt, rt.alloc(), 64)?;
-    let gate = all_workers(0b1111);
-    let plan = Plan {
-        threshold: 1,
-        workers: 4,
-        gate: &gate,
-    };
-    assert_eq!(rt;
-        reduce(&rt, rt.alloc(), &quiet, &plan, &Sum),
-        Ok(Some(2080))
-    );
-    assert_eq!(rt; gate.late.load(SeqCst), 0);
-    assert_eq!(rt; gate.seen.load(SeqCst), 0b1111);
     Ok(())
 }
 
@@ -254,15 +245,13 @@ fn four_workers_reduce(rt: HostRuntime) -> Result<(), Fail> {
 fn the_greatest_numbers(rt: HostRuntime) -> Result<(), Fail> {
     let rows: [(&[u8], i64); 2] = [(b"a", 9223372036854775807), (b"b", 9223372036854775807)];
     let quiet = quiet_of(&rt, rt.alloc(), 16, &rows)?;
-    let plan = open_plan(1, 4);
-    assert_eq!(rt;
-        reduce_based(&rt, rt.alloc(), &quiet, &plan, &Sum),
-        Ok(18446744073709551614)
-    );
-    assert_eq!(rt;
+    let found = (
+        reduce_based(&rt, rt.alloc(), &quiet, &open_plan(1, 4), &Sum),
         reduce(&rt, rt.alloc(), &quiet, &open_plan(0, 4), &Greatest),
-        Ok(Some(9223372036854775807))
     );
+    drop(quiet);
+    let wanted = (Ok(18446744073709551614), Ok(Some(9223372036854775807)));
+    assert_same(&rt, &found, &wanted);
     Ok(())
 }
 
@@ -271,27 +260,35 @@ fn a_search_above_10(rt: HostRuntime) -> Result<(), Fail> {
     let (ten, eleven) = (counted(&rt, rt.alloc(), 10)?, counted(&rt, rt.alloc(), 11)?);
     for workers in 1..=16 {
         let plan = open_plan(1, workers);
-        assert_eq!(rt; search(&rt, rt.alloc(), &ten, &plan, &Above(10)), Ok(None));
-        assert_eq!(rt;
+        let found = (
+            search(&rt, rt.alloc(), &ten, &plan, &Above(10)),
             search(&rt, rt.alloc(), &eleven, &plan, &Above(10)),
-            Ok(Some(11))
         );
+        assert_same(&rt, &found, &(Ok(None), Ok(Some(11))));
     }
     Ok(())
+}
+
+/// Asserts that a list of the first bytes of the keys and the values is this one.
+fn assert_list<Rt: Threads + Wait + Sync + Abort>(
+    rt: &Rt,
+    alloc: Global,
+    quiet: &KeyQuiet,
+    wanted: &[(u8, i64)],
+) {
+    let action = Initials { refused_at: 0 };
+    let list = for_each(rt, alloc, quiet, &open_plan(1, 4), &action);
+    let list = list.expect(rt, "a list");
+    assert_same(rt, &list.as_slice(), &wanted);
 }
 
 #[test]
 fn a_list_in_walk_order(rt: HostRuntime) -> Result<(), Fail> {
     let rows: [(&[u8], i64); 4] = [(b"q", 1), (b"a", 2), (b"Aa", 3), (b"zzzzzz", 4)];
     let quiet = quiet_of(&rt, rt.alloc(), 16, &rows)?;
-    let plan = open_plan(1, 4);
     for _ in 0..100u32 {
-        let list = for_each(&rt, rt.alloc(), &quiet, &plan, &Initials { refused_at: 0 });
-        let list = list.expect(&rt, "a list");
-        assert_eq!(rt;
-            list.as_slice(),
-            [(b'A', 3), (b'q', 1), (b'a', 2), (b'z', 4)].as_slice()
-        );
+        let wanted = [(b'A', 3), (b'q', 1), (b'a', 2), (b'z', 4)];
+        assert_list(&rt, rt.alloc(), &quiet, &wanted);
     }
     Ok(())
 }
@@ -300,16 +297,21 @@ fn a_list_in_walk_order(rt: HostRuntime) -> Result<(), Fail> {
 fn two_keys_of_one_hash(rt: HostRuntime) -> Result<(), Fail> {
     let rows: [(&[u8], i64); 2] = [(b"Aa", 1), (b"BB", 2)];
     let quiet = quiet_of(&rt, rt.alloc(), 4096, &rows)?;
-    let list = for_each(
-        &rt,
-        rt.alloc(),
-        &quiet,
-        &open_plan(1, 4),
-        &Initials { refused_at: 0 },
-    );
-    let list = list.expect(&rt, "a list");
-    assert_eq!(rt; list.as_slice(), [(b'A', 1), (b'B', 2)].as_slice());
+    assert_list(&rt, rt.alloc(), &quiet, &[(b'A', 1), (b'B', 2)]);
     Ok(())
+}
+
+/// The greatest value, and how many answers an action gives that is refused at this value.
+fn greatest_and_count<Rt: Threads + Wait + Sync>(
+    rt: &Rt,
+    alloc: Global,
+    quiet: &KeyQuiet,
+    plan: &Plan<'_, OpenGate>,
+    (greatest, refused_at): (&ShortGreatest, i64),
+) -> (Result<Option<i64>, BulkFault>, Option<usize>) {
+    let list = for_each(rt, alloc, quiet, plan, &Initials { refused_at });
+    let count = list.ok().map(|list| list.len());
+    (reduce(rt, alloc, quiet, plan, greatest), count)
 }
 
 #[test]
@@ -320,18 +322,12 @@ fn what_was_refused_is_answered_the_next_time(rt: HostRuntime) -> Result<(), Fai
     };
     for threshold in [1, u64::MAX] {
         let plan = open_plan(threshold, 4);
-        let refused = Err(BulkFault::NoMemory);
         greatest.short.store(1, SeqCst);
-        assert_eq!(rt; reduce(&rt, rt.alloc(), &quiet, &plan, &greatest), refused);
+        let refused = greatest_and_count(&rt, rt.alloc(), &quiet, &plan, (&greatest, 7));
         greatest.short.store(0, SeqCst);
-        assert_eq!(rt;
-            reduce(&rt, rt.alloc(), &quiet, &plan, &greatest),
-            Ok(Some(64))
-        );
-        let short = Initials { refused_at: 7 };
-        assert!(rt; for_each(&rt, rt.alloc(), &quiet, &plan, &short).is_err());
-        let list = for_each(&rt, rt.alloc(), &quiet, &plan, &Initials { refused_at: 0 });
-        assert_eq!(rt; list.expect(&rt, "a list").len(), 64);
+        let answered = greatest_and_count(&rt, rt.alloc(), &quiet, &plan, (&greatest, 0));
+        assert_same(&rt, &refused, &(Err(BulkFault::NoMemory), None));
+        assert_same(&rt, &answered, &(Ok(Some(64)), Some(64)));
     }
     Ok(())
 }

@@ -3,6 +3,7 @@ ghost use Rattle.std.specs.Prelude.{◌<◌, ◌≤◌};
 
 use crate::counting::{new_count, no_leaves};
 use crate::gates::{Before, all_workers, new_meeting, new_watch};
+use crate::samples::assert_same;
 use std::alloc::Global;
 use std::process::Abort;
 use std::sync::Wait;
@@ -32,10 +33,10 @@ fn assert_leaves<Rt: Threads + Wait + Sync + Abort>(
         late: AtomicU64::new(0),
         greatest: AtomicU64::new(0),
     };
-    assert_eq!(rt; run(rt, alloc, workers, &gate, &body, bins, batch), bins);
-    assert!(rt; gate.seen.are(leaves));
-    assert!(rt; body.leaves.are(leaves));
-    assert_eq!(rt; gate.late.load(SeqCst), 0);
+    let done = run(rt, alloc, workers, &gate, &body, bins, batch);
+    let are_leaves = (gate.seen.are(leaves), body.leaves.are(leaves));
+    let found = (done, are_leaves, gate.late.load(SeqCst));
+    assert_same(rt, &found, &(bins, (true, true), 0));
     let greatest = gate.greatest.load(SeqCst);
     assert!(rt; greatest < workers as u64 && greatest < leaves.len() as u64);
 }
@@ -68,40 +69,54 @@ fn four_workers_do_each_leaf_once(rt: HostRuntime) {
 #[test]
 fn one_worker_takes_its_newest_task(rt: HostRuntime) {
     let gate = new_watch(false);
-    assert_eq!(rt; run(&rt, rt.alloc(), 1, &gate, &new_count(), 5, 2), 5);
-    assert_eq!(rt; gate.seen.load(SeqCst), 01_12_23_35);
+    let done = run(&rt, rt.alloc(), 1, &gate, &new_count(), 5, 2);
+    assert_same(&rt, &(done, gate.seen.load(SeqCst)), &(5, 01_12_23_35));
 }
 
 #[test]
 fn a_thief_takes_the_oldest_task(rt: HostRuntime) {
     let gate = new_watch(true);
-    assert_eq!(rt; run(&rt, rt.alloc(), 2, &gate, &new_count(), 5, 2), 5);
-    assert_eq!(rt; gate.late.load(SeqCst), 0);
-    assert_eq!(rt; gate.first.load(SeqCst), 23);
+    let done = run(&rt, rt.alloc(), 2, &gate, &new_count(), 5, 2);
+    let found = (done, gate.late.load(SeqCst), gate.first.load(SeqCst));
+    assert_same(&rt, &found, &(5, 0, 23));
 }
 
 #[test]
 fn two_leaves_at_once(rt: HostRuntime) {
     let gate = new_meeting(2, 10_000_000);
-    assert_eq!(rt; run(&rt, rt.alloc(), 2, &gate, &new_count(), 64, 8), 64);
-    assert_eq!(rt; gate.late.load(SeqCst), 0);
-    assert_eq!(rt; gate.begun.load(SeqCst), 16);
+    let done = run(&rt, rt.alloc(), 2, &gate, &new_count(), 64, 8);
+    let found = (done, gate.late.load(SeqCst), gate.begun.load(SeqCst));
+    assert_same(&rt, &found, &(64, 0, 16));
 }
 
 #[test]
 fn four_workers_do_leaves_at_once(rt: HostRuntime) {
     let gate = all_workers(0b1111);
-    assert_eq!(rt; run(&rt, rt.alloc(), 4, &gate, &new_count(), 64, 16), 64);
-    assert_eq!(rt; gate.late.load(SeqCst), 0);
-    assert_eq!(rt; gate.seen.load(SeqCst), 0b1111);
+    let done = run(&rt, rt.alloc(), 4, &gate, &new_count(), 64, 16);
+    let found = (done, gate.late.load(SeqCst), gate.seen.load(SeqCst));
+    assert_same(&rt, &found, &(64, 0, 0b1111));
 }
 
 #[test]
 fn sixteen_workers_do_leaves_at_once(rt: HostRuntime) {
     let gate = all_workers(0xffff);
-    assert_eq!(rt; run(&rt, rt.alloc(), 16, &gate, &new_count(), 64, 64), 64);
-    assert_eq!(rt; gate.late.load(SeqCst), 0);
-    assert_eq!(rt; gate.seen.load(SeqCst), 0xffff);
+    let done = run(&rt, rt.alloc(), 16, &gate, &new_count(), 64, 64);
+    let found = (done, gate.late.load(SeqCst), gate.seen.load(SeqCst));
+    assert_same(&rt, &found, &(64, 0, 0xffff));
+}
+
+/// How many bins two or more workers do of 65,536, and how many leaves they begin.
+fn run_all<Rt: Threads + Wait + Sync>(
+    rt: &Rt,
+    alloc: Global,
+    workers: usize,
+    batch: usize,
+) -> (usize, u64)
+    requires { (0 < workers) × (workers ≤ 16) × (batch ≤ 64) }
+{
+    let body = new_count();
+    let done = run(rt, alloc, workers, &OpenGate, &body, 65536, batch);
+    (done, body.leaves.calls.load(SeqCst))
 }
 
 // Where bins suffice each node does one leaf.
@@ -109,23 +124,15 @@ fn sixteen_workers_do_leaves_at_once(rt: HostRuntime) {
 fn nodes_by_batch(rt: HostRuntime) {
     let rows = [(0, 1), (1, 2), (6, 8), (8, 16), (16, 32), (64, 128)];
     for (batch, nodes) in rows {
-        let body = new_count();
-        assert_eq!(rt;
-            run(&rt, rt.alloc(), 2, &OpenGate, &body, 65536, batch),
-            65536
-        );
-        assert_eq!(rt; body.leaves.calls.load(SeqCst), nodes, "for batch {batch}");
+        let (done, begun) = run_all(&rt, rt.alloc(), 2, batch);
+        assert_same(&rt, &(batch, done, begun), &(batch, 65536, nodes));
     }
 }
 
 #[test]
 fn a_thousand_runs_over_65536_bins(rt: HostRuntime) {
     for _ in 0..1000u32 {
-        let body = new_count();
-        assert_eq!(rt;
-            run(&rt, rt.alloc(), 16, &OpenGate, &body, 65536, 64),
-            65536
-        );
-        assert_eq!(rt; body.leaves.calls.load(SeqCst), 128);
+        let found = run_all(&rt, rt.alloc(), 16, 64);
+        assert_same(&rt, &found, &(65536, 128));
     }
 }

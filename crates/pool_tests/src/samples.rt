@@ -7,9 +7,16 @@ use chm::{Map, NotClosed, Quiet};
 use count_ledger::{Pass, retire_all};
 use hashkeys::Key;
 use std::alloc::{AllocError, Global};
+use std::fmt::Debug;
+use std::process::Abort;
 use std::sync::Wait;
 use std::sync::atomic::AtomicU64;
 use std::sync::atomic::Ordering::SeqCst;
+
+/// Asserts that what was found is what is wanted. A call of it is one step of the caller, which goes on as it is.
+pub(crate) fn assert_same<T: PartialEq + Debug>(rt: &impl Abort, found: &T, wanted: &T) {
+    assert_eq!(rt; found, wanted);
+}
 
 /// A remapping function that takes a value away. No test calls it.
 #[derive(Drop)]

@@ -1,6 +1,7 @@
 //! Trees whose parts are the numbers of bins.
 ghost use Rattle.std.specs.Prelude.{◌≡◌, ◌+◌, ◌<◌, ◌≤◌};
 
+use crate::samples::assert_same;
 use completers::{Arrival, Finds, Found, Node, Partial, Parts, Relation, Supply, Ticket, Tree};
 use std::alloc::{AllocError, Global};
 use std::process::Abort;
@@ -63,7 +64,7 @@ fn assert_parts(rt: &impl Abort, mut parts: Parts<usize>, ranges: &[(usize, usiz
     for range in ranges.iter() {
         let (lo, hi) = *range;
         let x = parts.take().expect(rt, "a part");
-        assert_eq!(rt; (x.lo, x.hi, x.part), (lo, hi, hi.wrapping_sub(lo)));
+        assert_same(rt, &(x.lo, x.hi, x.part), &(lo, hi, hi.wrapping_sub(lo)));
     }
     assert!(rt; parts.take().is_none());
 }
@@ -84,12 +85,13 @@ fn leaves_of_five(
     let (fourth, _) = child.fork(tree, 3);
     let first = root.own(tree);
     let third = child.own(tree);
-    let mut leaves = Vec::with_capacity(alloc, 4)?;
-    leaves.push(leaf_of(tree, first))?;
-    leaves.push(leaf_of(tree, second))?;
-    leaves.push(leaf_of(tree, third))?;
-    leaves.push(leaf_of(tree, fourth))?;
-    Ok(leaves)
+    let leaves = [
+        leaf_of(tree, first),
+        leaf_of(tree, second),
+        leaf_of(tree, third),
+        leaf_of(tree, fourth),
+    ];
+    Ok(Vec::from_array(alloc, leaves)?)
 }
 
 // Arrives at the root. Whether it was last there.
@@ -112,26 +114,31 @@ fn climb_of_five(rt: &impl Abort, leaf: Leaf<'_>) -> (bool, bool) {
     };
     assert_parts(rt, told.parts, &[(2, 3), (3, 5)]);
     let above = told.above.expect(rt, "the ticket of 2-5");
-    assert_eq!(rt; (above.ticket.lo(), above.ticket.hi()), (2, 5));
+    assert_same(rt, &(above.ticket.lo(), above.ticket.hi()), &(2, 5));
     (true, is_last_of_five(rt, above))
+}
+
+// How many of four leaves are last at the node of 2-5, and how many at the root, in one of 24 orders.
+fn lasts_of_five(rt: &impl Abort, alloc: Global, order: usize) -> Result<(u64, u64), AllocError> {
+    let (tree, supply) = Tree::new(alloc, &Bins, 4, 3, 5)?;
+    assert!(rt; supply.level() == 2);
+    let mut leaves = leaves_of_five(alloc, &tree, supply)?;
+    let (mut children, mut roots) = (0u64, 0u64);
+    for place in [order / 6, order % 6 / 2, order % 2, 0] {
+        if place < leaves.len() {
+            let (child, root) = climb_of_five(rt, leaves.remove(place));
+            children = children.wrapping_add(u64::from(child));
+            roots = roots.wrapping_add(u64::from(root));
+        }
+    }
+    Ok((children, roots))
 }
 
 #[test]
 fn four_leaves_arrive_in_every_order(rt: HostRuntime) -> Result<(), Fail> {
     for order in 0..24usize {
-        let (tree, supply) = Tree::new(rt.alloc(), &Bins, 4, 3, 5)?;
-        assert!(rt; supply.level() == 2);
-        let mut leaves = leaves_of_five(rt.alloc(), &tree, supply)?;
-        let mut lasts = (0u64, 0u64);
-        for place in [order / 6, order % 6 / 2, order % 2, 0] {
-            assert!(rt; place < leaves.len());
-            let (child, root) = climb_of_five(&rt, leaves.remove(place));
-            lasts = (
-                lasts.0.wrapping_add(u64::from(child)),
-                lasts.1.wrapping_add(u64::from(root)),
-            );
-        }
-        assert_eq!(rt; lasts, (1, 1), "in order {order}");
+        let (child, root) = lasts_of_five(&rt, rt.alloc(), order)?;
+        assert_same(&rt, &(order, child, root), &(order, 1, 1));
     }
     Ok(())
 }
@@ -146,42 +153,57 @@ impl Finds for Everywhere {
 #[test]
 fn the_first_claim_is_found(rt: HostRuntime) {
     let found = Found::<Everywhere>::new();
-    assert_eq!(rt; found.look(), None);
-    assert!(rt; found.claim(65535));
-    assert!(rt; !found.claim(0));
-    assert!(rt; !found.claim(65535));
-    assert_eq!(rt; found.look(), Some(65535));
+    let before = found.look();
+    let claims = (found.claim(65535), found.claim(0), found.claim(65535));
+    let after = found.look();
+    assert_same(&rt, &claims, &(true, false, false));
+    assert_same(&rt, &(before, after), &(None, Some(65535)));
+}
+
+// The leaves of a tree over eight bins, of one bin each, in an order in which that of 4-5 is the last. The root forked
+// seven times. And the level of what is left to fork.
+fn leaves_of_eight(
+    alloc: Global,
+    tree: &BinTree,
+    supply: Supply<usize>,
+) -> Result<(Vec<Leaf<'_>>, u32), AllocError>
+    requires tree { (tree.now.bins ≡ 8) × (tree.now.slots ≡ 8) }
+    requires supply { (supply.tree ≡ tree.now.identity) × (supply.level ≡ 7) }
+{
+    let mut node = tree.open(supply, None, 0, 8);
+    let (first, _) = node.fork(tree, 7);
+    let (second, _) = node.fork(tree, 6);
+    let (third, _) = node.fork(tree, 5);
+    let (fourth, _) = node.fork(tree, 4);
+    let (fifth, _) = node.fork(tree, 3);
+    let (sixth, _) = node.fork(tree, 2);
+    let (seventh, supply) = node.fork(tree, 1);
+    let level = supply.level();
+    let leaves = [
+        leaf_of(tree, third),
+        leaf_of(tree, node.own(tree)),
+        leaf_of(tree, seventh),
+        leaf_of(tree, first),
+        leaf_of(tree, fifth),
+        leaf_of(tree, second),
+        leaf_of(tree, sixth),
+        leaf_of(tree, fourth),
+    ];
+    Ok((Vec::from_array(alloc, leaves)?, level))
 }
 
 #[test]
 fn a_node_forks_seven_times(rt: HostRuntime) -> Result<(), Fail> {
     let (tree, supply) = Tree::new(rt.alloc(), &Bins, 128, 8, 8)?;
     assert!(rt; supply.level() == 7);
-    let mut node = tree.open(supply, None, 0, 8);
-    let (first, _) = node.fork(&tree, 7);
-    let (second, _) = node.fork(&tree, 6);
-    let (third, _) = node.fork(&tree, 5);
-    let (fourth, _) = node.fork(&tree, 4);
-    let (fifth, _) = node.fork(&tree, 3);
-    let (sixth, _) = node.fork(&tree, 2);
-    let (seventh, supply) = node.fork(&tree, 1);
-    assert_eq!(rt; supply.level(), 0);
-    let own = node.own(&tree);
-    let early = [
-        leaf_of(&tree, third),
-        leaf_of(&tree, own),
-        leaf_of(&tree, seventh),
-        leaf_of(&tree, first),
-        leaf_of(&tree, fifth),
-        leaf_of(&tree, second),
-        leaf_of(&tree, sixth),
-    ];
-    for leaf in early {
+    let (mut leaves, level) = leaves_of_eight(rt.alloc(), &tree, supply)?;
+    assert_same(&rt, &level, &0);
+    let last = leaves.pop().expect(&rt, "a leaf");
+    for leaf in leaves {
         assert!(rt; arrive(leaf).is_none());
     }
-    let told = arrive(leaf_of(&tree, fourth));
-    let told = told.expect(&rt, "the last arrival");
-    assert!(rt; told.above.is_none());
+    let told = arrive(last).expect(&rt, "the last arrival");
+    assert_same(&rt, &told.above.is_none(), &true);
     let eight = [
         (0, 1),
         (1, 2),
@@ -202,7 +224,7 @@ fn range_of(rt: &impl Abort, mut parts: Parts<usize>) -> (usize, usize) {
     let mut end = first.hi;
     for _ in 0..7usize {
         if let Some(x) = parts.take() {
-            assert_eq!(rt; x.lo, end);
+            assert_same(rt, &x.lo, &end);
             end = x.hi;
         }
     }
@@ -222,10 +244,10 @@ fn climb(rt: &impl Abort, leaf: Leaf<'_>) -> (usize, bool) {
         lasts = lasts.wrapping_add(1);
         let range = range_of(rt, told.parts);
         let Some(above) = told.above else {
-            assert_eq!(rt; range, (0, 256));
+            assert_same(rt, &range, &(0, 256));
             return (lasts, true);
         };
-        assert_eq!(rt; range, (above.ticket.lo(), above.ticket.hi()));
+        assert_same(rt, &range, &(above.ticket.lo(), above.ticket.hi()));
         leaf = above;
     }
     (lasts, false)
@@ -257,7 +279,9 @@ fn a_tree_of_128_nodes_is_filled(rt: HostRuntime) -> Result<(), Fail> {
     let (tree, supply) = Tree::new(rt.alloc(), &Bins, 128, 8, 256)?;
     assert!(rt; supply.level() == 7);
     let root = tree.open(supply, None, 0, 256);
-    assert_eq!(rt; fill(&rt, &tree, root, 7), (128, 1));
+    let lasts = fill(&rt, &tree, root, 7);
+    drop(tree);
+    assert_same(&rt, &lasts, &(128, 1));
     Ok(())
 }
 
@@ -288,6 +312,6 @@ fn two_threads_arrive_ten_thousand_times(rt: HostRuntime) -> Result<(), Fail> {
         assert!(rt; a != b);
         lasts = lasts.wrapping_add(1);
     }
-    assert_eq!(rt; lasts, 10_000);
+    assert_same(&rt, &lasts, &10_000);
     Ok(())
 }

@@ -86,7 +86,7 @@ fn ask(
     let mut bin = Bin::new(&alloc, form, Salt(0), Class::new(1, 0), Vec::new(&alloc))?;
     if present {
         let key = Key::read(b"a").expect(rt, "a key");
-        assert!(rt; is_made(rt, &mut bin, Call::Put(key, 1)));
+        assert_same(rt, &is_made(rt, &mut bin, Call::Put(key, 1)), &true);
     }
     alloc.refuse_after(granted);
     let made = is_made(rt, &mut bin, call_of_kind(rt, &asked, kind));
@@ -94,18 +94,39 @@ fn ask(
     Ok((made, asked.load(SeqCst)))
 }
 
+/// Asks where `a` has none, and where it has a value, with no request refused.
+fn assert_asked_once(rt: &impl Abort, memory: Global, form: Form) -> Result<(), AllocError> {
+    // How often each kind of call asks its function, where `a` has none and where it has a value.
+    for (kind, absent, present) in [(0usize, 1, 0), (1, 0, 1), (2, 1, 1), (3, 0, 1)] {
+        let of_absent = ask(rt, memory, form, (kind, false), u64::MAX)?;
+        let of_present = ask(rt, memory, form, (kind, true), u64::MAX)?;
+        assert_same(rt, &(kind, of_absent), &(kind, (true, absent)));
+        assert_same(rt, &(kind, of_present), &(kind, (true, present)));
+    }
+    Ok(())
+}
+
 #[test]
 fn a_function_is_asked_once_where_its_answer_is_used(rt: HostRuntime) -> Result<(), Fail> {
-    // How often each kind of call asks its function, where `a` has none and where it has a value.
-    let rows = [(1, 0), (0, 1), (1, 1), (0, 1)];
-    for form in [Form::Recorded, Form::Lean] {
-        for (kind, (absent, present)) in rows.iter().enumerate() {
-            let of_absent = ask(&rt, rt.alloc(), form, (kind, false), u64::MAX)?;
-            let of_present = ask(&rt, rt.alloc(), form, (kind, true), u64::MAX)?;
-            assert_same(&rt, &(kind, of_absent), &(kind, (true, *absent)));
-            assert_same(&rt, &(kind, of_present), &(kind, (true, *present)));
-        }
+    assert_asked_once(&rt, rt.alloc(), Form::Recorded)?;
+    assert_asked_once(&rt, rt.alloc(), Form::Lean)?;
+    Ok(())
+}
+
+/// Refuses each of so many requests of the call of a kind, where `a` has none, and then none.
+fn refuse_room(
+    rt: &impl Abort,
+    memory: Global,
+    form: Form,
+    kind: usize,
+    requests: u64,
+) -> Result<(), AllocError> {
+    for granted in 0..requests {
+        let refused = ask(rt, memory, form, (kind, false), granted)?;
+        assert_same(rt, &(kind, granted, refused), &(kind, granted, (false, 0)));
     }
+    let made = ask(rt, memory, form, (kind, false), requests)?;
+    assert_same(rt, &(kind, made), &(kind, (true, 1)));
     Ok(())
 }
 
@@ -114,12 +135,7 @@ fn a_function_is_not_asked_where_room_is_refused(rt: HostRuntime) -> Result<(), 
     // Room for the entry, and in a recorded bin for the record.
     for (form, requests) in [(Form::Recorded, 2), (Form::Lean, 1)] {
         for kind in [0, 2] {
-            for granted in 0..requests {
-                let refused = ask(&rt, rt.alloc(), form, (kind, false), granted)?;
-                assert_same(&rt, &(kind, granted, refused), &(kind, granted, (false, 0)));
-            }
-            let made = ask(&rt, rt.alloc(), form, (kind, false), requests)?;
-            assert_same(&rt, &(kind, made), &(kind, (true, 1)));
+            refuse_room(&rt, rt.alloc(), form, kind, requests)?;
         }
     }
     Ok(())

@@ -55,24 +55,41 @@ fn make(alloc: Alloc<'_>) -> Result<Made<'_>, AllocError>
     Ledger::new(alloc, Form::Recorded, Salt(0), 2, &bases)
 }
 
+/// Makes a ledger with the request after so many refused, and again where there was one. Answers whether there was.
+fn refuse_ledger(rt: &impl Abort, alloc: Alloc<'_>, granted: u64) -> Result<bool, AllocError> {
+    alloc.refuse_after(granted);
+    if let Ok(made) = make(alloc) {
+        assert_settles(rt, made);
+        assert!(rt; !alloc.has_refused());
+        return Ok(false);
+    }
+    assert!(rt; alloc.has_refused());
+    assert_settles(rt, make(alloc)?);
+    Ok(true)
+}
+
 #[test]
 fn a_refused_ledger_is_made_again(rt: HostRuntime) -> Result<(), Fail> {
     let alloc = Refusing::new(rt.alloc());
     let mut refusals = 0u64;
     for granted in 0..MANY {
-        alloc.refuse_after(granted);
-        if let Ok(made) = make(&alloc) {
-            assert_settles(&rt, made);
-            assert!(rt; !alloc.has_refused());
+        if !refuse_ledger(&rt, &alloc, granted)? {
             break;
         }
-        assert!(rt; alloc.has_refused());
-        assert_settles(&rt, make(&alloc)?);
         refusals = refusals.wrapping_add(1);
     }
     // The lists of bases, passes and roles, and the table's two blocks.
     assert_same(&rt, &refusals, &5);
     Ok(())
+}
+
+/// Makes the move of one bin, again where a request was refused, and moves the bin. Answers its range and its finish.
+fn move_one(rt: &impl Abort, alloc: Alloc<'_>) -> Result<(Range, Finish), AllocError> {
+    let made = Strides::new(alloc, 1).or_else(|_| Strides::new(alloc, 1));
+    let (strides, mut opener) = made?;
+    let range = strides.claim(&mut opener).expect(rt, "a range");
+    let finish = strides.finish(&mut opener, range);
+    Ok((range, finish))
 }
 
 #[test]
@@ -81,11 +98,8 @@ fn a_refused_move_is_made_again(rt: HostRuntime) -> Result<(), Fail> {
     let mut refusals = 0u64;
     for granted in 0..MANY {
         alloc.refuse_after(granted);
-        let made = Strides::new(&alloc, 1).or_else(|_| Strides::new(&alloc, 1));
-        let (strides, mut opener) = made?;
-        let range = strides.claim(&mut opener).expect(&rt, "a range");
-        assert!(rt; range == Range { lo: 0, hi: 1 });
-        assert!(rt; strides.finish(&mut opener, range) == Finish::Last);
+        let moved = move_one(&rt, &alloc)?;
+        assert_same(&rt, &moved, &(Range { lo: 0, hi: 1 }, Finish::Last));
         if !alloc.has_refused() {
             break;
         }

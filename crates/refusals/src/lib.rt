@@ -8,6 +8,10 @@ mod bins;
 #[cfg(test)]
 mod books;
 #[cfg(test)]
+mod folds;
+#[cfg(test)]
+mod growth;
+#[cfg(test)]
 mod requests;
 #[cfg(test)]
 mod trees;

@@ -30,27 +30,46 @@ fn make(alloc: Alloc<'_>) -> Result<Made<'_>, AllocError>
     Tree::new(alloc, &Bins, 4, 3, 5)
 }
 
+/// The range of the first part and the part, whether there is another, and whether there is a ticket above. None: the
+/// arrival was not the last.
+fn seen(arrival: Arrival<usize>) -> Option<((usize, usize, usize), bool, bool)> {
+    let Arrival::Last(mut parts, above) = arrival else {
+        return None;
+    };
+    let first = parts.take()?;
+    let part = (first.lo, first.hi, first.part);
+    Some((part, parts.take().is_some(), above.is_some()))
+}
+
 /// The one ticket of a root that does not fork arrives last, with the whole range.
 fn assert_completes(rt: &impl Abort, made: Made<'_>)
     requires bins { made.0.bins ≡ 5 }
     requires supply { made.1.tree ≡ made.0.identity }
 {
     let (tree, supply) = made;
-    assert_eq!(rt; supply.level(), 2);
+    let level = supply.level();
     let own = tree.open(supply, None, 0, 5).own(&tree);
     let whole = Partial {
         lo: 0,
         hi: 5,
         part: 5,
     };
-    let Arrival::Last(mut parts, above) = tree.arrive(own, whole) else {
-        assert!(rt; false, "the last arrival");
-        unreachable!()
-    };
-    assert!(rt; above.is_none());
-    let part = parts.take().expect(rt, "a part");
-    assert_same(rt, &(part.lo, part.hi, part.part), &(0, 5, 5));
-    assert!(rt; parts.take().is_none());
+    let last = seen(tree.arrive(own, whole));
+    drop(tree);
+    assert_same(rt, &(level, last), &(2, Some(((0, 5, 5), false, false))));
+}
+
+/// Makes a tree with the request after so many refused, and again where there was one. Answers whether there was.
+fn refuse_tree(rt: &impl Abort, alloc: Alloc<'_>, granted: u64) -> Result<bool, AllocError> {
+    alloc.refuse_after(granted);
+    if let Ok(made) = make(alloc) {
+        assert_completes(rt, made);
+        assert!(rt; !alloc.has_refused());
+        return Ok(false);
+    }
+    assert!(rt; alloc.has_refused());
+    assert_completes(rt, make(alloc)?);
+    Ok(true)
 }
 
 #[test]
@@ -58,14 +77,9 @@ fn a_refused_tree_is_made_again(rt: HostRuntime) -> Result<(), Fail> {
     let alloc = Refusing::new(rt.alloc());
     let mut refusals = 0u64;
     for granted in 0..MANY {
-        alloc.refuse_after(granted);
-        if let Ok(made) = make(&alloc) {
-            assert_completes(&rt, made);
-            assert!(rt; !alloc.has_refused());
+        if !refuse_tree(&rt, &alloc, granted)? {
             break;
         }
-        assert!(rt; alloc.has_refused());
-        assert_completes(&rt, make(&alloc)?);
         refusals = refusals.wrapping_add(1);
     }
     // The table's list of places, its words and its places.

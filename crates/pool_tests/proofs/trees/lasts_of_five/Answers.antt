@@ -1,5 +1,5 @@
 use Rattle.std.proofs.Common.{arith, refl}
-use Rattle.pool_tests.proofs.trees.four_leaves_arrive_in_every_order.Goals as goal
+use Rattle.pool_tests.proofs.trees.lasts_of_five.Goals as goal
 
 pub new-requires-clause-nodes : goal.new-requires-clause-nodes
 new-requires-clause-nodes g c = (2, omega arith, refl)
