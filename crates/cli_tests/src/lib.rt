@@ -12,6 +12,8 @@ mod orders;
 #[cfg(test)]
 mod queries;
 #[cfg(test)]
+mod rows;
+#[cfg(test)]
 mod samples;
 #[cfg(test)]
 mod scripts;

@@ -23,12 +23,18 @@ mod memory;
 #[cfg(test)]
 mod moves;
 #[cfg(test)]
+mod numbers;
+#[cfg(test)]
 mod opening;
 #[cfg(test)]
 mod reading;
 #[cfg(test)]
 mod refused;
 #[cfg(test)]
+mod rows;
+#[cfg(test)]
 mod threads;
+#[cfg(test)]
+mod twelve;
 #[cfg(test)]
 mod waiting;
