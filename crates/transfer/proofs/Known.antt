@@ -69,9 +69,9 @@ module _ (n cw fw : ℕ) (books : List Book) (m : IsMove n cw fw books) where
   -- the claim word stays below 16 n + 1,024
   pub claims-le : claims books ≤ n + 64
   claims-le =
-      let each : (b : Book) → length b.claimed + once b.ended ≤ sum_by (λ _. 1) b.claimed + sum_by (λ _. 1) (numbers b) =
-      λ b. omega (arith, length-weight b.claimed, once-le b.ended, sum_by-cons (λ _. 1) b.number b.spare) in
-      let all = sum_by-le-sum_by (λ b. length b.claimed + once b.ended) (λ b. sum_by (λ _. 1) b.claimed + sum_by (λ _. 1) (numbers b)) books each in
+      let each : (b : Book) → length b.claimed + once b.got_none ≤ sum_by (λ _. 1) b.claimed + sum_by (λ _. 1) (numbers b) =
+      λ b. omega (arith, length-weight b.claimed, once-le b.got_none, sum_by-cons (λ _. 1) b.number b.spare) in
+      let all = sum_by-le-sum_by (λ b. length b.claimed + once b.got_none) (λ b. sum_by (λ _. 1) b.claimed + sum_by (λ _. 1) (numbers b)) books each in
       let parts = sum-add (λ b. sum_by (λ _. 1) b.claimed) (λ b. sum_by (λ _. 1) (numbers b)) books in
       omega (arith, all, parts, m.claimed (λ _. 1), (count-ranges n (claims books)).1, m.numbered (λ _. 1))
 

@@ -30,7 +30,7 @@ module _ (n cw fw : ℕ) (books : List Book) (m : IsMove n cw fw books) (id : �
   -- the other books, where more is claimed
   others : (d : ℕ) → claims books ≤ d → All (IsBook n d) books
   others d le = All-weaker (IsBook n (claims books)) (IsBook n d)
-      (λ x k. record { bins = k.bins; finished = k.finished; ended = λ e. omega (arith, k.ended e, le) }) books m.each
+      (λ x k. record { bins = k.bins; finished = k.finished; got_none = λ e. omega (arith, k.got_none e, le) }) books m.each
 
   weigh-at : (f : Range → ℕ) (c d : ℕ) → c ≡ d → sum_by f (ranges n c) ≡ sum_by f (ranges n d)
   weigh-at f c d e = ap (λ k. sum_by f (ranges n k)) e
@@ -43,7 +43,7 @@ module _ (n cw fw : ℕ) (books : List Book) (m : IsMove n cw fw books) (id : �
       let c : ℕ = claims books in
       let own = is-book n cw fw books m id b at in
       let one : claims (set books id w) ≡ suc c =
-      omega (arith, changed w (λ b. length b.claimed + once b.ended), length_push b.claimed r) in
+      omega (arith, changed w (λ b. length b.claimed + once b.got_none), length_push b.claimed r) in
       let here : r ≡ range_from n (16 * c) = (λ i. range_from (own.bins i) (m.moved i)) in
       record {
         numbered = λ f. omega (arith, changed w (λ b. sum_by f (numbers b)), m.numbered f);
@@ -56,19 +56,19 @@ module _ (n cw fw : ℕ) (books : List Book) (m : IsMove n cw fw books) (id : �
         finished = omega (arith, changed w (λ b. sum_by width b.finished), m.finished);
         last = (let e = changed w (λ b. once b.last) in let l = m.last in omega (arith, e, l));
         each = All-set (IsBook n (claims (set books id w))) books id w
-            record { bins = own.bins; finished = λ f. omega (arith, own.finished f, sum_by_push f b.claimed r); ended = λ e. omega (arith, own.ended e, one) }
+            record { bins = own.bins; finished = λ f. omega (arith, own.finished f, sum_by_push f b.claimed r); got_none = λ e. omega (arith, own.got_none e, one) }
             (others (claims (set books id w)) (omega (arith, one)));
       }
 
   -- a claim past all ranges
-  claims-none : n ≤ cw → b.ended ≡ false → IsMove n (cw + 16) fw (set books id (record b { ended = true }))
+  claims-none : n ≤ cw → b.got_none ≡ false → IsMove n (cw + 16) fw (set books id (record b { got_none = true }))
   claims-none past had =
-      let w : Book = record b { ended = true } in
+      let w : Book = record b { got_none = true } in
       let c : ℕ = claims books in
       let own = is-book n cw fw books m id b at in
-      let zero-once : once b.ended ≡ 0 = ap once had in
+      let zero-once : once b.got_none ≡ 0 = ap once had in
       let one : claims (set books id w) ≡ suc c =
-      omega (arith, changed w (λ b. length b.claimed + once b.ended), zero-once) in
+      omega (arith, changed w (λ b. length b.claimed + once b.got_none), zero-once) in
       record {
         numbered = λ f. omega (arith, changed w (λ b. sum_by f (numbers b)), m.numbered f);
         moved = omega (arith, one, m.moved);
@@ -79,19 +79,19 @@ module _ (n cw fw : ℕ) (books : List Book) (m : IsMove n cw fw books) (id : �
         finished = omega (arith, changed w (λ b. sum_by width b.finished), m.finished);
         last = (let e = changed w (λ b. once b.last) in let l = m.last in omega (arith, e, l));
         each = All-set (IsBook n (claims (set books id w))) books id w
-            record { bins = own.bins; finished = own.finished; ended = λ e. omega (arith, past, one, m.moved) }
+            record { bins = own.bins; finished = own.finished; got_none = λ e. omega (arith, past, one, m.moved) }
             (others (claims (set books id w)) (omega (arith, one)));
       }
 
-  claims-on : b.ended ≡ false → IsMove n (cw + 16) fw (set books id (with_claim cw b))
+  claims-on : b.got_none ≡ false → IsMove n (cw + 16) fw (set books id (with_claim cw b))
   claims-on had =
       let own = is-book n cw fw books m id b at in
       ⊎_elim
       (λ left. subst (λ (w : Book). IsMove n (cw + 16) fw (set books id w))
-      (sym (cond-true (ltb cw b.bins) (record b { claimed = b.claimed ++ range_from b.bins cw ∷ [] }) (record b { ended = true })
+      (sym (cond-true (ltb cw b.bins) (record b { claimed = b.claimed ++ range_from b.bins cw ∷ [] }) (record b { got_none = true })
       (lt-ltb cw b.bins (omega (arith, left, own.bins))))) (claims-range left))
       (λ past. subst (λ (w : Book). IsMove n (cw + 16) fw (set books id w))
-      (sym (cond-false (ltb cw b.bins) (record b { claimed = b.claimed ++ range_from b.bins cw ∷ [] }) (record b { ended = true })
+      (sym (cond-false (ltb cw b.bins) (record b { claimed = b.claimed ++ range_from b.bins cw ∷ [] }) (record b { got_none = true })
       (le-ltb cw b.bins (omega (arith, past, own.bins))))) (claims-none past had))
       (cases_lt cw n)
 
@@ -101,7 +101,7 @@ module _ (n cw fw : ℕ) (books : List Book) (m : IsMove n cw fw books) (id : �
       let w : Book = with_finish r fw b in
       let c : ℕ = claims books in
       let own = is-book n cw fw books m id b at in
-      let same : claims (set books id w) ≡ c = omega (arith, changed w (λ b. length b.claimed + once b.ended)) in
+      let same : claims (set books id w) ≡ c = omega (arith, changed w (λ b. length b.claimed + once b.got_none)) in
       let part : IsSubmultisetOf (b.finished ++ r ∷ []) b.claimed = part-push b.finished b.claimed r own.finished there none in
       let next : (f : Range → ℕ) → sum_by f w.finished ≡ sum_by f b.finished + f r = λ f. sum_by_push f b.finished r in
       let word : fw + width r ≡ sum_by (λ b. sum_by width b.finished) (set books id w) =
@@ -109,7 +109,7 @@ module _ (n cw fw : ℕ) (books : List Book) (m : IsMove n cw fw books) (id : �
       let books' = set books id w in
       let each : All (IsBook n (claims books')) books' =
       All-set (IsBook n (claims books')) books id w
-      record { bins = own.bins; finished = part; ended = λ e. omega (arith, own.ended e, same) }
+      record { bins = own.bins; finished = part; got_none = λ e. omega (arith, own.got_none e, same) }
       (others (claims books') (omega (arith, same))) in
       let claimed : (f : Range → ℕ) → sum_by (λ b. sum_by f b.claimed) books' ≡ sum_by f (ranges n (claims books')) =
       λ f. (let to = weigh-at f (claims books') c same in omega (arith, changed w (λ b. sum_by f b.claimed), m.claimed f)) in
@@ -138,7 +138,7 @@ module _ (n cw fw : ℕ) (books : List Book) (m : IsMove n cw fw books) (id : �
       let all = set books id (without_next b) ++ spare_book b ∷ [] in
       let sums : (f : Book → ℕ) → sum_by f all + f b ≡ sum_by f books + f (without_next b) + f (spare_book b) =
       λ f. omega (arith, changed (without_next b) f, sum_by_push f (set books id (without_next b)) (spare_book b)) in
-      let same : claims all ≡ c = omega (arith, sums (λ b. length b.claimed + once b.ended)) in
+      let same : claims all ≡ c = omega (arith, sums (λ b. length b.claimed + once b.got_none)) in
       record {
         numbered = λ f.
             (let own : sum_by f (numbers b) ≡ f b.number + (f k + sum_by f ks) =
@@ -157,14 +157,14 @@ module _ (n cw fw : ℕ) (books : List Book) (m : IsMove n cw fw books) (id : �
         each =
             (let rest = others (claims all) (omega (arith, same)) in
             let mine : IsBook n (claims all) (without_next b) =
-            record { bins = own.bins; finished = own.finished; ended = λ e. omega (arith, own.ended e, same) } in
+            record { bins = own.bins; finished = own.finished; got_none = λ e. omega (arith, own.got_none e, same) } in
             All-push (IsBook n (claims all)) (set books id (without_next b)) (spare_book b)
             (All-set (IsBook n (claims all)) books id (without_next b) mine rest)
-            record { bins = own.bins; finished = λ f. omega arith; ended = λ e. absurd (false≢true e) });
+            record { bins = own.bins; finished = λ f. omega arith; got_none = λ e. absurd (false≢true e) });
       }
 
 module _ (n : ℕ) (few : n ≤ 65536) where
-  pub holds-claims : (slots id : ℕ) (me : Me (Unit {0}) Book) → me.0.ended ≡ false
+  pub holds-claims : (slots id : ℕ) (me : Me (Unit {0}) Book) → me.0.got_none ≡ false
       → Allows (Holds n) slots id me 0 (λ k. (k + 16) % 2 ^ 64) (λ k m. Claims me.0 k m.0)
   holds-claims slots id me had s h len at fits =
       let b : Book = me.0 in
@@ -250,7 +250,7 @@ holds-first n pos = record {
   claimed = λ f. refl;
   finished = refl;
   last = sym (ap once (ne_eqb 0 n (λ e. omega (arith, e))));
-  each = All-cons (IsBook n 0) (first_book n) [] record { bins = refl; finished = λ f. omega arith; ended = λ e. absurd (false≢true e) } (All-nil (IsBook n 0));
+  each = All-cons (IsBook n 0) (first_book n) [] record { bins = refl; finished = λ f. omega arith; got_none = λ e. absurd (false≢true e) } (All-nil (IsBook n 0));
 }
 
 -- the numbers that are left to deal, and the next of them

@@ -24,7 +24,7 @@ numbers b = b.number ∷ b.spare
 
 -- how many claims the movers made: one for each range, and one where they got none
 abbrev pub claims : List Book → ℕ
-claims books = sum_by (λ b. length b.claimed + once b.ended) books
+claims books = sum_by (λ b. length b.claimed + once b.got_none) books
 
 -- of a move of n bins with so many claims, one book by itself
 pub record IsBook (n claimed : ℕ) (b : Book) : Type 0 where
@@ -32,7 +32,7 @@ pub record IsBook (n claimed : ℕ) (b : Book) : Type 0 where
   -- it finished what it claimed, nothing twice
   pub finished : IsSubmultisetOf b.finished b.claimed
   -- it got none where all bins are claimed
-  pub ended : b.ended ≡ true → n ≤ 16 * claimed
+  pub got_none : b.got_none ≡ true → n ≤ 16 * claimed
 
 -- the rule of a move of n bins
 pub record IsMove (n claim_word finish_word : ℕ) (books : List Book) : Type 0 where
@@ -54,7 +54,7 @@ Holds n s = (length s.words ≡ 2) × IsMove n (slice_index s.words 0) (slice_in
 
 -- a mover that did nothing yet
 abbrev pub new_book : ℕ → ℕ → List ℕ → Book
-new_book n number spare = record { bins = n; number = number; spare = spare; claimed = []; finished = []; ended = false; last = false }
+new_book n number spare = record { bins = n; number = number; spare = spare; claimed = []; finished = []; got_none = false; last = false }
 
 -- the opener's, with 63 movers to deal
 abbrev pub first_book : ℕ → Book

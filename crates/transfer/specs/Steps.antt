@@ -7,7 +7,7 @@ use Rattle.transfer.specs.Books.{IsMove, AllClaimed, AllFinished}
 
 -- the book after a claim that found the claim word at a number
 abbrev pub with_claim : ℕ → Book → Book
-with_claim found b = if nat_lt found b.bins then record b { claimed = b.claimed ++ range_from b.bins found ∷ [] } else record b { ended = true }
+with_claim found b = if nat_lt found b.bins then record b { claimed = b.claimed ++ range_from b.bins found ∷ [] } else record b { got_none = true }
 
 -- the book after a finish that found the finish word at a number
 abbrev pub with_finish : Range → ℕ → Book → Book

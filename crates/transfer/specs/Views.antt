@@ -22,7 +22,7 @@ pub record MoverView : Type 0 where
   pub number : ℕ
   pub claimed : List Range
   pub finished : List Range
-  pub ended : Bool
+  pub got_none : Bool
   pub last : Bool
 
 abbrev pub mover_of : TableId → Book → MoverView
@@ -31,16 +31,16 @@ mover_of identity b = record {
   number = b.number;
   claimed = b.claimed;
   finished = b.finished;
-  ended = b.ended;
+  got_none = b.got_none;
   last = b.last;
 }
 
 abbrev pub book_of : MoverView → Book
-book_of m = record { bins = m.strides.bins; number = m.number; spare = []; claimed = m.claimed; finished = m.finished; ended = m.ended; last = m.last }
+book_of m = record { bins = m.strides.bins; number = m.number; spare = []; claimed = m.claimed; finished = m.finished; got_none = m.got_none; last = m.last }
 
 -- a mover that did nothing yet
 abbrev pub new_mover : StridesView → ℕ → MoverView
-new_mover s number = record { strides = s; number = number; claimed = []; finished = []; ended = false; last = false }
+new_mover s number = record { strides = s; number = number; claimed = []; finished = []; got_none = false; last = false }
 
 -- a spare mover of the move: it did nothing yet
 pub record IsSpare (s : StridesView) (m : MoverView) : Type 0 where

@@ -15,7 +15,7 @@ pub struct Book {
     /// Those of them that it finished, in the order of the finishes.
     pub finished: LinkedList<Range>,
     /// It was told that no range is left to claim.
-    pub ended: bool,
+    pub got_none: bool,
     /// It was told that its finish was the last.
     pub last: bool,
 }

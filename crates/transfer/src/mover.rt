@@ -8,7 +8,7 @@ use std::snapshot::Snapshot;
 /// The right to claim ranges of one move. A move has 64 of them, and none can be copied.
 #[derive(Drop)]
 pub struct Mover {
-    pub(crate) ended: bool,
+    pub(crate) got_none: bool,
     pub(crate) seat: Seat<(), Book>,
 }
 
@@ -20,7 +20,7 @@ impl Model for Mover {
 
     ghost view = { λ m. mover_of m.seat.table_id m.seat.me.0 };
 
-    ghost invariant = { λ m. (m.ended ≡ m.seat.me.0.ended) × (m.seat.me.0.spare ≡ []) };
+    ghost invariant = { λ m. (m.got_none ≡ m.seat.me.0.got_none) × (m.seat.me.0.spare ≡ []) };
 }
 
 /// A spare mover in its place is as it was when it was put there.

@@ -88,14 +88,14 @@ impl<A: Allocator + Clone> Strides<A> {
         let (table, mut seat) = Table::of_words(alloc, &[0, 0], &bins)?;
         for _number in 1..MOVERS {
             let mover = Mover {
-                ended: false,
+                got_none: false,
                 seat: table.shared.split_seat::<DealStep>(&mut seat),
             };
             let tag = Snapshot::of(&mover);
             spare.push_reserved(Counted::new(Some(mover), &tag));
         }
         let strides = Strides { table, bins, spare };
-        Ok((strides, Mover { ended: false, seat }))
+        Ok((strides, Mover { got_none: false, seat }))
     }
 }
 
@@ -119,18 +119,18 @@ impl<A: Allocator> Strides<A> {
     #[must_use]
     pub fn claim(&self, mover: &mut Mover) -> Option<Range>
         requires { mover.old.strides ≡ self.now }
-        ensures book { MatchOption result (mover.new ≡ record mover.old { ended = true })
+        ensures book { MatchOption result (mover.new ≡ record mover.old { got_none = true })
             (λ r. mover.new ≡ record mover.old { claimed = mover.old.claimed ++ r ∷ [] }) }
         ensures range { IfSome result (IsRangeOf self.now.bins) }
         ensures later { IfSome result (λ r. All (λ s. s.hi ≤ r.lo) mover.old.claimed) }
         ensures unfinished { IfSome result (IsUnfinished mover.new) }
         // So a loop that claims until there is no range ends.
         ensures few { OnSome result (length mover.old.claimed < self.now.bins) }
-        ensures none { mover.old.ended ≡ false
+        ensures none { mover.old.got_none ≡ false
             → IfNone result (Knows mover.new (AllClaimed self.now.bins)) }
-        ensures no_more { mover.old.ended ≡ true → IsNone result }
+        ensures no_more { mover.old.got_none ≡ true → IsNone result }
     {
-        if mover.ended {
+        if mover.got_none {
             return None;
         }
         let found = self
@@ -139,7 +139,7 @@ impl<A: Allocator> Strides<A> {
             .fetch_add::<ClaimStep>(&mut mover.seat, CLAIMED, STRIDE as u64);
         let lo = found as usize;
         if lo >= self.bins {
-            mover.ended = true;
+            mover.got_none = true;
             return None;
         }
         Some(Range {
