@@ -60,7 +60,7 @@ module _ {K V : Type 0} (same : K → K → Bool) (tells : (x y : K) → Decides
   put_same (e ∷ es) k v p = let ih = put_same es k v in grind (arith, common_steps)
 
   -- to store what is there changes nothing
-  store_same : (es : List (K × V)) (k : K) (w : Option V) → lookup same es k ≡ w → store same es k w ≡ es
+  pub store_same : (es : List (K × V)) (k : K) (w : Option V) → lookup same es k ≡ w → store same es k w ≡ es
   store_same es k None p = remove-absent es k p
   store_same es k (Some v) p = put_same es k v p
 

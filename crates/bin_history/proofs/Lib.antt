@@ -9,3 +9,4 @@ pub mod Keys
 pub mod Lawful
 pub mod Filters
 pub mod Histories
+pub mod Made

@@ -17,3 +17,4 @@ pub mod Copies
 pub mod Changes
 pub mod Readiness
 pub mod Sure
+pub mod Made

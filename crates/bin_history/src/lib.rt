@@ -12,6 +12,7 @@ mod given;
 mod laws;
 mod limits;
 mod log;
+mod make;
 mod op;
 mod ready;
 mod record;

@@ -1,6 +1,7 @@
 //! Calls as contracts know them.
 ghost use Rattle.std.specs.Prelude.{◌≡◌, option_copied};
-ghost use Rattle.bin_history.specs.Readiness.{value_seen};
+ghost use Rattle.bin_history.specs.Ops.{call_on};
+ghost use Rattle.bin_history.specs.Readiness.{call_seen, value_seen};
 
 use crate::call::Call;
 use crate::op::Op;
@@ -29,5 +30,20 @@ pub(crate) fn value_seen<V>(value: Option<&V>) -> Option<Snapshot<V>>
     match value {
         Some(inner) => Some(Snapshot::of(inner)),
         None => None,
+    }
+}
+
+impl<K, V, F> Seen<K, V, F> {
+    /// A call on a key that leaves the value that it finds.
+    pub(crate) fn left(key: &K, op: &Op<V, F>, value: Option<&V>) -> Seen<K, V, F>
+        ensures call { call_seen result.call ≡ call_on key.now op.now }
+        ensures before { value_seen result.before ≡ option_copied value.entry }
+        ensures after { value_seen result.after ≡ option_copied value.entry }
+    {
+        Seen {
+            call: SeenCall::Parts(Snapshot::of(key), Snapshot::of(op)),
+            before: value_seen(value),
+            after: value_seen(value),
+        }
     }
 }

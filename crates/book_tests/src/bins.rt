@@ -6,9 +6,9 @@ use std::alloc::{AllocError, Global};
 use std::process::Abort;
 use std::test::Fail;
 
-type KeyBin = Bin<Key, u64, Plus, Global>;
+pub(crate) type KeyBin = Bin<Key, u64, Plus, Global>;
 
-fn empty(alloc: Global, form: Form, class: Class) -> Result<KeyBin, AllocError> {
+pub(crate) fn empty(alloc: Global, form: Form, class: Class) -> Result<KeyBin, AllocError> {
     Bin::new(alloc, form, Salt(0), class, Vec::new(alloc))
 }
 
@@ -26,7 +26,7 @@ fn make(
     Ok(bin.apply(ready, 7, ordinal).0)
 }
 
-fn assert_entries(rt: &impl Abort, entries: &[(Key, u64)], wanted: &[(&[u8], u64)]) {
+pub(crate) fn assert_entries(rt: &impl Abort, entries: &[(Key, u64)], wanted: &[(&[u8], u64)]) {
     assert_eq!(rt; entries.len(), wanted.len());
     for ((key, value), (text, number)) in entries.iter().zip(wanted) {
         assert_eq!(rt; key.bytes(), *text);
@@ -35,10 +35,10 @@ fn assert_entries(rt: &impl Abort, entries: &[(Key, u64)], wanted: &[(&[u8], u64
 }
 
 /// A call, its reply, and how many keys more there are.
-type Row = (Call<Key, u64, Plus>, Reply<u64>, i64);
+pub(crate) type Row = (Call<Key, u64, Plus>, Reply<u64>, i64);
 
 /// Calls one after the other.
-fn rows(rt: &impl Abort, alloc: Global) -> Result<Vec<Row>, AllocError> {
+pub(crate) fn rows(rt: &impl Abort, alloc: Global) -> Result<Vec<Row>, AllocError> {
     let a = || key(rt, b"a");
     let b = || key(rt, b"b");
     let c = || key(rt, b"c");

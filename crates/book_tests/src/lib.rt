@@ -8,6 +8,8 @@ mod keys;
 #[cfg(test)]
 mod ledgers;
 #[cfg(test)]
+mod made;
+#[cfg(test)]
 mod moves;
 #[cfg(test)]
 mod plain;

@@ -5,10 +5,10 @@ use Rattle.hashkeys.specs.declared.hashing.Salt.{Salt}
 use Rattle.bin_history.specs.Calls.{key_of, after, reply}
 use Rattle.bin_history.specs.Entries.{lookup, HasDistinctKeys, replay, store}
 use Rattle.bin_history.specs.Lawful.{BinView, IsLawful}
+use Rattle.bin_history.specs.Made.{IsMadeOn}
 use Rattle.bin_history.specs.Part.{part_of_entries, part_of_records}
 use Rattle.bin_history.specs.Plain.{IsLegal}
 use Rattle.bin_history.specs.declared.call.Call.{Call}
-use Rattle.bin_history.specs.Readiness.{ReadyView, IsWorkedOut, record_of}
 use Rattle.bin_history.specs.Records.{RecordView}
 use Rattle.bin_history.specs.declared.call.Reply.{Reply}
 use Rattle.bin_history.proofs.Runs.{lookup-replay}
@@ -55,30 +55,24 @@ module _ {K V F : Type 0} (same : K → K → Bool) (tells : (x y : K) → Decid
 
 module _ {K V F : Type 0} (same : K → K → Bool) (code : K → ℕ) (same_value : V → V → Bool) (remapped : F → K → Option V → Option V)
     (merged : F → V → V → Option V) where
-  -- a call that was worked out on a bin's entries and applied was made on them
-  pub IsCalledOn-applied : (ready : ReadyView K V F) (call : Call K V F) (old new : PassView K V F) (answer : Reply V) (es worked others : List (K × V))
-      (r : RecordView K V F) (client ordinal : ℕ)
-      → IsWorkedOut same same_value remapped merged ready worked → worked ≡ es → ready.call ≡ call → r ≡ record_of client ordinal ready → client ≡ old.client
-      → ordinal ≡ length old.made
-      → others ≡ store same worked (key_of ready.call) ready.after → new ≡ record old { made = old.made ++ r ∷ [] }
-      → answer ≡ reply same_value ready.call ready.before ready.after
-      → IsCalledOn same code same_value remapped merged es others call old new answer
-  IsCalledOn-applied ready call old new answer es worked others r client ordinal w kept is_call is by next stored pass replied =
-      let r_call : r.call ≡ call = ap (λ (x : RecordView K V F). x.call) is ∙ is_call in
-      let r_before : r.before ≡ ready.before = ap (λ (x : RecordView K V F). x.before) is in
-      let r_after : r.after ≡ ready.after = ap (λ (x : RecordView K V F). x.after) is in (
-        r,
-        record {
-          pass = pass;
-          call_is = r_call;
-          client = ap (λ (x : RecordView K V F). x.client) is ∙ by;
-          ordinal = ap (λ (x : RecordView K V F). x.ordinal) is ∙ next;
-          left = r_after ∙ w.after_is ∙ (λ i. after same_value remapped merged (is_call i) (sym r_before i));
-          reply_is = replied ∙ (λ i. reply same_value (is_call i) (sym r_before i) (sym r_after i));
-        },
-        r_before ∙ w.before_is ∙ (λ i. lookup same (kept i) (key_of (is_call i))),
-        stored ∙ (λ i. store same (kept i) (key_of (is_call i)) (sym r_after i)),
-      )
+  -- a call that the pass's client made on a bin was made on its entries
+  pub IsCalledOn-made : (call : Call K V F) (old new : PassView K V F) (answer : Reply V) (b c : BinView K V F) (r : RecordView K V F) (client ordinal : ℕ)
+      → IsMadeOn same same_value remapped merged client ordinal call b c answer r → client ≡ old.client → ordinal ≡ length old.made
+      → new ≡ record old { made = old.made ++ r ∷ [] }
+      → IsCalledOn same code same_value remapped merged b.entries c.entries call old new answer
+  IsCalledOn-made call old new answer b c r client ordinal m by next pass = (
+    r,
+    record {
+      pass = pass;
+      call_is = m.call_is;
+      client = m.client_is ∙ by;
+      ordinal = m.ordinal_is ∙ next;
+      left = m.left;
+      reply_is = m.replied;
+    },
+    m.found,
+    m.stored,
+  )
 
   -- such a call, on a bin of the key's hash that the pass met, found the value that the key had in the map
   pub IsCalled-met : (ledger : LedgerView K V) (call : Call K V F) (old new : PassView K V F) (answer : Reply V) (b : BinView K V F) (role : RoleView K V F)

@@ -50,8 +50,7 @@ impl<
         ensures agree { BinAgrees K.eq (after V.eq F.remapped F.merged) bin.new role.new }
     {
         bin.lawful();
-        let ready = bin.prepare_on(key, op)?;
-        let (reply, trace) = bin.apply(ready, pass.client(), pass.made());
+        let (reply, trace) = bin.make_on(key, op, pass.client(), pass.made())?;
         self.ledger.post_trace(pass, role, &trace);
         Ok((reply, trace.delta() == 1))
     }

@@ -1,6 +1,6 @@
 //! A bin, each request of its making and of a call refused in turn.
 use crate::values::{Alloc, Answer, Number, assert_same};
-use bin_history::{Bin, Call, Form, Reply};
+use bin_history::{Bin, Call, Form, Given, Reply};
 use hashkeys::{Class, Key, Salt};
 use refusing_alloc::Refusing;
 use std::alloc::{AllocError, Global};
@@ -34,7 +34,7 @@ pub(crate) fn empty(alloc: Alloc<'_>, form: Form) -> Result<NumberBin<'_>, Alloc
     Bin::new(alloc, form, Salt(0), Class::new(16, 1), Vec::new(alloc))
 }
 
-/// Prepares a call on a key of the bin, and applies it.
+/// Makes a call on a key of the bin.
 fn make<'a>(
     rt: &impl Abort,
     bin: &mut NumberBin<'a>,
@@ -42,8 +42,8 @@ fn make<'a>(
 ) -> Result<Reply<Number<'a>>, AllocError> {
     let (salt, class) = (bin.salt(), bin.class());
     assert!(rt; class.covers(salt.hash_of(call.key())));
-    let ready = bin.prepare(call)?;
-    Ok(bin.apply(ready, 0, 0).0)
+    let (key, op) = call.into_parts();
+    Ok(bin.make_on(Given::Owned(key), op, 0, 0)?.0)
 }
 
 /// Makes a call, whose reply nobody asks for.

@@ -1,25 +1,20 @@
-use Rattle.std.proofs.Common.{◌≡◌, [], ◌∷◌, ap, sym, subst}
+use Rattle.std.proofs.Common.{◌≡◌, [], ◌∷◌, ap, subst}
 use Rattle.bin_history.specs.Calls.{after}
-use Rattle.bin_history.proofs.Keys.{key_tells}
-use Rattle.bin_history.specs.Histories.{GoesOn}
-use Rattle.bin_history.specs.Records.{RecordView}
 use Rattle.bin_history.specs.Ops.{call_on, key_in}
+use Rattle.bin_history.proofs.Keys.{key_tells}
 use Rattle.count_ledger.specs.Views.{LedgerView}
-use Rattle.count_ledger.proofs.Agreements.{BinAgrees-prepared, BinAgrees-gone_on}
+use Rattle.count_ledger.proofs.Agreements.{BinAgrees-gone_on}
 use Rattle.chm.specs.Histories.{IsMet}
 use Rattle.chm.specs.Views.{MapView}
-use Rattle.chm.proofs.Meeting.{IsMet-agree, IsCalledOn-applied}
+use Rattle.chm.proofs.Meeting.{IsMet-agree, IsCalledOn-made}
 use Rattle.chm.proofs.map.Map.call_under.Goals as goal
 
 pub returns-clause-called : goal.returns-clause-called
 returns-clause-called g c =
-    IsCalledOn-applied g.K.PartialEq.eq g.K.HashKey.code g.V.PartialEq.eq g.F.Remap.remapped g.F.Remap.merged
-    c.in_ok-ready.ready (call_on (key_in c.args.key) c.args.op) c.args.pass.now c.post_trace.new.pass c.apply-reply.result.0 c.args.bin.now.entries
-    c.prepare_on.new.self.entries c.apply-reply.new.self.entries
-    c.apply-reply.result.1 c.client.result c.made.result
-    c.in_ok-ready.ensures.ready.worked_out c.prepare_on.ensures.entries c.in_ok-ready.ensures.call c.apply-reply.ensures.trace c.client.ensures.value
-    c.made.ensures.value
-    c.apply-reply.ensures.entries c.post_trace.ensures.pass c.apply-reply.ensures.reply
+    IsCalledOn-made g.K.PartialEq.eq g.K.HashKey.code g.V.PartialEq.eq g.F.Remap.remapped g.F.Remap.merged
+    (call_on (key_in c.args.key) c.args.op) c.args.pass.now c.post_trace.new.pass c.in_ok-reply.reply c.args.bin.now c.make_on.new.self
+    c.in_ok-reply.trace c.client.result c.made.result
+    c.in_ok-reply.ensures.made c.client.ensures.value c.made.ensures.value c.post_trace.ensures.pass
 
 pub returns-clause-met : goal.returns-clause-met
 returns-clause-met g c =
@@ -33,10 +28,5 @@ returns-clause-met g c =
 pub returns-clause-agree : goal.returns-clause-agree
 returns-clause-agree g c =
     let tells = key_tells g.met.K.Eq.laws g.met.K.HashKey.equal_is_same in
-    let prepared = BinAgrees-prepared g.K.PartialEq.eq tells g.K.HashKey.code _ c.args.bin.now c.prepare_on.new.self c.args.role.now
-    c.requires.agree c.lawful.ensures.lawful c.prepare_on.ensures.class c.prepare_on.ensures.salt c.in_ok-ready.ensures.ok in
-    let On : RecordView _ _ _ → Type 0 =
-    λ r. GoesOn g.K.PartialEq.eq (after g.V.PartialEq.eq g.F.Remap.remapped g.F.Remap.merged) c.prepare_on.new.self (r ∷ []) c.apply-reply.new.self in
-    BinAgrees-gone_on g.K.PartialEq.eq tells g.K.HashKey.code _ c.prepare_on.new.self c.apply-reply.new.self c.args.role.now c.post_trace.new.role
-    (c.apply-reply.result.1 ∷ []) prepared
-    c.apply-reply.ensures.class c.apply-reply.ensures.salt (subst On (sym c.apply-reply.ensures.trace) c.apply-reply.ensures.history) c.post_trace.ensures.role
+    BinAgrees-gone_on g.K.PartialEq.eq tells g.K.HashKey.code _ c.args.bin.now c.make_on.new.self c.args.role.now c.post_trace.new.role
+    (c.in_ok-reply.trace ∷ []) c.requires.agree c.make_on.ensures.class c.make_on.ensures.salt c.in_ok-reply.ensures.made.history c.post_trace.ensures.role
