@@ -23,5 +23,5 @@ pub use plan::Plan;
 pub use reducers::{Greatest, Sum};
 pub use reducing::{reduce, reduce_based};
 pub use searching::search;
-pub use steal_pool::{Gate, OpenGate};
+pub use steal_pool::{Gate, MOST_WORKERS, OpenGate};
 pub use traits::{Action, BasedReducer, Probe, Reducer};

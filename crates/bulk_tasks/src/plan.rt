@@ -2,11 +2,11 @@
 ghost use Rattle.std.specs.Prelude.{◌≡◌, IfErr};
 
 use crate::fault::BulkFault;
-use steal_pool::OpenGate;
+use steal_pool::{MOST_WORKERS, OpenGate};
 
 /// How a bulk operation is shared out. The threshold is the least number of entries worth a
-/// task of their own (`batch` has the whole rule); there are 1 to 16 workers, the caller among
-/// them; and the gate is called before each task. A single task is done by the caller, and starts
+/// task of their own (`batch` has the whole rule); there are 1 to `MOST_WORKERS` workers, the caller
+/// among them; and the gate is called before each task. A single task is done by the caller, and starts
 /// no thread.
 #[derive(Drop, Debug)]
 pub struct Plan<'a, G> {
@@ -37,7 +37,7 @@ impl<G> Plan<'_, G> {
         ensures workers { IsPlanned self.now.workers result }
         ensures faults { IfErr result (λ f. f ≡ BulkFault.BadWorkers) }
     {
-        if self.workers == 0 || self.workers > 16 {
+        if self.workers == 0 || self.workers > MOST_WORKERS {
             return Err(BulkFault::BadWorkers);
         }
         Ok(())

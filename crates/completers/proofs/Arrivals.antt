@@ -1,4 +1,4 @@
--- An arrival keeps the rule, and the last one takes all places.
+-- An arrival keeps the rule, and the last one takes all slots.
 use Rattle.std.proofs.Common.{◌≡◌, ℕ, zero, suc, ◌+◌, ◌-◌, ◌*◌, ◌%◌, ◌^◌, ◌<◌, ◌≤◌, ◌≢◌, List, [], ◌∷◌, length, get_or, set, sym, refl, ap, ◌∙◌, subst, ⊎_elim}
 use Rattle.std.proofs.Common.{arith, length-set, get_or-set_other, get_or-set_same}
 use mathlib.Core.Logic.{dite}
@@ -10,25 +10,25 @@ use Rattle.std.specs.Prelude.{Option, Some, None}
 use Rattle.atomic_table.specs.Table.{takes, gives, chain, homes_after, Allows}
 use Rattle.atomic_table.proofs.Lists.{set_here, set_else, at_map}
 use Rattle.completers.proofs.Weights.{total_at, same}
-use Rattle.completers.proofs.Cells.{within, reachable_more, Ticketed, St, Homes, Alike, moved, has_placing, keeps_waiting}
+use Rattle.completers.proofs.Cells.{within, reachable_more, Ticketed, St, Homes, Alike, moved, has_filling, keeps_waiting}
 use Rattle.completers.proofs.Moves.{one_right, elsewhere, beside, few_of, restaged, going_set, given_out_set, position_arrived, numbers, tickets}
 use Rattle.completers.proofs.Moves.{arrived_not_held, given_at, Rule}
 use Rattle.completers.proofs.Parting.{takes_up, carried_up, up_frame, up_long, up_valid, all_parts}
-use Rattle.completers.specs.Game.{arrive, number, Allowed, IsReachable, IsPossible}
+use Rattle.completers.specs.Game.{arrive, number, IsNext, IsReachable, IsPossible}
 use Rattle.completers.specs.Rights.{code, path_of, IsTicketAbove, node_in}
 use Rattle.completers.specs.Parts.{AreParts, IsPart, present, stack}
-use Rattle.completers.specs.Rule.{known_forks, total, indexed, Stage, held, waits, places, arrived, has_arrived, Piece, piece, going, over, missing}
-use Rattle.completers.specs.Rule.{position_of, right_of, given_out, Tiled, SlotOk, Going}
+use Rattle.completers.specs.Rule.{known_forks, total, indexed, Stage, held, waits, fills, arrived, has_arrived, Piece, piece, going, over, missing}
+use Rattle.completers.specs.Rule.{position_of, right_of, given_out, AreTiles, SlotOk, IsGoing}
 use Rattle.completers.specs.Steps.{Knowledge, Arrives}
 use Rattle.completers.specs.declared.relation.Partial.{Partial}
 use Rattle.completers.specs.declared.rule.Above.{Above}
 use Rattle.completers.specs.declared.rule.Right.{Right}
-use Rattle.completers.specs.declared.rule.Right.TheVariants.{Waits, Places}
+use Rattle.completers.specs.declared.rule.Right.TheVariants.{Waits, Fills}
 
 stage_arrived : (lo hi : ℕ) (st : Stage) → missing record { lo = lo; hi = hi; stage = st } ≡ 0 → st ≡ arrived
 stage_arrived lo hi held e = absurd (omega arith)
 stage_arrived lo hi waits e = absurd (omega arith)
-stage_arrived lo hi places e = absurd (omega arith)
+stage_arrived lo hi fills e = absurd (omega arith)
 stage_arrived lo hi arrived e = refl
 
 none_missing : (p : Piece) → missing p ≡ 0 → p.stage ≡ arrived
@@ -55,7 +55,7 @@ present_at [] i close = absurd (close (omega arith))
 present_at (x ∷ xs) zero close = (x, refl)
 present_at (x ∷ xs) (suc i) close = present_at xs i (λ h. close (omega arith))
 
-first_piece : (lo top : ℕ) (ps : List Piece) → Tiled lo top ps → (p : Piece) × (get_elem? ps 0 ≡ some p) × (p.lo ≡ lo)
+first_piece : (lo top : ℕ) (ps : List Piece) → AreTiles lo top ps → (p : Piece) × (get_elem? ps 0 ≡ some p) × (p.lo ≡ lo)
 first_piece lo top [] t = absurd t
 first_piece lo top (p ∷ ps) t = (p, refl, t.0)
 
@@ -69,7 +69,7 @@ module _ {P : Type 0} (fits : ℕ → ℕ → P → Type 0) (bins : ℕ) where
   -- the number of the node with the ticket, and one ticket less
   counted : (s : St fits bins) (r : Rule fits bins s) (n i lo hi : ℕ) (st : Stage) (t : Ticketed r.cells n i lo hi st)
       → missing (piece lo hi st) ≡ 1 → (2 * n < length s.words) × (0 < get_or s.words (2 * n) 0)
-  counted s r n i lo hi st t one = let g : Going fits bins s.words s.homes n t.low t.top t.above t.pieces =
+  counted s r n i lo hi st t one = let g : IsGoing fits bins s.words s.homes n t.low t.top t.above t.pieces =
       r.each_node n (going t.low t.top t.above t.pieces) t.cell_is in
       let a : missing (piece lo hi st) ≤ total missing t.pieces = total_at missing t.pieces i (piece lo hi st) t.piece_is in
       let w = within r.cells n (going t.low t.top t.above t.pieces) t.cell_is in let wide = r.words_wide in
@@ -92,40 +92,40 @@ module _ {P : Type 0} (fits : ℕ → ℕ → P → Type 0) (bins : ℕ) where
       let e' : h ≡ slots = wide in
       subst (λ (rs : List Right). 8 * node_in rs + 8 ≤ slots) (sym one.5) (let z : 8 * one.0 + 8 ≤ slots = omega arith in z)) is
 
-  plays : (s : St fits bins) (r : Rule fits bins s) (n i lo hi : ℕ) (t : Ticketed r.cells n i lo hi places)
-      → Allowed (position_of t.pieces) (arrive i)
+  plays : (s : St fits bins) (r : Rule fits bins s) (n i lo hi : ℕ) (t : Ticketed r.cells n i lo hi fills)
+      → IsNext (position_of t.pieces) (arrive i)
   plays s r n i lo hi t = (
-    at_map (λ (p : Piece). has_arrived p.stage) t.pieces i (piece lo hi places) t.piece_is,
-    (λ z. given_at t.pieces (piece lo hi places) (subst (λ (k : ℕ). get_elem? t.pieces k ≡ some (piece lo hi places)) z t.piece_is)),
+    at_map (λ (p : Piece). has_arrived p.stage) t.pieces i (piece lo hi fills) t.piece_is,
+    (λ z. given_at t.pieces (piece lo hi fills) (subst (λ (k : ℕ). get_elem? t.pieces k ≡ some (piece lo hi fills)) z t.piece_is)),
   )
 
   module _ (slots id : ℕ) (n i lo hi fk d : ℕ) (up : List Above) (xp : Partial P) (part : IsPart fits lo hi xp) where
     abbrev me : Knowledge P
-    me = (Places n i lo hi fk d up ∷ [], (8 * n + i, Some xp) ∷ [])
+    me = (Fills n i lo hi fk d up ∷ [], (8 * n + i, Some xp) ∷ [])
 
     arrives_step : Allows (Rule fits bins) slots id me (2 * n) (λ x. (x + (2 ^ 64 - 1)) % 2 ^ 64) (Arrives fits bins slots me)
     arrives_step s r wide at small =
-        let car : List (ℕ × Option (Partial P)) = [] in let v : List Right = Places n i lo hi fk d up ∷ [] in
-        let f = has_placing fits bins s r id v n i lo hi fk d up at (one_right (Places n i lo hi fk d up)) in
-        let t : Ticketed r.cells n i lo hi places = f.0 in let ps = t.pieces in
-        let g : Going fits bins s.words s.homes n t.low t.top t.above ps = r.each_node n (going t.low t.top t.above ps) t.cell_is in
+        let car : List (ℕ × Option (Partial P)) = [] in let v : List Right = Fills n i lo hi fk d up ∷ [] in
+        let f = has_filling fits bins s r id v n i lo hi fk d up at (one_right (Fills n i lo hi fk d up)) in
+        let t : Ticketed r.cells n i lo hi fills = f.0 in let ps = t.pieces in
+        let g : IsGoing fits bins s.words s.homes n t.low t.top t.above ps = r.each_node n (going t.low t.top t.above ps) t.cell_is in
         let x : ℕ = get_or s.words (2 * n) 0 in
-        let room = counted s r n i lo hi places t refl in let y : ℕ = (x + (2 ^ 64 - 1)) % 2 ^ 64 in
+        let room = counted s r n i lo hi fills t refl in let y : ℕ = (x + (2 ^ 64 - 1)) % 2 ^ 64 in
         let less : y + 1 ≡ x = less_one x room.1 small in
-        let k : ℕ = 8 * n + i in let near : i < 8 = few_of fits bins s r n i lo hi places t in
+        let k : ℕ = 8 * n + i in let near : i < 8 = few_of fits bins s r n i lo hi fills t in
         let homes' : Homes fits bins = set s.homes k (some (Some xp)) in let words' : List ℕ = set s.words (2 * n) y in
         let now : get_or words' (2 * n) 0 ≡ y = get_or-set_same s.words (2 * n) y 0 room.0 in
         let in_row : k < length s.homes =
         (let w = within r.cells n (going t.low t.top t.above ps) t.cell_is in let l : ℕ = length r.cells in let w' : n < l = w in
         let h : ℕ = length s.homes in let wide' : h ≡ 8 * l = r.homes_wide in let q : k < h = omega arith in q) in
-        let place : SlotOk fits bins homes' k lo hi arrived = (xp, set_here s.homes k (some (Some xp)) in_row, part) in
+        let slot : SlotOk fits bins homes' k lo hi arrived = (xp, set_here s.homes k (some (Some xp)) in_row, part) in
         let code_same : get_or words' (2 * n + 1) 0 ≡ get_or s.words (2 * n + 1) 0 =
         get_or-set_other s.words (2 * n) (2 * n + 1) y 0 (λ e. omega arith) in
         let number_same : get_or words' (2 * n) 0 + 1 ≡ x + 0 =
         (let a : ℕ = get_or words' (2 * n) 0 in let a' : a ≡ y = now in let q : a + 1 ≡ x + 0 = omega arith in q) in
         let allowed = plays s r n i lo hi t in
         let played' : IsReachable (position_of (set ps i (piece lo hi arrived))) =
-        subst IsReachable (sym (position_arrived ps i (piece lo hi places) (piece lo hi arrived) t.piece_is refl refl))
+        subst IsReachable (sym (position_arrived ps i (piece lo hi fills) (piece lo hi arrived) t.piece_is refl refl))
         (reachable_more (position_of ps) (arrive i) g.reachable allowed) in
         let told : IsPossible (arrive i) (λ p. (number p ≡ x) × (i ≡ 0 → length p.arrived ≡ fk + 1)) = (
           position_of ps,
@@ -134,7 +134,7 @@ module _ {P : Type 0} (fits : ℕ → ℕ → P → Type 0) (bins : ℕ) where
           (
             numbers ps ∙ sym g.number_is,
             (λ own_is. let l : ℕ = length ps in
-                let some_ticket : i < l = within ps i (piece lo hi places) t.piece_is in
+                let some_ticket : i < l = within ps i (piece lo hi fills) t.piece_is in
                 let e : fk ≡ l - 1 = subst (λ (z : ℕ). fk ≡ known_forks z (length ps)) own_is f.1 in
                 tickets ps (fk + 1) (let q : fk + 1 ≡ l = omega arith in q)),
           ),
@@ -146,9 +146,9 @@ module _ {P : Type 0} (fits : ℕ → ℕ → P → Type 0) (bins : ℕ) where
         ) in
         dite (ℕ_discrete x 1)
         (λ one. let qs : List Piece = set ps i (piece lo hi arrived) in
-        let g' : Going fits bins words' homes' n t.low t.top t.above qs =
-        going_set fits bins s r n i lo hi places arrived t (λ e. arrived_not_held e) words' homes' code_same number_same
-        (λ j apart _. beside fits bins s.homes n i (some (Some xp)) j apart) place played' in
+        let g' : IsGoing fits bins words' homes' n t.low t.top t.above qs =
+        going_set fits bins s r n i lo hi fills arrived t (λ e. arrived_not_held e) words' homes' code_same number_same
+        (λ j apart _. beside fits bins s.homes n i (some (Some xp)) j apart) slot played' in
         let done : total missing qs ≡ 0 = (let a : get_or words' (2 * n) 0 ≡ total missing qs = g'.number_is in
         let b : ℕ = total missing qs in let c : ℕ = get_or words' (2 * n) 0 in let a' : c ≡ b = a in let c' : c ≡ y = now in
         let o : x ≡ 1 = one in let q : b ≡ 0 = omega arith in q) in
@@ -181,13 +181,13 @@ module _ {P : Type 0} (fits : ℕ → ℕ → P → Type 0) (bins : ℕ) where
                     ∙ (up_frame n value 7 (8 * m + j) homes' car (λ u l e. apart (omega arith)) ∙ o.2 j low)),
               ))
               tt
-              (λ h. let a = given_out_set h n t.low t.top t.above ps i (piece lo hi places) (piece lo hi arrived) t.piece_is in
+              (λ h. let a = given_out_set h n t.low t.top t.above ps i (piece lo hi fills) (piece lo hi arrived) t.piece_is in
               let z : given_out h n (going t.low t.top t.above qs) ≡ 0 =
               all_zero _ 0 qs (λ j p e. ap (λ (st : Stage). right_of h n t.above (length qs) (0 + j) p.lo p.hi st) (all j p e)) in
               let u : ℕ = given_out h n (going t.low t.top t.above qs) in let u' : ℕ = given_out h n (going t.low t.top t.above ps) in
-              let c : ℕ = h (Places n i lo hi (known_forks i (length ps)) (code t.above) (path_of t.above)) in
-              let c' : ℕ = h (Places n i lo hi fk d up) in let a' : u + c ≡ u' + 0 = a in let z' : u ≡ 0 = z in
-              let e : c' ≡ c = λ k. h (Places n i lo hi (f.1 k) (f.2 k) (f.3 k)) in let b : ℕ = total h t.above in
+              let c : ℕ = h (Fills n i lo hi (known_forks i (length ps)) (code t.above) (path_of t.above)) in
+              let c' : ℕ = h (Fills n i lo hi fk d up) in let a' : u + c ≡ u' + 0 = a in let z' : u ≡ 0 = z in
+              let e : c' ≡ c = λ k. h (Fills n i lo hi (f.1 k) (f.2 k) (f.3 k)) in let b : ℕ = total h t.above in
               let q : b + 0 + u' ≤ c' + 0 + b + 0 = omega arith in q),
           (
             told,
@@ -195,7 +195,7 @@ module _ {P : Type 0} (fits : ℕ → ℕ → P → Type 0) (bins : ℕ) where
               lo = t.low;
               hi = t.top;
               held = value;
-              places = ap (λ (l : List (ℕ × Option (Partial P))). (8 * n, value 0) ∷ l) (carried_up n value 7 car);
+              all_slots = ap (λ (l : List (ℕ × Option (Partial P))). (8 * n, value 0) ∷ l) (carried_up n value 7 car);
               mine = ap read (set_here s.homes k (some (Some xp)) in_row);
               parts = parts;
               first = (let o = first_piece t.low t.top qs g'.tiled in let z = shows 0 o.0 o.1 in (z.0, ap read z.1, z.2.0 ∙ o.2));
@@ -210,17 +210,17 @@ module _ {P : Type 0} (fits : ℕ → ℕ → P → Type 0) (bins : ℕ) where
           w,
           gives,
           tt,
-          restaged fits bins s r n i lo hi places arrived t (λ e. arrived_not_held e) id v w at words' homes'
+          restaged fits bins s r n i lo hi fills arrived t (λ e. arrived_not_held e) id v w at words' homes'
               (length-set s.words (2 * n) y) (length-set s.homes k (some (Some xp))) others code_same number_same
-              (λ j apart _. beside fits bins s.homes n i (some (Some xp)) j apart) place played'
-              (λ h. let c : ℕ = h (Places n i lo hi (known_forks i (length ps)) (code t.above) (path_of t.above)) in
-              let c' : ℕ = h (Places n i lo hi fk d up) in let e : c' ≡ c = λ k. h (Places n i lo hi (f.1 k) (f.2 k) (f.3 k)) in
+              (λ j apart _. beside fits bins s.homes n i (some (Some xp)) j apart) slot played'
+              (λ h. let c : ℕ = h (Fills n i lo hi (known_forks i (length ps)) (code t.above) (path_of t.above)) in
+              let c' : ℕ = h (Fills n i lo hi fk d up) in let e : c' ≡ c = λ k. h (Fills n i lo hi (f.1 k) (f.2 k) (f.3 k)) in
               let q : 0 + c ≤ c' + 0 + 0 = omega arith in q),
           (told, (λ one. absurd (more one))),
         ))
 
   pub arrives : (slots id : ℕ) (found : Knowledge P) (n i lo hi fk d : ℕ) (up : List Above) (xp : Partial P)
-      → found ≡ (Places n i lo hi fk d up ∷ [], (8 * n + i, Some xp) ∷ []) → IsPart fits lo hi xp
+      → found ≡ (Fills n i lo hi fk d up ∷ [], (8 * n + i, Some xp) ∷ []) → IsPart fits lo hi xp
       → Allows (Rule fits bins) slots id found (2 * n) (λ x. (x + (2 ^ 64 - 1)) % 2 ^ 64) (Arrives fits bins slots found)
   arrives slots id found n i lo hi fk d up xp is part =
       subst (λ (m : Knowledge P). Allows (Rule fits bins) slots id m (2 * n) (λ x. (x + (2 ^ 64 - 1)) % 2 ^ 64) (Arrives fits bins slots m))

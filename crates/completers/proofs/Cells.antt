@@ -8,14 +8,15 @@ use Rattle.std.specs.Prelude.{Option}
 use Rattle.atomic_table.specs.Table.{State}
 use Rattle.atomic_table.proofs.Lists.{at_set}
 use Rattle.completers.proofs.Weights.{total_set, total_append, total_at, indexed_set, some_indexed, same, hit_yes, hits_yes}
-use Rattle.completers.specs.Game.{Event, Position, start, Allowed, after, IsGame, position_after, IsReachable}
+use Rattle.completers.specs.Game.{Event, Position, start, IsNext, after, IsGame, position_after, IsReachable}
+use Rattle.completers.specs.Limits.{most_nodes}
 use Rattle.completers.specs.Rights.{code, path_of}
-use Rattle.completers.specs.Rule.{total, indexed, Stage, held, waits, places, arrived, Piece, piece, Cell, fresh, going, over, right_of, known_forks, given_out}
+use Rattle.completers.specs.Rule.{total, indexed, Stage, held, waits, fills, arrived, Piece, piece, Cell, fresh, going, over, right_of, known_forks, given_out}
 use Rattle.completers.specs.Rule.{kept_by, SlotOk, CellOk, Holds}
 use Rattle.completers.specs.declared.relation.Partial.{Partial}
 use Rattle.completers.specs.declared.rule.Above.{Above}
 use Rattle.completers.specs.declared.rule.Right.{Right}
-use Rattle.completers.specs.declared.rule.Right.TheVariants.{Unopened, Opened, Waits, Places}
+use Rattle.completers.specs.declared.rule.Right.TheVariants.{Unopened, Opened, Waits, Fills}
 
 pub within : {A : Type 0} (l : List A) (i : ℕ) (a : A) → get_elem? l i ≡ some a → i < length l
 within [] i a e = absurd (some-ne-none a (sym e))
@@ -23,13 +24,13 @@ within (x ∷ xs) zero a e = omega arith
 within (x ∷ xs) (suc i) a e = let r = within xs i a e in omega arith
 
 -- one more event
-pub game_more : (p : Position) (es : List Event) (e : Event) → IsGame p es → Allowed (position_after p es) e → IsGame p (es ++ e ∷ [])
+pub game_more : (p : Position) (es : List Event) (e : Event) → IsGame p es → IsNext (position_after p es) e → IsGame p (es ++ e ∷ [])
     × (position_after p (es ++ e ∷ []) ≡ after (position_after p es) e)
 game_more p [] e g a = ((a, tt), refl)
 game_more p (x ∷ xs) e g a = let r = game_more (after p x) xs e g.1 a in ((g.0, r.0), r.1)
 
-pub reachable_more : (p : Position) (e : Event) → IsReachable p → Allowed p e → IsReachable (after p e)
-reachable_more p e b a = let r = game_more start b.0 e b.1 (subst (λ (q : Position). Allowed q e) (sym b.2) a) in
+pub reachable_more : (p : Position) (e : Event) → IsReachable p → IsNext p e → IsReachable (after p e)
+reachable_more p e b a = let r = game_more start b.0 e b.1 (subst (λ (q : Position). IsNext q e) (sym b.2) a) in
     (b.0 ++ e ∷ [], r.0, r.1 ∙ ap (λ (q : Position). after q e) b.2)
 
 -- which ticket a right is for
@@ -40,18 +41,18 @@ is_waiting n i lo hi fk up m above k j a b held pos = absurd (omega arith)
 is_waiting n i lo hi fk up m above k j a b waits pos = let p = hit_yes n m _ pos in let q = hit_yes i j _ p.1 in
     let r = hit_yes lo a _ q.1 in let s = hit_yes hi b _ r.1 in let t = hit_yes fk (known_forks j k) _ s.1 in
     let u = hits_yes up (path_of above) 1 t.1 in (refl, p.0, q.0, r.0, s.0, t.0, u.0)
-is_waiting n i lo hi fk up m above k j a b places pos = absurd (omega arith)
+is_waiting n i lo hi fk up m above k j a b fills pos = absurd (omega arith)
 is_waiting n i lo hi fk up m above k j a b arrived pos = absurd (omega arith)
 
-pub is_placing : (n i lo hi fk c : ℕ) (up : List Above) (m : ℕ) (above : List Right) (k j a b : ℕ) (st : Stage)
-    → 0 < right_of (same (Places n i lo hi fk c up)) m above k j a b st → (st ≡ places) × (n ≡ m) × (i ≡ j) × (lo ≡ a) × (hi ≡ b)
+pub is_filling : (n i lo hi fk c : ℕ) (up : List Above) (m : ℕ) (above : List Right) (k j a b : ℕ) (st : Stage)
+    → 0 < right_of (same (Fills n i lo hi fk c up)) m above k j a b st → (st ≡ fills) × (n ≡ m) × (i ≡ j) × (lo ≡ a) × (hi ≡ b)
     × (fk ≡ known_forks j k) × (c ≡ code above) × (up ≡ path_of above)
-is_placing n i lo hi fk c up m above k j a b held pos = absurd (omega arith)
-is_placing n i lo hi fk c up m above k j a b waits pos = absurd (omega arith)
-is_placing n i lo hi fk c up m above k j a b places pos = let p = hit_yes n m _ pos in let q = hit_yes i j _ p.1 in
+is_filling n i lo hi fk c up m above k j a b held pos = absurd (omega arith)
+is_filling n i lo hi fk c up m above k j a b waits pos = absurd (omega arith)
+is_filling n i lo hi fk c up m above k j a b fills pos = let p = hit_yes n m _ pos in let q = hit_yes i j _ p.1 in
     let r = hit_yes lo a _ q.1 in let s = hit_yes hi b _ r.1 in let t = hit_yes fk (known_forks j k) _ s.1 in
     let u = hit_yes c (code above) _ t.1 in let w = hits_yes up (path_of above) 1 u.1 in (refl, p.0, q.0, r.0, s.0, t.0, u.0, w.0)
-is_placing n i lo hi fk c up m above k j a b arrived pos = absurd (omega arith)
+is_filling n i lo hi fk c up m above k j a b arrived pos = absurd (omega arith)
 
 pub is_opened : (n lo hi f : ℕ) (up : List Above) (m : ℕ) (above : List Right) (k j a b : ℕ) (st : Stage)
     → 0 < right_of (same (Opened n lo hi f up)) m above k j a b st → (st ≡ held) × (n ≡ m) × (lo ≡ a) × (hi ≡ b) × (f ≡ k)
@@ -59,13 +60,13 @@ pub is_opened : (n lo hi f : ℕ) (up : List Above) (m : ℕ) (above : List Righ
 is_opened n lo hi f up m above k j a b held pos = let p = hit_yes n m _ pos in let q = hit_yes lo a _ p.1 in let r = hit_yes hi b _ q.1 in
     let s = hit_yes f k _ r.1 in let u = hits_yes up (path_of above) 1 s.1 in (refl, p.0, q.0, r.0, s.0, u.0)
 is_opened n lo hi f up m above k j a b waits pos = absurd (omega arith)
-is_opened n lo hi f up m above k j a b places pos = absurd (omega arith)
+is_opened n lo hi f up m above k j a b fills pos = absurd (omega arith)
 is_opened n lo hi f up m above k j a b arrived pos = absurd (omega arith)
 
 no_free : (n m : ℕ) (above : List Right) (k j a b : ℕ) (st : Stage) → 0 < right_of (same (Unopened n)) m above k j a b st → ⊥
 no_free n m above k j a b held pos = absurd (omega arith)
 no_free n m above k j a b waits pos = absurd (omega arith)
-no_free n m above k j a b places pos = absurd (omega arith)
+no_free n m above k j a b fills pos = absurd (omega arith)
 no_free n m above k j a b arrived pos = absurd (omega arith)
 
 -- the cell of the node n, with the ticket i
@@ -105,19 +106,19 @@ found_waiting cells n i lo hi fk up m (going low top above ps) at pos = let f : 
     )
 found_waiting cells n i lo hi fk up m over at pos = absurd (omega arith)
 
-found_placing : (cells : List Cell) (n i lo hi fk c : ℕ) (up : List Above) (m : ℕ) (x : Cell) → get_elem? cells m ≡ some x
-    → 0 < given_out (same (Places n i lo hi fk c up)) m x → (t : Ticketed cells n i lo hi places) × (fk ≡ known_forks i (length t.pieces))
+found_filling : (cells : List Cell) (n i lo hi fk c : ℕ) (up : List Above) (m : ℕ) (x : Cell) → get_elem? cells m ≡ some x
+    → 0 < given_out (same (Fills n i lo hi fk c up)) m x → (t : Ticketed cells n i lo hi fills) × (fk ≡ known_forks i (length t.pieces))
     × (c ≡ code t.above) × (up ≡ path_of t.above)
-found_placing cells n i lo hi fk c up m fresh at pos = absurd (omega arith)
-found_placing cells n i lo hi fk c up m (going low top above ps) at pos = let f : ℕ → Piece
-    → ℕ = λ j p. right_of (same (Places n i lo hi fk c up)) m above (length ps) j p.lo p.hi p.stage in let r = some_indexed f 0 ps pos in
-    let q = is_placing n i lo hi fk c up m above (length ps) r.0 r.1.lo r.1.hi r.1.stage (plus_zero (λ j. f j r.1) r.0 r.3) in (
-      ticketed cells n i lo hi places low top above ps m r.0 r.1 at r.2 q.0 q.1 q.2 q.3 q.4,
+found_filling cells n i lo hi fk c up m fresh at pos = absurd (omega arith)
+found_filling cells n i lo hi fk c up m (going low top above ps) at pos = let f : ℕ → Piece
+    → ℕ = λ j p. right_of (same (Fills n i lo hi fk c up)) m above (length ps) j p.lo p.hi p.stage in let r = some_indexed f 0 ps pos in
+    let q = is_filling n i lo hi fk c up m above (length ps) r.0 r.1.lo r.1.hi r.1.stage (plus_zero (λ j. f j r.1) r.0 r.3) in (
+      ticketed cells n i lo hi fills low top above ps m r.0 r.1 at r.2 q.0 q.1 q.2 q.3 q.4,
       subst (λ (x : ℕ). fk ≡ known_forks x (length ps)) (sym q.2) q.5,
       q.6,
       q.7,
     )
-found_placing cells n i lo hi fk c up m over at pos = absurd (omega arith)
+found_filling cells n i lo hi fk c up m over at pos = absurd (omega arith)
 
 found_opened : (cells : List Cell) (n lo hi k : ℕ) (up : List Above) (m : ℕ) (x : Cell) → get_elem? cells m ≡ some x
     → 0 < given_out (same (Opened n lo hi k up)) m x → (j : ℕ) × (t : Ticketed cells n j lo hi held) × (k ≡ length t.pieces)
@@ -171,7 +172,7 @@ module _ {P : Type 0} (fits : ℕ → ℕ → P → Type 0) (bins : ℕ) where
       → SlotOk fits bins homes k lo hi st → SlotOk fits bins homes' k lo hi st
   slot_frame homes homes' k lo hi held e x = e ∙ x
   slot_frame homes homes' k lo hi waits e x = e ∙ x
-  slot_frame homes homes' k lo hi places e x = x
+  slot_frame homes homes' k lo hi fills e x = x
   slot_frame homes homes' k lo hi arrived e x = (x.0, e ∙ x.1, x.2)
 
   abbrev pub Alike : List ℕ → List ℕ → Homes → Homes → ℕ → Type 0
@@ -208,7 +209,7 @@ module _ {P : Type 0} (fits : ℕ → ℕ → P → Type 0) (bins : ℕ) where
         cells = set r.cells m c';
         words_wide = words_long ∙ (r.words_wide ∙ ap (λ (k : ℕ). 2 * k) (sym wide));
         homes_wide = homes_long ∙ (r.homes_wide ∙ ap (λ (k : ℕ). 8 * k) (sym wide));
-        few_nodes = subst (λ (k : ℕ). k ≤ 128) (sym wide) r.few_nodes;
+        few_nodes = subst (λ (k : ℕ). k ≤ most_nodes) (sym wide) r.few_nodes;
         each_node = λ n d e. ⊎_elim (λ (x : (n ≡ m) × (c' ≡ d)). subst (λ (y : ℕ × Cell). CellOk fits bins words' homes' y.0 y.1)
             (λ t. (sym x.0 t, x.1 t)) ok)
             (λ (x : (n ≢ m) × (get_elem? r.cells n ≡ some d)). frame s.words words' s.homes homes' n (others n x.0) d (r.each_node n d x.1))
@@ -278,11 +279,11 @@ module _ {P : Type 0} (fits : ℕ → ℕ → P → Type 0) (bins : ℕ) where
   has_waiting s r id v n i lo hi fk up at pos = let b = backed s r id v (Waits n i lo hi fk up) at pos in
       found_waiting r.cells n i lo hi fk up b.0 b.1 b.2 b.3
 
-  pub has_placing : (s : St) (r : Holds fits bins s) (id : ℕ) (v : List Right) (n i lo hi fk c : ℕ) (up : List Above)
-      → get_elem? s.views id ≡ some v → 0 < total (same (Places n i lo hi fk c up)) v → (t : Ticketed r.cells n i lo hi places)
+  pub has_filling : (s : St) (r : Holds fits bins s) (id : ℕ) (v : List Right) (n i lo hi fk c : ℕ) (up : List Above)
+      → get_elem? s.views id ≡ some v → 0 < total (same (Fills n i lo hi fk c up)) v → (t : Ticketed r.cells n i lo hi fills)
       × (fk ≡ known_forks i (length t.pieces)) × (c ≡ code t.above) × (up ≡ path_of t.above)
-  has_placing s r id v n i lo hi fk c up at pos = let b = backed s r id v (Places n i lo hi fk c up) at pos in
-      found_placing r.cells n i lo hi fk c up b.0 b.1 b.2 b.3
+  has_filling s r id v n i lo hi fk c up at pos = let b = backed s r id v (Fills n i lo hi fk c up) at pos in
+      found_filling r.cells n i lo hi fk c up b.0 b.1 b.2 b.3
 
   pub has_opened : (s : St) (r : Holds fits bins s) (id : ℕ) (v : List Right) (n lo hi k : ℕ) (up : List Above)
       → get_elem? s.views id ≡ some v → 0 < total (same (Opened n lo hi k up)) v → (j : ℕ) × (t : Ticketed r.cells n j lo hi held)

@@ -11,14 +11,15 @@ use Rattle.completers.proofs.Weights.{total_set, total_append, indexed_same, ind
 use Rattle.completers.proofs.Cells.{within, reachable_more, moved, has_opened, has_unopened}
 use Rattle.completers.proofs.Moves.{first_right, numbers, tickets, given_at, flags_same, is_held, Rule}
 use Rattle.completers.specs.Game.{fork, after, IsReachable}
+use Rattle.completers.specs.Limits.{most_nodes}
 use Rattle.completers.specs.Rights.{nodes, code, path_of, IsTicketAbove}
-use Rattle.completers.specs.Rule.{total, indexed, Stage, held, waits, places, arrived, has_arrived, Piece, piece, Cell, fresh, going, missing, given}
-use Rattle.completers.specs.Rule.{position_of, known_forks, right_of, given_out, kept_by, Down, Tiled, SlotOk, Going, CellOk, Holds}
+use Rattle.completers.specs.Rule.{total, indexed, Stage, held, waits, fills, arrived, has_arrived, Piece, piece, Cell, fresh, going, missing, has_given}
+use Rattle.completers.specs.Rule.{position_of, known_forks, right_of, given_out, kept_by, AreBelow, AreTiles, SlotOk, IsGoing, CellOk, Holds}
 use Rattle.completers.specs.Steps.{Knowledge, Forks, Opens, opened_rights}
 use Rattle.completers.specs.declared.relation.Partial.{Partial}
 use Rattle.completers.specs.declared.rule.Above.{Above}
 use Rattle.completers.specs.declared.rule.Right.{Right}
-use Rattle.completers.specs.declared.rule.Right.TheVariants.{Unopened, Opened, Waits, Places}
+use Rattle.completers.specs.declared.rule.Right.TheVariants.{Unopened, Opened, Waits, Fills}
 
 pub at_end : {A : Type 0} (l : List A) (a b : A) (j : ℕ) → get_elem? (l ++ a ∷ []) j ≡ some b
     → (get_elem? l j ≡ some b) ⊎ ((j ≡ length l) × (a ≡ b))
@@ -27,7 +28,7 @@ at_end [] a b (suc j) e = absurd (some-ne-none b (sym e))
 at_end (x ∷ xs) a b zero e = inl e
 at_end (x ∷ xs) a b (suc j) e = ⊎_elim inl (λ t. inr (ap suc t.0, t.1)) (at_end xs a b j e)
 
-down_snoc : (lo hi top : ℕ) (fs : List Piece) → lo < hi → Down hi top fs → Down lo top (fs ++ piece lo hi waits ∷ [])
+down_snoc : (lo hi top : ℕ) (fs : List Piece) → lo < hi → AreBelow hi top fs → AreBelow lo top (fs ++ piece lo hi waits ∷ [])
 down_snoc lo hi top [] less d = (d, less, refl)
 down_snoc lo hi top (f ∷ fs) less d = (d.0, d.1, down_snoc lo hi f.lo fs less d.2)
 
@@ -35,14 +36,14 @@ down_snoc lo hi top (f ∷ fs) less d = (d.0, d.1, down_snoc lo hi f.lo fs less 
 abbrev split_at : ℕ → ℕ → ℕ → List Piece → List Piece
 split_at lo mid hi ps = set ps 0 (piece lo mid held) ++ piece mid hi waits ∷ []
 
-tiled_fork : (low top lo mid hi : ℕ) (ps : List Piece) → get_elem? ps 0 ≡ some (piece lo hi held) → lo < mid → mid < hi → Tiled low top ps
-    → Tiled low top (split_at lo mid hi ps)
+tiled_fork : (low top lo mid hi : ℕ) (ps : List Piece) → get_elem? ps 0 ≡ some (piece lo hi held) → lo < mid → mid < hi → AreTiles low top ps
+    → AreTiles low top (split_at lo mid hi ps)
 tiled_fork low top lo mid hi [] e a b d = absurd d
 tiled_fork low top lo mid hi (p ∷ fs) e a b d = let is : p ≡ piece lo hi held = some-injective p (piece lo hi held) e in
     let l : lo ≡ low = sym (ap (λ (x : Piece). x.lo) is) ∙ d.0 in
-    (l, subst (λ (x : ℕ). x < mid) l a, down_snoc mid hi top fs b (subst (λ (x : Piece). Down x.hi top fs) is d.2))
+    (l, subst (λ (x : ℕ). x < mid) l a, down_snoc mid hi top fs b (subst (λ (x : Piece). AreBelow x.hi top fs) is d.2))
 
-given_fork : (lo mid hi : ℕ) (ps : List Piece) → get_elem? ps 0 ≡ some (piece lo hi held) → given (split_at lo mid hi ps) ≡ false
+given_fork : (lo mid hi : ℕ) (ps : List Piece) → get_elem? ps 0 ≡ some (piece lo hi held) → has_given (split_at lo mid hi ps) ≡ false
 given_fork lo mid hi [] e = absurd (some-ne-none (piece lo hi held) (sym e))
 given_fork lo mid hi (p ∷ fs) e = refl
 
@@ -52,7 +53,7 @@ position_fork lo mid hi ps e = let f : Piece → Bool = λ p. has_arrived p.stag
     let x = given_fork lo mid hi ps e ∙ sym (given_at ps (piece lo hi held) e) in
     let y = map-append f (set ps 0 (piece lo mid held)) (piece mid hi waits ∷ [])
     ∙ ap (λ (l : List Bool). l ++ false ∷ []) (flags_same ps 0 (piece lo hi held) (piece lo mid held) e refl) in
-    λ t. record { given = x t; arrived = y t }
+    λ t. record { has_given = x t; arrived = y t }
 
 -- no fork knows how many forks there are
 known_child : (i n : ℕ) → 0 < i → known_forks i n ≡ 0
@@ -65,8 +66,8 @@ right_free : (h : Right → ℕ) (m : ℕ) (above : List Right) (n n' i lo hi : 
 right_free h m above n n' i lo hi held child out = absurd (out refl)
 right_free h m above n n' i lo hi waits child out =
     ap (λ (z : ℕ). h (Waits m i lo hi z (path_of above))) (known_child i n child ∙ sym (known_child i n' child))
-right_free h m above n n' i lo hi places child out =
-    ap (λ (z : ℕ). h (Places m i lo hi z (code above) (path_of above))) (known_child i n child ∙ sym (known_child i n' child))
+right_free h m above n n' i lo hi fills child out =
+    ap (λ (z : ℕ). h (Fills m i lo hi z (code above) (path_of above))) (known_child i n child ∙ sym (known_child i n' child))
 right_free h m above n n' i lo hi arrived child out = refl
 
 out_fork : (h : Right → ℕ) (m low top : ℕ) (above : List Right) (lo mid hi : ℕ) (ps : List Piece) → get_elem? ps 0 ≡ some (piece lo hi held)
@@ -107,7 +108,7 @@ more_one x small = let g : (x + 1) % 18446744073709551616 ≡ x + 1 = omega arit
 one_missing : (lo hi : ℕ) (st : Stage) → missing record { lo = lo; hi = hi; stage = st } ≤ 1
 one_missing lo hi held = omega arith
 one_missing lo hi waits = omega arith
-one_missing lo hi places = omega arith
+one_missing lo hi fills = omega arith
 one_missing lo hi arrived = omega arith
 
 few_missing : (ps : List Piece) → total missing ps ≤ length ps
@@ -123,7 +124,7 @@ module _ {P : Type 0} (fits : ℕ → ℕ → P → Type 0) (bins : ℕ) where
   forks_step mid slots id car n lo hi k up rs above_lo below_hi room s r wide at _ =
       let v : List Right = Opened n lo hi k up ∷ rs in
       let f = has_opened fits bins s r id v n lo hi k up at (first_right (Opened n lo hi k up) rs) in let t = f.1 in let ps = t.pieces in
-      let g : Going fits bins s.words s.homes n t.low t.top t.above ps = r.each_node n (going t.low t.top t.above ps) t.cell_is in
+      let g : IsGoing fits bins s.words s.homes n t.low t.top t.above ps = r.each_node n (going t.low t.top t.above ps) t.cell_is in
       let first : f.0 ≡ 0 = g.own_only f.0 (piece lo hi held) t.piece_is refl in
       let here : get_elem? ps 0 ≡ some (piece lo hi held) = subst (λ (z : ℕ). get_elem? ps z ≡ some (piece lo hi held)) first t.piece_is in
       let x : ℕ = get_or s.words (2 * n) 0 in let y : ℕ = (x + 1) % 2 ^ 64 in let words' : List ℕ = set s.words (2 * n) y in
@@ -139,7 +140,7 @@ module _ {P : Type 0} (fits : ℕ → ℕ → P → Type 0) (bins : ℕ) where
       let qs : List Piece = split_at lo mid hi ps in let own' : Piece = piece lo mid held in let new : Piece = piece mid hi waits in
       let long : length qs ≡ len + 1 = length-append (set ps 0 own') (new ∷ []) ∙ ap (λ (z : ℕ). z + 1) (length-set ps 0 own') in
       let w : List Right = Waits n k mid hi 0 up ∷ Opened n lo mid (k + 1) up ∷ rs in
-      let was : given ps ≡ false = given_at ps (piece lo hi held) here in (
+      let was : has_given ps ≡ false = given_at ps (piece lo hi held) here in (
         w,
         keeps,
         tt,
@@ -286,7 +287,7 @@ module _ {P : Type 0} (fits : ℕ → ℕ → P → Type 0) (bins : ℕ) where
   ones (suc n) zero near = refl
   ones (suc n) (suc i) near = ones n i (omega arith)
 
-  pub starts : (n k l : ℕ) (words : List ℕ) → words ≡ replicate k 1 → k ≡ 2 * n → l ≡ 8 * n → n ≤ 128
+  pub starts : (n k l : ℕ) (words : List ℕ) → words ≡ replicate k 1 → k ≡ 2 * n → l ≡ 8 * n → n ≤ most_nodes
       → Holds fits bins (opening words (replicate l None) (nodes 0 n))
   starts n k l words is two eight most = subst (λ (ws : List ℕ). Holds fits bins (opening ws (replicate l None) (nodes 0 n)))
       (sym is) record {
@@ -294,7 +295,7 @@ module _ {P : Type 0} (fits : ℕ → ℕ → P → Type 0) (bins : ℕ) where
         words_wide = length-replicate k 1 ∙ (two ∙ ap (λ (z : ℕ). 2 * z) (sym (length-replicate n fresh)));
         homes_wide = length-map (replicate l None) some
             ∙ (length-replicate l None ∙ (eight ∙ ap (λ (z : ℕ). 8 * z) (sym (length-replicate n fresh))));
-        few_nodes = subst (λ (z : ℕ). z ≤ 128) (sym (length-replicate n fresh)) most;
+        few_nodes = subst (λ (z : ℕ). z ≤ most_nodes) (sym (length-replicate n fresh)) most;
         each_node = λ m c e. let f = is_fresh n m c e in
             subst (λ (x : Cell). CellOk fits bins (replicate k 1) (map some (replicate l None)) m x) f.1 (
               ones k (2 * m) (let a = f.0 in let q : 2 * m < k = omega arith in q),

@@ -7,12 +7,12 @@ use native.Mathlib.Decide.{ℕ_discrete}
 use Rattle.std.proofs.lemmas.Bool.{false≢true}
 use lib.ListN.{get_elem?}
 use Rattle.atomic_table.proofs.Lists.{at_longer}
-use Rattle.completers.specs.Game.{Event, fork, own, arrive, Position, start, number, Allowed, after, IsGame, position_after, waiting, is_last, lasts}
+use Rattle.completers.specs.Game.{Event, fork, own, arrive, Position, start, number, IsNext, after, IsGame, position_after, waiting, is_last, lasts}
 use Rattle.completers.specs.Game.{IsComplete, OneLast}
 
 -- the own ticket doesn't arrive before it is given out
 abbrev Sound : Position → Type 0
-Sound p = p.given ≡ false → get_elem? p.arrived 0 ≡ some false
+Sound p = p.has_given ≡ false → get_elem? p.arrived 0 ≡ some false
 
 waits : (bs : List Bool) (t : ℕ) → get_elem? bs t ≡ some false → 0 < waiting bs
 waits [] t e = absurd (some-ne-none false (sym e))
@@ -34,7 +34,7 @@ is_true : (b : Bool) → ¬ (b ≡ false) → b ≡ true
 is_true true n = refl
 is_true false n = absurd (n refl)
 
-sound_after : (p : Position) (e : Event) → Sound p → Allowed p e → Sound (after p e)
+sound_after : (p : Position) (e : Event) → Sound p → IsNext p e → Sound (after p e)
 sound_after p fork s a = λ g. at_longer p.arrived (false ∷ []) 0 false (s g)
 sound_after p own s a = λ g. absurd (false≢true (sym g))
 sound_after p (arrive t) s a = λ g. sound_set p.arrived t (λ z. false≢true (sym g ∙ a.1 z)) (s g)
@@ -73,7 +73,7 @@ law p (arrive t ∷ es) s w g = let q : Position = after p (arrive t) in let sq 
     (let one : cond (is_last p (arrive t)) 1 0 + 0 ≡ 1 = ap (λ (b : Bool). cond b 1 0 + 0) hit in (
       (let k : ℕ = lasts p (arrive t ∷ []) in let o : k ≡ 1 = one in let r : k ≤ 1 = omega arith in r),
       (λ _. ([], t, refl, refl, one)),
-      (λ _. (is_true q.given (λ f. let m = waits q.arrived 0 (sq f) in absurd (omega arith)), z)),
+      (λ _. (is_true q.has_given (λ f. let m = waits q.arrived 0 (sq f) in absurd (omega arith)), z)),
     )))
     (λ nz. more p (arrive t) es (ne_eqb (number q) 0 nz)
     (law q es sq (let k : ℕ = number q in let n : ¬ (k ≡ 0) = nz in let r : 0 < k = omega arith in r) g.1))

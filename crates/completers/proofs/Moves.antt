@@ -12,13 +12,13 @@ use Rattle.completers.proofs.Weights.{total_set, indexed_set, same, same_self}
 use Rattle.completers.proofs.Cells.{within, reachable_more, Ticketed, St, Homes, Alike, moved, has_waiting, has_opened, slot_frame}
 use Rattle.completers.specs.Game.{own, arrive, after, waiting, IsReachable}
 use Rattle.completers.specs.Rights.{code, path_of}
-use Rattle.completers.specs.Rule.{known_forks, total, indexed, Stage, held, waits, places, arrived, has_arrived, is_given, Piece, piece, going, missing, given}
-use Rattle.completers.specs.Rule.{position_of, right_of, given_out, Down, Tiled, SlotOk, Going, Holds}
+use Rattle.completers.specs.Rule.{known_forks, total, indexed, Stage, held, waits, fills, arrived, has_arrived, is_given, Piece, piece, going, missing}
+use Rattle.completers.specs.Rule.{has_given, position_of, right_of, given_out, AreBelow, AreTiles, SlotOk, IsGoing, Holds}
 use Rattle.completers.specs.Steps.{Knowledge, Owns, Takes}
 use Rattle.completers.specs.declared.relation.Partial.{Partial}
 use Rattle.completers.specs.declared.rule.Above.{Above}
 use Rattle.completers.specs.declared.rule.Right.{Right}
-use Rattle.completers.specs.declared.rule.Right.TheVariants.{Opened, Waits, Places}
+use Rattle.completers.specs.declared.rule.Right.TheVariants.{Opened, Waits, Fills}
 
 pub one_right : (x : Right) → 0 < total (same x) (x ∷ [])
 one_right x = let s : same x x ≡ 1 = same_self x in let n : ℕ = same x x in let g : 0 < n + 0 = omega arith in g
@@ -27,41 +27,41 @@ pub first_right : (x : Right) (xs : List Right) → 0 < total (same x) (x ∷ xs
 first_right x xs = let s : same x x ≡ 1 = same_self x in let n : ℕ = same x x in let m : ℕ = total (same x) xs in
     let g : 0 < n + m = omega arith in g
 
-down_set : (hi top : ℕ) (ps : List Piece) (i a b : ℕ) (st st' : Stage) → get_elem? ps i ≡ some (piece a b st) → Down hi top ps
-    → Down hi top (set ps i (piece a b st'))
+down_set : (hi top : ℕ) (ps : List Piece) (i a b : ℕ) (st st' : Stage) → get_elem? ps i ≡ some (piece a b st) → AreBelow hi top ps
+    → AreBelow hi top (set ps i (piece a b st'))
 down_set hi top [] i a b st st' e d = d
 down_set hi top (p ∷ ps) zero a b st st' e d = let is : p ≡ piece a b st = some-injective p (piece a b st) e in
-    (sym (ap (λ (x : Piece). x.hi) is) ∙ d.0, subst (λ (x : Piece). x.lo < x.hi) is d.1, subst (λ (x : Piece). Down hi x.lo ps) is d.2)
+    (sym (ap (λ (x : Piece). x.hi) is) ∙ d.0, subst (λ (x : Piece). x.lo < x.hi) is d.1, subst (λ (x : Piece). AreBelow hi x.lo ps) is d.2)
 down_set hi top (p ∷ ps) (suc i) a b st st' e d = (d.0, d.1, down_set hi p.lo ps i a b st st' e d.2)
 
-tiled_set : (lo top : ℕ) (ps : List Piece) (i a b : ℕ) (st st' : Stage) → get_elem? ps i ≡ some (piece a b st) → Tiled lo top ps
-    → Tiled lo top (set ps i (piece a b st'))
+tiled_set : (lo top : ℕ) (ps : List Piece) (i a b : ℕ) (st st' : Stage) → get_elem? ps i ≡ some (piece a b st) → AreTiles lo top ps
+    → AreTiles lo top (set ps i (piece a b st'))
 tiled_set lo top [] i a b st st' e d = d
 tiled_set lo top (p ∷ ps) zero a b st st' e d = let is : p ≡ piece a b st = some-injective p (piece a b st) e in
-    (sym (ap (λ (x : Piece). x.lo) is) ∙ d.0, subst (λ (x : Piece). lo < x.hi) is d.1, subst (λ (x : Piece). Down x.hi top ps) is d.2)
+    (sym (ap (λ (x : Piece). x.lo) is) ∙ d.0, subst (λ (x : Piece). lo < x.hi) is d.1, subst (λ (x : Piece). AreBelow x.hi top ps) is d.2)
 tiled_set lo top (p ∷ ps) (suc i) a b st st' e d = (d.0, d.1, down_set p.hi top ps i a b st st' e d.2)
 
 given_set : (ps : List Piece) (i : ℕ) (p q : Piece) → get_elem? ps i ≡ some p → is_given q.stage ≡ is_given p.stage
-    → given (set ps i q) ≡ given ps
+    → has_given (set ps i q) ≡ has_given ps
 given_set [] i p q e g = refl
 given_set (x ∷ xs) zero p q e g = g ∙ sym (ap (λ (y : Piece). is_given y.stage) (some-injective x p e))
 given_set (x ∷ xs) (suc i) p q e g = refl
 
-given_here : (ps : List Piece) (p q : Piece) → get_elem? ps 0 ≡ some p → given (set ps 0 q) ≡ is_given q.stage
+given_here : (ps : List Piece) (p q : Piece) → get_elem? ps 0 ≡ some p → has_given (set ps 0 q) ≡ is_given q.stage
 given_here [] p q e = absurd (some-ne-none p (sym e))
 given_here (x ∷ xs) p q e = refl
 
-pub given_at : (ps : List Piece) (p : Piece) → get_elem? ps 0 ≡ some p → given ps ≡ is_given p.stage
+pub given_at : (ps : List Piece) (p : Piece) → get_elem? ps 0 ≡ some p → has_given ps ≡ is_given p.stage
 given_at [] p e = absurd (some-ne-none p (sym e))
 given_at (x ∷ xs) p e = ap (λ (y : Piece). is_given y.stage) (some-injective x p e)
 
 abbrev pub is_held : Stage → Type 0
 is_held held = Unit {0}
 is_held waits = ⊥
-is_held places = ⊥
+is_held fills = ⊥
 is_held arrived = ⊥
 
-not_held : places ≡ held → ⊥
+not_held : fills ≡ held → ⊥
 not_held e = subst is_held (sym e) tt
 
 not_held' : waits ≡ held → ⊥
@@ -85,13 +85,13 @@ flags_same ps i p q e a = flags_set ps i q
 position_same : (ps : List Piece) (i : ℕ) (p q : Piece) → get_elem? ps i ≡ some p → is_given q.stage ≡ is_given p.stage
     → has_arrived q.stage ≡ has_arrived p.stage → position_of (set ps i q) ≡ position_of ps
 position_same ps i p q e g a = let x = given_set ps i p q e g in let y = flags_same ps i p q e a in
-    λ t. record { given = x t; arrived = y t }
+    λ t. record { has_given = x t; arrived = y t }
 
 pub position_arrived : (ps : List Piece) (i : ℕ) (p q : Piece) → get_elem? ps i ≡ some p → is_given q.stage ≡ is_given p.stage
     → has_arrived q.stage ≡ true → position_of (set ps i q) ≡ after (position_of ps) (arrive i)
 position_arrived ps i p q e g a = let x = given_set ps i p q e g in
     let y = flags_set ps i q ∙ ap (λ (b : Bool). set (map (λ (p : Piece). has_arrived p.stage) ps) i b) a in
-    λ t. record { given = x t; arrived = y t }
+    λ t. record { has_given = x t; arrived = y t }
 
 -- the node's number is the game's
 pub numbers : (ps : List Piece) → waiting (map (λ (p : Piece). has_arrived p.stage) ps) ≡ total missing ps
@@ -101,7 +101,7 @@ numbers (p ∷ ps) = ap (λ (k : ℕ). missing p + k) (numbers ps)
 pub position_owned : (ps : List Piece) (p q : Piece) → get_elem? ps 0 ≡ some p → is_given q.stage ≡ true
     → has_arrived q.stage ≡ has_arrived p.stage → position_of (set ps 0 q) ≡ after (position_of ps) own
 position_owned ps p q e g a = let x = given_here ps p q e in let y = flags_same ps 0 p q e a in
-    λ t. record { given = (x ∙ g) t; arrived = y t }
+    λ t. record { has_given = (x ∙ g) t; arrived = y t }
 
 -- what a node gives out, when one ticket changes
 pub given_out_set : (h : Right → ℕ) (m lo top : ℕ) (above : List Right) (ps : List Piece) (i : ℕ) (p q : Piece) → get_elem? ps i ≡ some p
@@ -133,10 +133,10 @@ module _ {P : Type 0} (fits : ℕ → ℕ → P → Type 0) (bins : ℕ) where
       → ((j : ℕ) → j ≢ i → j < 8 → get_elem? homes' (8 * n + j) ≡ get_elem? s.homes (8 * n + j))
       → SlotOk fits bins homes' (8 * n + i) lo hi st'
       → IsReachable (position_of (set t.pieces i (piece lo hi st')))
-      → Going fits bins words' homes' n t.low t.top t.above (set t.pieces i (piece lo hi st'))
-  going_set s r n i lo hi st st' t out words' homes' code_same number_same places_same place reachable =
+      → IsGoing fits bins words' homes' n t.low t.top t.above (set t.pieces i (piece lo hi st'))
+  going_set s r n i lo hi st st' t out words' homes' code_same number_same slots_same slot reachable =
       let ps = t.pieces in let p : Piece = piece lo hi st in let q : Piece = piece lo hi st' in
-      let g : Going fits bins s.words s.homes n t.low t.top t.above ps = r.each_node n (going t.low t.top t.above ps) t.cell_is in
+      let g : IsGoing fits bins s.words s.homes n t.low t.top t.above ps = r.each_node n (going t.low t.top t.above ps) t.cell_is in
       let long : length (set ps i q) ≡ length ps = length-set ps i q in
       record {
         number_is =
@@ -152,12 +152,12 @@ module _ {P : Type 0} (fits : ℕ → ℕ → P → Type 0) (bins : ℕ) where
         own_only = λ j x e is. ⊎_elim (λ (y : (j ≡ i) × (q ≡ x)). absurd (out (ap (λ (z : Piece). z.stage) y.1 ∙ is)))
             (λ (y : (j ≢ i) × (get_elem? ps j ≡ some x)). g.own_only j x y.1 is) (at_set ps i j q x e);
         each_slot = λ j x e. ⊎_elim (λ (y : (j ≡ i) × (q ≡ x)). subst
-            (λ (z : ℕ × Piece). SlotOk fits bins homes' (8 * n + z.0) z.1.lo z.1.hi z.1.stage) (λ k. (sym y.0 k, y.1 k)) place)
+            (λ (z : ℕ × Piece). SlotOk fits bins homes' (8 * n + z.0) z.1.lo z.1.hi z.1.stage) (λ k. (sym y.0 k, y.1 k)) slot)
             (λ (y : (j ≢ i) × (get_elem? ps j ≡ some x)). slot_frame fits bins s.homes homes' (8 * n + j) x.lo x.hi x.stage
-            (places_same j y.0 (let w = within ps j x y.1 in let f = g.few in omega arith)) (g.each_slot j x y.1))
+            (slots_same j y.0 (let w = within ps j x y.1 in let f = g.few in omega arith)) (g.each_slot j x y.1))
             (at_set ps i j q x e);
         others = λ j far near. let far' : length ps ≤ j = subst (λ (k : ℕ). k ≤ j) long far in
-            places_same j (λ e. let w = within ps i p t.piece_is in absurd (omega arith)) near ∙ g.others j far' near;
+            slots_same j (λ e. let w = within ps i p t.piece_is in absurd (omega arith)) near ∙ g.others j far' near;
         reachable = reachable;
       }
 
@@ -173,11 +173,11 @@ module _ {P : Type 0} (fits : ℕ → ℕ → P → Type 0) (bins : ℕ) where
       → ((h : Right → ℕ) → total h w + right_of h n t.above (length t.pieces) i lo hi st ≤ total h v + right_of h n t.above
       (length t.pieces) i lo hi st')
       → Rule record { words = words'; homes = homes'; views = set s.views id w }
-  restaged s r n i lo hi st st' t out id v w at words' homes' words_long homes_long others code_same number_same places_same place reachable balance =
+  restaged s r n i lo hi st st' t out id v w at words' homes' words_long homes_long others code_same number_same slots_same slot reachable balance =
       let ps = t.pieces in let p : Piece = piece lo hi st in let q : Piece = piece lo hi st' in
       moved fits bins s r n (going t.low t.top t.above ps)
       (going t.low t.top t.above (set ps i q)) t.cell_is id v w at words' homes' words_long homes_long others
-      (going_set s r n i lo hi st st' t out words' homes' code_same number_same places_same place reachable)
+      (going_set s r n i lo hi st st' t out words' homes' code_same number_same slots_same slot reachable)
       (λ h. let a = given_out_set h n t.low t.top t.above ps i p q t.piece_is in
       let x : ℕ = given_out h n (going t.low t.top t.above (set ps i q)) in let y : ℕ = given_out h n (going t.low t.top t.above ps) in
       let rp : ℕ = right_of h n t.above (length ps) i lo hi st in let rq : ℕ = right_of h n t.above (length ps) i lo hi st' in
@@ -194,7 +194,7 @@ module _ {P : Type 0} (fits : ℕ → ℕ → P → Type 0) (bins : ℕ) where
   beside homes n i x j apart = set_else homes (8 * n + i) (8 * n + j) x (λ e. apart (omega arith))
 
   pub few_of : (s : St fits bins) (r : Rule s) (n i lo hi : ℕ) (st : Stage) (t : Ticketed r.cells n i lo hi st) → i < 8
-  few_of s r n i lo hi st t = let g : Going fits bins s.words s.homes n t.low t.top t.above t.pieces =
+  few_of s r n i lo hi st t = let g : IsGoing fits bins s.words s.homes n t.low t.top t.above t.pieces =
       r.each_node n (going t.low t.top t.above t.pieces) t.cell_is in
       let w = within t.pieces i (piece lo hi st) t.piece_is in let f = g.few in omega arith
 
@@ -209,28 +209,28 @@ module _ {P : Type 0} (fits : ℕ → ℕ → P → Type 0) (bins : ℕ) where
   places_step slots id car n i lo hi fk up s r wide at _ =
       let v : List Right = Waits n i lo hi fk up ∷ [] in
       let f = has_waiting fits bins s r id v n i lo hi fk up at (one_right (Waits n i lo hi fk up)) in let t = f.0 in let ps = t.pieces in
-      let g : Going fits bins s.words s.homes n t.low t.top t.above ps = r.each_node n (going t.low t.top t.above ps) t.cell_is in
+      let g : IsGoing fits bins s.words s.homes n t.low t.top t.above ps = r.each_node n (going t.low t.top t.above ps) t.cell_is in
       let x : ℕ = get_or s.words (2 * n + 1) 0 in
-      let k : ℕ = 8 * n + i in let w : List Right = Places n i lo hi fk x up ∷ [] in let small = few_of s r n i lo hi waits t in
+      let k : ℕ = 8 * n + i in let w : List Right = Fills n i lo hi fk x up ∷ [] in let small = few_of s r n i lo hi waits t in
       let homes' : Homes fits bins = set s.homes k none in (
         w,
         takes k None,
         g.each_slot i (piece lo hi waits) t.piece_is,
         same_words s (2 * n + 1) homes' (set s.views id w)
-            (restaged s r n i lo hi waits places t (λ e. not_held e) id v w at s.words homes' refl (length-set s.homes k none)
+            (restaged s r n i lo hi waits fills t (λ e. not_held e) id v w at s.words homes' refl (length-set s.homes k none)
             (λ m apart. (refl, refl, elsewhere s.homes n i m none small apart)) refl refl (λ j apart _. beside s.homes n i none j apart) tt
-            (subst IsReachable (sym (position_same ps i (piece lo hi waits) (piece lo hi places) t.piece_is refl refl)) g.reachable)
-            (λ h. let a : ℕ = h (Places n i lo hi fk x up) in
-            let b : ℕ = h (Places n i lo hi (known_forks i (length ps)) (code t.above) (path_of t.above)) in
+            (subst IsReachable (sym (position_same ps i (piece lo hi waits) (piece lo hi fills) t.piece_is refl refl)) g.reachable)
+            (λ h. let a : ℕ = h (Fills n i lo hi fk x up) in
+            let b : ℕ = h (Fills n i lo hi (known_forks i (length ps)) (code t.above) (path_of t.above)) in
             let c : ℕ = h (Waits n i lo hi fk up) in let d : ℕ = h (Waits n i lo hi (known_forks i (length ps)) (path_of t.above)) in
-            let e : a ≡ b = λ z. h (Places n i lo hi (f.1 z) (g.code_is z) (f.2 z)) in
+            let e : a ≡ b = λ z. h (Fills n i lo hi (f.1 z) (g.code_is z) (f.2 z)) in
             let e' : c ≡ d = λ z. h (Waits n i lo hi (f.1 z) (f.2 z)) in let z : a + 0 + d ≤ c + 0 + b = omega arith in z)),
         refl,
       )
 
-  pub takes_place : (slots id : ℕ) (me : Knowledge P) (n i lo hi fk : ℕ) (up : List Above) (car : List (ℕ × Option (Partial P)))
+  pub takes_slot : (slots id : ℕ) (me : Knowledge P) (n i lo hi fk : ℕ) (up : List Above) (car : List (ℕ × Option (Partial P)))
       → me ≡ (Waits n i lo hi fk up ∷ [], car) → Allows Rule slots id me (2 * n + 1) (λ x. x) (Takes me)
-  takes_place slots id me n i lo hi fk up car is =
+  takes_slot slots id me n i lo hi fk up car is =
       subst (λ (m : Knowledge P). Allows Rule slots id m (2 * n + 1) (λ x. x) (Takes m)) (sym is) (places_step slots id car n i lo hi fk up)
 
   owns_step : (slots id : ℕ) (car : List (ℕ × Option (Partial P))) (n lo hi k : ℕ) (up : List Above) (rs : List Right)
@@ -238,13 +238,13 @@ module _ {P : Type 0} (fits : ℕ → ℕ → P → Type 0) (bins : ℕ) where
   owns_step slots id car n lo hi k up rs s r wide at _ =
       let v : List Right = Opened n lo hi k up ∷ rs in
       let f = has_opened fits bins s r id v n lo hi k up at (first_right (Opened n lo hi k up) rs) in let t0 = f.1 in
-      let g0 : Going fits bins s.words s.homes n t0.low t0.top t0.above t0.pieces =
+      let g0 : IsGoing fits bins s.words s.homes n t0.low t0.top t0.above t0.pieces =
       r.each_node n (going t0.low t0.top t0.above t0.pieces) t0.cell_is in
       let first : f.0 ≡ 0 = g0.own_only f.0 (piece lo hi held) t0.piece_is refl in let ps = t0.pieces in
       let here : get_elem? ps 0 ≡ some (piece lo hi held) = subst (λ (z : ℕ). get_elem? ps z ≡ some (piece lo hi held)) first t0.piece_is in
       let t : Ticketed r.cells n 0 lo hi held =
       record { low = t0.low; top = t0.top; above = t0.above; pieces = ps; cell_is = t0.cell_is; piece_is = here } in
-      let w : List Right = Waits n 0 lo hi (k - 1) up ∷ [] in let was : given ps ≡ false = given_at ps (piece lo hi held) here in
+      let w : List Right = Waits n 0 lo hi (k - 1) up ∷ [] in let was : has_given ps ≡ false = given_at ps (piece lo hi held) here in
       let now : position_of (set ps 0 (piece lo hi waits)) ≡ after (position_of ps) own =
       position_owned ps (piece lo hi held) (piece lo hi waits) here refl refl in (
         w,

@@ -1,4 +1,4 @@
--- The parts of a node in range order, and the act that takes all its places.
+-- The parts of a node in range order, and the act that takes all its slots.
 use Rattle.std.proofs.Common.{◌≡◌, ℕ, zero, suc, ◌+◌, ◌-◌, ◌*◌, ◌<◌, ◌≤◌, ◌≢◌, List, [], ◌∷◌, length, sym, refl, ap, ◌∙◌, subst, arith, length-set, Contains}
 use mathlib.Core.Logic.{dite}
 use native.Mathlib.Decide.{ℕ_discrete}
@@ -9,11 +9,11 @@ use Rattle.std.specs.Prelude.{Option, Some, None}
 use Rattle.atomic_table.specs.Table.{Act, keeps, takes, chain, Valid, carried_after, homes_after}
 use Rattle.atomic_table.proofs.Lists.{set_else}
 use Rattle.completers.specs.Parts.{AreParts, IsPart, present, stack, pile}
-use Rattle.completers.specs.Rule.{Piece, Down, Tiled}
+use Rattle.completers.specs.Rule.{Piece, AreBelow, AreTiles}
 use Rattle.completers.specs.declared.relation.Partial.{Partial}
 
 module _ {P : Type 0} where
-  -- takes the places 1, .., j of the node n
+  -- takes the slots 1, .., j of the node n
   abbrev pub takes_up : ℕ → (ℕ → Option (Partial P)) → ℕ → Act (Option (Partial P))
   takes_up n y zero = keeps
   takes_up n y (suc j) = chain (takes_up n y j) (takes (8 * n + suc j) (y (suc j)))
@@ -55,7 +55,7 @@ module _ {P : Type 0} (fits : ℕ → ℕ → P → Type 0) (y : ℕ → Option 
     subst (λ (h : ℕ). AreParts fits h top xs) (sym is.1) parts,
   )
 
-  climbs : (top : ℕ) (fs : List Piece) (j hi mid : ℕ) → Down hi mid fs → AreParts fits mid top (present (stack y j))
+  climbs : (top : ℕ) (fs : List Piece) (j hi mid : ℕ) → AreBelow hi mid fs → AreParts fits mid top (present (stack y j))
       → ((t : ℕ) (p : Piece) → get_elem? fs t ≡ some p → (x : Partial P) × (y (j + 1 + t) ≡ Some x) × IsPart fits p.lo p.hi x)
       → AreParts fits hi top (present (stack y (j + length fs)))
   climbs top [] j hi mid d parts shows = let z : j ≡ j + 0 = omega arith in
@@ -77,7 +77,7 @@ module _ {P : Type 0} (fits : ℕ → ℕ → P → Type 0) (y : ℕ → Option 
       ap (λ (k : ℕ). present (stack y k)) z ∙ (ap (λ (o : Option (Partial P)). present (o ∷ stack y (j + d)))
       (subst (λ (k : ℕ). y k ≡ None) w (blank d (omega arith))) ∙ nones d j (λ t l. blank t (omega arith)))
 
-  pub all_parts : (lo top : ℕ) (qs : List Piece) → Tiled lo top qs → length qs ≤ 8
+  pub all_parts : (lo top : ℕ) (qs : List Piece) → AreTiles lo top qs → length qs ≤ 8
       → ((j : ℕ) (p : Piece) → get_elem? qs j ≡ some p → (x : Partial P) × (y j ≡ Some x) × IsPart fits p.lo p.hi x)
       → ((j : ℕ) → length qs ≤ j → j < 8 → y j ≡ None) → AreParts fits lo top (present (y 0 ∷ stack y 7))
   all_parts lo top [] tiled few shows blank = absurd tiled
@@ -107,7 +107,7 @@ behind (Some z) os x c = (
 )
 
 module _ {P : Type 0} (y : ℕ → Option (Partial P)) where
-  -- what is in a place is among the parts
+  -- what is in a slot is among the parts
   in_stack : (j i : ℕ) (x : Partial P) → 0 < i → i ≤ j → y i ≡ Some x → Contains (present (stack y j)) x
   in_stack zero i x pos most is = absurd (omega arith)
   in_stack (suc j) i x pos most is = dite (ℕ_discrete i (suc j))

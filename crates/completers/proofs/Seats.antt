@@ -69,9 +69,9 @@ upper o m level some = let e = two_halves level some in let p = some_nodes (leve
     ap (λ (k : ℕ). drop k (o ∷ nodes (m + 1) (c - 1))) (half_long o m level some)
     ∙ (gives_rest o h (m + 1) (c - 1) p' (let q : h ≤ c - 1 + 1 = omega arith in q) ∙ (λ t. nodes (a t) (b t)))
 
--- a node among them has its eight places
-pub has_places : (m level slots : ℕ) → 8 * (m + 2 ^ level) ≤ slots → 8 * m + 8 ≤ slots
-has_places m level slots inside = let p = some_nodes level in let c : ℕ = 2 ^ level in let p' : 0 < c = p in
+-- a node among them has its eight slots
+pub has_slots : (m level slots : ℕ) → 8 * (m + 2 ^ level) ≤ slots → 8 * m + 8 ≤ slots
+has_slots m level slots inside = let p = some_nodes level in let c : ℕ = 2 ^ level in let p' : 0 < c = p in
     let i : 8 * (m + c) ≤ slots = inside in let q : 8 * m + 8 ≤ slots = omega arith in q
 
 -- the weights of what a split and a join leave
@@ -89,7 +89,7 @@ pub join_weight : (h : Right → ℕ) (rs qs : List Right) → total h (rs ++ qs
 join_weight h rs qs = let e : total h (rs ++ qs) ≡ total h rs + total h qs = total_append h rs qs in let a : ℕ = total h (rs ++ qs) in
     let b : ℕ = total h rs in let c : ℕ = total h qs in let e' : a ≡ b + c = e in let q : a ≤ b + c = omega arith in q
 
--- a list of places that is worked off from the front
+-- a list of slots that is worked off from the front
 module _ {S : Type 0} where
   abbrev pub value_of : S → List (ℕ × S) → S
   value_of d [] = d

@@ -11,11 +11,11 @@ pub data Event : Type 0 where
 
 -- whether the own ticket was given out, and of each ticket whether it has arrived
 pub record Position : Type 0 where
-  pub given : Bool
+  pub has_given : Bool
   pub arrived : List Bool
 
 abbrev pub start : Position
-start = record { given = false; arrived = false ∷ [] }
+start = record { has_given = false; arrived = false ∷ [] }
 
 abbrev pub waiting : List Bool → ℕ
 waiting [] = 0
@@ -26,19 +26,19 @@ abbrev pub number : Position → ℕ
 number p = waiting p.arrived
 
 -- forks come before the own ticket, which is given out once. A ticket that is out arrives once
-abbrev pub Allowed : Position → Event → Type 0
-Allowed p fork = p.given ≡ false
-Allowed p own = p.given ≡ false
-Allowed p (arrive t) = (get_elem? p.arrived t ≡ some false) × (t ≡ 0 → p.given ≡ true)
+abbrev pub IsNext : Position → Event → Type 0
+IsNext p fork = p.has_given ≡ false
+IsNext p own = p.has_given ≡ false
+IsNext p (arrive t) = (get_elem? p.arrived t ≡ some false) × (t ≡ 0 → p.has_given ≡ true)
 
 abbrev pub after : Position → Event → Position
-after p fork = record { given = p.given; arrived = p.arrived ++ false ∷ [] }
-after p own = record { given = true; arrived = p.arrived }
-after p (arrive t) = record { given = p.given; arrived = slice_set p.arrived t true }
+after p fork = record { has_given = p.has_given; arrived = p.arrived ++ false ∷ [] }
+after p own = record { has_given = true; arrived = p.arrived }
+after p (arrive t) = record { has_given = p.has_given; arrived = slice_set p.arrived t true }
 
 abbrev pub IsGame : Position → List Event → Type 0
 IsGame p [] = Unit {0}
-IsGame p (e ∷ es) = Allowed p e × IsGame (after p e) es
+IsGame p (e ∷ es) = IsNext p e × IsGame (after p e) es
 
 abbrev pub position_after : Position → List Event → Position
 position_after p [] = p
@@ -57,7 +57,7 @@ lasts p (e ∷ es) = (if is_last p e then 1 else 0) + lasts (after p e) es
 
 -- where the own ticket is given out and all tickets have arrived
 abbrev pub IsComplete : Position → Type 0
-IsComplete p = (p.given ≡ true) × (number p ≡ 0)
+IsComplete p = (p.has_given ≡ true) × (number p ≡ 0)
 
 abbrev pub EndsInLast : List Event → Type 0
 EndsInLast es = (before : List Event) × (t : ℕ) × (es ≡ before ++ arrive t ∷ []) × (lasts start before ≡ 0) × (lasts start es ≡ 1)
@@ -74,4 +74,4 @@ IsReachable p = (es : List Event) × IsGame start es × (position_after start es
 
 -- the event is allowed where a game has led to, and that position is such
 abbrev pub IsPossible : Event → (Position → Type 0) → Type 0
-IsPossible e Such = (p : Position) × IsReachable p × Allowed p e × Such p
+IsPossible e Such = (p : Position) × IsReachable p × IsNext p e × Such p

@@ -1,3 +1,4 @@
+pub mod Limits
 pub mod Claims
 pub mod Game
 pub mod Rights

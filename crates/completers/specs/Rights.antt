@@ -2,7 +2,7 @@
 use Rattle.std.specs.Prelude.{◌≡◌, ◌⊎◌, ℕ, zero, suc, ◌+◌, ◌*◌, ◌/◌, ◌<◌, List, [], ◌∷◌, take, drop, length}
 use Rattle.completers.specs.declared.rule.Above.{Above}
 use Rattle.completers.specs.declared.rule.Right.{Right}
-use Rattle.completers.specs.declared.rule.Right.TheVariants.{Unopened, Opened, Waits, Places}
+use Rattle.completers.specs.declared.rule.Right.TheVariants.{Unopened, Opened, Waits, Fills}
 
 -- to open n nodes, from the node m on
 abbrev pub nodes : ℕ → ℕ → List Right
@@ -29,7 +29,7 @@ code [] = 0
 code (Unopened n ∷ rs) = 0
 code (Opened n lo hi k up ∷ rs) = 0
 code (Waits n i lo hi f up ∷ rs) = 8 * n + i + 1
-code (Places n i lo hi f c up ∷ rs) = 0
+code (Fills n i lo hi f c up ∷ rs) = 0
 
 -- a ticket, and then those above it: what stands above a node that is opened with it
 abbrev pub path_of : List Right → List Above
@@ -37,7 +37,7 @@ path_of [] = []
 path_of (Unopened n ∷ rs) = []
 path_of (Opened n lo hi k up ∷ rs) = []
 path_of (Waits n i lo hi f up ∷ rs) = record { node = n; number = i; lo = lo; hi = hi; forks = f } ∷ up
-path_of (Places n i lo hi f c up ∷ rs) = []
+path_of (Fills n i lo hi f c up ∷ rs) = []
 
 -- the ticket above is for the node's range. Only the root, of the whole range, has none
 abbrev pub IsTicketAbove : ℕ → ℕ → ℕ → List Right → Type 0
@@ -50,7 +50,7 @@ node_in [] = 0
 node_in (Unopened n ∷ rs) = n
 node_in (Opened n lo hi k up ∷ rs) = n
 node_in (Waits n i lo hi f up ∷ rs) = n
-node_in (Places n i lo hi f c up ∷ rs) = n
+node_in (Fills n i lo hi f c up ∷ rs) = n
 
 -- the number of its ticket
 abbrev pub ticket_in : List Right → ℕ
@@ -58,7 +58,7 @@ ticket_in [] = 0
 ticket_in (Unopened n ∷ rs) = 0
 ticket_in (Opened n lo hi k up ∷ rs) = 0
 ticket_in (Waits n i lo hi f up ∷ rs) = i
-ticket_in (Places n i lo hi f c up ∷ rs) = i
+ticket_in (Fills n i lo hi f c up ∷ rs) = i
 
 -- how many tickets its open node has
 abbrev pub tickets_in : List Right → ℕ
@@ -66,7 +66,7 @@ tickets_in [] = 0
 tickets_in (Unopened n ∷ rs) = 0
 tickets_in (Opened n lo hi k up ∷ rs) = k
 tickets_in (Waits n i lo hi f up ∷ rs) = 0
-tickets_in (Places n i lo hi f c up ∷ rs) = 0
+tickets_in (Fills n i lo hi f c up ∷ rs) = 0
 
 -- how many forks its node has, which an own ticket knows
 abbrev pub forks_in : List Right → ℕ
@@ -74,7 +74,7 @@ forks_in [] = 0
 forks_in (Unopened n ∷ rs) = 0
 forks_in (Opened n lo hi k up ∷ rs) = 0
 forks_in (Waits n i lo hi f up ∷ rs) = f
-forks_in (Places n i lo hi f c up ∷ rs) = f
+forks_in (Fills n i lo hi f c up ∷ rs) = f
 
 -- the code that it has read
 abbrev pub code_in : List Right → ℕ
@@ -82,7 +82,7 @@ code_in [] = 0
 code_in (Unopened n ∷ rs) = 0
 code_in (Opened n lo hi k up ∷ rs) = 0
 code_in (Waits n i lo hi f up ∷ rs) = 0
-code_in (Places n i lo hi f c up ∷ rs) = c
+code_in (Fills n i lo hi f c up ∷ rs) = c
 
 -- the tickets above its node
 abbrev pub up_in : List Right → List Above
@@ -90,4 +90,4 @@ up_in [] = []
 up_in (Unopened n ∷ rs) = []
 up_in (Opened n lo hi k up ∷ rs) = up
 up_in (Waits n i lo hi f up ∷ rs) = up
-up_in (Places n i lo hi f c up ∷ rs) = up
+up_in (Fills n i lo hi f c up ∷ rs) = up

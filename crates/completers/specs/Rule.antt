@@ -7,11 +7,12 @@ use mathlib.Core.Option as maybe
 use lib.ListN.{get_elem?}
 use Rattle.atomic_table.specs.Table.{State}
 use Rattle.completers.specs.Game.{Position, IsReachable}
+use Rattle.completers.specs.Limits.{most_nodes}
 use Rattle.completers.specs.Parts.{IsPart}
 use Rattle.completers.specs.Rights.{IsTicketAbove, code, path_of}
 use Rattle.completers.specs.declared.relation.Partial.{Partial}
 use Rattle.completers.specs.declared.rule.Right.{Right}
-use Rattle.completers.specs.declared.rule.Right.TheVariants.{Unopened, Opened, Waits, Places}
+use Rattle.completers.specs.declared.rule.Right.TheVariants.{Unopened, Opened, Waits, Fills}
 
 abbrev pub total : {A : Type 0} → (A → ℕ) → List A → ℕ
 total f [] = 0
@@ -26,19 +27,19 @@ indexed f i (x ∷ xs) = f i x + indexed f (i + 1) xs
 pub data Stage : Type 0 where
   held : Stage
   waits : Stage
-  places : Stage
+  fills : Stage
   arrived : Stage
 
 abbrev pub has_arrived : Stage → Bool
 has_arrived held = false
 has_arrived waits = false
-has_arrived places = false
+has_arrived fills = false
 has_arrived arrived = true
 
 abbrev pub is_given : Stage → Bool
 is_given held = false
 is_given waits = true
-is_given places = true
+is_given fills = true
 is_given arrived = true
 
 -- a ticket with its range
@@ -59,12 +60,12 @@ pub data Cell : Type 0 where
 abbrev pub missing : Piece → ℕ
 missing p = if has_arrived p.stage then 0 else 1
 
-abbrev pub given : List Piece → Bool
-given [] = true
-given (p ∷ ps) = is_given p.stage
+abbrev pub has_given : List Piece → Bool
+has_given [] = true
+has_given (p ∷ ps) = is_given p.stage
 
 abbrev pub position_of : List Piece → Position
-position_of ps = record { given = given ps; arrived = map (λ p. has_arrived p.stage) ps }
+position_of ps = record { has_given = has_given ps; arrived = map (λ p. has_arrived p.stage) ps }
 
 -- how often a node of n tickets forked, as its ticket i knows it
 abbrev pub known_forks : ℕ → ℕ → ℕ
@@ -75,7 +76,7 @@ known_forks (suc i) n = 0
 abbrev pub right_of : (Right → ℕ) → ℕ → List Right → ℕ → ℕ → ℕ → ℕ → Stage → ℕ
 right_of h m above n i lo hi held = h (Opened m lo hi n (path_of above))
 right_of h m above n i lo hi waits = h (Waits m i lo hi (known_forks i n) (path_of above))
-right_of h m above n i lo hi places = h (Places m i lo hi (known_forks i n) (code above) (path_of above))
+right_of h m above n i lo hi fills = h (Fills m i lo hi (known_forks i n) (code above) (path_of above))
 right_of h m above n i lo hi arrived = 0
 
 -- the rights that tokens have on a node
@@ -91,27 +92,27 @@ kept_by h (going lo top above ps) = total h above
 kept_by h over = 0
 
 -- the forked ranges, each below the ones before it
-abbrev pub Down : ℕ → ℕ → List Piece → Type 0
-Down hi top [] = hi ≡ top
-Down hi top (p ∷ ps) = (p.hi ≡ top) × (p.lo < p.hi) × Down hi p.lo ps
+abbrev pub AreBelow : ℕ → ℕ → List Piece → Type 0
+AreBelow hi top [] = hi ≡ top
+AreBelow hi top (p ∷ ps) = (p.hi ≡ top) × (p.lo < p.hi) × AreBelow hi p.lo ps
 
-abbrev pub Tiled : ℕ → ℕ → List Piece → Type 0
-Tiled lo top [] = ⊥
-Tiled lo top (p ∷ ps) = (p.lo ≡ lo) × (lo < p.hi) × Down p.hi top ps
+abbrev pub AreTiles : ℕ → ℕ → List Piece → Type 0
+AreTiles lo top [] = ⊥
+AreTiles lo top (p ∷ ps) = (p.lo ≡ lo) × (lo < p.hi) × AreBelow p.hi top ps
 
 module _ {P : Type 0} (fits : ℕ → ℕ → P → Type 0) (bins : ℕ) where
   module _ (homes : List (maybe.Option (Option (Partial P)))) (k lo hi : ℕ) where
     abbrev pub SlotOk : Stage → Type 0
     SlotOk held = get_elem? homes k ≡ some (some None)
     SlotOk waits = get_elem? homes k ≡ some (some None)
-    SlotOk places = Unit {0}
+    SlotOk fills = Unit {0}
     SlotOk arrived = (x : Partial P) × (get_elem? homes k ≡ some (some (Some x))) × IsPart fits lo hi x
 
-  pub record Going (words : List ℕ) (homes : List (maybe.Option (Option (Partial P)))) (m lo top : ℕ) (above : List Right) (ps : List Piece) : Type 0 where
+  pub record IsGoing (words : List ℕ) (homes : List (maybe.Option (Option (Partial P)))) (m lo top : ℕ) (above : List Right) (ps : List Piece) : Type 0 where
     pub number_is : slice_index words (2 * m) ≡ total missing ps
     pub code_is : slice_index words (2 * m + 1) ≡ code above
     pub above_is : IsTicketAbove bins lo top above
-    pub tiled : Tiled lo top ps
+    pub tiled : AreTiles lo top ps
     pub few : length ps ≤ 8
     pub own_only : (i : ℕ) (p : Piece) → get_elem? ps i ≡ some p → p.stage ≡ held → i ≡ 0
     pub each_slot : (i : ℕ) (p : Piece) → get_elem? ps i ≡ some p → SlotOk homes (8 * m + i) p.lo p.hi p.stage
@@ -121,7 +122,7 @@ module _ {P : Type 0} (fits : ℕ → ℕ → P → Type 0) (bins : ℕ) where
   module _ (words : List ℕ) (homes : List (maybe.Option (Option (Partial P)))) (m : ℕ) where
     abbrev pub CellOk : Cell → Type 0
     CellOk fresh = (slice_index words (2 * m) ≡ 1) × ((i : ℕ) → i < 8 → get_elem? homes (8 * m + i) ≡ some (some None))
-    CellOk (going lo top above ps) = Going words homes m lo top above ps
+    CellOk (going lo top above ps) = IsGoing words homes m lo top above ps
     CellOk over = Unit {0}
 
   -- Each right is with one token or one node at most, and each node's words and slots are as its tickets say
@@ -129,6 +130,6 @@ module _ {P : Type 0} (fits : ℕ → ℕ → P → Type 0) (bins : ℕ) where
     pub cells : List Cell
     pub words_wide : length s.words ≡ 2 * length cells
     pub homes_wide : length s.homes ≡ 8 * length cells
-    pub few_nodes : length cells ≤ 128
+    pub few_nodes : length cells ≤ most_nodes
     pub each_node : (m : ℕ) (c : Cell) → get_elem? cells m ≡ some c → CellOk s.words s.homes m c
     pub each_right : (h : Right → ℕ) → total (λ v. total h v) s.views + total (kept_by h) cells ≤ indexed (given_out h) 0 cells

@@ -7,15 +7,15 @@ use Rattle.completers.specs.Rights.{IsTicketAbove, code, path_of, node_in, ticke
 use Rattle.completers.specs.declared.relation.Partial.{Partial}
 use Rattle.completers.specs.declared.rule.Above.{Above}
 use Rattle.completers.specs.declared.rule.Right.{Right}
-use Rattle.completers.specs.declared.rule.Right.TheVariants.{Unopened, Opened, Waits, Places}
+use Rattle.completers.specs.declared.rule.Right.TheVariants.{Unopened, Opened, Waits, Fills}
 
 -- the ticket has its slot, and has read this code
-abbrev pub placing_rights : ℕ → List Right → List Right
-placing_rights c [] = []
-placing_rights c (Unopened n ∷ rs) = []
-placing_rights c (Opened n lo hi k up ∷ rs) = []
-placing_rights c (Waits n i lo hi f up ∷ rs) = Places n i lo hi f c up ∷ []
-placing_rights c (Places n i lo hi f d up ∷ rs) = []
+abbrev pub filling_rights : ℕ → List Right → List Right
+filling_rights c [] = []
+filling_rights c (Unopened n ∷ rs) = []
+filling_rights c (Opened n lo hi k up ∷ rs) = []
+filling_rights c (Waits n i lo hi f up ∷ rs) = Fills n i lo hi f c up ∷ []
+filling_rights c (Fills n i lo hi f d up ∷ rs) = []
 
 -- the node's new ticket, and the node with the range that is left
 abbrev pub forked_rights : ℕ → List Right → List Right
@@ -23,7 +23,7 @@ forked_rights mid [] = []
 forked_rights mid (Unopened n ∷ rs) = []
 forked_rights mid (Opened n lo hi k up ∷ rs) = Waits n k mid hi 0 up ∷ Opened n lo mid (k + 1) up ∷ rs
 forked_rights mid (Waits n i lo hi f up ∷ rs) = []
-forked_rights mid (Places n i lo hi f c up ∷ rs) = []
+forked_rights mid (Fills n i lo hi f c up ∷ rs) = []
 
 -- the own ticket
 abbrev pub own_rights : List Right → List Right
@@ -31,7 +31,7 @@ own_rights [] = []
 own_rights (Unopened n ∷ rs) = []
 own_rights (Opened n lo hi k up ∷ rs) = Waits n 0 lo hi (k - 1) up ∷ []
 own_rights (Waits n i lo hi f up ∷ rs) = []
-own_rights (Places n i lo hi f c up ∷ rs) = []
+own_rights (Fills n i lo hi f c up ∷ rs) = []
 
 -- the first node of a supply, opened for a range, with the supply that is left
 abbrev pub opened_rights_for : ℕ → ℕ → List Above → List Right → List Right
@@ -39,7 +39,7 @@ opened_rights_for lo hi up [] = []
 opened_rights_for lo hi up (Unopened n ∷ rs) = Opened n lo hi 1 up ∷ rs
 opened_rights_for lo hi up (Opened n lo' hi' k up' ∷ rs) = []
 opened_rights_for lo hi up (Waits n i lo' hi' f up' ∷ rs) = []
-opened_rights_for lo hi up (Places n i lo' hi' f c up' ∷ rs) = []
+opened_rights_for lo hi up (Fills n i lo' hi' f c up' ∷ rs) = []
 
 -- the root's range is the whole one, another node's that of the ticket in front, which goes to the node
 abbrev pub opened_rights : ℕ → List Right → List Right
@@ -47,7 +47,7 @@ opened_rights bins [] = []
 opened_rights bins (Unopened n ∷ rs) = Opened n 0 bins 1 [] ∷ rs
 opened_rights bins (Opened n lo hi k up ∷ rs) = []
 opened_rights bins (Waits n i lo hi f up ∷ rs) = opened_rights_for lo hi (record { node = n; number = i; lo = lo; hi = hi; forks = f } ∷ up) rs
-opened_rights bins (Places n i lo hi f c up ∷ rs) = []
+opened_rights bins (Fills n i lo hi f c up ∷ rs) = []
 
 abbrev pub Knowledge : Type 0 → Type 0
 Knowledge P = Me (Option (Partial P)) (List Right)
@@ -63,7 +63,7 @@ module _ {P : Type 0} where
   Owns m found m' = (m' ≡ (own_rights m.0, m.1)) × IsPossible own (λ p. (number p ≡ found) × (length p.arrived ≡ tickets_in m.0))
 
   abbrev pub Takes : Knowledge P → ℕ → Knowledge P → Type 0
-  Takes m found m' = m' ≡ (placing_rights found m.0, (8 * node_in m.0 + ticket_in m.0, None) ∷ m.1)
+  Takes m found m' = m' ≡ (filling_rights found m.0, (8 * node_in m.0 + ticket_in m.0, None) ∷ m.1)
 
   -- what the slot in front holds
   abbrev pub in_front : List (ℕ × Option (Partial P)) → Option (Partial P)
@@ -75,7 +75,7 @@ module _ {P : Type 0} where
     pub lo : ℕ
     pub hi : ℕ
     pub held : ℕ → Option (Partial P)
-    pub places : m'.1 ≡ (8 * node_in m.0, held 0) ∷ pile (node_in m.0) held 7 (rest m.1)
+    pub all_slots : m'.1 ≡ (8 * node_in m.0, held 0) ∷ pile (node_in m.0) held 7 (rest m.1)
     pub mine : held (ticket_in m.0) ≡ in_front m.1
     pub parts : AreParts fits lo hi (present (held 0 ∷ stack held 7))
     pub first : (x : Partial P) × (held 0 ≡ Some x) × (x.lo ≡ lo)

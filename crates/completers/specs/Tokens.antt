@@ -2,6 +2,7 @@
 use Rattle.std.specs.Prelude.{◌≡◌, ℕ, ◌+◌, ◌-◌, ◌*◌, ◌^◌, ◌<◌, ◌≤◌, List, [], ◌∷◌}
 use Rattle.atomic_table.specs.Table.{Me}
 use Rattle.atomic_table.specs.Seated.{TableId}
+use Rattle.completers.specs.Limits.{most_nodes}
 use Rattle.completers.specs.declared.rule.Right.{Right}
 use Rattle.completers.specs.declared.rule.Right.TheVariants.{Opened, Waits}
 use Rattle.completers.specs.Rights.{nodes, forks_in, up_in}
@@ -9,8 +10,8 @@ use Rattle.completers.specs.Rights.{nodes, forks_in, up_in}
 -- a table of two words and eight slots a node
 pub record IsTree (table : TableId) (nodes slots : ℕ) : Type 0 where
   pub words : table.words ≡ 2 * nodes
-  pub places : table.slots ≡ 8 * nodes
-  pub few_nodes : nodes ≤ 128
+  pub all_slots : table.slots ≡ 8 * nodes
+  pub few_nodes : nodes ≤ most_nodes
   pub few_slots : slots ≤ 8
 
 module _ {S : Type 0} where
@@ -27,6 +28,6 @@ module _ {S : Type 0} where
 
   pub record IsTicket (table : TableId) (me : Me S (List Right)) (node number lo hi : ℕ) : Type 0 where
     pub rights : me ≡ (Waits node number lo hi (forks_in me.0) (up_in me.0) ∷ [], [])
-    pub place : number < 8
+    pub small : number < 8
     pub inside : 8 * node + 8 ≤ table.slots
     pub range : lo < hi

@@ -1,9 +1,10 @@
 //! Arrivals.
 ghost use Rattle.std.specs.Prelude.{◌≡◌, ◌≢◌, ℕ, ◌+◌, ◌*◌, ◌<◌, ◌≤◌, List, [], ◌∷◌, map, length, Contains, MatchOption, None, Some};
 ghost use Rattle.atomic_table.specs.Table.{rest, turned};
+ghost use Rattle.completers.specs.Limits.{most_slots};
 ghost use Rattle.completers.specs.Parts.{AreParts, pile, slots_of, present};
 ghost use Rattle.completers.specs.Rights.{IsTicketAbove, code as code_of, node_in, path_of};
-ghost use Rattle.completers.specs.declared.rule.Right.TheVariants.{Places as Placing};
+ghost use Rattle.completers.specs.declared.rule.Right.TheVariants.{Fills};
 
 use crate::parts::{Parts, Slots};
 use crate::relation::{Partial, Relation};
@@ -30,7 +31,7 @@ impl<B: Relation, A: Allocator> Tree<B, A> {
     // What is in the slot that the seat took last, which goes behind the others.
     fn empty(&self, seat: &mut TokenSeat<B::Part>, slot: usize) -> Option<Partial<B::Part>>
         requires table { seat.old.table_id ≡ self.now.identity }
-        requires place { (old : _) × (seat.old.me.1 ≡ (slot, old) ∷ rest seat.old.me.1) }
+        requires slot { (old : _) × (seat.old.me.1 ≡ (slot, old) ∷ rest seat.old.me.1) }
         ensures table { seat.new.table_id ≡ seat.old.table_id }
         ensures found { seat.old.me.1 ≡ (slot, result) ∷ rest seat.old.me.1 }
         ensures rights { seat.new.me.0 ≡ seat.old.me.0 }
@@ -44,7 +45,7 @@ impl<B: Relation, A: Allocator> Tree<B, A> {
     // What is in all slots of the node.
     fn empty_all(&self, seat: &mut TokenSeat<B::Part>, node: usize) -> Slots<B::Part>
         requires table { seat.old.table_id ≡ self.now.identity }
-        requires inside { (8 * node + 8 ≤ seat.old.table_id.slots) × (seat.old.table_id.slots ≤ 1024) }
+        requires inside { (8 * node + 8 ≤ seat.old.table_id.slots) × (seat.old.table_id.slots ≤ most_slots) }
         requires slots { (y : _) × (seat.old.me.1 ≡ (8 * node, y 0) ∷ pile node y 7 []) }
         ensures table { seat.new.table_id ≡ seat.old.table_id }
         ensures rights { seat.new.me.0 ≡ seat.old.me.0 }
@@ -90,12 +91,12 @@ impl<B: Relation, A: Allocator> Tree<B, A> {
     }
 
     // Writes the part into the ticket's slot, and reads the code of the ticket above.
-    fn place(&self, ticket: Ticket<B::Part>, partial: Partial<B::Part>) -> (TokenSeat<B::Part>, u64)
+    fn fill(&self, ticket: Ticket<B::Part>, partial: Partial<B::Part>) -> (TokenSeat<B::Part>, u64)
         requires tree { ticket.tree ≡ self.now.identity }
         ensures table { result.0.table_id ≡ self.now.identity }
-        ensures inside { (8 * ticket.node + 8 ≤ result.0.table_id.slots) × (result.0.table_id.slots ≤ 1024) × (ticket.number < 8) }
-        ensures place { result.0.me ≡ (
-          Placing ticket.node ticket.number ticket.lo ticket.hi ticket.forks result.1 ticket.above ∷ [],
+        ensures inside { (8 * ticket.node + 8 ≤ result.0.table_id.slots) × (result.0.table_id.slots ≤ most_slots) × (ticket.number < 8) }
+        ensures slot { result.0.me ≡ (
+          Fills ticket.node ticket.number ticket.lo ticket.hi ticket.forks result.1 ticket.above ∷ [],
           (8 * ticket.node + ticket.number, Some partial) ∷ [],
         ) }
     {
@@ -127,7 +128,7 @@ impl<B: Relation, A: Allocator> Tree<B, A> {
         ensures alone { ticket.number ≡ 0 → ticket.forks ≡ 0 → IsLast result }
     {
         let node = ticket.node;
-        let (mut seat, code) = self.place(ticket, partial);
+        let (mut seat, code) = self.fill(ticket, partial);
         if count_down::<B, Brand>(&self.board.shared, &mut seat, node) != 1 {
             return Arrival::Early;
         }

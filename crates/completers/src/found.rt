@@ -1,5 +1,6 @@
 //! Where a search found something first.
 ghost use Rattle.std.specs.Prelude.{◌<◌, IfSome};
+ghost use Rattle.completers.specs.Limits.{most_indices};
 
 use std::marker::PhantomData;
 use std::sync::atomic::Ordering::SeqCst;
@@ -41,7 +42,7 @@ impl<I: Finds> Found<I> {
 
     /// Claims that something was found at an index below 65,536. True for the first claimer only, whose index is shown from then on.
     pub fn claim(&self, index: u64) -> bool
-        requires small { index < 65536 }
+        requires small { index < most_indices }
         requires found { I.finds index }
     {
         self.word
@@ -51,7 +52,7 @@ impl<I: Finds> Found<I> {
 
     /// The index of the first claimer. None: nobody has claimed yet.
     pub fn look(&self) -> Option<u64>
-        ensures small { IfSome result (λ i. i < 65536) }
+        ensures small { IfSome result (λ i. i < most_indices) }
         ensures found { IfSome result I.finds }
     {
         match self.word.load(SeqCst) {

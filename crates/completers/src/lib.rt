@@ -12,6 +12,7 @@
 
 mod arrive;
 mod found;
+mod limits;
 mod node;
 mod parts;
 mod relation;
@@ -23,6 +24,7 @@ mod words;
 
 pub use arrive::Arrival;
 pub use found::{Finds, Found};
+pub use limits::MOST_NODES;
 pub use parts::Parts;
 pub use relation::{Partial, Relation};
 pub use tokens::{Node, Supply, Ticket};

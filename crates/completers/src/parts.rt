@@ -34,10 +34,10 @@ impl<P> Model for Parts<P> {
     ghost view = { λ p. present (slots_of p.slots) };
 }
 
-fn end_of<P>(before: usize, place: &Option<Partial<P>>) -> usize
-    ensures { result ≡ end_after before place.now }
+fn end_of<P>(before: usize, slot: &Option<Partial<P>>) -> usize
+    ensures { result ≡ end_after before slot.now }
 {
-    match place {
+    match slot {
         Some(x) => x.hi,
         None => before,
     }

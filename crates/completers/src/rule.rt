@@ -27,7 +27,7 @@ pub enum Right {
     /// Arrive: the node, the ticket's number and range, how many forks the node has, where the ticket is its own (else 0), and the tickets above the node.
     Waits(u64, u64, u64, u64, u64, Path),
     /// The same while the ticket's slot is with the token, which has read the code of the ticket above.
-    Places(u64, u64, u64, u64, u64, u64, Path),
+    Fills(u64, u64, u64, u64, u64, u64, Path),
 }
 
 /// What a token may do, in all. No value of it is made.

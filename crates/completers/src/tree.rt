@@ -1,8 +1,10 @@
 //! A tree of nodes.
 ghost use Rattle.std.specs.Prelude.{◌≡◌, ℕ, ◌+◌, ◌^◌, ◌<◌, ◌≤◌, [], IfOk, MatchOption, Some};
 ghost use Rattle.completers.specs.Game.{OneLast};
+ghost use Rattle.completers.specs.Limits.{most_nodes};
 ghost use Rattle.completers.specs.Views.{new_node, path_from};
 
+use crate::limits::MOST_WORDS;
 use crate::relation::Relation;
 use crate::rule::{Board, Purpose};
 use crate::steps::Together;
@@ -44,13 +46,13 @@ fn completion_game()
 // Which power of two a number of nodes is.
 fn level_of(nodes: usize) -> u32
     requires { (level : ℕ) × (level ≤ 7) × (nodes ≡ 2 ^ level) }
-    ensures { (result ≤ 7) × (nodes ≡ 2 ^ result) × (nodes ≤ 128) }
+    ensures { (result ≤ 7) × (nodes ≡ 2 ^ result) × (nodes ≤ most_nodes) }
 {
     nodes.trailing_zeros()
 }
 
 impl<B: Relation, A: Allocator> Tree<B, A> {
-    /// A tree of `nodes` nodes, a power of two up to 128, each with 1 to 8 `slots` for the
+    /// A tree of `nodes` nodes, a power of two up to `MOST_NODES`, each with 1 to 8 `slots` for the
     /// parts of its tickets. Its root is to have the range from 0 up to `bins`, and each part
     /// stands in the relation of `about` to its range. Err: there was no memory.
     ///
@@ -76,7 +78,7 @@ impl<B: Relation, A: Allocator> Tree<B, A> {
         };
         let level = level_of(nodes);
         // Each node has two words, its number and the code of the ticket above it. Both are 1 until it is opened.
-        let unopened = [1u64; 256];
+        let unopened = [1u64; MOST_WORDS];
         let words = &unopened[..2 * nodes];
         let (board, seat) = Table::vacant(alloc, words, 8 * nodes, &key)?;
         let supply = Supply {

@@ -1,6 +1,7 @@
 //! The steps whose telling depends on numbers that only their caller knows.
 ghost use Rattle.std.specs.Prelude.{◌≡◌, ℕ, ◌+◌, ◌-◌, ◌*◌, ◌%◌, ◌^◌, ◌<◌, ◌≤◌};
 ghost use Rattle.atomic_table.specs.Table.{Allows};
+ghost use Rattle.completers.specs.Limits.{most_words};
 ghost use Rattle.completers.specs.Rule.{Holds};
 ghost use Rattle.completers.specs.Steps.{Opens, Forks, Arrives};
 
@@ -17,7 +18,7 @@ pub(crate) fn write_code<B: Relation, W: OfTree<B::Part>>(
 )
     requires table { seat.old.table_id ≡ words.now.table_id }
     requires word { 2 * node + 1 < words.now.table_id.words }
-    requires few { words.now.table_id.words ≤ 256 }
+    requires few { words.now.table_id.words ≤ most_words }
     requires rule { Allows (Holds (B.relates words.now.key.relation.value) words.now.key.bins) words.now.table_id.slots seat.old.id seat.old.me (2 * node + 1)
         (λ _. code) (λ _. Opens W.bins seat.old.me) }
     ensures table { seat.new.table_id ≡ seat.old.table_id }
@@ -35,7 +36,7 @@ pub(crate) fn count_up<B: Relation, W: Cut>(
 )
     requires table { seat.old.table_id ≡ words.now.table_id }
     requires word { 2 * node < words.now.table_id.words }
-    requires few { words.now.table_id.words ≤ 256 }
+    requires few { words.now.table_id.words ≤ most_words }
     requires rule { Allows (Holds (B.relates words.now.key.relation.value) words.now.key.bins) words.now.table_id.slots seat.old.id seat.old.me (2 * node)
         (λ n. (n + 1) % 2 ^ 64) (Forks W.mid seat.old.me) }
     ensures table { seat.new.table_id ≡ seat.old.table_id }
@@ -53,7 +54,7 @@ pub(crate) fn count_down<B: Relation, W: OfTree<B::Part>>(
 ) -> u64
     requires table { seat.old.table_id ≡ words.now.table_id }
     requires word { 2 * node < words.now.table_id.words }
-    requires few { words.now.table_id.words ≤ 256 }
+    requires few { words.now.table_id.words ≤ most_words }
     requires rule { Allows (Holds (B.relates words.now.key.relation.value) words.now.key.bins) words.now.table_id.slots seat.old.id seat.old.me (2 * node)
         (λ n. (n + (2 ^ 64 - 1)) % 2 ^ 64) (Arrives W.fits W.bins words.now.table_id.slots seat.old.me) }
     ensures table { seat.new.table_id ≡ seat.old.table_id }

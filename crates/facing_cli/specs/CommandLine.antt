@@ -5,6 +5,7 @@ use Rattle.clap.specs.Words.{App, Row, Rule, Text, first_of, matches_of, new_app
 use Rattle.clap.specs.declared.builder.action.ArgAction.TheVariants.{Set}
 use Rattle.clap.specs.declared.builder.value_parser.ValueParser.{ValueParser}
 use Rattle.clap.specs.declared.builder.value_parser.ValueParser.TheVariants as parser
+use Rattle.steal_pool.specs.Limits.{most_workers}
 use Rattle.facing_cli.specs.Options.{OptionsView}
 
 -- an option that takes a number, with the text of its default
@@ -18,7 +19,7 @@ number_rule name numbers default = record (new_rule name) {
 }
 
 abbrev pub workers_rule : Rule
-workers_rule = number_rule (codes "workers") (parser.Signed (pos 1) (pos 16)) (codes "4")
+workers_rule = number_rule (codes "workers") (parser.Signed (pos 1) (pos most_workers)) (codes "4")
 
 abbrev pub capacity_rule : Rule
 capacity_rule = number_rule (codes "capacity") (parser.Signed (pos 1) (pos 4096)) (codes "16")

@@ -4,6 +4,7 @@ ghost use Rattle.chm.specs.Refusals.{IsCapacity};
 ghost use Rattle.bulk_tasks.specs.Plans.{AreWorkers};
 
 use crate::fault::Fault;
+use bulk_tasks::MOST_WORKERS;
 use hashkeys::Salt;
 use std::marker::Model;
 
@@ -51,7 +52,7 @@ impl Options {
         if capacity < 1 || capacity > 4096 {
             return Err(Fault::BadCapacity);
         }
-        if workers < 1 || workers > 16 {
+        if workers < 1 || workers > MOST_WORKERS {
             return Err(Fault::BadWorkers);
         }
         Ok(Options {

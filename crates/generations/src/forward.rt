@@ -1,5 +1,6 @@
 //! Moves of single bins into their halves.
 ghost use Rattle.std.specs.Prelude.{◌≡◌, ◌<◌, ◌≤◌};
+ghost use Rattle.hashkeys.specs.Limits.{most_bins};
 ghost use Rattle.bin_history.specs.Copies.{IsExact};
 
 use crate::generations::Generations;
@@ -39,7 +40,7 @@ impl<
         requires functions { IsExact F.is_clone }
         requires ledger { ledger.now.id ≡ self.now.ledger }
         requires least { self.now.n ≤ class.n }
-        requires size { class.n < 65536 }
+        requires size { class.n < most_bins }
     {
         let backoff = Backoff::new();
         for _ in rt.forever() {

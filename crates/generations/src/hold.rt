@@ -1,6 +1,7 @@
 //! Bins that are held, to call on them or to halve them.
 ghost use Rattle.std.specs.Prelude.{◌≡◌, ◌<◌, true, IfSome, IfErr};
 ghost use Rattle.hashkeys.specs.Classes.{covers};
+ghost use Rattle.hashkeys.specs.Limits.{most_bins};
 ghost use Rattle.bin_history.specs.Calls.{after};
 ghost use Rattle.bin_history.specs.Copies.{IsExact};
 ghost use Rattle.bin_history.specs.Lawful.{IsLawful};
@@ -170,7 +171,7 @@ impl<
         requires functions { IsExact F.is_clone }
         requires at { AreAt K.eq (after V.eq F.remapped F.merged) self.place.now self.bin.value self.role }
         requires ledger { self.role.ledger ≡ ledger.now.id }
-        requires size { self.bin.value.class.n < 65536 }
+        requires size { self.bin.value.class.n < most_bins }
         ensures bin { IfErr result (λ e. e.0.bin ≡ self.entry.bin) }
         ensures role { IfErr result (λ e. e.0.role ≡ self.entry.role) }
         ensures place { IfErr result (λ e. e.0.place.now ≡ self.entry.place.now) }

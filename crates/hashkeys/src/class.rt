@@ -1,5 +1,6 @@
 //! Classes of hashes.
 ghost use Rattle.std.specs.Prelude.{◌≡◌, ℕ, ◌<◌};
+ghost use Rattle.hashkeys.specs.Limits.{most_bins};
 
 use std::marker::Model;
 
@@ -68,7 +69,7 @@ impl Class {
 
     /// The low and the high half: a hash of the class is in exactly one of them, and no other hash is.
     pub fn halves(&self) -> (Class, Class)
-        requires { self.now.n < 65536 }
+        requires { self.now.n < most_bins }
         ensures low { result.0 ≡ low_half self.now }
         ensures high { result.1 ≡ high_half self.now }
         ensures one { (hash : ℕ) → covers self.now hash ≡ (covers result.0 hash || covers result.1 hash) }

@@ -1,5 +1,6 @@
 //! Runs over small ranges, whose gates tell what was done.
 ghost use Rattle.std.specs.Prelude.{◌<◌, ◌≤◌};
+ghost use Rattle.steal_pool.specs.Limits.{most_batch, most_workers};
 
 use crate::counting::{new_count, no_leaves};
 use crate::gates::{Before, all_workers, new_meeting, new_watch};
@@ -24,7 +25,7 @@ fn assert_leaves<Rt: Threads + Wait + Sync + Abort>(
     batch: usize,
     leaves: &[(usize, usize)],
 )
-    requires { (0 < workers) × (workers ≤ 16) × (0 < bins) × (bins ≤ 64) × (batch ≤ 64) }
+    requires { (0 < workers) × (workers ≤ most_workers) × (0 < bins) × (bins ≤ 64) × (batch ≤ most_batch) }
 {
     let body = new_count();
     let gate = Before {
@@ -112,7 +113,7 @@ fn run_all<Rt: Threads + Wait + Sync>(
     workers: usize,
     batch: usize,
 ) -> (usize, u64)
-    requires { (0 < workers) × (workers ≤ 16) × (batch ≤ 64) }
+    requires { (0 < workers) × (workers ≤ most_workers) × (batch ≤ most_batch) }
 {
     let body = new_count();
     let done = run(rt, alloc, workers, &OpenGate, &body, 65536, batch);

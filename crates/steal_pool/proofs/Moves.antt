@@ -5,18 +5,16 @@ use lib.ListN.{get_elem?}
 use Rattle.crossbeam_deque.specs.Tasks.{Pushes, Takes, Pops, Forks, Merges, Learns}
 use Rattle.crossbeam_deque.proofs.Lists.{at_set, at_snoc}
 use Rattle.steal_pool.specs.declared.log.Log.{Log}
+use Rattle.steal_pool.specs.Limits.{all_shares}
 use Rattle.steal_pool.specs.Logs.{log, weigh, total, IdleIsEmpty, Balanced}
 
 module _ {T : Type 0} where
-  pub weigh-append : (h : T → ℕ) (xs ys : List T) → weigh h (xs ++ ys) ≡ weigh h xs + weigh h ys
-  weigh-append h [] ys = omega arith
-  weigh-append h (x ∷ xs) ys = omega (arith, weigh-append h xs ys)
+  pub weigh_append : (h : T → ℕ) (xs ys : List T) → weigh h (xs ++ ys) ≡ weigh h xs + weigh h ys
+  weigh_append h [] ys = omega arith
+  weigh_append h (x ∷ xs) ys = omega (arith, weigh_append h xs ys)
 
   pub weigh_snoc : (h : T → ℕ) (xs : List T) (x : T) → weigh h (xs ++ x ∷ []) ≡ weigh h xs + h x
-  weigh_snoc h xs x = omega (arith, weigh-append h xs (x ∷ []))
-
-  pub weigh_both : (h : T → ℕ) (xs ys : List T) → weigh h (xs ++ ys) ≡ weigh h xs + weigh h ys
-  weigh_both h xs ys = weigh-append h xs ys
+  weigh_snoc h xs x = omega (arith, weigh_append h xs (x ∷ []))
 
   total-append : (f : Log T → ℕ) (xs : List (Log T)) (v : Log T) → total f (xs ++ v ∷ []) ≡ total f xs + f v
   total-append f [] v = omega arith
@@ -53,7 +51,7 @@ module _ {T : Type 0} where
               let s = total_set (λ u. weigh h u.pushed) views port v w at in
               let t = total_set (λ u. weigh h u.taken) views port v w at in
               let p = b.1 h in
-              omega (arith, weigh-append h v.pushed xs, weigh-append h items xs)),
+              omega (arith, weigh_append h v.pushed xs, weigh_append h items xs)),
           idle_set views port w (λ none. absurd (omega arith)) b.2,
         ),
         refl,
@@ -70,7 +68,7 @@ module _ {T : Type 0} where
               let s = total_set (λ u. weigh h u.pushed) views port v w at in
               let t = total_set (λ u. weigh h u.taken) views port v w at in
               let p = b.1 h in
-              omega (arith, weigh-append h v.taken xs, weigh-append h xs items)),
+              omega (arith, weigh_append h v.taken xs, weigh_append h xs items)),
           idle_set views port w (λ none. absurd (omega arith)) b.2,
         ),
         refl,
@@ -86,7 +84,7 @@ module _ {T : Type 0} where
               let s = total_set (λ u. weigh h u.pushed) views port v w at in
               let t = total_set (λ u. weigh h u.taken) views port v w at in
               let p = b.1 h in
-              omega (arith, weigh-append h v.taken (x ∷ []), weigh-append h items (x ∷ []))),
+              omega (arith, weigh_append h v.taken (x ∷ []), weigh_append h items (x ∷ []))),
           idle_set views port w (λ none. absurd (omega arith)) b.2,
         ),
         refl,
@@ -122,7 +120,7 @@ module _ {T : Type 0} where
             let t = total_set (λ y. weigh h y.taken) views port v both at in
             let t' = total_set (λ y. weigh h y.taken) vs other u spent at' in
             let p = b.1 h in
-            omega (arith, weigh-append h v.pushed u.pushed, weigh-append h v.taken u.taken)),
+            omega (arith, weigh_append h v.pushed u.pushed, weigh_append h v.taken u.taken)),
         idle_set vs other spent (λ none. (refl, refl)) (idle_set views port both (λ none. absurd (omega arith)) b.2),
       )
 
@@ -151,7 +149,7 @@ module _ {T : Type 0} where
       let here : f x ≡ 0 = idle 0 x refl (omega arith) in
       let rest : total f xs ≡ f v = alone f xs port v at (omega arith) (λ j u at none. idle (suc j) u at none) in omega arith
 
-  pub learns : (port : ℕ) (v : Log T) → v.shares ≡ 32
+  pub learns : (port : ℕ) (v : Log T) → v.shares ≡ all_shares
       → Learns Balanced port v (λ items. (h : T → ℕ) → weigh h v.pushed ≡ weigh h v.taken + weigh h items)
   learns port v all items views b at h =
       let p = b.0 in

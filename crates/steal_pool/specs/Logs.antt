@@ -2,6 +2,7 @@
 use Rattle.std.specs.Prelude.{◌≡◌, ℕ, ◌+◌, List, [], ◌∷◌}
 use mathlib.Core.Option.{some}
 use lib.ListN.{get_elem?}
+use Rattle.steal_pool.specs.Limits.{all_shares}
 use Rattle.steal_pool.specs.declared.log.Log.{Log}
 
 module _ {T : Type 0} where
@@ -25,6 +26,6 @@ module _ {T : Type 0} where
   -- What was pushed is what was taken and what the deque holds, however the tasks are weighed.
   abbrev pub Balanced : List T → List (Log T) → Type 0
   Balanced items views =
-      (total (λ v. v.shares) views ≡ 32)
+      (total (λ v. v.shares) views ≡ all_shares)
       × ((h : T → ℕ) → total (λ v. weigh h v.pushed) views ≡ total (λ v. weigh h v.taken) views + weigh h items)
       × IdleIsEmpty views

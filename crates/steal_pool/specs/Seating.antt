@@ -6,6 +6,7 @@ use mathlib.Core.Option.{some}
 use lib.ListN.{get_elem?}
 use Rattle.crossbeam_deque.specs.Handles.{worker_view}
 use Rattle.crossbeam_deque.specs.declared.handles.Worker.{Worker}
+use Rattle.steal_pool.specs.Limits.{all_shares}
 use Rattle.steal_pool.specs.declared.log.Log.{Log}
 
 -- the deque at a place of a list
@@ -20,4 +21,4 @@ AreSeated {X} of deque ws = (i : ℕ) (w : X) → get_elem? ws i ≡ some w → 
 
 -- its owner has all shares
 abbrev pub IsUnshared : {T A P : Type 0} → Worker T A (Log T) P → Type 0
-IsUnshared w = (worker_view w).shares ≡ 32
+IsUnshared w = (worker_view w).shares ≡ all_shares

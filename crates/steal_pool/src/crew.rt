@@ -1,12 +1,14 @@
 //! What a worker does with its deque and those of the others.
 ghost use Rattle.std.specs.Prelude.{◌≡◌, ◌+◌, ◌<◌, ◌≤◌, ℕ, [], IfErr, IfOk, MatchResult, vec_len, All};
 ghost use Rattle.crossbeam_deque.specs.Handles.{view, worker_deque};
+ghost use Rattle.steal_pool.specs.Limits.{most_workers};
 ghost use Rattle.steal_pool.specs.Seating.{AreSeated, IsUnshared};
 ghost use Rattle.steal_pool.specs.Books.{weight_brought, weight_put, weight_stolen, weight_pushed_by, weight_taken_by};
 ghost use Rattle.steal_pool.specs.Shapes.{shape, shapes, targets, AreCrew};
 ghost use Rattle.steal_pool.specs.Logs.{weigh};
 
 use crate::deque::{Own, cut_share, pop, push, steal};
+use crate::limits::ALL_SHARES;
 use crate::member::{Member, Seats, Way};
 use crossbeam_deque::Steal;
 use std::alloc::{AllocError, Global};
@@ -17,7 +19,7 @@ pub(crate) fn members<T: Drop, S: Seats>(
     alloc: Global,
     deques: Vec<Own<T>>,
 ) -> Result<Vec<Member<T, S>>, AllocError>
-    requires few { vec_len deques ≤ 16 }
+    requires few { vec_len deques ≤ most_workers }
     requires deques { All IsUnshared deques.items }
     requires seats { AreSeated worker_deque S.deque deques.items }
     ensures len { IfOk result (λ v. vec_len v ≡ vec_len deques) }
@@ -56,7 +58,7 @@ impl<T: Drop, S: Seats> Member<T, S> {
         ensures shape { MatchResult result (λ _. shape self.new ≡ record (shape self.old) { out = self.old.out + 1 }) (λ _. shape self.new ≡ shape self.old) }
     {
         let stealer = self.own.stealer()?;
-        if self.out >= 31 {
+        if self.out >= ALL_SHARES - 1 {
             return Err(AllocError);
         }
         self.out += 1;

@@ -2,6 +2,7 @@
 ghost use Rattle.std.specs.Prelude.{◌≡◌, ◌+◌, ◌-◌, ◌<◌, ◌++◌, ◌∷◌, [], ℕ, List, length, IfOk, MatchOption, MatchResult};
 ghost use Rattle.crossbeam_deque.specs.Steals.{MatchSteal};
 ghost use Rattle.crossbeam_deque.specs.Handles.{view, IsPassOf, worker_deque, stealer_deque, worker_view, worker_flavor};
+ghost use Rattle.steal_pool.specs.Limits.{all_shares};
 ghost use Rattle.steal_pool.specs.Logs.{log, weigh};
 
 use crate::log::Log;
@@ -17,7 +18,7 @@ pub(crate) type Other<T> = Stealer<T, Global, Log<T>, EachOnce>;
 
 /// An empty deque, whose owner takes its newest task.
 pub(crate) fn new_deque<T: Drop>(alloc: Global, capacity: usize) -> Result<Own<T>, AllocError>
-    ensures { IfOk result (λ w. (worker_view w ≡ log 32 [] []) × (worker_flavor w ≡ 1)) }
+    ensures { IfOk result (λ w. (worker_view w ≡ log all_shares [] []) × (worker_flavor w ≡ 1)) }
 {
     Own::lifo_as(alloc, capacity)
 }
@@ -76,7 +77,7 @@ pub(crate) fn take_share<T>(own: &mut Own<T>, pass: Pass<T, Log<T>>)
 
 /// With all shares: what was pushed is what was taken and what is left, each task as often. How many are left.
 pub(crate) fn settle<T>(own: &mut Own<T>) -> usize
-    requires { (worker_view own.old).shares ≡ 32 }
+    requires { (worker_view own.old).shares ≡ all_shares }
     ensures same { (worker_deque own.new ≡ worker_deque own.old) × (worker_view own.new ≡ worker_view own.old) }
     ensures books { (items : List T) × (length items ≡ result)
         × ((h : T → ℕ) → weigh h (worker_view own.old).pushed ≡ weigh h (worker_view own.old).taken + weigh h items) }

@@ -1,11 +1,12 @@
 //! What is called before each leaf of a run.
 ghost use Rattle.std.specs.Prelude.{◌<◌};
+ghost use Rattle.steal_pool.specs.Limits.{most_workers};
 
 /// What is called before each leaf of a bulk operation.
 pub trait Gate {
     /// The worker is about to take the bins from `lo` to below `hi`.
     fn leaf(&self, worker: usize, lo: usize, hi: usize)
-        requires worker { worker < 16 }
+        requires worker { worker < most_workers }
         requires range { lo < hi };
 }
 

@@ -12,6 +12,7 @@ mod deque;
 mod gate;
 mod job;
 mod labor;
+mod limits;
 mod log;
 mod member;
 mod pool;
@@ -23,4 +24,5 @@ mod tests;
 
 pub use body::Body;
 pub use gate::{Gate, OpenGate};
+pub use limits::MOST_WORKERS;
 pub use pool::run;

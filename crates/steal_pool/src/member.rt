@@ -1,6 +1,7 @@
 //! A member of a pool: a worker's deque, and its ways into those of the others.
 ghost use Rattle.std.specs.Prelude.{◌≡◌, ◌+◌, ◌<◌, [], Some};
 ghost use Rattle.crossbeam_deque.specs.Handles.{view, IsPassOf, stealer_deque, worker_deque, worker_view};
+ghost use Rattle.steal_pool.specs.Limits.{all_shares, most_workers};
 
 use crate::deque::{Other, Own};
 use crate::log::Log;
@@ -41,7 +42,7 @@ pub struct Member<T, S: Seats> {
     pub(crate) out: u64,
     pub(crate) ways: Vec<Way<T, S>>,
     ghost deque: { S.deque number ≡ Some (worker_deque own) },
-    ghost shares: { (worker_view own).shares + out ≡ 32 },
-    ghost some: { out < 32 },
-    ghost few: { number < 16 },
+    ghost shares: { (worker_view own).shares + out ≡ all_shares },
+    ghost some: { out < all_shares },
+    ghost few: { number < most_workers },
 }

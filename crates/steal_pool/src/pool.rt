@@ -1,6 +1,7 @@
 //! A run: the tree, the deques, and the settlement.
 ghost use Rattle.std.specs.Prelude.{◌≡◌, ◌+◌, ◌*◌, ◌^◌, ◌<◌, ◌≤◌, ℕ, List, All, IfOk, IfSome, vec_len};
 ghost use Rattle.crossbeam_deque.specs.Handles.{worker_deque};
+ghost use Rattle.steal_pool.specs.Limits.{most_batch, most_workers};
 ghost use Rattle.steal_pool.specs.Seating.{AreSeated, IsUnshared};
 
 use crate::body::Body;
@@ -12,7 +13,7 @@ use crate::labor::crew;
 use crate::member::Seats;
 use crate::settle::close;
 use crate::task::{Task, Work};
-use completers::{Supply, Tree};
+use completers::{MOST_NODES, Supply, Tree};
 use std::alloc::{AllocError, Global};
 use std::marker::{Brand, PhantomData};
 use std::sync::Wait;
@@ -24,7 +25,7 @@ const CAPACITY: usize = 4;
 
 // The nodes of a tree for a batch: 2 to the number of its binary digits.
 fn nodes_for(batch: usize) -> usize
-    requires { batch ≤ 64 }
+    requires { batch ≤ most_batch }
     ensures nodes { (batch < result) × (level : ℕ) × (level ≤ 7) × (result ≡ 2 ^ level) }
     ensures tight { (batch ≡ 0 → result ≡ 1) × (0 < batch → result ≤ 2 * batch) }
 {
@@ -36,7 +37,7 @@ fn nodes_for(batch: usize) -> usize
         8..=15 => 16,
         16..=31 => 32,
         32..=63 => 64,
-        _ => 128,
+        _ => MOST_NODES,
     }
 }
 
@@ -70,9 +71,9 @@ pub(crate) struct Order<'a, B: Body, G> {
     pub(crate) body: &'a B,
     pub(crate) bins: usize,
     pub(crate) batch: usize,
-    ghost workers_are: { (0 < workers) × (workers ≤ 16) },
+    ghost workers_are: { (0 < workers) × (workers ≤ most_workers) },
     ghost bins_are: { (0 < bins) × (bins ≤ B.limit body.now) },
-    ghost batch_is: { batch ≤ 64 },
+    ghost batch_is: { batch ≤ most_batch },
 }
 
 // The part of all bins, where somebody came to the root, and how many tasks the settlement found left.
@@ -97,7 +98,7 @@ where
     B::Part: Send,
     requires tree { root.tree ≡ W.tree }
     requires room { (job.now.batch < 2 ^ root.level) × (root.level ≤ 7) }
-    requires few { vec_len deques ≤ 16 }
+    requires few { vec_len deques ≤ most_workers }
     requires deques { All IsUnshared deques.items }
     requires seats { AreSeated worker_deque S.deque deques.items }
     ensures { IfOk result (λ out. IfSome out.0 (B.relates job.now.body.now 0 W.bins)) }
@@ -175,10 +176,10 @@ where
     }
 }
 
-/// The part of the bins from 0 up to `bins`, of which there is at least one. There are 1 to 16
-/// `workers`, of which the caller is number 0; the others have threads of their own, which
-/// end with the call. A range is halved while its batch, at most 64 at the root, is above 0,
-/// and each half gets half of the batch, rounded down. The gate is called before each leaf.
+/// The part of the bins from 0 up to `bins`, of which there is at least one. There are 1 to `MOST_WORKERS`
+/// `workers`, of which the caller is number 0; the others have threads of their own, which end with the
+/// call. A range is halved while its batch, at most 64 at the root, is above 0, and each half gets half of
+/// the batch, rounded down. The gate is called before each leaf.
 ///
 /// It waits for its workers. There are no more of them than leaves, and one that can't be
 /// started is left out. Where memory for the tree or the deques is refused, the caller does one
@@ -194,9 +195,9 @@ pub fn run<B: Body + Sync, G: Gate + Sync, Rt: Threads + Wait + Sync>(
 ) -> B::Part
 where
     B::Part: Send,
-    requires workers { (0 < workers) × (workers ≤ 16) }
+    requires workers { (0 < workers) × (workers ≤ most_workers) }
     requires bins { (0 < bins) × (bins ≤ B.limit body.now) }
-    requires batch { batch ≤ 64 }
+    requires batch { batch ≤ most_batch }
     ensures { B.relates body.now 0 bins result }
 {
     // Each node that is opened does one leaf, and there are no more than bins.

@@ -7,11 +7,12 @@ pub struct EachOnce;
 
 impl<T> Protocol<T, Log<T>> for EachOnce {
     ghost use Rattle.std.specs.Prelude.{[]};
+    ghost use Rattle.steal_pool.specs.Limits.{all_shares};
     ghost use Rattle.steal_pool.specs.Logs.{log, Balanced};
 
     ghost holds = { Balanced };
 
-    ghost first = { log 32 [] [] };
+    ghost first = { log all_shares [] [] };
 
     ghost guest = { log 0 [] [] };
 }

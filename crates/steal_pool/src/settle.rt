@@ -20,7 +20,7 @@ impl<T: Drop, S: Seats> Member<T, S> {
     }
 
     // Takes a way into its deque back.
-    #[tactic(auto, using(crate::proofs::Moves::weigh_both))]
+    #[tactic(auto, using(crate::proofs::Moves::weigh_append))]
     fn take_back(&mut self, way: Way<T, S>)
         requires to { way.to ≡ self.old.number }
         requires out { 0 < self.old.out }

@@ -2,6 +2,7 @@
 ghost use Rattle.std.specs.Prelude.{◌≡◌, ◌+◌, ◌<◌, ◌≤◌, ℕ, All, vec_len};
 ghost use Rattle.completers.specs.Parts.{AreParts};
 ghost use Rattle.crossbeam_deque.specs.Handles.{worker_deque};
+ghost use Rattle.steal_pool.specs.Limits.{most_workers};
 ghost use Rattle.steal_pool.specs.Seating.{AreSeated, IsUnshared};
 ghost use Rattle.steal_pool.specs.Shapes.{shape, shapes};
 
@@ -132,7 +133,7 @@ fn seated_take_two<S: Seats>(
     alloc: Global,
     deques: Vec<Own<u64>>,
 ) -> Result<(Option<u64>, Option<u64>, u128), AllocError>
-    requires few { vec_len deques ≤ 16 }
+    requires few { vec_len deques ≤ most_workers }
     requires deques { All IsUnshared deques.items }
     requires seats { AreSeated worker_deque S.deque deques.items }
 {
@@ -160,7 +161,7 @@ fn seated_rounds<S: Seats>(
     alloc: Global,
     deques: Vec<Own<u64>>,
 ) -> Result<[Option<u64>; 3], AllocError>
-    requires few { vec_len deques ≤ 16 }
+    requires few { vec_len deques ≤ most_workers }
     requires deques { All IsUnshared deques.items }
     requires seats { AreSeated worker_deque S.deque deques.items }
 {

@@ -3,6 +3,7 @@ use Rattle.std.proofs.lemmas.List.{length-append, length-set, map_push}
 use Rattle.std.specs.Prelude.{Some}
 use Rattle.std.proofs.lemmas.List.Elements.{All-pop}
 use Rattle.crossbeam_deque.specs.Handles.{worker_deque}
+use Rattle.steal_pool.specs.Limits.{most_workers}
 use Rattle.steal_pool.specs.Seating.{AreSeated, IsUnshared}
 use Rattle.steal_pool.proofs.Seating.{last_seat, other_seats}
 use Rattle.steal_pool.specs.declared.member.Member.{Member}
@@ -20,12 +21,12 @@ invariant_of-push g c =
     let count : length c.pop.new.self.items ≡ c.len.result = search rules in
     let longer : length c.loop-own.deques.items ≡ length c.pop.new.self.items + 1 = ap length c.in-Some.ensures.items
     ∙ length-append c.pop.new.self.items (c.in-Some.own ∷ []) in
-    let most : length c.loop-own.deques.items ≤ 16 = omega (arith, c.loop-own.deques.ok.0, c.loop-own.invariant.few) in
+    let most : length c.loop-own.deques.items ≤ most_workers = omega (arith, c.loop-own.deques.ok.0, c.loop-own.invariant.few) in
     record {
       deque = ap g.S.Seats.deque (sym count) ∙ last_seat worker_deque g.S.Seats.deque c.pop.new.self.items c.in-Some.own all;
       shares = omega arith;
       some = omega arith;
-      few = (let less : c.len.result < 16 = omega (arith, count, longer, most) in less);
+      few = (let less : c.len.result < most_workers = omega (arith, count, longer, most) in less);
     }
 
 pub loop-own-preserved : goal.loop-own-preserved
@@ -33,7 +34,7 @@ loop-own-preserved g c =
     let all = subst (AreSeated worker_deque g.S.Seats.deque) c.in-Some.ensures.items c.loop-own.invariant.seats in
     let longer : length c.loop-own.deques.items ≡ length c.pop.new.self.items + 1 = ap length c.in-Some.ensures.items
     ∙ length-append c.pop.new.self.items (c.in-Some.own ∷ []) in
-    let most : length c.loop-own.deques.items ≤ 16 = omega (arith, c.loop-own.deques.ok.0, c.loop-own.invariant.few) in
+    let most : length c.loop-own.deques.items ≤ most_workers = omega (arith, c.loop-own.deques.ok.0, c.loop-own.invariant.few) in
     let of : Member g.row.T.Denot g.row.S.Denot g.S.Seats → Shape = shape in
     record {
       count = search rules;

@@ -1,6 +1,7 @@
 use Rattle.std.proofs.Common.{◌≡◌, ◌+◌, ◌++◌, ◌≤◌, [], ℕ, vec_len}
 use Rattle.std.specs.Prelude.{All}
 use Rattle.crossbeam_deque.specs.Handles.{worker_deque}
+use Rattle.steal_pool.specs.Limits.{most_workers}
 use Rattle.steal_pool.specs.Seating.{AreSeated, IsUnshared}
 use Rattle.steal_pool.specs.Shapes.{AreCrew, countdown, weight_led, numbers, weight_out, shapes}
 use Rattle.steal_pool.proofs.crew.members.Given as goal
@@ -9,7 +10,7 @@ abbrev pub invariant-loop-own : goal.invariant-loop-own
 invariant-loop-own g l =
     record {
       count : vec_len l.all + vec_len l.deques ≡ l.workers;
-      few : vec_len l.deques ≤ 16;
+      few : vec_len l.deques ≤ most_workers;
       shares : All IsUnshared l.deques.items;
       seats : AreSeated worker_deque g.S.Seats.deque l.deques.items;
       numbered : numbers (shapes l.all.items) ++ countdown (vec_len l.deques) ≡ countdown l.workers;

@@ -4,7 +4,7 @@ use Rattle.std.proofs.lemmas.List.Elements.{All-pop}
 use Rattle.std.specs.Prelude.{Some}
 use Rattle.steal_pool.specs.Shapes.{IsHome}
 use Rattle.steal_pool.specs.Books.{weight_pushed_by, weight_taken_by}
-use Rattle.steal_pool.proofs.Moves.{weigh_both}
+use Rattle.steal_pool.proofs.Moves.{weigh_append}
 use Rattle.steal_pool.proofs.Sums.{settled}
 use Rattle.steal_pool.proofs.settle.settle_all.Goals as goal
 
@@ -20,7 +20,7 @@ loop-member-preserved g c =
         i.0 ++ s.0,
         search (rules, length-append),
         λ h.
-            let w = weigh_both h i.0 s.0 in
+            let w = weigh_append h i.0 s.0 in
             let l = settled (weight_pushed_by {S = g.row.S.Denot} {g = g.S.Seats} h)
             (weight_taken_by {S = g.row.S.Denot} {g = g.S.Seats} h) _ _ _ _ _ _ _ c.in-Some.ensures.items (s.2 h) (i.2 h) in omega arith,
       );

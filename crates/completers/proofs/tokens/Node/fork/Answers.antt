@@ -6,7 +6,7 @@ use Rattle.completers.specs.declared.rule.Right.TheVariants.{Opened}
 use Rattle.completers.proofs.Cells.{splits}
 use Rattle.completers.proofs.Ends.{is_ticket, is_node, left_node}
 use Rattle.completers.proofs.Forks.{forks_node}
-use Rattle.completers.proofs.Seats.{first_weight, rest_weight, upper, has_places, two_halves}
+use Rattle.completers.proofs.Seats.{first_weight, rest_weight, upper, has_slots, two_halves}
 use Rattle.completers.proofs.tokens.Node.fork.Goals as goal
 
 pub count_up-requires-clause-rule : goal.count_up-requires-clause-rule
@@ -46,8 +46,8 @@ invariant_of-ticket g c =
     record {
       rights = is_ticket _ n.node (n.forks + 1) c.args.mid n.hi 0 (up_in n.seat.me.0)
           (split.4 ∙ (ap (λ m. (head m.0, [])) told ∙ ap (λ m. (head (forked_rights c.args.mid m.0), [])) c.self.invariant.rights));
-      place = omega arith;
-      inside = subst (λ t. 8 * n.node + 8 ≤ t.slots) (sym table) (has_places n.node n.level _ c.self.invariant.inside);
+      small = omega arith;
+      inside = subst (λ t. 8 * n.node + 8 ≤ t.slots) (sym table) (has_slots n.node n.level _ c.self.invariant.inside);
       range = (rw (← c.self.view_is) at c.requires.range).1;
     }
 
@@ -68,7 +68,7 @@ invariant_of-supply g c =
     let inside : 8 * (m + all) ≤ slots = c.self.invariant.inside in
     let size : slots ≡ 8 * c.tree.inside.board.shared.key.nodes =
     ap (λ t. t.slots) (ap (λ v. v.tree) c.self.view_is ∙ (c.requires.tree ∙ ap (λ v. v.identity) (sym c.tree.view_is)))
-    ∙ c.tree.invariant.places in
+    ∙ c.tree.invariant.all_slots in
     let few = c.tree.invariant.few_nodes in
     let shifted : m + 1 * h % 18446744073709551616 ≡ m + h = omega arith in
     record {

@@ -30,7 +30,7 @@ invariant_of-result g c =
     record {
       rights = is_ticket _ ((k - 1) / 8) ((k - 1) % 8) c.lo.result c.hi.result a.0 a.1
           (e.4 ∙ (ap (λ l. (head l, [])) a.2 ∙ (λ i. (Waits ((k - 1) / 8) ((k - 1) % 8) (sym lo_is i) (sym hi_is i) a.0 a.1 ∷ [], []))));
-      place = (let z : (k - 1) % 8 < 8 = omega arith in z);
+      small = (let z : (k - 1) % 8 < 8 = omega arith in z);
       inside = subst (λ t. 8 * ((k - 1) / 8) + 8 ≤ t.slots) (sym e.3) a.3;
       range = subst (λ (z : ℕ × ℕ). z.0 < z.1) (λ i. (sym lo_is i, sym hi_is i)) less;
     }

@@ -1,7 +1,7 @@
 use Rattle.std.proofs.Common.{rules, []}
 use Rattle.completers.specs.Rights.{forks_in, up_in}
-use Rattle.completers.proofs.Moves.{takes_place}
-use Rattle.completers.proofs.tree.Tree.place.Goals as goal
+use Rattle.completers.proofs.Moves.{takes_slot}
+use Rattle.completers.proofs.tree.Tree.fill.Goals as goal
 
 pub load-code-requires : goal.load-code-requires
 load-code-requires g c =
@@ -9,6 +9,6 @@ load-code-requires g c =
     let t = c.ticket.inside in (
       search rules,
       search rules,
-      takes_place (g.B.Relation.relates key.relation.value) key.bins _ _ _ t.node t.number t.lo t.hi
+      takes_slot (g.B.Relation.relates key.relation.value) key.bins _ _ _ t.node t.number t.lo t.hi
           (forks_in t.seat.me.0) (up_in t.seat.me.0) [] c.ticket.invariant.rights,
     )
