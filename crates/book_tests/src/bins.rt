@@ -1,5 +1,5 @@
 //! Bins at the program's keys.
-use crate::values::{Plus, key};
+use crate::values::{Plus, assert_same, key};
 use bin_history::{Bin, Call, Form, Record, Reply};
 use hashkeys::{Class, Key, Salt};
 use std::alloc::{AllocError, Global};
@@ -27,10 +27,9 @@ fn make(
 }
 
 pub(crate) fn assert_entries(rt: &impl Abort, entries: &[(Key, u64)], wanted: &[(&[u8], u64)]) {
-    assert_eq!(rt; entries.len(), wanted.len());
+    assert_same(rt, &entries.len(), &wanted.len());
     for ((key, value), (text, number)) in entries.iter().zip(wanted) {
-        assert_eq!(rt; key.bytes(), *text);
-        assert_eq!(rt; *value, *number);
+        assert_same(rt, &(key.bytes(), *value), &(*text, *number));
     }
 }
 
@@ -94,10 +93,8 @@ fn each_call_replies_and_leaves_what_its_row_says(rt: HostRuntime) -> Result<(),
         let answered = make(&rt, &mut bin, call)?;
         assert!(rt; answered == reply, "call {line} replied {answered:?}");
         let last = bin.records().last().expect(&rt, "a record");
-        assert_eq!(rt;
-            (last.client(), last.ordinal(), last.delta()),
-            (7, line, delta)
-        );
+        let found = (last.client(), last.ordinal(), last.delta());
+        assert_same(&rt, &found, &(7, line, delta));
         line = line.wrapping_add(1);
     }
     assert_entries(
@@ -105,7 +102,7 @@ fn each_call_replies_and_leaves_what_its_row_says(rt: HostRuntime) -> Result<(),
         bin.entries(),
         &[(b"a", 6), (b"b", 7), (b"c", u64::MAX)],
     );
-    assert_eq!(rt; bin.base().len(), 0);
+    assert_same(&rt, &bin.base().len(), &0);
     Ok(())
 }
 
@@ -130,17 +127,17 @@ fn assert_halves(rt: &impl Abort, bin: &KeyBin) -> Result<(), AllocError> {
     };
     assert_entries(rt, low.base(), &[(b"a", 2)]);
     assert_entries(rt, low.entries(), &[(b"a", 2)]);
-    assert_eq!(rt; low.records().len(), 511);
+    assert_same(rt, &low.records().len(), &511);
     assert_entries(rt, high.base(), &[(b"q", 1)]);
     assert_entries(rt, high.entries(), &[(b"q", 3)]);
-    assert_eq!(rt; high.records().len(), 2);
+    assert_same(rt, &high.records().len(), &2);
     Ok(())
 }
 
 #[test]
 fn the_oldest_records_are_folded(rt: HostRuntime) -> Result<(), Fail> {
     let bin = folded(&rt, rt.alloc())?;
-    assert_eq!(rt; bin.records().len(), 513);
+    assert_same(&rt, &bin.records().len(), &513);
     assert_entries(&rt, bin.base(), &[(b"q", 1), (b"a", 2)]);
     assert_entries(&rt, &bin.copy_entries()?, &[(b"a", 2), (b"q", 3)]);
     assert!(rt; bin.get(&key(&rt, b"q")) == Some(&3));
@@ -166,9 +163,9 @@ fn a_bin_stores_few_records(rt: HostRuntime) -> Result<(), Fail> {
             let _ = make(&rt, &mut bin, Call::Merge(key(&rt, b"a"), 1, Plus(Some(0))))?;
         }
         calls = wanted;
-        assert_eq!(rt; bin.records().len(), stored);
+        assert_same(&rt, &bin.records().len(), &stored);
         let folded = bin.base().first().map(|pair| pair.1);
-        assert_eq!(rt; (folded, bin.base().len() <= 1), (base, true));
+        assert_same(&rt, &(folded, bin.base().len() <= 1), &(base, true));
         assert_entries(&rt, bin.entries(), &[(b"a", wanted)]);
     }
     Ok(())
@@ -204,13 +201,14 @@ fn a_record_tells_its_call_and_both_values(rt: HostRuntime) -> Result<(), Fail> 
     ] {
         let call: Call<Key, u64, Plus> = Call::Get(key(&rt, b"a"));
         let entry = Record::new(3, 5, call, before, after);
-        assert_eq!(rt; (entry.client(), entry.ordinal()), (3, 5));
-        assert_eq!(rt; entry.call().key().bytes(), b"a".as_slice());
-        assert_eq!(rt;
-            (entry.before().copied(), entry.after().copied()),
-            (before, after)
+        let of = (entry.client(), entry.ordinal(), entry.call().key().bytes());
+        let found = (
+            entry.before().copied(),
+            entry.after().copied(),
+            entry.delta(),
         );
-        assert_eq!(rt; entry.delta(), delta);
+        assert_same(&rt, &of, &(3, 5, b"a".as_slice()));
+        assert_same(&rt, &found, &(before, after, delta));
     }
     Ok(())
 }

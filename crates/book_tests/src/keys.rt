@@ -1,4 +1,5 @@
 //! Codes, spreads, slots and classes of known keys.
+use crate::values::assert_same;
 use hashkeys::{Class, HashKey, Key, Salt, spread};
 use std::process::Abort;
 use std::test::Fail;
@@ -55,11 +56,9 @@ fn known_codes_spreads_and_slots(rt: HostRuntime) -> Result<(), Fail> {
     for row in &rows {
         let key = Key::read(row.text).ok_or("no key")?;
         let hash = Salt(0).hash_of(&key);
-        assert_eq!(rt; key.bytes(), row.text);
-        assert_eq!(rt; key.hash_code(), row.code);
-        assert_eq!(rt; spread(row.code), row.spread);
-        assert_eq!(rt; hash, row.spread);
-        assert_eq!(rt; [hash % 16, hash % 32, hash % 4096], row.slots);
+        let found = (key.bytes(), key.hash_code(), spread(row.code), hash);
+        assert_same(&rt, &found, &(row.text, row.code, row.spread, row.spread));
+        assert_same(&rt, &[hash % 16, hash % 32, hash % 4096], &row.slots);
     }
     Ok(())
 }
@@ -77,9 +76,8 @@ fn known_hashes_under_salts(rt: HostRuntime) -> Result<(), Fail> {
     ];
     for (text, salt, hash, of_16, of_32) in rows {
         let key = Key::read(text).ok_or("no key")?;
-        assert_eq!(rt; Salt(salt).hash_of(&key), hash);
-        assert_eq!(rt; hash % 16, of_16);
-        assert_eq!(rt; hash % 32, of_32);
+        let found = Salt(salt).hash_of(&key);
+        assert_same(&rt, &(found, hash % 16, hash % 32), &(hash, of_16, of_32));
     }
     Ok(())
 }
@@ -88,17 +86,16 @@ fn known_hashes_under_salts(rt: HostRuntime) -> Result<(), Fail> {
 fn a_class_covers_its_hashes_in_one_half(rt: HostRuntime) {
     let class = Class::new(16, 1);
     let (low, high) = class.halves();
-    assert_eq!(rt; (class.n(), class.index()), (16, 1));
-    assert_eq!(rt; (low.n(), low.index()), (32, 1));
-    assert_eq!(rt; (high.n(), high.index()), (32, 17));
+    assert_same(&rt, &(class.n(), class.index()), &(16, 1));
+    assert_same(&rt, &(low.n(), low.index()), &(32, 1));
+    assert_same(&rt, &(high.n(), high.index()), &(32, 17));
     for (hash, of_class, of_low, of_high) in [
         (97, true, true, false),
         (113, true, false, true),
         (2112, false, false, false),
     ] {
-        assert_eq!(rt; class.covers(hash), of_class);
-        assert_eq!(rt; low.covers(hash), of_low);
-        assert_eq!(rt; high.covers(hash), of_high);
+        let found = (class.covers(hash), low.covers(hash), high.covers(hash));
+        assert_same(&rt, &found, &(of_class, of_low, of_high));
     }
 }
 
@@ -109,7 +106,7 @@ fn is_no_key(rt: &impl Abort, bytes: &[u8]) {
 #[test]
 fn other_bytes_are_no_key(rt: HostRuntime) -> Result<(), Fail> {
     let longest = Key::read(&[b'_'; 32]).ok_or("no key")?;
-    assert_eq!(rt; longest.bytes().len(), 32);
+    assert_same(&rt, &longest.bytes().len(), &32);
     let copy = longest.clone()?;
     assert!(rt; copy == longest);
     let shortest = Key::read(b"_").ok_or("no key")?;

@@ -3,7 +3,7 @@ ghost use Rattle.std.specs.Prelude.{◌≡◌, ◌<◌, ◌≤◌, [], length, I
 ghost use Rattle.hashkeys.specs.Classes.{IsTableSize};
 ghost use Rattle.count_ledger.specs.Opening.{new_passes, new_roles, lists_of};
 
-use crate::values::key;
+use crate::values::{assert_same, key};
 use bin_history::{Call, Form, Record};
 use count_ledger::{BinRole, Ledger, LedgerName, MOST_CALLS, Pass, Unsettled, retire_all};
 use hashkeys::{Key, Salt};
@@ -155,12 +155,13 @@ fn shares_and_sums_count_new_keys(rt: HostRuntime) -> Result<(), Fail> {
         },
     ];
     make_all(&rt, &ledger, &mut passes, &mut roles, &rows);
-    assert_eq!(rt; ledger.sum(), 2);
-    assert_eq!(rt; ledger.sum_all(&mut passes), 2);
+    let sums = (ledger.sum(), ledger.sum_all(&mut passes));
     assert!(rt; passes.len() == 2);
-    assert_eq!(rt; ledger.share(&mut passes[0]), 3);
-    assert_eq!(rt; ledger.share(&mut passes[1]), 18_446_744_073_709_551_615);
-    assert_eq!(rt; settled(&rt, ledger.settle(passes, roles)), 2);
+    let shares = (ledger.share(&mut passes[0]), ledger.share(&mut passes[1]));
+    let total = settled(&rt, ledger.settle(passes, roles));
+    assert_same(&rt, &sums, &(2, 2));
+    assert_same(&rt, &shares, &(3, 18_446_744_073_709_551_615));
+    assert_same(&rt, &total, &2);
     Ok(())
 }
 
@@ -178,17 +179,23 @@ fn divide_last(rt: &impl Abort, ledger: &KeyLedger, roles: &mut Vec<KeyRole>)
     roles.push(high).expect(rt, "memory");
 }
 
+/// Whether the roles are of these classes, by size and index.
+fn are_of(roles: &[KeyRole], classes: &[(u32, u32)]) -> bool {
+    for (role, class) in roles.iter().zip(classes) {
+        if (role.class().n(), role.class().index()) != *class {
+            return false;
+        }
+    }
+    roles.len() == classes.len()
+}
+
 #[test]
 fn a_divided_role_keeps_each_key_in_its_half(rt: HostRuntime) -> Result<(), Fail> {
     let (ledger, mut passes, mut roles) = open(rt.alloc(), 2)?;
     let before = [put(0, 1, b"a", None, 1), put(1, 1, b"c", None, 2)];
     make_all(&rt, &ledger, &mut passes, &mut roles, &before);
     divide_last(&rt, &ledger, &mut roles);
-    let classes = [(2, 0), (4, 1), (4, 3)];
-    assert_eq!(rt; roles.len(), 3);
-    for (role, (n, index)) in roles.iter().zip(classes) {
-        assert_eq!(rt; (role.class().n(), role.class().index()), (n, index));
-    }
+    let are_divided = are_of(&roles, &[(2, 0), (4, 1), (4, 3)]);
     let after = [
         put(1, 1, b"a", Some(1), 3),
         put(0, 2, b"c", Some(2), 4),
@@ -197,9 +204,12 @@ fn a_divided_role_keeps_each_key_in_its_half(rt: HostRuntime) -> Result<(), Fail
     make_all(&rt, &ledger, &mut passes, &mut roles, &after);
     assert!(rt; passes.len() == 2 && roles.len() == 3);
     ledger.meet(&mut passes[0], &mut roles[2]);
-    assert_eq!(rt; (passes[0].client(), passes[0].made()), (0, 3));
-    assert_eq!(rt; (passes[1].client(), passes[1].made()), (1, 2));
-    assert_eq!(rt; settled(&rt, ledger.settle(passes, roles)), 3);
+    let first = (passes[0].client(), passes[0].made());
+    let second = (passes[1].client(), passes[1].made());
+    let total = settled(&rt, ledger.settle(passes, roles));
+    assert!(rt; are_divided);
+    assert_same(&rt, &(first, second), &((0, 3), (1, 2)));
+    assert_same(&rt, &total, &3);
     Ok(())
 }
 
@@ -233,7 +243,7 @@ fn settling_needs_each_pass(rt: HostRuntime) -> Result<(), Fail> {
         &[put(0, 1, b"q", None, 2)],
     );
     passes.push_reserved(pass);
-    assert_eq!(rt; settled(&rt, ledger.settle(passes, roles)), 2);
+    assert_same(&rt, &settled(&rt, ledger.settle(passes, roles)), &2);
     Ok(())
 }
 
@@ -267,7 +277,7 @@ fn settling_needs_each_role(rt: HostRuntime) -> Result<(), Fail> {
         &[put(1, 0, b"b", None, 2)],
     );
     roles.push_reserved(role);
-    assert_eq!(rt; settled(&rt, ledger.settle(passes, roles)), 2);
+    assert_same(&rt, &settled(&rt, ledger.settle(passes, roles)), &2);
     Ok(())
 }
 
@@ -306,15 +316,13 @@ fn two_threads_post_to_two_roles(rt: HostRuntime) -> Result<(), Fail> {
         &mut || put_often(&rt, &ledger, &mut pass, &mut role, b"a", 1000),
         &mut || put_often(&rt, &ledger, &mut other_pass, &mut other_role, b"b", 1000),
     );
-    assert_eq!(rt;
-        (pass.made(), other_pass.made(), ledger.sum()),
-        (1000, 1000, 2)
-    );
+    let counts = (pass.made(), other_pass.made(), ledger.sum());
     passes.push_reserved(pass);
     passes.push_reserved(other_pass);
     roles.push_reserved(role);
     roles.push_reserved(other_role);
-    assert_eq!(rt; settled(&rt, ledger.settle(passes, roles)), 2);
+    let total = settled(&rt, ledger.settle(passes, roles));
+    assert_same(&rt, &(counts, total), &((1000, 1000, 2), 2));
     Ok(())
 }
 
@@ -330,11 +338,9 @@ fn a_pass_takes_a_million_calls(rt: HostRuntime) -> Result<(), Fail> {
         b"a",
         MOST_CALLS,
     );
-    assert_eq!(rt;
-        (passes[0].made(), ledger.share(&mut passes[0])),
-        (1_000_000, 1)
-    );
-    assert_eq!(rt; settled(&rt, ledger.settle(passes, roles)), 1);
+    let counts = (passes[0].made(), ledger.share(&mut passes[0]));
+    let total = settled(&rt, ledger.settle(passes, roles));
+    assert_same(&rt, &(counts, total), &((1_000_000, 1), 1));
     Ok(())
 }
 
@@ -344,8 +350,8 @@ fn a_name_has_no_bytes(rt: HostRuntime) -> Result<(), Fail> {
     let name = LedgerName::of(&roles[0]);
     drop(name.again().to_tag());
     drop(name);
-    assert_eq!(rt; size_of::<LedgerName>(), 0);
-    assert_eq!(rt; settled(&rt, ledger.settle(passes, roles)), 0);
+    let total = settled(&rt, ledger.settle(passes, roles));
+    assert_same(&rt, &(size_of::<LedgerName>(), total), &(0, 0));
     Ok(())
 }
 
@@ -375,6 +381,6 @@ fn the_largest_ledger_settles(rt: HostRuntime) -> Result<(), Fail> {
     let (ledger, passes, roles) = open_largest(rt.alloc())?;
     let sizes = (passes.len(), roles.len());
     let total = settled(&rt, ledger.settle(passes, roles));
-    assert_eq!(rt; (sizes, total), ((32, 65536), 0));
+    assert_same(&rt, &(sizes, total), &((32, 65536), 0));
     Ok(())
 }

@@ -1,7 +1,7 @@
 //! A plain map, written as the table of the calls says, and a bin that answers as it does.
 ghost use Rattle.std.specs.Prelude.{◌<◌};
 
-use crate::values::{Plus, key};
+use crate::values::{Plus, assert_same, key};
 use bin_history::{Bin, Call, Form, Reply};
 use hashkeys::{Class, Key, Salt};
 use std::alloc::{AllocError, Global};
@@ -170,7 +170,7 @@ fn first_difference(rt: &impl Abort, alloc: Global, form: Form) -> Result<Option
 fn a_bin_answers_as_a_plain_map(rt: HostRuntime) -> Result<(), Fail> {
     for form in [Form::Recorded, Form::Lean] {
         let difference = first_difference(&rt, rt.alloc(), form)?;
-        assert_eq!(rt; difference, None);
+        assert_same(&rt, &difference, &None);
     }
     Ok(())
 }

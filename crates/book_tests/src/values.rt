@@ -2,6 +2,7 @@
 use bin_history::Remap;
 use hashkeys::Key;
 use std::alloc::AllocError;
+use std::fmt::Debug;
 use std::process::Abort;
 
 /// Adds a number to the value, or takes the value away.
@@ -34,6 +35,11 @@ impl Remap<Key, u64> for Plus {
         let both = old.saturating_add(*given);
         Ok(self.0.map(|n| both.saturating_add(n)))
     }
+}
+
+/// Asserts that what was found is what is wanted. A call of it is one step of the caller, which goes on as it is.
+pub(crate) fn assert_same<T: PartialEq + Debug>(rt: &impl Abort, found: &T, wanted: &T) {
+    assert_eq!(rt; found, wanted);
 }
 
 pub(crate) fn key(rt: &impl Abort, text: &[u8]) -> Key {

@@ -2,7 +2,7 @@
 ghost use Rattle.std.specs.Prelude.{◌≡◌};
 
 use crate::maps::{
-    BOTH, KeyCall, KeyMap, KeyPass, Plus, Single, close, key, make, one_client, open,
+    BOTH, KeyCall, KeyMap, KeyPass, Plus, Single, assert_same, close, key, make, one_client, open,
 };
 use bin_history::{Call, Form, Reply};
 use std::alloc::{AllocError, Allocator, Global};
@@ -93,7 +93,7 @@ fn each_call_replies_as_its_row_says(rt: HostRuntime) -> Result<(), Fail> {
     for form in BOTH {
         let rows = rows(&rt, rt.alloc())?;
         let told = reply_to_all(&rt, rt.alloc(), form, rows);
-        assert_eq!(rt; told, (None, 25, [2, 2]));
+        assert_same(&rt, &told, &(None, 25, [2, 2]));
     }
     Ok(())
 }

@@ -1,8 +1,8 @@
 //! The examples of opening, sharing and closing a map, and of a closed one, each as it stands with its call.
 ghost use Rattle.std.specs.Prelude.{◌≡◌, All};
 
-use crate::call_examples::told_by_calls;
-use crate::maps::open;
+use crate::call_examples::right_calls;
+use crate::maps::{assert_same, open};
 use bin_history::{Form, Remap};
 use chm::{Fault, Map, NotClosed, Opened, Quiet, Sharing};
 use count_ledger::{Pass, retire_all};
@@ -56,15 +56,6 @@ pub(crate) type NumberPass = Pass<u64, u64, Plus>;
 /// Such a map, closed.
 type NumberQuiet = Quiet<u64, u64, Plus, Global>;
 
-/// How many examples are right.
-fn count_right(told: &[Result<bool, Fault>], right: &AtomicU64) {
-    for one in told {
-        if *one == Ok(true) {
-            right.fetch_add(1, SeqCst);
-        }
-    }
-}
-
 /// Runs the examples of the calls of a map of one client, and leaves 5 at 1.
 #[derive(Clone, Copy)]
 struct Examples<'a> {
@@ -73,8 +64,8 @@ struct Examples<'a> {
 
 impl Sharing<u64, u64, Plus, Global> for Examples<'_> {
     fn work<R: Wait>(&self, rt: &R, map: &Numbers, pass: &mut NumberPass) {
-        let told = told_by_calls(rt, map, pass);
-        count_right(&told, self.right);
+        let right = right_calls(rt, map, pass);
+        self.right.store(right, SeqCst);
         let _ = map.put(rt, pass, 1, 5);
     }
 }
@@ -195,7 +186,7 @@ fn each_example_of_a_call_is_as_it_says(rt: HostRuntime) -> Result<(), Fail> {
     let right = AtomicU64::new(0);
     let quiet = closed(&rt, rt.alloc(), &right)?;
     drop(quiet);
-    assert_eq!(rt; right.load(SeqCst), 24);
+    assert_same(&rt, &right.load(SeqCst), &24);
     Ok(())
 }
 
@@ -212,11 +203,12 @@ fn each_example_of_opening_and_sharing_is_as_it_says(rt: HostRuntime) -> Result<
 fn each_example_of_a_closed_map_is_as_it_says(rt: HostRuntime) -> Result<(), Fail> {
     let right = AtomicU64::new(0);
     let quiet = closed(&rt, rt.alloc(), &right)?;
-    assert!(rt; quiet_get(&quiet));
-    assert!(rt; quiet.mapping_count() == 1);
-    assert!(rt; entries(&quiet));
-    assert!(rt; reopen(&quiet) == Ok(true));
-    assert!(rt; reopen_with(&quiet) == Ok(true));
-    assert!(rt; into_entries(quiet));
+    let has_five = quiet_get(&quiet);
+    let has_one = quiet.mapping_count() == 1;
+    let shows_five = entries(&quiet);
+    let reopened = [reopen(&quiet), reopen_with(&quiet)];
+    let gives_five = into_entries(quiet);
+    assert!(rt; has_five && has_one && shows_five && gives_five);
+    assert!(rt; reopened == [Ok(true), Ok(true)]);
     Ok(())
 }

@@ -2,7 +2,7 @@
 ghost use Rattle.std.specs.Prelude.{◌≡◌};
 ghost use Rattle.bin_history.specs.Copies.{IsExact};
 
-use crate::maps::{close_all, numbered, open};
+use crate::maps::{assert_same, close_all, numbered, open};
 use crate::waiting::{Event, Paired, WAIT};
 use bin_history::{Form, Remap, Reply};
 use chm::Map;
@@ -32,8 +32,28 @@ fn key_of_bin_0(rt: &impl Abort) -> Key {
     numbered(rt, 0)
 }
 
-/// Puts copies of a value at 24 keys, none of them of the first bin: a table of 32 bins grows then. Some are of the first
-/// 16 bins, which one stride moves, and some of the others. Before the last the copies are told to wait.
+/// The numbers of 24 keys, none of them of the first bin of 32. Some are of the first 16 bins, which one stride moves, and
+/// some of the others.
+fn numbers_of_24(rt: &impl Abort) -> [u32; 24] {
+    let mut numbers = [0u32; 24];
+    let mut count = 0usize;
+    let mut low = 0u32;
+    for number in 0..100u32 {
+        let bin = bin_of(&numbered(rt, number));
+        if bin > 0 && count < 24 {
+            numbers[count] = number;
+            count += 1;
+            if bin < 16 {
+                low = low.saturating_add(1);
+            }
+        }
+    }
+    assert!(rt; count == 24);
+    assert!(rt; low > 0 && low < 24);
+    numbers
+}
+
+/// Puts copies of a value at these 24 keys: a table of 32 bins grows then. Before the last the copies are told to wait.
 fn put_24<R: Wait + Abort, V: Clone + Eq + Drop, F: Remap<Key, V> + Clone + Drop>(
     rt: &R,
     map: &Map<Key, V, F, Global>,
@@ -46,28 +66,16 @@ fn put_24<R: Wait + Abort, V: Clone + Eq + Drop, F: Remap<Key, V> + Clone + Drop
     requires pass { pass.old.ledger ≡ map.now.ledger.id }
     ensures { pass.new.ledger ≡ map.now.ledger.id }
 {
-    let mut low = 0u32;
-    let mut high = 0u32;
-    for number in 0..100u32 {
-        let key = numbered(rt, number);
-        let bin = bin_of(&key);
-        if bin == 0 || low.saturating_add(high) == 24 {
-            continue;
-        }
-        if bin < 16 {
-            low = low.saturating_add(1);
-        } else {
-            high = high.saturating_add(1);
-        }
+    let mut count = 0u32;
+    for number in numbers_of_24(rt) {
+        count = count.saturating_add(1);
         let copy = value.clone().expect(rt, "memory");
-        if low.saturating_add(high) == 24 {
+        if count == 24 {
             told.store(WAIT, SeqCst);
         }
-        let reply = map.put(rt, pass, key, copy);
+        let reply = map.put(rt, pass, numbered(rt, number), copy);
         assert!(rt; reply == Ok(Reply::Value(None)));
     }
-    assert!(rt; low > 0 && high > 0);
-    assert!(rt; low.saturating_add(high) == 24);
 }
 
 /// Client 0 puts keys until the table grows. The first copy that the move makes of a value waits for a second one.
@@ -113,6 +121,6 @@ fn a_call_helps_with_a_stride(rt: HostRuntime) -> Result<(), Fail> {
         &event,
         &told,
     );
-    assert_eq!(rt; (event.given_up(), keys), (0, 24));
+    assert_same(&rt, &(event.given_up(), keys), &(0, 24));
     Ok(())
 }

@@ -1,7 +1,7 @@
 //! Calls that borrow their key, on maps whose keys and values take memory to copy.
 ghost use Rattle.std.specs.Prelude.{◌≡◌, All};
 
-use crate::maps::{BOTH, close_all, open, put_back};
+use crate::maps::{BOTH, assert_same, close_all, open, put_back};
 use bin_history::{Form, Remap, Reply};
 use chm::{Fault, Map, Opened};
 use count_ledger::Pass;
@@ -101,7 +101,7 @@ fn put_one<'a, R: Wait + Abort>(
     ensures { pass.new.ledger ≡ map.now.ledger.id }
 {
     let put = map.put(rt, pass, text(rt, alloc, b"a"), text(rt, alloc, b"one"));
-    assert_eq!(rt; told(put), Ok(Reply::Value(None)));
+    assert_same(rt, &told(put), &Ok(Reply::Value(None)));
 }
 
 /// A map of one client in which `a` has the value `one`.
@@ -128,6 +128,24 @@ fn told(reply: Result<Reply<Text<'_>>, Fault>) -> Result<Reply<usize>, Fault> {
     }
 }
 
+/// Makes a call that takes no value.
+fn make_plain<'a, R: Wait>(
+    rt: &R,
+    map: &TextMap<'a>,
+    pass: &mut TextPass<'a>,
+    call: Lent,
+    key: &Text<'a>,
+) -> Result<Reply<Text<'a>>, Fault>
+    requires { pass.old.ledger ≡ map.now.ledger.id }
+    ensures { pass.new.ledger ≡ map.now.ledger.id }
+{
+    match call {
+        Lent::Get => map.get_by(rt, pass, key),
+        Lent::Contains => map.contains_key_by(rt, pass, key),
+        _ => map.remove_by(rt, pass, key),
+    }
+}
+
 /// Makes a call; a replace is by this value.
 fn make<'a, R: Wait>(
     rt: &R,
@@ -140,24 +158,29 @@ fn make<'a, R: Wait>(
     requires { pass.old.ledger ≡ map.now.ledger.id }
     ensures { pass.new.ledger ≡ map.now.ledger.id }
 {
-    match call {
-        Lent::Get => map.get_by(rt, pass, key),
-        Lent::Contains => map.contains_key_by(rt, pass, key),
-        Lent::Remove => map.remove_by(rt, pass, key),
-        Lent::Replace => map.replace_by(rt, pass, key, value),
+    if let Lent::Replace = call {
+        return map.replace_by(rt, pass, key, value);
     }
+    drop(value);
+    make_plain(rt, map, pass, call, key)
 }
 
-/// Makes a call on `a` or `b`, with the request after so many refused; a replace is by `other`. Answers the reply,
-/// whether there was such a request, how many calls were made with the put of `a`, and the length of the value at `a`
-/// once the map is closed.
+/// The reply of a call, whether a request of it was refused, how many calls were made with the put of `a`, and the length
+/// of the value at `a` once the map is closed.
+type Made = (Result<Reply<usize>, Fault>, bool, u64, Option<usize>);
+
+fn assert_made(rt: &impl Abort, call: Lent, found: &Made, wanted: &Made) {
+    assert_eq!(rt; found, wanted, "{call:?}");
+}
+
+/// Makes a call on `a` or `b`, with the request after so many refused; a replace is by `other`.
 fn make_refused<R: Wait + Abort>(
     rt: &R,
     alloc: &Refusing<Global>,
     form: Form,
     (call, present): (Lent, bool),
     granted: u64,
-) -> (Result<Reply<usize>, Fault>, bool, u64, Option<usize>) {
+) -> Made {
     let Texts {
         map,
         mut pass,
@@ -201,7 +224,7 @@ fn calls_that_borrow_their_key_reply_as_those_that_take_it(rt: HostRuntime) -> R
                 let alloc = Refusing::new(rt.alloc());
                 let (reply, left) = wanted(call, present);
                 let found = make_refused(&rt, &alloc, form, (call, present), u64::MAX);
-                assert_eq!(rt; found, (Ok(reply), false, 2, left), "{call:?}");
+                assert_made(&rt, call, &found, &(Ok(reply), false, 2, left));
             }
         }
     }
@@ -229,12 +252,12 @@ fn refuse_each<R: Wait + Abort>(rt: &R, memory: Global, form: Form, call: Lent, 
     for granted in 0..requests {
         let alloc = Refusing::new(memory);
         let found = make_refused(rt, &alloc, form, (call, present), granted);
-        assert_eq!(rt; found, (Err(Fault::NoMemory), true, 1, Some(3)), "{call:?}");
+        assert_made(rt, call, &found, &(Err(Fault::NoMemory), true, 1, Some(3)));
     }
     let alloc = Refusing::new(memory);
     let (reply, left) = wanted(call, present);
     let found = make_refused(rt, &alloc, form, (call, present), requests);
-    assert_eq!(rt; found, (Ok(reply), false, 2, left), "{call:?}");
+    assert_made(rt, call, &found, &(Ok(reply), false, 2, left));
 }
 
 #[test]
@@ -316,6 +339,6 @@ fn change_lean<R: Wait + Abort>(rt: &R, alloc: &Refusing<Global>) -> (u64, u64) 
 fn changes_of_a_lean_map_move_their_values(rt: HostRuntime) -> Result<(), Fail> {
     let alloc = Refusing::new(rt.alloc());
     let told = change_lean(&rt, &alloc);
-    assert_eq!(rt; told, (1000, 1));
+    assert_same(&rt, &told, &(1000, 1));
     Ok(())
 }

@@ -1,7 +1,8 @@
 //! Many calls of one client.
 use crate::maps::{
-    BOTH, Single, assert_entries, assert_pairs, close, close_all, count_all, filled, get_often,
-    key, one_client, open, put_back, put_new, put_numbers, put_texts, records_of,
+    BOTH, KeyQuiet, Single, assert_entries, assert_same, assert_slot_1, close, close_all,
+    count_all, filled, get_often, key, one_client, open, put_back, put_new, put_numbers, put_texts,
+    records_of,
 };
 use bin_history::{Form, Reply};
 use chm::Fault;
@@ -34,7 +35,7 @@ fn put_the_twelfth<R: Wait + Abort>(rt: &R, alloc: Global, form: Form) -> ([u64;
 fn a_map_that_is_opened_again_counts_its_opening_entries(rt: HostRuntime) -> Result<(), Fail> {
     for (form, records) in [(Form::Recorded, 1), (Form::Lean, 0)] {
         let told = put_the_twelfth(&rt, rt.alloc(), form);
-        assert_eq!(rt; told, ([12; 3], [32, 12, records]));
+        assert_same(&rt, &told, &([12; 3], [32, 12, records]));
     }
     Ok(())
 }
@@ -65,7 +66,7 @@ fn put_twins<R: Wait + Abort>(rt: &R, alloc: Global, form: Form) -> (usize, usiz
     let closed = close(rt, map, pass, place);
     for ((key, value), number) in closed.entries().zip(0u32..) {
         assert!(rt; *key == twin(rt, number));
-        assert_eq!(rt; *value, u64::from(number));
+        assert_same(rt, value, &u64::from(number));
     }
     let full = closed.bins().iter().filter(|bin| !bin.entries().is_empty());
     (closed.bins().len(), full.count(), closed.mapping_count())
@@ -75,7 +76,7 @@ fn put_twins<R: Wait + Abort>(rt: &R, alloc: Global, form: Form) -> (usize, usiz
 fn keys_of_one_hash_stand_in_one_bin(rt: HostRuntime) -> Result<(), Fail> {
     for form in BOTH {
         let told = put_twins(&rt, rt.alloc(), form);
-        assert_eq!(rt; told, (64, 1, 32));
+        assert_same(&rt, &told, &(64, 1, 32));
     }
     Ok(())
 }
@@ -97,10 +98,40 @@ fn a_full_pass_makes_no_more_calls(rt: HostRuntime) -> Result<(), Fail> {
     let closed = close(&rt, map, pass, place);
     assert_entries(&rt, closed.entries(), &[(b"a", 1), (b"q", 2)]);
     drop(closed);
-    assert_eq!(rt; (made, end), (999_999, 1_000_000));
-    assert_eq!(rt; cleared, Err(Fault::PassFull));
     assert!(rt; got == Err(Fault::PassFull));
-    assert_eq!(rt; walked, Ok(16));
+    let told = (made, end, cleared, walked);
+    assert_same(
+        &rt,
+        &told,
+        &(999_999, 1_000_000, Err(Fault::PassFull), Ok(16)),
+    );
+    Ok(())
+}
+
+/// Clears a map of one key by the last call of a pass, and then once more. Answers what both clears answered, and how
+/// many calls and keys there are in the end.
+fn clear_by_the_last_call<R: Wait + Abort>(
+    rt: &R,
+    alloc: Global,
+) -> ([Result<(), Fault>; 2], u64, u64) {
+    let Single {
+        map,
+        mut pass,
+        place,
+    } = one_client(rt, open(rt, alloc, Form::Recorded, 16, 1));
+    put_texts(rt, &map, &mut pass, &[(b"a", 1)]);
+    get_often(rt, &map, &mut pass, 999_998, 1);
+    let cleared = map.clear(rt, &mut pass);
+    let again = map.clear(rt, &mut pass);
+    let made = pass.made();
+    let keys = close(rt, map, pass, place).mapping_count();
+    ([cleared, again], made, keys)
+}
+
+#[test]
+fn a_full_pass_clears_where_nothing_is_left(rt: HostRuntime) -> Result<(), Fail> {
+    let told = clear_by_the_last_call(&rt, rt.alloc());
+    assert_same(&rt, &told, &([Ok(()), Ok(())], 1_000_000, 0));
     Ok(())
 }
 
@@ -119,27 +150,33 @@ fn a_lean_pass_makes_three_million_calls(rt: HostRuntime) -> Result<(), Fail> {
     let left = (closed.mapping_count(), records_of(&closed));
     drop(closed);
     assert!(rt; removed == Ok(Reply::Value(Some(1))));
-    assert_eq!(rt; (made, left), (3_000_000, (0, 0)));
+    assert_same(&rt, &(made, left), &(3_000_000, (0, 0)));
     Ok(())
 }
 
-#[test]
-fn old_records_are_folded_into_the_base(rt: HostRuntime) -> Result<(), Fail> {
+/// A recorded map with 1,025 calls on two keys of one bin: both are put, one is taken away and put again.
+fn folded<R: Wait + Abort>(rt: &R, alloc: Global) -> KeyQuiet<Global> {
     let Single {
         map,
         mut pass,
         place,
-    } = one_client(&rt, open(&rt, rt.alloc(), Form::Recorded, 16, 1));
-    put_texts(&rt, &map, &mut pass, &[(b"q", 1), (b"a", 2)]);
-    get_often(&rt, &map, &mut pass, 1_021, 2);
-    let removed = map.remove(&rt, &mut pass, key(&rt, b"q"));
-    put_texts(&rt, &map, &mut pass, &[(b"q", 3)]);
-    let closed = close(&rt, map, pass, place);
+    } = one_client(rt, open(rt, alloc, Form::Recorded, 16, 1));
+    put_texts(rt, &map, &mut pass, &[(b"q", 1), (b"a", 2)]);
+    get_often(rt, &map, &mut pass, 1_021, 2);
+    let removed = map.remove(rt, &mut pass, key(rt, b"q"));
+    put_texts(rt, &map, &mut pass, &[(b"q", 3)]);
+    let closed = close(rt, map, pass, place);
     assert!(rt; removed == Ok(Reply::Value(Some(1))));
+    closed
+}
+
+#[test]
+fn old_records_are_folded_into_the_base(rt: HostRuntime) -> Result<(), Fail> {
+    let closed = folded(&rt, rt.alloc());
     assert_entries(&rt, closed.entries(), &[(b"a", 2), (b"q", 3)]);
-    assert_eq!(rt; records_of(&closed), 513);
-    let bin = closed.bins().get(1).expect(&rt, "a bin of slot 1");
-    assert_eq!(rt; bin.records().len(), 513);
-    assert_pairs(&rt, bin.base(), &[(b"q", 1), (b"a", 2)]);
+    assert_slot_1(&rt, &closed, 513, &[(b"q", 1), (b"a", 2)]);
+    let records = records_of(&closed);
+    drop(closed);
+    assert_same(&rt, &records, &513);
     Ok(())
 }

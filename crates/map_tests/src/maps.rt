@@ -8,6 +8,7 @@ use chm::{Entries, Fault, Map, NotClosed, Opened, Quiet};
 use count_ledger::{Pass, retire_all};
 use hashkeys::{HashKey, Key, Salt};
 use std::alloc::{AllocError, Allocator};
+use std::fmt::Debug;
 use std::process::Abort;
 use std::sync::Wait;
 
@@ -306,6 +307,16 @@ pub(crate) fn filled<R: Wait + Abort, A: Allocator + Clone>(
     close(rt, map, pass, place)
 }
 
+/// Asserts that what was found is what is wanted. A call of it is one step of the caller, which goes on as it is.
+pub(crate) fn assert_same<T: PartialEq + Debug>(rt: &impl Abort, found: &T, wanted: &T) {
+    assert_eq!(rt; found, wanted);
+}
+
+/// A pair of this key and this value.
+fn assert_pair(rt: &impl Abort, (key, value): (&Key, u64), (text, number): (&[u8], u64)) {
+    assert_same(rt, &(key.bytes(), value), &(text, number));
+}
+
 /// These pairs in this order, among others at numbered keys.
 pub(crate) fn assert_entries<'a, A: Allocator + Clone>(
     rt: &impl Abort,
@@ -318,8 +329,7 @@ pub(crate) fn assert_entries<'a, A: Allocator + Clone>(
             continue;
         }
         let (text, number) = left.next().expect(rt, "a wanted entry");
-        assert_eq!(rt; key.bytes(), *text);
-        assert_eq!(rt; value, number);
+        assert_pair(rt, (key, *value), (text, *number));
     }
     assert!(rt; left.next().is_none());
 }
@@ -350,11 +360,22 @@ pub(crate) fn opening_fault<A: Allocator + Clone>(
 
 /// These pairs in this order.
 pub(crate) fn assert_pairs(rt: &impl Abort, entries: &[(Key, u64)], wanted: &[(&[u8], u64)]) {
-    assert_eq!(rt; entries.len(), wanted.len());
+    assert_same(rt, &entries.len(), &wanted.len());
     for ((key, value), (text, number)) in entries.iter().zip(wanted) {
-        assert_eq!(rt; key.bytes(), *text);
-        assert_eq!(rt; value, number);
+        assert_pair(rt, (key, *value), (text, *number));
     }
+}
+
+/// Asserts that the bin of slot 1 has so many records over these pairs.
+pub(crate) fn assert_slot_1<A: Allocator + Clone>(
+    rt: &impl Abort,
+    closed: &KeyQuiet<A>,
+    records: usize,
+    base: &[(&[u8], u64)],
+) {
+    let bin = closed.bins().get(1).expect(rt, "a bin of slot 1");
+    assert_same(rt, &bin.records().len(), &records);
+    assert_pairs(rt, bin.base(), base);
 }
 
 /// How many records the bins have in all.

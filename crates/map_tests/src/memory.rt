@@ -2,7 +2,8 @@
 ghost use Rattle.std.specs.Prelude.{◌≡◌};
 
 use crate::maps::{
-    KeyMap, KeyPass, Plus, Single, close, key, numbered, one_client, open, put_numbers, put_texts,
+    KeyMap, KeyPass, Plus, Single, assert_same, close, key, numbered, one_client, open,
+    put_numbers, put_texts,
 };
 use bin_history::{Form, Reply};
 use refusing_alloc::Refusing;
@@ -82,6 +83,6 @@ fn asked_for<R: Wait + Abort>(rt: &R, alloc: &Refusing<Global>) -> ((u64, u64), 
 fn calls_on_keys_of_a_lean_map_ask_for_no_memory(rt: HostRuntime) -> Result<(), Fail> {
     let alloc = Refusing::new(rt.alloc());
     let told = asked_for(&rt, &alloc);
-    assert_eq!(rt; told, ((100_000, 100_000), false, 1001));
+    assert_same(&rt, &told, &((100_000, 100_000), false, 1001));
     Ok(())
 }

@@ -2,8 +2,8 @@
 ghost use Rattle.std.specs.Prelude.{◌≡◌, All};
 
 use crate::maps::{
-    BOTH, KeyMap, KeyPass, Plus, Single, assert_entries, close_all, count_all, one_client, open,
-    opening_fault, put_back, put_texts,
+    BOTH, KeyMap, KeyPass, Plus, Single, assert_entries, assert_same, close_all, count_all,
+    one_client, open, opening_fault, put_back, put_texts,
 };
 use bin_history::Form;
 use chm::{Fault, NotClosed, Opened};
@@ -46,10 +46,10 @@ fn capacity_and_clients_have_their_limits(rt: HostRuntime) -> Result<(), Fail> {
     for form in BOTH {
         for (capacity, clients, fault) in rows {
             let found = opening_fault(rt.alloc(), form, capacity, clients);
-            assert_eq!(rt; found, fault);
+            assert_same(&rt, &found, &fault);
         }
         let told = of_three(&rt, rt.alloc(), form);
-        assert_eq!(rt; told, ((form, 3, 3), (form, 16)));
+        assert_same(&rt, &told, &((form, 3, 3), (form, 16)));
     }
     Ok(())
 }
@@ -96,7 +96,7 @@ fn close_twice<R: Wait + Abort>(rt: &R, alloc: Global, form: Form) -> u64 {
 fn a_map_closes_with_the_passes_of_all_clients(rt: HostRuntime) -> Result<(), Fail> {
     for form in BOTH {
         let count = close_twice(&rt, rt.alloc(), form);
-        assert_eq!(rt; count, 1);
+        assert_same(&rt, &count, &1);
     }
     Ok(())
 }

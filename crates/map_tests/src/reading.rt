@@ -2,8 +2,8 @@
 ghost use Rattle.std.specs.Prelude.{◌≡◌, All};
 
 use crate::maps::{
-    BOTH, KeyQuiet, Plus, Single, assert_entries, assert_pairs, close, close_all, key, one_client,
-    open, open_salted, put_numbers, put_texts, records_of,
+    BOTH, KeyQuiet, Plus, Single, assert_entries, assert_pairs, assert_same, close, close_all, key,
+    one_client, open, open_salted, put_numbers, put_texts, records_of,
 };
 use bin_history::{Form, Reply};
 use chm::{Fault, Opened, Visit};
@@ -23,9 +23,9 @@ fn assert_walk<A: Allocator>(
     visits: &[Visit<Key, u64, A>],
     second: &[(&[u8], u64)],
 ) {
-    assert_eq!(rt; visits.len(), 16);
+    assert_same(rt, &visits.len(), &16);
     for (visit, index) in visits.iter().zip(0..16u32) {
-        assert_eq!(rt; (visit.class.n(), visit.class.index()), (16, index));
+        assert_same(rt, &(visit.class.n(), visit.class.index()), &(16, index));
         match index {
             0 => assert_pairs(rt, &visit.entries, &[(b"Aa", 3)]),
             1 => assert_pairs(rt, &visit.entries, second),
@@ -93,7 +93,7 @@ fn assert_four(
     pairs: &[(&[u8], u64)],
 ) {
     let found = (closed.form(), closed.salt(), closed.bins().len());
-    assert_eq!(rt; found, wanted);
+    assert_same(rt, &found, &wanted);
     assert_entries(rt, closed.entries(), pairs);
 }
 
@@ -173,7 +173,7 @@ fn a_glance_shows_the_value_before_and_after_a_move(rt: HostRuntime) -> Result<(
     for form in BOTH {
         let (shown, made, bins) = glances(&rt, rt.alloc(), form);
         assert!(rt; shown == [Ok(None), Ok(Some(7)), Ok(Some(7)), Ok(None)]);
-        assert_eq!(rt; (made, bins), (12, 32));
+        assert_same(&rt, &(made, bins), &(12, 32));
     }
     Ok(())
 }
@@ -201,7 +201,7 @@ fn clear_three<R: Wait + Abort>(
 fn a_clear_removes_each_entry_by_a_call(rt: HostRuntime) -> Result<(), Fail> {
     for (form, records) in [(Form::Recorded, 6), (Form::Lean, 0)] {
         let told = clear_three(&rt, rt.alloc(), form);
-        assert_eq!(rt; told, (Ok(()), 6, 0, records));
+        assert_same(&rt, &told, &(Ok(()), 6, 0, records));
     }
     Ok(())
 }

@@ -2,8 +2,8 @@
 ghost use Rattle.std.specs.Prelude.{◌≡◌, All};
 
 use crate::maps::{
-    Single, assert_entries, assert_pairs, close, close_all, get_often, key, numbered, one_client,
-    open, opening_fault, put_back, put_numbers, put_texts,
+    Single, assert_entries, assert_pairs, assert_same, close, close_all, get_often, key, numbered,
+    one_client, open, opening_fault, put_back, put_numbers, put_texts,
 };
 use bin_history::{Form, Reply};
 use chm::{Fault, NotClosed};
@@ -85,10 +85,10 @@ fn refuse_put<R: Wait + Abort>(rt: &R, alloc: &Refusing<Global>, form: Form, gra
     };
     if granted < own {
         assert!(rt; reply == Err(Fault::NoMemory) && refused);
-        assert_eq!(rt; (live, keys), ((11, 11), 11));
+        assert_same(rt, &(live, keys), &((11, 11), 11));
     } else {
         assert!(rt; reply == Ok(Reply::Value(None)));
-        assert_eq!(rt; (live, keys), ((12, 12), 12));
+        assert_same(rt, &(live, keys), &((12, 12), 12));
         assert!(rt; refused || bins == 32);
     }
     refused
@@ -118,7 +118,7 @@ fn clear_twice<R: Wait + Abort>(
     let closed = close(rt, map, pass, place);
     let keys = closed.mapping_count();
     drop(closed);
-    assert_eq!(rt; again, Ok(()));
+    assert_same(rt, &again, &Ok(()));
     (cleared, refused, between, keys)
 }
 
@@ -131,14 +131,12 @@ fn refuse_clear<R: Wait + Abort>(
     granted: u64,
 ) -> bool {
     let (cleared, refused, between, keys) = clear_twice(rt, alloc, form, granted);
-    if refused {
-        assert_eq!(rt; cleared, Err(Fault::NoMemory));
-        assert_eq!(rt; between, (2, 6));
+    let wanted = if refused {
+        (Err(Fault::NoMemory), (2, 6), 0)
     } else {
-        assert_eq!(rt; cleared, Ok(()));
-        assert_eq!(rt; between, (0, 8));
-    }
-    assert_eq!(rt; keys, 0);
+        (Ok(()), (0, 8), 0)
+    };
+    assert_same(rt, &(cleared, between, keys), &wanted);
     refused
 }
 
@@ -169,8 +167,14 @@ fn refuse_walk<R: Wait + Abort>(
         Ok(16)
     };
     assert!(rt; (shown, walked) == (Ok(Some(2)), wanted));
-    assert_eq!(rt; made, 3);
+    assert_same(rt, &made, &3);
     refused
+}
+
+/// Asserts that want of memory is told where a request was refused, and only there.
+fn assert_fault(rt: &impl Abort, fault: Option<Fault>, refused: bool) {
+    let wanted = if refused { Some(Fault::NoMemory) } else { None };
+    assert_same(rt, &fault, &wanted);
 }
 
 /// Closes. Where a request is refused map and passes come back, and the next close closes the map.
@@ -190,18 +194,16 @@ fn refuse_close<R: Wait + Abort>(
     let result = map.close(rt, place);
     let refused = alloc.has_refused();
     alloc.refuse_after(u64::MAX);
-    let closed = match result {
-        Ok(closed) => {
-            assert!(rt; !refused);
-            closed
-        }
+    let (closed, fault) = match result {
+        Ok(closed) => (closed, None),
         Err(NotClosed { fault, map, passes }) => {
-            assert!(rt; fault == Fault::NoMemory && refused);
             let map = map.expect(rt, "the map comes back");
-            close_all(rt, map, passes)
+            (close_all(rt, map, passes), Some(fault))
         }
     };
     assert_entries(rt, closed.entries(), &IN_ORDER);
+    drop(closed);
+    assert_fault(rt, fault, refused);
     refused
 }
 
@@ -218,19 +220,17 @@ fn refuse_reopening<R: Wait + Abort>(
     let result = first.reopen(2);
     let refused = alloc.has_refused();
     alloc.refuse_after(u64::MAX);
-    let (map, passes) = match result {
-        Ok(opened) => {
-            assert!(rt; !refused);
-            opened
-        }
-        Err(fault) => {
-            assert!(rt; fault == Fault::NoMemory && refused);
-            first.reopen(2).expect(rt, "a map")
-        }
+    let (opened, fault) = match result {
+        Ok(opened) => (opened, None),
+        Err(fault) => (first.reopen(2).expect(rt, "a map"), Some(fault)),
     };
+    let (map, passes) = opened;
     let closed = close_all(rt, map, passes);
     assert_entries(rt, first.entries(), &IN_ORDER);
+    drop(first);
     assert_entries(rt, closed.entries(), &IN_ORDER);
+    drop(closed);
+    assert_fault(rt, fault, refused);
     refused
 }
 
@@ -255,7 +255,7 @@ fn refuse_taking<R: Wait + Abort>(
         }
         Err(closed) => {
             assert!(rt; refused);
-            assert_eq!(rt; closed.mapping_count(), 3);
+            assert_same(rt, &closed.mapping_count(), &3);
             assert_entries(rt, closed.entries(), &IN_ORDER);
             closed.into_entries().ok().expect(rt, "memory")
         }
@@ -269,7 +269,8 @@ fn refuse_opening(rt: &impl Abort, alloc: &Refusing<Global>, form: Form, granted
     alloc.refuse_after(granted);
     let fault = opening_fault(alloc, form, 2, 2);
     let refused = alloc.has_refused();
-    assert_eq!(rt; fault, if refused { Some(Fault::NoMemory) } else { None });
+    let wanted = if refused { Some(Fault::NoMemory) } else { None };
+    assert_same(rt, &fault, &wanted);
     refused
 }
 

@@ -2,8 +2,8 @@
 ghost use Rattle.std.specs.Prelude.{◌≡◌, All};
 
 use crate::maps::{
-    BOTH, KeyMap, KeyPass, KeyQuiet, Plus, assert_entries, assert_pairs, close_all, key, numbered,
-    open, put_numbers, put_texts,
+    BOTH, KeyMap, KeyPass, KeyQuiet, Plus, assert_entries, assert_same, assert_slot_1, close_all,
+    key, numbered, open, put_numbers, put_texts,
 };
 use bin_history::{Form, Reply};
 use chm::Visit;
@@ -42,7 +42,7 @@ fn put_once<R: Threads + Wait + Abort + Sync>(rt: &R, alloc: Global, form: Form)
 fn one_of_32_clients_finds_no_value(rt: HostRuntime) -> Result<(), Fail> {
     for form in BOTH {
         let told = put_once(&rt, rt.alloc(), form);
-        assert_eq!(rt; told, [1, 31, 1]);
+        assert_same(&rt, &told, &[1, 31, 1]);
     }
     Ok(())
 }
@@ -96,7 +96,8 @@ fn merge_together<R: Threads + Wait + Abort + Sync>(
 /// Asserts that each sum from 1 on was replied once, and 0 never.
 fn assert_once(rt: &impl Abort, replies: &[AtomicU64]) {
     for (sum, counter) in replies.iter().enumerate() {
-        assert_eq!(rt; counter.load(SeqCst), if sum == 0 { 0 } else { 1 });
+        let wanted = if sum == 0 { 0 } else { 1 };
+        assert_same(rt, &counter.load(SeqCst), &wanted);
     }
 }
 
@@ -106,9 +107,8 @@ fn two_clients_merge_each_sum_once(rt: HostRuntime) -> Result<(), Fail> {
         let replies = counters(rt.alloc(), 2001)?;
         let closed = merge_together(&rt, rt.alloc(), form, 2, &replies);
         assert_entries(&rt, closed.entries(), &[(b"a", 2000)]);
-        let bin = closed.bins().get(1).expect(&rt, "a bin of slot 1");
-        assert_eq!(rt; bin.records().len(), records);
-        assert_pairs(&rt, bin.base(), &[(b"a", base)]);
+        assert_slot_1(&rt, &closed, records, &[(b"a", base)]);
+        drop(closed);
         assert_once(&rt, &replies);
     }
     Ok(())
@@ -120,6 +120,7 @@ fn many_clients_merge_each_sum_once(rt: HostRuntime) -> Result<(), Fail> {
         let replies = counters(rt.alloc(), 32_001)?;
         let closed = merge_together(&rt, rt.alloc(), form, 32, &replies);
         assert_entries(&rt, closed.entries(), &[(b"a", 32_000)]);
+        drop(closed);
         assert_once(&rt, &replies);
     }
     Ok(())
@@ -127,14 +128,14 @@ fn many_clients_merge_each_sum_once(rt: HostRuntime) -> Result<(), Fail> {
 
 /// So many entries, each a key with the number that it was made of.
 fn assert_numbers<A: Allocator + Clone>(rt: &impl Abort, closed: &KeyQuiet<A>, count: u32) {
-    assert_eq!(rt; closed.mapping_count(), u64::from(count));
+    assert_same(rt, &closed.mapping_count(), &u64::from(count));
     let mut seen = 0u32;
     for (key, value) in closed.entries() {
         assert!(rt; *value < u64::from(count));
         assert!(rt; *key == numbered(rt, *value as u32));
         seen = seen.saturating_add(1);
     }
-    assert_eq!(rt; seen, count);
+    assert_same(rt, &seen, &count);
 }
 
 /// Lets so many clients, at most 16, put so many new keys each into a map of one bin.
@@ -187,7 +188,7 @@ fn walk_after_two<R: Threads + Wait + Abort + Sync>(
     assert!(rt; passes.len() == 2);
     let visits = map.walk(rt, &mut passes[0]);
     let closed = close_all(rt, map, passes);
-    assert_eq!(rt; closed.mapping_count(), 2);
+    assert_same(rt, &closed.mapping_count(), &2);
     drop(closed);
     visits.expect(rt, "memory").into_iter().nth(1)
 }
@@ -196,7 +197,7 @@ fn walk_after_two<R: Threads + Wait + Abort + Sync>(
 fn a_walk_after_threads_shows_the_calls_of_both(rt: HostRuntime) -> Result<(), Fail> {
     for form in BOTH {
         let visit = walk_after_two(&rt, rt.alloc(), form).expect(&rt, "a visit of slot 1");
-        assert_eq!(rt; visit.entries.len(), 2);
+        assert_same(&rt, &visit.entries.len(), &2);
         for text in [b"a".as_slice(), b"q"] {
             let shown = visit
                 .entries

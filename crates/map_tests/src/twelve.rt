@@ -1,7 +1,7 @@
 //! Each of the twelve calls, each of its requests refused in turn.
 ghost use Rattle.std.specs.Prelude.{◌≡◌, All};
 
-use crate::maps::{close_all, key, open, put_back};
+use crate::maps::{assert_same, close_all, key, open, put_back};
 use crate::numbers::{Alloc, Number, Seven};
 use bin_history::{Call, Form, Reply};
 use chm::{Fault, Map, Opened};
@@ -138,18 +138,27 @@ fn shown<'a, R: Wait + Abort>(
     (pairs, pass.made())
 }
 
+/// The value at a key among what was shown.
+fn value_of(pairs: &[(Key, u64)], text: &[u8]) -> Option<u64> {
+    for (key, value) in pairs {
+        if key.bytes() == text {
+            return Some(*value);
+        }
+    }
+    None
+}
+
 /// Asserts that `a` has this value, if any, and that `Aa` and `q` have theirs, after so many calls.
 fn assert_shown(rt: &impl Abort, shown: &Shown, value: Option<u64>, made: u64) {
     let (pairs, calls) = shown;
-    let mut wanted = 2usize;
-    for (text, number) in [(b"Aa".as_slice(), Some(3)), (b"q", Some(2)), (b"a", value)] {
-        let found = pairs.iter().find(|pair| pair.0.bytes() == text);
-        assert_eq!(rt; found.map(|pair| pair.1), number);
-    }
-    if value.is_some() {
-        wanted = 3;
-    }
-    assert_eq!(rt; (pairs.len(), *calls), (wanted, made));
+    let found = [
+        value_of(pairs, b"Aa"),
+        value_of(pairs, b"q"),
+        value_of(pairs, b"a"),
+    ];
+    let count = if value.is_some() { 3 } else { 2 };
+    let wanted = ([Some(3), Some(2), value], count, made);
+    assert_same(rt, &(found, pairs.len(), *calls), &wanted);
 }
 
 /// What was told of a call one of whose requests was refused: the reply and whether there was such a request, what was
@@ -161,6 +170,83 @@ struct Told {
     between: Shown,
     again: Option<Result<Reply<u64>, Fault>>,
     after: Shown,
+}
+
+/// A map of one client that put `q` and `Aa`, and `a` with the value 1 or not.
+fn filled<'a, R: Wait + Abort>(rt: &R, alloc: Alloc<'a>, form: Form, present: bool) -> Numbers<'a>
+    ensures pass { result.pass.ledger ≡ result.map.ledger.id }
+    ensures place { All (λ p. p.ledger ≡ result.map.ledger.id) result.place.items }
+{
+    let Numbers {
+        map,
+        mut pass,
+        place,
+    } = seated(rt, open(rt, alloc, form, 16, 1));
+    put(rt, alloc, &map, &mut pass, b"q", 2);
+    put(rt, alloc, &map, &mut pass, b"Aa", 3);
+    if present {
+        put(rt, alloc, &map, &mut pass, b"a", 1);
+    }
+    Numbers { map, pass, place }
+}
+
+/// Makes a call again, where it was refused.
+fn make_again<'a, R: Wait + Abort>(
+    rt: &R,
+    alloc: Alloc<'a>,
+    map: &NumberMap<'a>,
+    pass: &mut NumberPass<'a>,
+    kind: usize,
+    refused: bool,
+) -> Option<Result<Reply<u64>, Fault>>
+    requires { pass.old.ledger ≡ map.now.ledger.id }
+    ensures { pass.new.ledger ≡ map.now.ledger.id }
+{
+    if refused {
+        Some(make(rt, alloc, map, pass, kind))
+    } else {
+        None
+    }
+}
+
+/// A call of a kind, with the request after so many refused.
+#[derive(Drop)]
+struct RefusedCall<'a> {
+    alloc: Alloc<'a>,
+    kind: usize,
+    granted: u64,
+}
+
+/// Makes a call with a request refused. Where it was refused, makes it again.
+fn tell<'a, R: Wait + Abort>(
+    rt: &R,
+    memory: Global,
+    map: &NumberMap<'a>,
+    pass: &mut NumberPass<'a>,
+    call: RefusedCall<'a>,
+) -> Told
+    requires { pass.old.ledger ≡ map.now.ledger.id }
+    ensures { pass.new.ledger ≡ map.now.ledger.id }
+{
+    let RefusedCall {
+        alloc,
+        kind,
+        granted,
+    } = call;
+    alloc.refuse_after(granted);
+    let reply = make(rt, alloc, map, pass, kind);
+    let refused = alloc.has_refused();
+    alloc.refuse_after(u64::MAX);
+    let between = shown(rt, memory, map, pass);
+    let again = make_again(rt, alloc, map, pass, kind, refused);
+    let after = shown(rt, memory, map, pass);
+    Told {
+        reply,
+        refused,
+        between,
+        again,
+        after,
+    }
 }
 
 /// Makes a call where `a` has the value 1, or has none, with the request after so many refused. Where it was refused,
@@ -176,32 +262,16 @@ fn call_twice<R: Wait + Abort>(
         map,
         mut pass,
         mut place,
-    } = seated(rt, open(rt, alloc, form, 16, 1));
-    put(rt, alloc, &map, &mut pass, b"q", 2);
-    put(rt, alloc, &map, &mut pass, b"Aa", 3);
-    if present {
-        put(rt, alloc, &map, &mut pass, b"a", 1);
-    }
-    alloc.refuse_after(granted);
-    let reply = make(rt, alloc, &map, &mut pass, kind);
-    let refused = alloc.has_refused();
-    alloc.refuse_after(u64::MAX);
-    let between = shown(rt, memory, &map, &mut pass);
-    let again = if refused {
-        Some(make(rt, alloc, &map, &mut pass, kind))
-    } else {
-        None
+    } = filled(rt, alloc, form, present);
+    let call = RefusedCall {
+        alloc,
+        kind,
+        granted,
     };
-    let after = shown(rt, memory, &map, &mut pass);
+    let told = tell(rt, memory, &map, &mut pass, call);
     put_back(rt, &map, pass, &mut place);
     drop(close_all(rt, map, place));
-    Told {
-        reply,
-        refused,
-        between,
-        again,
-        after,
-    }
+    told
 }
 
 fn is_reply(found: &Result<Reply<u64>, Fault>, wanted: &Reply<u64>) -> bool {
@@ -211,8 +281,28 @@ fn is_reply(found: &Result<Reply<u64>, Fault>, wanted: &Reply<u64>) -> bool {
     }
 }
 
-/// Refuses each request of a call in turn: the call is refused, a walk and the books are as before, and the next try
-/// makes it. Answers how many requests there are.
+/// Asserts what is told of a call where `a` has this value and so many calls were made: where a request was refused the
+/// call was, a walk and the books were as before, and the next try made it.
+fn assert_told(
+    rt: &impl Abort,
+    kind: usize,
+    told: &Told,
+    (before, made): (Option<u64>, u64),
+    outcome: &Outcome,
+) {
+    assert_shown(rt, &told.after, outcome.1, made.wrapping_add(1));
+    let last = match &told.again {
+        Some(again) => {
+            assert!(rt; told.reply == Err(Fault::NoMemory), "kind {kind}");
+            assert_shown(rt, &told.between, before, made);
+            again
+        }
+        None => &told.reply,
+    };
+    assert!(rt; is_reply(last, &outcome.0), "kind {kind}");
+}
+
+/// Refuses each request of a call in turn, and answers how many there are.
 fn refuse_each<R: Wait + Abort>(
     rt: &R,
     memory: Global,
@@ -220,19 +310,14 @@ fn refuse_each<R: Wait + Abort>(
     (kind, present): (usize, bool),
     outcome: &Outcome,
 ) -> u64 {
-    let (before, made) = if present { (Some(1), 3) } else { (None, 2) };
+    let before = if present { (Some(1), 3) } else { (None, 2) };
     for granted in 0..100u64 {
         let alloc = Refusing::new(memory);
         let told = call_twice(rt, (memory, &alloc), form, (kind, present), granted);
-        assert_shown(rt, &told.after, outcome.1, made + 1);
+        assert_told(rt, kind, &told, before, outcome);
         if !told.refused {
-            assert!(rt; is_reply(&told.reply, &outcome.0), "kind {kind}");
             return granted;
         }
-        assert!(rt; told.reply == Err(Fault::NoMemory), "kind {kind}");
-        assert_shown(rt, &told.between, before, made);
-        let again = told.again.expect(rt, "a reply");
-        assert!(rt; is_reply(&again, &outcome.0), "kind {kind}");
     }
     100
 }
@@ -249,7 +334,7 @@ fn each_of_the_twelve_calls_is_refused_in_turn(rt: HostRuntime) -> Result<(), Fa
             let second = refuse_each(&rt, rt.alloc(), form, (kind, false), absent);
             requests = requests.saturating_add(first).saturating_add(second);
         }
-        assert_eq!(rt; requests, wanted);
+        assert_same(&rt, &requests, &wanted);
     }
     Ok(())
 }

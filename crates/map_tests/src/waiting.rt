@@ -2,7 +2,7 @@
 ghost use Rattle.std.specs.Prelude.{◌≡◌, All};
 ghost use Rattle.bin_history.specs.Copies.{IsExact};
 
-use crate::maps::{BOTH, close_all, key, open};
+use crate::maps::{BOTH, assert_same, close_all, key, open};
 use bin_history::{Form, Remap, Reply};
 use chm::{Fault, Map};
 use count_ledger::Pass;
@@ -118,7 +118,7 @@ fn a_function_waits_for_a_put_on_another_bin(rt: HostRuntime) -> Result<(), Fail
         let event = Event::new();
         let function = OneAfter { event: &event };
         let count = compute_while_another_puts(&rt, rt.alloc(), form, &function, &event);
-        assert_eq!(rt; (event.given_up(), count), (0, 2));
+        assert_same(&rt, &(event.given_up(), count), &(0, 2));
     }
     Ok(())
 }
@@ -244,7 +244,7 @@ fn glance_together<R: Threads + Wait + Abort + Sync>(
 fn two_glances_copy_one_value_at_once(rt: HostRuntime) -> Result<(), Fail> {
     for form in BOTH {
         let told = glance_together(&rt, rt.alloc(), form);
-        assert_eq!(rt; told, ((true, true), 0, 1));
+        assert_same(&rt, &told, &((true, true), 0, 1));
     }
     Ok(())
 }
@@ -265,7 +265,7 @@ fn glance_in_vain<R: Wait + Abort>(
     told.store(0, SeqCst);
     let again = map.glance(rt, &key(rt, b"a")).map(|shown| shown.is_some());
     let keys = close_all(rt, map, passes).mapping_count();
-    assert_eq!(rt; (put, keys), (true, 1));
+    assert_same(rt, &(put, keys), &(true, 1));
     (refused, again)
 }
 

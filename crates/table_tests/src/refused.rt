@@ -1,5 +1,5 @@
 //! Requests for memory that are refused, each in turn.
-use crate::maps::{KeyMap, Single, leaves_of, open_quiet, open_single, put};
+use crate::maps::{KeyMap, Single, assert_same, leaves_of, open_quiet, open_single, put};
 use bin_history::Form;
 use generations::{Moved, NotLeft};
 use hashkeys::{Class, Salt};
@@ -45,9 +45,13 @@ fn refused_move<R: Wait + Abort>(
     drop(map);
     drop(ledger);
     done?;
-    assert_eq!(rt; between, [(if moved { 2 } else { 1 }, 1); 2]);
-    assert_eq!(rt; again?, if moved { Moved::Already } else { Moved::Yes });
-    assert_eq!(rt; after, [(2, 1); 2]);
+    let wanted = if moved {
+        (Moved::Already, [(2, 1); 2])
+    } else {
+        (Moved::Yes, [(1, 1); 2])
+    };
+    assert_same(rt, &(again?, between), &wanted);
+    assert_same(rt, &after, &[(2, 1); 2]);
     Ok((moved, refused))
 }
 
@@ -59,7 +63,11 @@ fn a_refused_move_leaves_the_bin(rt: HostRuntime) -> Result<(), Fail> {
     for (form, needed) in [(Form::Recorded, 7), (Form::Lean, 4)] {
         for granted in 0..9u64 {
             let (moved, refused) = refused_move(&rt, &alloc, form, granted)?;
-            assert_eq!(rt; (moved, refused), (granted >= needed, granted < needed));
+            assert_same(
+                &rt,
+                &(moved, refused),
+                &(granted >= needed, granted < needed),
+            );
         }
     }
     Ok(())
@@ -77,11 +85,11 @@ fn refused_leaves<R: Wait + Abort>(
     alloc.refuse_after(granted);
     match map.into_leaves(rt) {
         Ok((bins, roles)) => {
-            assert_eq!(rt; (bins.len(), roles.len()), (4, 4));
+            assert_same(rt, &(bins.len(), roles.len()), &(4, 4));
             Ok(false)
         }
         Err(NotLeft::NoMemory(map)) => {
-            assert_eq!(rt; leaves_of(rt, map, 4), Some((4, 4, true)));
+            assert_same(rt, &leaves_of(rt, map, 4), &Some((4, 4, true)));
             Ok(true)
         }
         Err(NotLeft::BinMissing) => {
@@ -125,7 +133,7 @@ fn a_refused_map_is_made_at_the_next_try(rt: HostRuntime) -> Result<(), Fail> {
     for (form, needed) in [(Form::Recorded, 11), (Form::Lean, 9)] {
         for granted in 0..14u64 {
             let refused = refused_map(&rt, &alloc, form, granted);
-            assert_eq!(rt; refused, granted < needed);
+            assert_same(&rt, &refused, &(granted < needed));
         }
     }
     Ok(())

@@ -1,5 +1,5 @@
 //! Tables by size: which place a hash is found at, and a table that is made before its move.
-use crate::maps::{KeyMap, open_quiet};
+use crate::maps::{KeyMap, assert_same, open_quiet};
 use bin_history::Form;
 use generations::Moved;
 use hashkeys::Class;
@@ -36,10 +36,10 @@ fn the_widest_place_of_a_hash_is_found(rt: HostRuntime) -> Result<(), Fail> {
     let after = shown(&rt, &map);
     drop(map);
     drop(ledger);
-    assert_eq!(rt; (first?, second?), (Moved::Yes, Moved::Yes));
-    assert_eq!(rt; before, [(1, 0); 4]);
-    assert_eq!(rt; between, [(2, 0), (2, 1), (2, 0), (2, 1)]);
-    assert_eq!(rt; after, [(2, 0), (4, 1), (2, 0), (4, 3)]);
+    assert_same(&rt, &(first?, second?), &(Moved::Yes, Moved::Yes));
+    assert_same(&rt, &before, &[(1, 0); 4]);
+    assert_same(&rt, &between, &[(2, 0), (2, 1), (2, 0), (2, 1)]);
+    assert_same(&rt, &after, &[(2, 0), (4, 1), (2, 0), (4, 3)]);
     Ok(())
 }
 
@@ -64,7 +64,7 @@ fn widened<R: Wait>(
 #[test]
 fn a_table_that_is_there_is_not_made_again(rt: HostRuntime) -> Result<(), Fail> {
     let alloc = Refusing::new(rt.alloc());
-    assert_eq!(rt; widened(&rt, &alloc, 0)?, (false, false));
-    assert_eq!(rt; widened(&rt, &alloc, 1)?, (true, true));
+    assert_same(&rt, &widened(&rt, &alloc, 0)?, &(false, false));
+    assert_same(&rt, &widened(&rt, &alloc, 1)?, &(true, true));
     Ok(())
 }

@@ -1,7 +1,9 @@
 //! Threads that share one map.
 ghost use Rattle.std.specs.Prelude.{◌≡◌, All, IfOk};
 
-use crate::maps::{KeyLedger, KeyMap, KeyPass, KeyRole, Opened, open, open_quiet, put};
+use crate::maps::{
+    KeyLedger, KeyMap, KeyPass, KeyRole, Opened, assert_same, open, open_quiet, put,
+};
 use bin_history::Form;
 use count_ledger::{Unsettled, retire_all};
 use generations::Moved;
@@ -20,12 +22,14 @@ fn two_threads_forward_one_class_once(rt: HostRuntime) -> Result<(), Fail> {
         requires n { map.n ≡ 16 }
     { map.forward(&rt, &ledger, Class::new(16, 1)) };
     let (one, other) = thread::join(&rt, forward, forward);
-    let both = (one?, other?);
-    assert!(rt; both == (Moved::Yes, Moved::Already) || both == (Moved::Already, Moved::Yes));
     let held = map.hold(&rt, 17);
     let class = held.bin.class();
     held.release();
-    assert_eq!(rt; class, Class::new(32, 17));
+    drop(map);
+    drop(ledger);
+    let both = (one?, other?);
+    assert!(rt; both == (Moved::Yes, Moved::Already) || both == (Moved::Already, Moved::Yes));
+    assert_same(&rt, &class, &Class::new(32, 17));
     Ok(())
 }
 
@@ -40,8 +44,10 @@ fn hold_often<R: Wait, A: Allocator + Clone>(rt: &R, map: &KeyMap<A>, hashes: u3
 fn many_threads_hold_few_bins(rt: HostRuntime) -> Result<(), Fail> {
     let (map, ledger) = open_quiet(rt.alloc(), Form::Recorded, 4)?;
     let hold = |_: usize| hold_often(&rt, &map, 4, 20_000);
-    thread::map_indices(&rt, rt.alloc(), 32, &hold)?;
+    let done = thread::map_indices(&rt, rt.alloc(), 32, &hold);
+    drop(map);
     drop(ledger);
+    assert_same(&rt, &done?.len(), &32);
     Ok(())
 }
 
@@ -141,10 +147,9 @@ fn eight_threads_post_to_eight_bins(rt: HostRuntime) -> Result<(), Fail> {
     } = open(rt.alloc(), Form::Lean, Salt(0), 8, 8)?;
     put_from_threads(&rt, &map, &ledger, &mut passes);
     let (roles, counts) = roles_of(&rt, rt.alloc(), map);
-    assert_eq!(rt; counts.as_slice(), [1usize; 8].as_slice());
-    for pass in &passes {
-        assert_eq!(rt; pass.made(), 800);
-    }
-    assert_eq!(rt; settled(&rt, ledger, passes, roles), 8);
+    let all_made = passes.iter().all(|pass| pass.made() == 800);
+    let total = settled(&rt, ledger, passes, roles);
+    assert_same(&rt, &counts.as_slice(), &[1usize; 8].as_slice());
+    assert_same(&rt, &(all_made, total), &(true, 8));
     Ok(())
 }

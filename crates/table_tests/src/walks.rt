@@ -2,7 +2,9 @@
 ghost use Rattle.std.specs.Prelude.{◌≡◌, ◌<◌, ◌≤◌};
 ghost use Rattle.hashkeys.specs.Classes.{IsTableSize};
 
-use crate::maps::{KeyBin, KeyLedger, KeyMap, Single, leaves_of, open_quiet, open_single, put};
+use crate::maps::{
+    KeyBin, KeyLedger, KeyMap, Single, assert_same, leaves_of, open_quiet, open_single, put,
+};
 use bin_history::Form;
 use generations::{Moved, next_in_walk};
 use hashkeys::{Class, Key, Salt};
@@ -54,7 +56,8 @@ fn forward_all<R: Wait + Abort, A: Allocator + Clone>(
     requires small { n < 65536 }
 {
     for index in 0..n {
-        assert_eq!(rt; map.forward(rt, ledger, Class::new(n, index))?, Moved::Yes);
+        let moved = map.forward(rt, ledger, Class::new(n, index))?;
+        assert_same(rt, &moved, &Moved::Yes);
     }
     Ok(())
 }
@@ -89,25 +92,25 @@ fn walks_of_four(
 #[test]
 fn four_keys_stand_in_walk_order(rt: HostRuntime) -> Result<(), Fail> {
     let (before, after) = walks_of_four(&rt, rt.alloc(), Form::Recorded, Salt(0))?;
-    assert_eq!(rt; before.as_slice(), b"Aa q a zzzzzz ".as_slice());
-    assert_eq!(rt; after.as_slice(), b"Aa a q zzzzzz ".as_slice());
+    assert_same(&rt, &before.as_slice(), &b"Aa q a zzzzzz ".as_slice());
+    assert_same(&rt, &after.as_slice(), &b"Aa a q zzzzzz ".as_slice());
     let (before, after) = walks_of_four(&rt, rt.alloc(), Form::Lean, Salt(1))?;
-    assert_eq!(rt; before.as_slice(), b"q a Aa zzzzzz ".as_slice());
-    assert_eq!(rt; after.as_slice(), b"a q Aa zzzzzz ".as_slice());
+    assert_same(&rt, &before.as_slice(), &b"q a Aa zzzzzz ".as_slice());
+    assert_same(&rt, &after.as_slice(), &b"a q Aa zzzzzz ".as_slice());
     Ok(())
 }
 
 #[test]
 fn a_class_under_a_wider_bin_stays(rt: HostRuntime) -> Result<(), Fail> {
     let (map, ledger) = open_quiet(rt.alloc(), Form::Recorded, 16)?;
-    assert_eq!(rt;
-        map.forward(&rt, &ledger, Class::new(32, 17))?,
-        Moved::Wider
-    );
+    let moved = map.forward(&rt, &ledger, Class::new(32, 17));
     let held = map.hold(&rt, 17);
     let class = held.bin.class();
     held.release();
-    assert_eq!(rt; class, Class::new(16, 1));
+    drop(map);
+    drop(ledger);
+    assert_same(&rt, &moved?, &Moved::Wider);
+    assert_same(&rt, &class, &Class::new(16, 1));
     Ok(())
 }
 
@@ -118,10 +121,9 @@ fn two_readers_are_shown_one_bin_at_once(rt: HostRuntime) -> Result<(), Fail> {
         ledger,
         mut pass,
     } = open_single(&rt, rt.alloc(), Form::Lean, Salt(0), 1)?;
+    let key = Key::read(b"a").expect(&rt, "a key");
     let done = put(&rt, &map, &ledger, &mut pass, b"a");
     pass.retire();
-    done?;
-    let key = Key::read(b"a").expect(&rt, "a key");
     let first = map.read(&rt, 97);
     let second = map.read(&rt, 97);
     let found = (
@@ -130,22 +132,37 @@ fn two_readers_are_shown_one_bin_at_once(rt: HostRuntime) -> Result<(), Fail> {
     );
     first.release();
     second.release();
-    assert_eq!(rt; found, (Some(0), Some(0)));
     map.hold(&rt, 97).release();
+    drop(map);
+    drop(ledger);
+    done?;
+    assert_same(&rt, &found, &(Some(0), Some(0)));
     Ok(())
+}
+
+/// The first hash below 64 whose bin is of another class than one of 16, if any.
+fn first_astray<R: Wait, A: Allocator + Clone>(rt: &R, map: &KeyMap<A>) -> Option<u32> {
+    for hash in 0..64u32 {
+        let held = map.hold(rt, hash);
+        let class = held.bin.class();
+        held.release();
+        if (class.n(), class.index()) != (16, hash % 16) {
+            return Some(hash);
+        }
+    }
+    None
 }
 
 #[test]
 fn all_bins_are_there_after_moves(rt: HostRuntime) -> Result<(), Fail> {
     let (map, ledger) = open_quiet(rt.alloc(), Form::Lean, 4)?;
-    forward_all(&rt, &map, &ledger, 4)?;
-    forward_all(&rt, &map, &ledger, 8)?;
-    for hash in 0..64u32 {
-        let held = map.hold(&rt, hash);
-        let class = held.bin.class();
-        held.release();
-        assert_eq!(rt; class, Class::new(16, hash % 16));
-    }
-    assert_eq!(rt; leaves_of(&rt, map, 16), Some((16, 16, true)));
+    let first = forward_all(&rt, &map, &ledger, 4);
+    let second = forward_all(&rt, &map, &ledger, 8);
+    let astray = first_astray(&rt, &map);
+    let leaves = leaves_of(&rt, map, 16);
+    drop(ledger);
+    first.and(second)?;
+    assert_same(&rt, &astray, &None);
+    assert_same(&rt, &leaves, &Some((16, 16, true)));
     Ok(())
 }

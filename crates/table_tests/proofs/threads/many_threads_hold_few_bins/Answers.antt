@@ -7,5 +7,5 @@ use Rattle.table_tests.proofs.threads.many_threads_hold_few_bins.Goals as goal
 pub open_quiet-requires : goal.open_quiet-requires
 open_quiet-requires g c = (2, omega arith, refl)
 
-pub map_indices-requires-sync-F : goal.map_indices-requires-sync-F
-map_indices-requires-sync-F g c κs within = search (sendable, crosses, map_sync) depth 40
+pub map_indices-done-requires-sync-F : goal.map_indices-done-requires-sync-F
+map_indices-done-requires-sync-F g c κs within = search (sendable, crosses, map_sync) depth 40

@@ -4,8 +4,5 @@ use Rattle.table_tests.proofs.walks.all_bins_are_there_after_moves.Goals as goal
 pub open_quiet-requires : goal.open_quiet-requires
 open_quiet-requires g c = (2, omega arith, refl)
 
-pub forward_all-requires-2-clause-size : goal.forward_all-requires-2-clause-size
-forward_all-requires-2-clause-size g c = (3, omega arith, refl)
-
-pub new-requires : goal.new-requires
-new-requires g c = ((4, omega arith, refl), omega arith)
+pub forward_all-second-requires-clause-size : goal.forward_all-second-requires-clause-size
+forward_all-second-requires-clause-size g c = (3, omega arith, refl)
