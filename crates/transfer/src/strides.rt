@@ -95,7 +95,13 @@ impl<A: Allocator + Clone> Strides<A> {
             spare.push_reserved(Counted::new(Some(mover), &tag));
         }
         let strides = Strides { table, bins, spare };
-        Ok((strides, Mover { got_none: false, seat }))
+        Ok((
+            strides,
+            Mover {
+                got_none: false,
+                seat,
+            },
+        ))
     }
 }
 
