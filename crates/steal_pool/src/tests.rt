@@ -104,6 +104,66 @@ fn a_run_without_memory_is_one_leaf(rt: HostRuntime) {
     assert_eq!(rt; done, (1, None));
 }
 
+/// Adds up what 64 bins hold, 1 in the first and 64 in the last. What a part has of it is asserted, and no clause.
+#[derive(Drop)]
+struct Sums;
+
+impl Relation for Sums {
+    type Part = u64;
+
+    ghost relates = { λ _ lo hi part. lo ≤ hi };
+}
+
+impl Body for Sums {
+    ghost use Rattle.std.specs.Prelude.{ℕ};
+
+    ghost limit = { λ _. 64 };
+
+    fn leaf(&self, lo: usize, hi: usize) -> u64 {
+        let mut sum = 0u64;
+        for bin in lo..hi {
+            sum = sum.wrapping_add(bin as u64).wrapping_add(1);
+        }
+        sum
+    }
+
+    fn join(&self, lo: usize, hi: usize, parts: Parts<u64>) -> u64
+        requires { (lo < hi) × AreParts (λ a b part. a ≤ b) lo hi parts }
+        ensures { lo ≤ hi }
+    {
+        let mut parts = parts;
+        let mut sum = 0u64;
+        for _ in 0..8 {
+            if let Some(x) = parts.take() {
+                sum = sum.wrapping_add(x.part);
+            }
+        }
+        let _ = (lo, hi);
+        sum
+    }
+}
+
+#[test]
+fn a_run_with_no_thread_started_adds_up_all_bins(rt: HostRuntime) {
+    for workers in 1..5 {
+        let order = Order {
+            workers,
+            threads: 0,
+            refused: Refused::Nothing,
+            gate: &OpenGate,
+            body: &Sums,
+            bins: 64,
+            batch: 1,
+        };
+        let done = run_order(&rt, rt.alloc(), &order);
+        assert!(rt;
+            done == (2080, Some(0)),
+            "{workers} workers: {} in all",
+            done.0
+        );
+    }
+}
+
 // Pushes three tasks, and takes the newest.
 fn push_three<S: Seats>(me: &mut Member<u64, S>) -> Option<u64>
     ensures { shape me.new ≡ shape me.old }
