@@ -304,6 +304,7 @@ impl<K: HashKey, V: Clone + Eq, F: Remap<K, V> + Clone, A: Allocator + Clone> Bi
 impl<K: HashKey, V: Clone + Eq, F: Remap<K, V> + Clone, A: Allocator + Clone> Bin<K, V, F, A> {
     ghost use Rattle.std.specs.Prelude.{◌<◌, IfOk};
     ghost use Rattle.hashkeys.specs.Classes.{low_half, high_half};
+    ghost use Rattle.hashkeys.specs.Limits.{most_bins};
     ghost use Rattle.bin_history.specs.Copies.{IsExact};
     ghost use Rattle.bin_history.specs.BinPart.{IsPartOf};
 
@@ -332,7 +333,7 @@ impl<K: HashKey, V: Clone + Eq, F: Remap<K, V> + Clone, A: Allocator + Clone> Bi
         requires keys { IsExact K.is_clone }
         requires values { IsExact V.is_clone }
         requires functions { IsExact F.is_clone }
-        requires size { self.now.class.n < 65536 }
+        requires size { self.now.class.n < most_bins }
         ensures low_class { IfOk result (λ b. b.0.class ≡ low_half self.now.class) }
         ensures high_class { IfOk result (λ b. b.1.class ≡ high_half self.now.class) }
         ensures low { IfOk result (λ b. IsPartOf K.code self.now b.0) }

@@ -2,8 +2,8 @@
 use Rattle.std.proofs.Common.{◌≡◌, ℕ, Bool, true, Option, Decides, List, [], ◌∷◌, ◌++◌, length, All, sym, ap, subst, ◌∙◌}
 use Rattle.hashkeys.specs.Classes.{ClassView, IsClass, is_of}
 use Rattle.hashkeys.specs.declared.hashing.Salt.{Salt}
-use Rattle.bin_history.specs.Calls.{key_of, after, reply}
-use Rattle.bin_history.specs.Entries.{lookup, HasDistinctKeys, replay, store}
+use Rattle.bin_history.specs.Calls.{key_of, after}
+use Rattle.bin_history.specs.Entries.{lookup, HasDistinctKeys, replay}
 use Rattle.bin_history.specs.Lawful.{BinView, IsLawful}
 use Rattle.bin_history.specs.Made.{IsMadeOn}
 use Rattle.bin_history.specs.Part.{part_of_entries, part_of_records}

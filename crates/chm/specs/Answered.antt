@@ -1,5 +1,5 @@
 -- What a call of a map rests on, and what it answers, whether it is made or refused.
-use Rattle.std.specs.Prelude.{◌≡◌, ◌≤◌, ◌↔◌, ℕ, Bool, Option, List, length, Result, IfOk, IfErr, IsErrOf, OnErr}
+use Rattle.std.specs.Prelude.{◌≡◌, ◌≤◌, ◌↔◌, ℕ, Bool, Option, length, Result, IfOk, IfErr, IsErrOf, OnErr}
 use Rattle.bin_history.specs.Copies.{IsExact}
 use Rattle.bin_history.specs.declared.call.Call.{Call}
 use Rattle.bin_history.specs.declared.call.Reply.{Reply}

@@ -1,6 +1,7 @@
 -- How many bins a table has.
 use Rattle.std.specs.Prelude.{◌≡◌, ℕ, ◌-◌, ◌/◌, ◌<◌, ◌≤◌, ◌⊎◌}
 use Rattle.hashkeys.specs.Classes.{IsTableSize}
+use Rattle.hashkeys.specs.Limits.{most_bins}
 
 -- the least table of at least this capacity
 pub record IsSizeFor (capacity n : ℕ) : Type 0 where
@@ -14,7 +15,7 @@ threshold n = n - n / 4
 
 -- a table of n bins has room for this many keys, or there is no wider one
 abbrev pub IsWideEnough : ℕ → ℕ → Type 0
-IsWideEnough count n = (count < threshold n) ⊎ (n ≡ 65536)
+IsWideEnough count n = (count < threshold n) ⊎ (n ≡ most_bins)
 
 -- the least table from n0 bins on that has room
 pub record IsSizeFrom (n0 count n : ℕ) : Type 0 where

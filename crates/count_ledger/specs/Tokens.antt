@@ -2,6 +2,7 @@
 use Rattle.std.specs.Prelude.{◌≡◌, ℕ, ◌+◌, ◌*◌, ◌/◌, ◌<◌, ◌≤◌, List, [], ◌∷◌, length, sum_by, All}
 use Rattle.atomic_table.specs.Table.{Me}
 use Rattle.hashkeys.specs.Classes.{ClassView, IsClass}
+use Rattle.hashkeys.specs.Limits.{most_bins}
 use Rattle.hashkeys.specs.declared.hashing.Salt.{Salt}
 use Rattle.bin_history.specs.Limits.{most_calls}
 use Rattle.bin_history.specs.Records.{RecordView}
@@ -51,4 +52,4 @@ module _ {K V F : Type 0} where
 -- disjoint classes of these sizes cover every hash: of 65,536 side by side they have as many together
 pub record AreWide (classes : List ClassView) : Type 0 where
   pub lawful : All IsClass classes
-  pub wide : 65536 ≤ sum_by (λ c. 65536 / c.n) classes
+  pub wide : most_bins ≤ sum_by (λ c. most_bins / c.n) classes

@@ -1,6 +1,7 @@
 //! The ledger, and the calls on a pass or a role.
 ghost use Rattle.std.specs.Prelude.{◌≡◌, ℕ, ◌+◌, ◌*◌, ◌<◌, ◌≤◌, true, [], ◌∷◌, ◌++◌, length};
 ghost use Rattle.hashkeys.specs.Classes.{is_of, low_half, high_half};
+ghost use Rattle.hashkeys.specs.Limits.{most_bins};
 ghost use Rattle.bin_history.specs.Calls.{key_of};
 ghost use Rattle.bin_history.specs.Deltas.{sum_of_deltas};
 ghost use Rattle.count_ledger.specs.Agreement.{part_of_role};
@@ -159,7 +160,7 @@ impl<K: HashKey, V, F, A: Allocator> Ledger<K, V, F, A> {
     /// and of the kept records, in order.
     pub fn divide(&self, role: BinRole<K, V, F>) -> (BinRole<K, V, F>, BinRole<K, V, F>)
         requires role { role.ledger ≡ self.now.id }
-        requires size { role.class.n < 65536 }
+        requires size { role.class.n < most_bins }
         ensures low { result.0 ≡ part_of_role K.code (low_half role.class) role }
         ensures high { result.1 ≡ part_of_role K.code (high_half role.class) role }
     {
