@@ -155,8 +155,10 @@ def lost_clauses(page, flat, home="", kinds="ensures"):
 
 
 def lost_definitions(page, flat):
-    """Definitions that stand with their file, as (`covers`, `is_of`: `hashkeys/specs/Classes.antt`)."""
-    for names, path in re.findall(rf"\(((?:`[^`]+`(?:, )?)+): `({PATH})`", flat):
+    """Definitions that stand with their file, as (`covers`, `is_of`: `hashkeys/specs/Classes.antt`), or as by `is_of` of that file."""
+    named = re.findall(rf"\(((?:`[^`]+`(?:, )?)+): `({PATH})`", flat)
+    named += re.findall(rf"\bby ((?:`[^`/]+`(?:, | and )?)+) of `({PATH})`", flat)
+    for names, path in named:
         if not os.path.isfile(f"{TOP}/crates/{path}"):
             continue
         text = text_of(f"crates/{path}")
