@@ -12,11 +12,14 @@ It proves nothing. It looks whether
   a definition that a page names with its file is there;
   each line of an example that stands with a call of a client, of a map or of a closed one stands in the tests that run it;
   each crate of crates.txt has a README and a line in ARCHITECTURE.md, and each stored edit a line in TRIED.md;
-  each test that TRIED.md names is there.
+  each test that TRIED.md names is there;
+  the top README names the logic of the toolchain that is here.
 It prints a line for each fault, and ends with status 1 where there is one."""
 import glob
 import os
 import re
+import shutil
+import subprocess
 import sys
 
 TOP = os.path.dirname(os.path.dirname(os.path.realpath(__file__)))
@@ -217,6 +220,15 @@ def lost_edits():
             yield f"{TRIED}: there is no test {name}"
 
 
+def other_logic():
+    """The logic of the toolchain that the top README says its proofs were checked with, where there is one to ask."""
+    if not shutil.which("rt"):
+        return
+    logic = re.search(r"\blogic \w+", subprocess.run(["rt", "version"], capture_output=True, text=True).stdout)
+    if logic and logic[0] not in text_of("README.md"):
+        yield f"README.md: the toolchain that is here has another: {logic[0]}"
+
+
 def main():
     pages = ["README.md", *sorted(os.path.relpath(it, TOP) for it in glob.glob(f"{TOP}/docs/*.md") + glob.glob(f"{TOP}/crates/*/README.md"))]
     faults = []
@@ -232,6 +244,7 @@ def main():
     faults += wrong_call_examples()
     faults += lost_crates()
     faults += lost_edits()
+    faults += other_logic()
     for fault in faults:
         print(fault)
     print(f"{len(pages)} pages, {len(faults)} faults")
