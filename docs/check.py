@@ -29,6 +29,7 @@ TRIED = "docs/TRIED.md"
 EXAMPLES = {
     "crates/facingberyl/src/*.rt": "crates/use_tests/src/*examples.rt",
     "crates/chm/src/*.rt": "crates/map_tests/src/*examples.rt",
+    "crates/bulk_tasks/src/*.rt": "crates/pool_tests/src/examples.rt",
 }
 
 

@@ -1,5 +1,6 @@
 -- What a bin keeps, through a call, a fold and a split.
-use Rattle.std.proofs.Common.{◌≡◌, ℕ, ◌<◌, ◌≤◌, Bool, true, false, cond, Option, Some, None, Decides, inl, inr, List, [], ◌∷◌, ◌++◌, length, refl, sym, ap, ◌∙◌}
+use Rattle.std.proofs.Common.{◌≡◌, ℕ, ◌<◌, ◌≤◌, Bool, true, false, cond, Option, Some, None, Decides, inl, inr, List}
+use Rattle.std.proofs.Common.{[], ◌∷◌, ◌++◌, length, refl, sym, ap, ◌∙◌}
 use Rattle.std.proofs.Common.{subst, arith, All, take, drop, filter}
 use Rattle.std.proofs.lemmas.Grind.{common_steps}
 use Rattle.std.proofs.lemmas.List.{length_push, take-append-drop, length-drop}
@@ -18,14 +19,16 @@ use Rattle.bin_history.specs.declared.form.Form.{Form}
 use Rattle.bin_history.specs.declared.form.Form.TheVariants.{Recorded, Lean}
 use Rattle.bin_history.specs.declared.call.Call.{Call}
 use Rattle.bin_history.specs.Records.{RecordView}
-use Rattle.bin_history.proofs.Runs.{replay-append, HasDistinctKeys-replay, All-replay, lookup-replay, IsLegal-append, IsLegal-rest}
+use Rattle.bin_history.proofs.Runs.{replay-append, HasDistinctKeys-replay, All-replay, lookup-replay, IsLegal-append}
+use Rattle.bin_history.proofs.Runs.{IsLegal-rest}
 use Rattle.bin_history.proofs.Orders.{in_order_replay}
 use Rattle.bin_history.proofs.Parts.{lookup-part, HasDistinctKeys-part, replay-part, IsLegal-part}
 
 pub All-passed : {X : Type 0} (p : X → Bool) (xs : List X) → All (λ x. p x ≡ true) (filter p xs)
 All-passed {X} p [] = All-nil (λ (x : X). p x ≡ true)
 All-passed {X} p (x ∷ xs) = go (All-passed p xs) (p x) refl where
-  go : All (λ y. p y ≡ true) (filter p xs) → (b : Bool) → p x ≡ b → All (λ y. p y ≡ true) (cond b (x ∷ filter p xs) (filter p xs))
+  go : All (λ y. p y ≡ true) (filter p xs) → (b : Bool) → p x ≡ b →
+      All (λ y. p y ≡ true) (cond b (x ∷ filter p xs) (filter p xs))
   go rest true e = All-cons (λ (y : X). p y ≡ true) x (filter p xs) e rest
   go rest false e = rest
 
@@ -33,9 +36,12 @@ length-filter-le : {X : Type 0} (p : X → Bool) (xs : List X) → length (filte
 length-filter-le p [] = omega arith
 length-filter-le p (x ∷ xs) = let ih = length-filter-le p xs in grind (arith, common_steps)
 
-module _ {K V F : Type 0} (same : K → K → Bool) (tells : (x y : K) → Decides (same x y) (x ≡ y)) (code : K → ℕ) (after : Call K V F → Option V → Option V) where
-  pub IsReplayed-new : (salt : Salt) (class : ClassView) (base : List (K × V)) (records : List (RecordView K V F)) (entries : List (K × V)) → HasDistinctKeys
-      same base → All (λ e. is_of code salt class e.0 ≡ true) base → records ≡ [] → entries ≡ base → IsReplayed same code after salt class base records entries
+module _ {K V F : Type 0} (same : K → K → Bool) (tells : (x y : K) → Decides (same x y) (x ≡ y)) (code : K → ℕ)
+    (after : Call K V F → Option V → Option V) where
+  pub IsReplayed-new : (salt : Salt) (class : ClassView) (base : List (K × V)) (records : List (RecordView K V F))
+      (entries : List (K × V)) → HasDistinctKeys
+      same base → All (λ e. is_of code salt class e.0 ≡ true) base → records ≡ [] → entries ≡ base →
+      IsReplayed same code after salt class base records entries
   IsReplayed-new salt class base records entries d c r e =
       let P : List (RecordView K V F) → Type 0 = λ rs. IsReplayed same code after salt class base rs entries in
       subst P (sym r) (record {
@@ -47,8 +53,10 @@ module _ {K V F : Type 0} (same : K → K → Bool) (tells : (x y : K) → Decid
         replayed = e;
       })
 
-  pub IsReplayed-applied : (salt : Salt) (class : ClassView) (base : List (K × V)) (records : List (RecordView K V F)) (entries : List (K × V))
-      (r : RecordView K V F) → IsReplayed same code after salt class base records entries → is_of code salt class (key_of r.call) ≡ true
+  pub IsReplayed-applied : (salt : Salt) (class : ClassView) (base : List (K × V)) (records : List (RecordView K V F))
+      (entries : List (K × V))
+      (r : RecordView K V F) → IsReplayed same code after salt class base records entries →
+      is_of code salt class (key_of r.call) ≡ true
       → r.before ≡ lookup same entries (key_of r.call) → r.after ≡ after r.call r.before → length records < 1024
       → IsReplayed same code after salt class base (records ++ r ∷ []) (store same entries (key_of r.call) r.after)
   IsReplayed-applied salt class base records entries r k of_class before_is after_is few =
@@ -59,13 +67,17 @@ module _ {K V F : Type 0} (same : K → K → Bool) (tells : (x y : K) → Decid
       record {
         base_distinct = k.base_distinct;
         base_of_class = k.base_of_class;
-        records_of_class = All-push (λ (x : RecordView K V F). is_of code salt class (key_of x.call) ≡ true) records r k.records_of_class of_class;
-        legal = IsLegal-append same tells after (lookup same base) records (r ∷ []) k.legal ((before_is ∙ at_key, after_is), tt);
+        records_of_class = All-push (λ (x : RecordView K V F). is_of code salt class (key_of x.call) ≡ true) records r
+            k.records_of_class of_class;
+        legal = IsLegal-append same tells after (lookup same base) records (r ∷ []) k.legal
+            ((before_is ∙ at_key, after_is), tt);
         at_most = let l = length_push records r in omega arith;
-        replayed = ap (λ es. store same es (key_of r.call) r.after) k.replayed ∙ sym (replay-append same tells base records (r ∷ []));
+        replayed = ap (λ es. store same es (key_of r.call) r.after) k.replayed
+            ∙ sym (replay-append same tells base records (r ∷ []));
       }
 
-  pub IsReplayed-folded : (salt : Salt) (class : ClassView) (base : List (K × V)) (records : List (RecordView K V F)) (entries : List (K × V)) (n : ℕ)
+  pub IsReplayed-folded : (salt : Salt) (class : ClassView) (base : List (K × V)) (records : List (RecordView K V F))
+      (entries : List (K × V)) (n : ℕ)
       → IsReplayed same code after salt class base records entries
       → IsReplayed same code after salt class (replay same base (take n records)) (drop n records) entries
   IsReplayed-folded salt class base records entries n k =
@@ -77,16 +89,20 @@ module _ {K V F : Type 0} (same : K → K → Bool) (tells : (x y : K) → Decid
       let L : (K → Option V) → Type 0 = λ m. IsLegal same after m (drop n records) in
       record {
         base_distinct = HasDistinctKeys-replay same tells base (take n records) k.base_distinct;
-        base_of_class = All-replay same tells (λ q. is_of code salt class q ≡ true) base (take n records) k.base_of_class
+        base_of_class = All-replay same tells (λ q. is_of code salt class q ≡ true) base
+            (take n records) k.base_of_class
             (All-take Q n records k.records_of_class);
         records_of_class = All-drop Q n records k.records_of_class;
         legal = subst L now (IsLegal-rest same tells after (lookup same base) (take n records) (drop n records) legal);
         at_most = let l = length-drop n records in let m = k.at_most in omega arith;
-        replayed = k.replayed ∙ ap (replay same base) (sym whole) ∙ replay-append same tells base (take n records) (drop n records);
+        replayed = k.replayed ∙ ap (replay same base) (sym whole) ∙ replay-append same tells base (take n records)
+            (drop n records);
       }
 
-  pub IsReplayed-part : (salt : Salt) (class half : ClassView) (base : List (K × V)) (records : List (RecordView K V F)) (entries : List (K × V))
-      → IsReplayed same code after salt class base records entries → IsReplayed same code after salt half (part_of_entries (is_of code salt half) base)
+  pub IsReplayed-part : (salt : Salt) (class half : ClassView) (base : List (K × V)) (records : List (RecordView K V F))
+      (entries : List (K × V))
+      → IsReplayed same code after salt class base records entries →
+      IsReplayed same code after salt half (part_of_entries (is_of code salt half) base)
       (part_of_records (is_of code salt half) records) (part_of_entries (is_of code salt half) entries)
   IsReplayed-part salt class half base records entries k =
       let test : K → Bool = is_of code salt half in
@@ -95,12 +111,15 @@ module _ {K V F : Type 0} (same : K → K → Bool) (tells : (x y : K) → Decid
         base_distinct = HasDistinctKeys-part same tells test base k.base_distinct;
         base_of_class = All-passed (λ (e : K × V). test e.0) base;
         records_of_class = All-passed (λ (r : RecordView K V F). test (key_of r.call)) records;
-        legal = subst L (λ i q. sym (lookup-part same tells test base q) i) (IsLegal-part same tells test after (lookup same base) records k.legal);
-        at_most = let l = length-filter-le (λ (r : RecordView K V F). test (key_of r.call)) records in let m = k.at_most in omega arith;
+        legal = subst L (λ i q. sym (lookup-part same tells test base q) i)
+            (IsLegal-part same tells test after (lookup same base) records k.legal);
+        at_most = let l = length-filter-le (λ (r : RecordView K V F). test (key_of r.call)) records in
+            let m = k.at_most in omega arith;
         replayed = ap (part_of_entries test) k.replayed ∙ sym (replay-part same tells test base records);
       }
 
-  pub IsLawful-from_replayed : (b : BinView K V F) → IsReplayed same code after b.salt b.class b.base b.records b.entries → StoresByForm b
+  pub IsLawful-from_replayed : (b : BinView K V F) →
+      IsReplayed same code after b.salt b.class b.base b.records b.entries → StoresByForm b
       → IsLawful same code after b
   IsLawful-from_replayed b k stored =
       let es = replay same b.base b.records in
@@ -109,11 +128,15 @@ module _ {K V F : Type 0} (same : K → K → Bool) (tells : (x y : K) → Decid
         distinct = rw k.replayed (HasDistinctKeys-replay same tells b.base b.records k.base_distinct);
         base_of_class = k.base_of_class;
         records_of_class = k.records_of_class;
-        of_class = rw k.replayed (All-replay same tells (λ q. is_of code b.salt b.class q ≡ true) b.base b.records k.base_of_class k.records_of_class);
+        of_class =
+            rw k.replayed
+            (All-replay same tells (λ q. is_of code b.salt b.class q ≡ true) b.base b.records k.base_of_class
+            k.records_of_class);
         legal = k.legal;
         at_most = k.at_most;
         stored = stored;
-        same_map = λ q. ap (λ es. lookup same es q) k.replayed ∙ ap (λ (m : K → Option V). m q) (lookup-replay same tells b.base b.records k.base_distinct);
+        same_map = λ q. ap (λ es. lookup same es q) k.replayed ∙ ap (λ (m : K → Option V). m q)
+            (lookup-replay same tells b.base b.records k.base_distinct);
         in_order = rw k.replayed (in_order_replay same tells after b.base b.records k.base_distinct k.legal);
       }
 
@@ -123,32 +146,42 @@ module _ {K V F : Type 0} (same : K → K → Bool) (tells : (x y : K) → Decid
   IsReplayed-lean salt class entries d c = IsReplayed-new salt class entries [] entries d c refl refl
 
   -- the entries by themselves
-  pub IsReplayed-bare : (salt : Salt) (class : ClassView) (base : List (K × V)) (records : List (RecordView K V F)) (entries : List (K × V))
-      → IsReplayed same code after salt class base records entries → IsReplayed same code after salt class entries [] entries
+  pub IsReplayed-bare : (salt : Salt) (class : ClassView) (base : List (K × V)) (records : List (RecordView K V F))
+      (entries : List (K × V))
+      → IsReplayed same code after salt class base records entries →
+      IsReplayed same code after salt class entries [] entries
   IsReplayed-bare salt class base records entries k =
       IsReplayed-lean salt class entries
       (rw k.replayed (HasDistinctKeys-replay same tells base records k.base_distinct))
-      (rw k.replayed (All-replay same tells (λ q. is_of code salt class q ≡ true) base records k.base_of_class k.records_of_class))
+      (rw k.replayed
+      (All-replay same tells (λ q. is_of code salt class q ≡ true) base records k.base_of_class k.records_of_class))
 
   -- the same of what a bin with this log, or none, stores
-  pub IsReplayed-kept : (salt : Salt) (class : ClassView) (base : List (K × V)) (records : List (RecordView K V F)) (base' : List (K × V))
+  pub IsReplayed-kept : (salt : Salt) (class : ClassView) (base : List (K × V)) (records : List (RecordView K V F))
+      (base' : List (K × V))
       (records' : List (RecordView K V F)) (entries : List (K × V))
       → IsReplayed same code after salt class base records entries → IsKeptOrFolded same base records base' records'
       → IsReplayed same code after salt class base' records' entries
   IsReplayed-kept salt class base records base' records' entries k (inl (b, r)) = rw (b, r) k
-  IsReplayed-kept salt class base records base' records' entries k (inr (full, b, r)) = rw (b, r) (IsReplayed-folded salt class base records entries 512 k)
+  IsReplayed-kept salt class base records base' records' entries k (inr (full, b, r)) =
+      rw (b, r) (IsReplayed-folded salt class base records entries 512 k)
 
   -- a call more on a bin with this log, or none
-  pub IsReplayed-called : {A : Type 0} (salt : Salt) (class : ClassView) (log log' : Option (Box (LogView K V F) A)) (entries entries' : List (K × V))
+  pub IsReplayed-called : {A : Type 0} (salt : Salt) (class : ClassView) (log log' : Option (Box (LogView K V F) A))
+      (entries entries' : List (K × V))
       (r : RecordView K V F)
       → IsReplayed same code after salt class (base_of log entries) (records_of log) entries
-      → is_of code salt class (key_of r.call) ≡ true → r.before ≡ lookup same entries (key_of r.call) → r.after ≡ after r.call r.before
+      → is_of code salt class (key_of r.call) ≡ true → r.before ≡ lookup same entries (key_of r.call) →
+      r.after ≡ after r.call r.before
       → length (records_of log) < 1024
-      → form_of log' ≡ form_of log → ((es : List (K × V)) → base_of log' es ≡ base_of log es) → records_of log' ≡ with_one_more (form_of log) (records_of log) r
+      → form_of log' ≡ form_of log → ((es : List (K × V)) → base_of log' es ≡ base_of log es) →
+      records_of log' ≡ with_one_more (form_of log) (records_of log) r
       → entries' ≡ store same entries (key_of r.call) r.after
       → IsReplayed same code after salt class (base_of log' entries') (records_of log') entries'
-  IsReplayed-called salt class (Some log) log' entries entries' r k of_class before_is after_is few form base records is =
-      rw (base entries', records, is) (IsReplayed-applied salt class log.value.base log.value.records entries r k of_class before_is after_is few)
+  IsReplayed-called salt class (Some log) log' entries entries' r k of_class before_is after_is few form
+      base records is =
+      rw (base entries', records, is)
+      (IsReplayed-applied salt class log.value.base log.value.records entries r k of_class before_is after_is few)
   IsReplayed-called salt class None log' entries entries' r k of_class before_is after_is few form base records is =
       rw (base entries', records) (IsReplayed-bare salt class entries (r ∷ []) entries'
       (rw is (IsReplayed-applied salt class entries [] entries r k of_class before_is after_is few)))
@@ -160,17 +193,20 @@ is_recorded Lean = ⊥
 recorded_is_not_lean : Recorded ≡ Lean → ⊥
 recorded_is_not_lean e = subst is_recorded e tt
 
-pub stored_by_form : {K V F A : Type 0} (log : Option (Box (LogView K V F) A)) (entries : List (K × V)) → form_of log ≡ Lean
+pub stored_by_form : {K V F A : Type 0} (log : Option (Box (LogView K V F) A)) (entries : List (K × V)) →
+    form_of log ≡ Lean
     → (records_of log ≡ []) × (base_of log entries ≡ entries)
 stored_by_form (Some log) entries e = absurd (recorded_is_not_lean e)
 stored_by_form None entries e = (refl, refl)
 
 -- the base of a recorded bin is in its log
-pub base_in_log : {K V F A : Type 0} (log : Option (Box (LogView K V F) A)) (es fs : List (K × V)) → form_of log ≡ Recorded → base_of log es ≡ base_of log fs
+pub base_in_log : {K V F A : Type 0} (log : Option (Box (LogView K V F) A)) (es fs : List (K × V)) →
+    form_of log ≡ Recorded → base_of log es ≡ base_of log fs
 base_in_log (Some log) es fs e = refl
 base_in_log None es fs e = absurd (recorded_is_not_lean (sym e))
 
-pub KeepsOrFolds-of : {K V F : Type 0} (same_key : K → K → Bool) (b c : BinView K V F) → IsKeptOrFolded same_key b.base b.records c.base c.records
+pub KeepsOrFolds-of : {K V F : Type 0} (same_key : K → K → Bool) (b c : BinView K V F) →
+    IsKeptOrFolded same_key b.base b.records c.base c.records
     → KeepsOrFolds same_key b c
 KeepsOrFolds-of same_key b c (inl (base, records)) = inl (record { base = base; records = records })
 KeepsOrFolds-of same_key b c (inr (full, base, records)) = inr (record { full = full; base = base; records = records })

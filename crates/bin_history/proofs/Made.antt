@@ -1,5 +1,6 @@
 -- A call that was made on a bin, by the way it was made.
-use Rattle.std.proofs.Common.{◌≡◌, ℕ, Bool, Option, Decides, List, [], ◌∷◌, ◌++◌, inl, inr, refl, sym, ap, ◌∙◌, subst, take, drop, append_assoc}
+use Rattle.std.proofs.Common.{◌≡◌, ℕ, Bool, Option, Decides, List, [], ◌∷◌, ◌++◌, inl, inr, refl, sym, ap, ◌∙◌, subst}
+use Rattle.std.proofs.Common.{take, drop, append_assoc}
 use Rattle.std.proofs.lemmas.List.{take-append-drop}
 use Rattle.bin_history.specs.Calls.{key_of, after, reply}
 use Rattle.bin_history.specs.Entries.{lookup, HasDistinctKeys, store, replay}
@@ -11,12 +12,13 @@ use Rattle.bin_history.specs.Readiness.{ReadyView, IsWorkedOut, KeepsOrFolds, re
 use Rattle.bin_history.specs.Records.{RecordView}
 use Rattle.bin_history.specs.declared.call.Call.{Call}
 use Rattle.bin_history.specs.declared.call.Reply.{Reply}
-use Rattle.bin_history.specs.declared.form.Form.TheVariants.{Recorded, Lean}
+use Rattle.bin_history.specs.declared.form.Form.TheVariants.{Lean}
 use Rattle.bin_history.proofs.Changes.{store_same}
 use Rattle.bin_history.proofs.Histories.{GoesOn-called}
 use Rattle.bin_history.proofs.Runs.{replay-append, lookup-replay, IsLegal-append, IsLegal-front}
 
-module _ {K V F : Type 0} (same : K → K → Bool) (tells : (x y : K) → Decides (same x y) (x ≡ y)) (after' : Call K V F → Option V → Option V) where
+module _ {K V F : Type 0} (same : K → K → Bool) (tells : (x y : K) → Decides (same x y) (x ≡ y)) (after' : Call K V F →
+    Option V → Option V) where
   -- the oldest records folded, or not, before others come
   pub GoesOn-prepared : (b p c : BinView K V F) (more : List (RecordView K V F))
       → HasDistinctKeys same b.base → IsLegal same after' (lookup same b.base) b.records → KeepsOrFolds same b p
@@ -36,28 +38,43 @@ module _ {K V F : Type 0} (same : K → K → Bool) (tells : (x y : K) → Decid
       let L : (K → Option V) → Type 0 = λ m. IsLegal same after' m gone in
       let first : IsLegal same after' (lookup same b.base) old =
       IsLegal-front same tells after' (lookup same b.base) old (drop 512 b.records) (rw whole legal) in
-      let base : lookup same p.base ≡ run same (lookup same b.base) old = ap (lookup same) k.base ∙ lookup-replay same tells b.base old distinct in (
+      let base : lookup same p.base ≡ run same (lookup same b.base) old =
+      ap (lookup same) k.base ∙ lookup-replay same tells b.base old distinct in (
         old ++ gone,
         record {
-          stored_is = ap (λ (rs : List (RecordView K V F)). rs ++ more) (sym whole) ∙ append_assoc old (drop 512 b.records) more
+          stored_is = ap (λ (rs : List (RecordView K V F)). rs ++ more) (sym whole)
+              ∙ append_assoc old (drop 512 b.records) more
               ∙ ap (λ (rs : List (RecordView K V F)). old ++ (rs ++ more)) (sym k.records)
               ∙ ap (λ (rs : List (RecordView K V F)). old ++ rs) g.stored_is ∙ sym (append_assoc old gone c.records);
           legal = IsLegal-append same tells after' (lookup same b.base) old gone first (subst L base g.legal);
-          base_is = g.base_is ∙ ap (λ (es : List (K × V)). replay same es gone) k.base ∙ sym (replay-append same tells b.base old gone);
+          base_is = g.base_is ∙ ap (λ (es : List (K × V)). replay same es gone) k.base
+              ∙ sym (replay-append same tells b.base old gone);
         },
       )
 
-module _ {K V F : Type 0} (same : K → K → Bool) (tells : (x y : K) → Decides (same x y) (x ≡ y)) (code : K → ℕ) (same_value : V → V → Bool)
+module _ {K V F : Type 0} (same : K → K → Bool) (tells : (x y : K) → Decides (same x y) (x ≡ y)) (code : K → ℕ)
+    (same_value : V → V → Bool)
     (remapped : F → K → Option V → Option V) (merged : F → V → V → Option V) where
   -- a call that leaves the value that it finds, read off a lean bin
-  pub IsMadeOn-read : (client ordinal : ℕ) (call : Call K V F) (b : BinView K V F) (v : Option V) (answer : Reply V) (r : RecordView K V F)
-      → b.form ≡ Lean → StoresByForm b → v ≡ lookup same b.entries (key_of call) → after same_value remapped merged call v ≡ v
-      → r.client ≡ client → r.ordinal ≡ ordinal → r.call ≡ call → r.before ≡ v → r.after ≡ v → answer ≡ reply same_value call v v
+  pub IsMadeOn-read : (client ordinal : ℕ) (call : Call K V F) (b : BinView K V F) (v : Option V) (answer : Reply V)
+      (r : RecordView K V F)
+      → b.form ≡ Lean → StoresByForm b → v ≡ lookup same b.entries (key_of call) →
+      after same_value remapped merged call v ≡ v
+      → r.client ≡ client → r.ordinal ≡ ordinal → r.call ≡ call → r.before ≡ v → r.after ≡ v →
+      answer ≡ reply same_value call v v
       → IsMadeOn same same_value remapped merged client ordinal call b b answer r
   IsMadeOn-read client ordinal call b v answer r lean stores found left by next of before after_is replied =
       let x : RecordView K V F = record { client = client; ordinal = ordinal; call = call; before = v; after = v } in
-      let is : r ≡ x = λ i. record { client = by i; ordinal = next i; call = of i; before = before i; after = after_is i } in
-      let stored : b.entries ≡ store same b.entries (key_of call) v = sym (store_same same tells b.entries (key_of call) v (sym found)) in
+      let is : r ≡ x = λ i. record {
+        client = by i;
+        ordinal = next i;
+        call = of i;
+        before = before i;
+        after =
+            after_is i;
+      } in
+      let stored : b.entries ≡ store same b.entries (key_of call) v =
+      sym (store_same same tells b.entries (key_of call) v (sym found)) in
       let none = (stores lean).0 in
       let read : IsMadeOn same same_value remapped merged client ordinal call b b answer x = record {
         client_is = refl;
@@ -67,15 +84,20 @@ module _ {K V F : Type 0} (same : K → K → Bool) (tells : (x y : K) → Decid
         left = sym left;
         replied = replied;
         stored = stored;
-        history = GoesOn-called same tells code (after same_value remapped merged) Lean b b x lean lean stores stores (λ _. refl) none stored (found, sym left);
+        history = GoesOn-called same tells code (after same_value remapped merged) Lean b b x lean lean stores stores
+            (λ _. refl) none stored (found, sym left);
       } in
       subst (IsMadeOn same same_value remapped merged client ordinal call b b answer) (sym is) read
 
   -- a call that was prepared, and then applied
-  pub IsMadeOn-applied : (client ordinal : ℕ) (call : Call K V F) (b p c : BinView K V F) (ready : ReadyView K V F) (answer : Reply V) (r : RecordView K V F)
-      → HasDistinctKeys same b.base → IsLegal same (after same_value remapped merged) (lookup same b.base) b.records → KeepsOrFolds same b p
-      → p.entries ≡ b.entries → IsWorkedOut same same_value remapped merged ready p.entries → ready.call ≡ call → r ≡ record_of client ordinal ready
-      → answer ≡ reply same_value ready.call ready.before ready.after → c.entries ≡ store same p.entries (key_of ready.call) ready.after
+  pub IsMadeOn-applied : (client ordinal : ℕ) (call : Call K V F) (b p c : BinView K V F) (ready : ReadyView K V F)
+      (answer : Reply V) (r : RecordView K V F)
+      → HasDistinctKeys same b.base → IsLegal same (after same_value remapped merged) (lookup same b.base) b.records →
+      KeepsOrFolds same b p
+      → p.entries ≡ b.entries → IsWorkedOut same same_value remapped merged ready p.entries → ready.call ≡ call →
+      r ≡ record_of client ordinal ready
+      → answer ≡ reply same_value ready.call ready.before ready.after →
+      c.entries ≡ store same p.entries (key_of ready.call) ready.after
       → GoesOn same (after same_value remapped merged) p (record_of client ordinal ready ∷ []) c
       → IsMadeOn same same_value remapped merged client ordinal call b c answer r
   IsMadeOn-applied client ordinal call b p c ready answer r distinct legal folds kept w is_call is replied stored on =
@@ -90,5 +112,6 @@ module _ {K V F : Type 0} (same : K → K → Bool) (tells : (x y : K) → Decid
         left = r_after ∙ w.after_is ∙ (λ i. after same_value remapped merged (is_call i) (sym r_before i));
         replied = replied ∙ (λ i. reply same_value (is_call i) (sym r_before i) (sym r_after i));
         stored = stored ∙ (λ i. store same (kept i) (key_of (is_call i)) (sym r_after i));
-        history = GoesOn-prepared same tells (after same_value remapped merged) b p c (r ∷ []) distinct legal folds (subst On (sym is) on);
+        history = GoesOn-prepared same tells (after same_value remapped merged) b p c (r ∷ []) distinct legal folds
+            (subst On (sym is) on);
       }

@@ -1,5 +1,6 @@
 -- The replay of records has its keys in the order of their births.
-use Rattle.std.proofs.Common.{◌≡◌, ℕ, zero, suc, ◌+◌, ◌<◌, ◌≤◌, ◌&&◌, Bool, true, false, cond, Option, Some, None, Decides, List, [], ◌∷◌, length, refl, sym}
+use Rattle.std.proofs.Common.{◌≡◌, ℕ, zero, suc, ◌+◌, ◌<◌, ◌≤◌, ◌&&◌, Bool, true, false, cond, Option, Some, None}
+use Rattle.std.proofs.Common.{Decides, List, [], ◌∷◌, length, refl, sym}
 use Rattle.std.proofs.Common.{◌∙◌, subst, add-one, arith, All, get_or}
 use Rattle.std.proofs.lemmas.Grind.{common_steps}
 use Rattle.std.proofs.lemmas.List.Elements.{All-cons, All-head, All-tail, All-nil}
@@ -17,10 +18,12 @@ module _ {K V : Type 0} (same : K → K → Bool) (tells : (x y : K) → Decides
   All-remove P (e ∷ es) k h =
       let Q : K × V → Type 0 = λ x. P x.0 in
       let rest = All-tail Q e es h in
-      All-cond Q (same e.0 k) es (e ∷ remove same es k) rest (All-cons Q e _ (All-head Q e es h) (All-remove P es k rest))
+      All-cond Q (same e.0 k) es (e ∷ remove same es k) rest
+      (All-cons Q e _ (All-head Q e es h) (All-remove P es k rest))
 
   -- what holds of each key holds of one that is there
-  All-lookup : (P : K → Type 0) (es : List (K × V)) (k : K) (v : V) → All (λ e. P e.0) es → lookup same es k ≡ Some v → P k
+  All-lookup : (P : K → Type 0) (es : List (K × V)) (k : K) (v : V) → All (λ e. P e.0) es →
+      lookup same es k ≡ Some v → P k
   All-lookup P [] k v h l = absurd cc
   All-lookup P (e ∷ es) k v h l = go (All-lookup P es k v (All-tail Q e es h)) (same e.0 k) refl where
     Q : K × V → Type 0
@@ -30,7 +33,8 @@ module _ {K V : Type 0} (same : K → K → Bool) (tells : (x y : K) → Decides
     go rest true s = subst P ((tells e.0 k).0 s) (All-head Q e es h)
     go rest false s = rest (rw s at l)
 
-  IsInOrder-cond : (f : K → ℕ) (b : Bool) (xs ys : List (K × V)) → IsInOrder f xs → IsInOrder f ys → IsInOrder f (cond b xs ys)
+  IsInOrder-cond : (f : K → ℕ) (b : Bool) (xs ys : List (K × V)) → IsInOrder f xs → IsInOrder f ys →
+      IsInOrder f (cond b xs ys)
   IsInOrder-cond f true xs ys p q = p
   IsInOrder-cond f false xs ys p q = q
 
@@ -40,17 +44,22 @@ module _ {K V : Type 0} (same : K → K → Bool) (tells : (x y : K) → Decides
       (All-remove (λ x. f e.0 < f x) es k o.0, IsInOrder-remove f es k o.1)
 
   -- a key that is there keeps its place
-  IsInOrder-put : (f : K → ℕ) (es : List (K × V)) (k : K) (v w : V) → IsInOrder f es → lookup same es k ≡ Some w → IsInOrder f (put same es k v)
+  IsInOrder-put : (f : K → ℕ) (es : List (K × V)) (k : K) (v w : V) → IsInOrder f es → lookup same es k ≡ Some w →
+      IsInOrder f (put same es k v)
   IsInOrder-put f [] k v w o l = absurd cc
   IsInOrder-put f (e ∷ es) k v w o l = go (IsInOrder-put f es k v w o.1) (same e.0 k) refl where
-    go : (lookup same es k ≡ Some w → IsInOrder f (put same es k v)) → (b : Bool) → same e.0 k ≡ b → IsInOrder f (cond b ((e.0, v) ∷ es) (e ∷ put same es k v))
+    go : (lookup same es k ≡ Some w → IsInOrder f (put same es k v)) → (b : Bool) → same e.0 k ≡ b →
+        IsInOrder f (cond b ((e.0, v) ∷ es) (e ∷ put same es k v))
     go rest true s = o
     go rest false s =
-        let here : lookup same es k ≡ Some w = rw s at l in
-        (All-store same tells (λ x. f e.0 < f x) es k (Some v) o.0 (All-lookup (λ x. f e.0 < f x) es k w o.0 here), rest here)
+        let here : lookup same es k ≡ Some w = rw s at l in (
+          All-store same tells (λ x. f e.0 < f x) es k (Some v) o.0 (All-lookup (λ x. f e.0 < f x) es k w o.0 here),
+          rest here,
+        )
 
   -- a new key goes last
-  IsInOrder-add : (f : K → ℕ) (n : ℕ) (es : List (K × V)) (k : K) (v : V) → IsInOrder f es → All (λ e. f e.0 < n) es → lookup same es k ≡ None
+  IsInOrder-add : (f : K → ℕ) (n : ℕ) (es : List (K × V)) (k : K) (v : V) → IsInOrder f es → All (λ e. f e.0 < n) es →
+      lookup same es k ≡ None
       → IsInOrder (λ q. cond (same k q) n (f q)) (put same es k v)
   IsInOrder-add f n [] k v o b l = (All-nil (λ (x : K × V). cond (same k k) n (f k) < cond (same k x.0) n (f x.0)), tt)
   IsInOrder-add f n (e ∷ es) k v o b l = go (IsInOrder-add f n es k v o.1 (All-tail B e es b)) (same e.0 k) refl where
@@ -60,7 +69,8 @@ module _ {K V : Type 0} (same : K → K → Bool) (tells : (x y : K) → Decides
     g : K → ℕ
     g q = cond (same k q) n (f q)
 
-    go : (lookup same es k ≡ None → IsInOrder g (put same es k v)) → (c : Bool) → same e.0 k ≡ c → IsInOrder g (cond c ((e.0, v) ∷ es) (e ∷ put same es k v))
+    go : (lookup same es k ≡ None → IsInOrder g (put same es k v)) → (c : Bool) → same e.0 k ≡ c →
+        IsInOrder g (cond c ((e.0, v) ∷ es) (e ∷ put same es k v))
     go rest true s = let here = rw s at l in absurd cc
     go rest false s =
         let absent : lookup same es k ≡ None = rw s at l in
@@ -69,7 +79,8 @@ module _ {K V : Type 0} (same : K → K → Bool) (tells : (x y : K) → Decides
         let low : f e.0 < n = All-head B e es b in
         let mine : g e.0 ≡ f e.0 = grind (arith, common_steps) in
         let at_k : g e.0 < g k = let w = tells k k in grind (arith, common_steps) in
-        let each : All (λ x. g e.0 < g x.0) es = λ i d m. let a : f e.0 < f (get_or es i d).0 = o.0 i d m in grind (arith, common_steps) in
+        let each : All (λ x. g e.0 < g x.0) es = λ i d m. let a : f e.0 < f (get_or es i d).0 = o.0 i d m in
+        grind (arith, common_steps) in
         (All-store same tells (λ x. g e.0 < g x) es k (Some v) each at_k, rest absent)
 
 no_birth : (x : Bool) (n m : ℕ) → cond (x && false) n m ≡ m
@@ -86,7 +97,8 @@ cond-lt false n m l = omega arith
 
 module _ {K V : Type 0} (same : K → K → Bool) (tells : (x y : K) → Decides (same x y) (x ≡ y)) where
   -- the keys stand in the order of births after a value is stored
-  in_order_stored : (n : ℕ) (f : K → ℕ) (es : List (K × V)) (k : K) → IsInOrder f es → All (λ e. f e.0 < n) es → (b a : Option V) → b ≡ lookup same es k
+  in_order_stored : (n : ℕ) (f : K → ℕ) (es : List (K × V)) (k : K) → IsInOrder f es → All (λ e. f e.0 < n) es →
+      (b a : Option V) → b ≡ lookup same es k
       → IsInOrder (λ q. cond (same k q && is_birth b a) n (f q)) (store same es k a)
   in_order_stored n f es k o l None None is = let P : (K → ℕ) → Type 0 = λ g. IsInOrder g (remove same es k) in
       subst P (λ i q. sym (no_birth (same k q) n (f q)) i) (IsInOrder-remove same tells f es k o)
@@ -98,22 +110,28 @@ module _ {K V : Type 0} (same : K → K → Bool) (tells : (x y : K) → Decides
       subst P (λ i q. sym (one_birth (same k q) n (f q)) i) (IsInOrder-add same tells f n es k v o l (sym is))
 
   -- the new births are below n + 1
-  below_stored : (n : ℕ) (f : K → ℕ) (es : List (K × V)) (k : K) → All (λ e. f e.0 < n) es → (b a : Option V) → b ≡ lookup same es k
+  below_stored : (n : ℕ) (f : K → ℕ) (es : List (K × V)) (k : K) → All (λ e. f e.0 < n) es → (b a : Option V) →
+      b ≡ lookup same es k
       → All (λ e. cond (same k e.0 && is_birth b a) n (f e.0) < n + 1) (store same es k a)
   below_stored n f es k l b a is =
       let g : K → ℕ = λ q. cond (same k q && is_birth b a) n (f q) in
-      let old : All (λ e. g e.0 < n + 1) es = λ i d m. cond-lt (same k (get_or es i d).0 && is_birth b a) n (f (get_or es i d).0) (l i d m) in
+      let old : All (λ e. g e.0 < n + 1) es = λ i d m. cond-lt (same k (get_or es i d).0 && is_birth b a) n
+      (f (get_or es i d).0) (l i d m) in
       at_store a refl old where
         at_store : (c : Option V) → a ≡ c → All (λ e. cond (same k e.0 && is_birth b a) n (f e.0) < n + 1) es
             → All (λ e. cond (same k e.0 && is_birth b a) n (f e.0) < n + 1) (store same es k c)
         at_store None e h = All-remove same tells (λ q. cond (same k q && is_birth b a) n (f q) < n + 1) es k h
-        at_store (Some v) e h = All-store same tells (λ q. cond (same k q && is_birth b a) n (f q) < n + 1) es k (Some v) h (at_key b refl) where
-          at_key : (o : Option V) → b ≡ o → cond (same k k && is_birth b a) n (f k) < n + 1
-          at_key None e' = let t = tells k k in grind (arith, common_steps)
-          at_key (Some x) e' = let m = All-lookup same tells (λ q. f q < n) es k x l (sym is ∙ e') in cond-lt (same k k && is_birth b a) n (f k) m
+        at_store (Some v) e h = All-store same tells (λ q. cond (same k q && is_birth b a) n (f q) < n + 1) es k
+            (Some v) h (at_key b refl) where
+              at_key : (o : Option V) → b ≡ o → cond (same k k && is_birth b a) n (f k) < n + 1
+              at_key None e' = let t = tells k k in grind (arith, common_steps)
+              at_key (Some x) e' = let m = All-lookup same tells (λ q. f q < n) es k x l (sym is ∙ e') in
+                  cond-lt (same k k && is_birth b a) n (f k) m
 
-module _ {K V F : Type 0} (same : K → K → Bool) (tells : (x y : K) → Decides (same x y) (x ≡ y)) (after : Call K V F → Option V → Option V) where
-  in_order_from : (n : ℕ) (f : K → ℕ) (es : List (K × V)) (rs : List (RecordView K V F)) → HasDistinctKeys same es → IsLegal same after (lookup same es) rs
+module _ {K V F : Type 0} (same : K → K → Bool) (tells : (x y : K) → Decides (same x y) (x ≡ y)) (after : Call K V F →
+    Option V → Option V) where
+  in_order_from : (n : ℕ) (f : K → ℕ) (es : List (K × V)) (rs : List (RecordView K V F)) → HasDistinctKeys same es →
+      IsLegal same after (lookup same es) rs
       → IsInOrder f es → All (λ e. f e.0 < n) es → IsInOrder (births_from same n f rs) (replay same es rs)
   in_order_from n f es [] d l o b = o
   in_order_from n f es (r ∷ rs) d l o b =
@@ -136,20 +154,23 @@ module _ {K V : Type 0} (same : K → K → Bool) (tells : (x y : K) → Decides
   All-apart : (es : List (K × V)) (k : K) → lookup same es k ≡ None → All (λ x. same k x.0 ≡ false) es
   All-apart [] k l = All-nil (λ (x : K × V). same k x.0 ≡ false)
   All-apart (e ∷ es) k l = go (All-apart es k) (same e.0 k) refl where
-    go : (lookup same es k ≡ None → All (λ x. same k x.0 ≡ false) es) → (b : Bool) → same e.0 k ≡ b → All (λ x. same k x.0 ≡ false) (e ∷ es)
+    go : (lookup same es k ≡ None → All (λ x. same k x.0 ≡ false) es) → (b : Bool) → same e.0 k ≡ b →
+        All (λ x. same k x.0 ≡ false) (e ∷ es)
     go rest true s = let here = rw s at l in absurd cc
     go rest false s =
         let t = tells e.0 k in
         let u = tells k e.0 in
         All-cons (λ (x : K × V). same k x.0 ≡ false) e es (grind (arith, common_steps)) (rest (rw s at l))
 
-  IsInOrder-suc : (f g : K → ℕ) (es : List (K × V)) → All (λ x. g x.0 ≡ suc (f x.0)) es → IsInOrder f es → IsInOrder g es
+  IsInOrder-suc : (f g : K → ℕ) (es : List (K × V)) → All (λ x. g x.0 ≡ suc (f x.0)) es →
+      IsInOrder f es → IsInOrder g es
   IsInOrder-suc f g [] h o = tt
   IsInOrder-suc f g (e ∷ es) h o =
       let Q : K × V → Type 0 = λ x. g x.0 ≡ suc (f x.0) in
       let here : g e.0 ≡ suc (f e.0) = All-head Q e es h in
       let rest = All-tail Q e es h in (
-        (λ i d m. let a : f e.0 < f (get_or es i d).0 = o.0 i d m in let b : g (get_or es i d).0 ≡ suc (f (get_or es i d).0) = rest i d m in omega arith),
+        (λ i d m. let a : f e.0 < f (get_or es i d).0 = o.0 i d m in
+            let b : g (get_or es i d).0 ≡ suc (f (get_or es i d).0) = rest i d m in omega arith),
         IsInOrder-suc f g es rest o.1,
       )
 
@@ -158,7 +179,8 @@ module _ {K V : Type 0} (same : K → K → Bool) (tells : (x y : K) → Decides
   IsInOrder-index_of (e ∷ es) d =
       let t = tells e.0 e.0 in
       let apart = All-apart es e.0 d.0 in
-      let next : All (λ x. index_of same (e ∷ es) x.0 ≡ suc (index_of same es x.0)) es = λ i c m. let a : same e.0 (get_or es i c).0 ≡ false = apart i c m in
+      let next : All (λ x. index_of same (e ∷ es) x.0 ≡ suc (index_of same es x.0)) es =
+      λ i c m. let a : same e.0 (get_or es i c).0 ≡ false = apart i c m in
       grind (arith, common_steps) in (
         (λ i c m. let a : same e.0 (get_or es i c).0 ≡ false = apart i c m in grind (arith, common_steps)),
         IsInOrder-suc (index_of same es) (index_of same (e ∷ es)) es next (IsInOrder-index_of es d.1),
@@ -167,9 +189,12 @@ module _ {K V : Type 0} (same : K → K → Bool) (tells : (x y : K) → Decides
   pub All-index_of : (es : List (K × V)) → All (λ e. index_of same es e.0 < length es) es
   All-index_of es = λ i d m. let l = index_of-le es i d m in omega arith
 
-module _ {K V F : Type 0} (same : K → K → Bool) (tells : (x y : K) → Decides (same x y) (x ≡ y)) (after : Call K V F → Option V → Option V) where
+module _ {K V F : Type 0} (same : K → K → Bool) (tells : (x y : K) → Decides (same x y) (x ≡ y)) (after : Call K V F →
+    Option V → Option V) where
   -- the entries of a replay stand in the order of their births
-  pub in_order_replay : (base : List (K × V)) (rs : List (RecordView K V F)) → HasDistinctKeys same base → IsLegal same after (lookup same base) rs
+  pub in_order_replay : (base : List (K × V)) (rs : List (RecordView K V F)) → HasDistinctKeys same base →
+      IsLegal same after (lookup same base) rs
       → IsInOrder (birth same base rs) (replay same base rs)
-  in_order_replay base rs d l = in_order_from same tells after (length base) (index_of same base) base rs d l (IsInOrder-index_of same tells base d)
+  in_order_replay base rs d l = in_order_from same tells after (length base) (index_of same base) base rs d l
+      (IsInOrder-index_of same tells base d)
       (All-index_of same tells base)

@@ -1,5 +1,6 @@
 -- The part of a run is the run of the part.
-use Rattle.std.proofs.Common.{◌≡◌, Bool, true, false, cond, Option, Some, None, Decides, List, [], ◌∷◌, refl, sym, ap, ◌∙◌, subst, arith}
+use Rattle.std.proofs.Common.{◌≡◌, Bool, true, false, cond, Option, Some, None, Decides, List, [], ◌∷◌, refl, sym, ap}
+use Rattle.std.proofs.Common.{◌∙◌, subst, arith}
 use Rattle.std.proofs.lemmas.Grind.{common_steps}
 use Rattle.bin_history.specs.Entries.{lookup, HasDistinctKeys, put, remove, store, replay}
 use Rattle.bin_history.specs.Calls.{key_of}
@@ -10,57 +11,69 @@ use Rattle.bin_history.specs.declared.call.Call.{Call}
 use Rattle.bin_history.specs.Records.{RecordView}
 
 module _ {K V : Type 0} (same : K → K → Bool) (tells : (x y : K) → Decides (same x y) (x ≡ y)) (test : K → Bool) where
-  pub lookup-part : (es : List (K × V)) (q : K) → lookup same (part_of_entries test es) q ≡ part_of_map test (lookup same es) q
+  pub lookup-part : (es : List (K × V)) (q : K) → lookup same (part_of_entries test es) q ≡ part_of_map test
+      (lookup same es) q
   lookup-part [] q = sym (cond_same (test q) None)
   lookup-part (e ∷ es) q = let ih = lookup-part es q in let a = tells e.0 q in grind (arith, common_steps)
 
   pub part-put : (es : List (K × V)) (k : K) (v : V)
-      → part_of_entries test (put same es k v) ≡ cond (test k) (put same (part_of_entries test es) k v) (part_of_entries test es)
+      → part_of_entries test (put same es k v) ≡ cond (test k) (put same (part_of_entries test es) k v)
+      (part_of_entries test es)
   part-put [] k v = refl
   part-put (e ∷ es) k v = let ih = part-put es k v in let a = tells e.0 k in grind (arith, common_steps)
 
   pub part-remove : (es : List (K × V)) (k : K)
-      → part_of_entries test (remove same es k) ≡ cond (test k) (remove same (part_of_entries test es) k) (part_of_entries test es)
+      → part_of_entries test (remove same es k) ≡ cond (test k) (remove same (part_of_entries test es) k)
+      (part_of_entries test es)
   part-remove [] k = sym (cond_same (test k) [])
   part-remove (e ∷ es) k = let ih = part-remove es k in let a = tells e.0 k in grind (arith, common_steps)
 
   pub part-store : (es : List (K × V)) (k : K) (w : Option V)
-      → part_of_entries test (store same es k w) ≡ cond (test k) (store same (part_of_entries test es) k w) (part_of_entries test es)
+      → part_of_entries test (store same es k w) ≡ cond (test k) (store same (part_of_entries test es) k w)
+      (part_of_entries test es)
   part-store es k None = part-remove es k
   part-store es k (Some v) = part-put es k v
 
-  pub HasDistinctKeys-part : (es : List (K × V)) → HasDistinctKeys same es → HasDistinctKeys same (part_of_entries test es)
+  pub HasDistinctKeys-part : (es : List (K × V)) → HasDistinctKeys same es →
+      HasDistinctKeys same (part_of_entries test es)
   HasDistinctKeys-part [] d = tt
-  HasDistinctKeys-part (e ∷ es) d = let ih = HasDistinctKeys-part es d.1 in let a = lookup-part es e.0 in let b = tells e.0 e.0 in grind (arith, common_steps)
+  HasDistinctKeys-part (e ∷ es) d = let ih = HasDistinctKeys-part es d.1 in let a = lookup-part es e.0 in
+      let b = tells e.0 e.0 in grind (arith, common_steps)
 
 module _ {K V F : Type 0} (same : K → K → Bool) (tells : (x y : K) → Decides (same x y) (x ≡ y)) (test : K → Bool) where
   pub replay-part : (es : List (K × V)) (rs : List (RecordView K V F))
       → replay same (part_of_entries test es) (part_of_records test rs) ≡ part_of_entries test (replay same es rs)
   replay-part es [] = refl
-  replay-part es (r ∷ rs) = let ih = replay-part (store same es (key_of r.call) r.after) rs in let a = part-store same tells test es (key_of r.call) r.after in
+  replay-part es (r ∷ rs) = let ih = replay-part (store same es (key_of r.call) r.after) rs in
+      let a = part-store same tells test es (key_of r.call) r.after in
       grind (arith, common_steps)
 
   step-part : (m : K → Option V) (r : RecordView K V F) → test (key_of r.call) ≡ true → (q : K)
       → step same (part_of_map test m) r q ≡ part_of_map test (step same m r) q
   step-part m r p q = let a = tells (key_of r.call) q in grind (arith, common_steps)
 
-  step_apart : (m : K → Option V) (r : RecordView K V F) → test (key_of r.call) ≡ false → (q : K) → part_of_map test m q ≡ part_of_map test (step same m r) q
+  step_apart : (m : K → Option V) (r : RecordView K V F) → test (key_of r.call) ≡ false → (q : K) →
+      part_of_map test m q ≡ part_of_map test (step same m r) q
   step_apart m r p q = let a = tells (key_of r.call) q in grind (arith, common_steps)
 
   -- the part of a run is the run of the part
-  pub run-part : (m : K → Option V) (rs : List (RecordView K V F)) → run same (part_of_map test m) (part_of_records test rs) ≡ part_of_map test (run same m rs)
+  pub run-part : (m : K → Option V) (rs : List (RecordView K V F)) →
+      run same (part_of_map test m) (part_of_records test rs) ≡ part_of_map test (run same m rs)
   run-part m [] = refl
   run-part m (r ∷ rs) = go (test (key_of r.call)) refl ∙ run-part (step same m r) rs where
-    go : (b : Bool) → test (key_of r.call) ≡ b → run same (part_of_map test m) (cond b (r ∷ part_of_records test rs) (part_of_records test rs)) ≡ run same
+    go : (b : Bool) → test (key_of r.call) ≡ b →
+        run same (part_of_map test m) (cond b (r ∷ part_of_records test rs) (part_of_records test rs)) ≡ run same
         (part_of_map test (step same m r)) (part_of_records test rs)
     go true p = ap (λ (f : K → Option V). run same f (part_of_records test rs)) (λ i q. step-part m r p q i)
     go false p = ap (λ (f : K → Option V). run same f (part_of_records test rs)) (λ i q. step_apart m r p q i)
 
-  pub IsLegal-part : (after : Call K V F → Option V → Option V) (m : K → Option V) (rs : List (RecordView K V F)) → IsLegal same after m rs
+  pub IsLegal-part : (after : Call K V F → Option V → Option V) (m : K → Option V) (rs : List (RecordView K V F)) →
+      IsLegal same after m rs
       → IsLegal same after (part_of_map test m) (part_of_records test rs)
   IsLegal-part after m [] l = tt
   IsLegal-part after m (r ∷ rs) l = go (IsLegal-part after (step same m r) rs l.1) (test (key_of r.call)) refl where
-    go : IsLegal same after (part_of_map test (step same m r)) (part_of_records test rs) → (b : Bool) → test (key_of r.call) ≡ b
+    go : IsLegal same after (part_of_map test (step same m r)) (part_of_records test rs) → (b : Bool) →
+        test (key_of r.call) ≡ b
         → IsLegal same after (part_of_map test m) (cond b (r ∷ part_of_records test rs) (part_of_records test rs))
     go rest true p =
         let legal : (K → Option V) → Type 0 = λ f. IsLegal same after f (part_of_records test rs) in

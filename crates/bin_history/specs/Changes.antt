@@ -33,10 +33,12 @@ reply_of (Known reply) taken = reply
 reply_of Taken taken = Value taken
 
 -- what the call on a key does and answers is worked out, by the value before it
-pub record IsWork {K V F : Type 0} (same_value : V → V → Bool) (remapped : F → K → Option V → Option V) (merged : F → V → V → Option V) (k : K) (op : Op V F)
+pub record IsWork {K V F : Type 0} (same_value : V → V → Bool) (remapped : F → K → Option V → Option V)
+    (merged : F → V → V → Option V) (k : K) (op : Op V F)
     (before : Option V) (work : Work V) : Type 0 where
   pub effect : left_by op work.effect before ≡ after same_value remapped merged (call_on k op) before
-  pub answer : reply_of work.answer (taken_by work.effect before) ≡ reply same_value (call_on k op) before (left_by op work.effect before)
+  pub answer : reply_of work.answer (taken_by work.effect before) ≡ reply same_value (call_on k op) before
+      (left_by op work.effect before)
 
 -- the value at an index
 abbrev pub value_in : {K V : Type 0} → List (K × V) → ℕ → Option V

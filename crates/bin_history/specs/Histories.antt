@@ -7,9 +7,10 @@ use Rattle.bin_history.specs.declared.call.Call.{Call}
 use Rattle.bin_history.specs.Records.{RecordView}
 
 module _ {K V F : Type 0} (same_key : K → K → Bool) (after : Call K V F → Option V → Option V) where
-  -- the opening pairs have distinct keys; the records kept are a front and then the bin's records; the front is legal on the opening
-  -- map, and the bin's base is its replay
-  pub record FollowsFront (opening : List (K × V)) (kept front : List (RecordView K V F)) (b : BinView K V F) : Type 0 where
+  -- the opening pairs have distinct keys; the records kept are a front and then the bin's records; the front is legal
+  -- on the opening map, and the bin's base is its replay
+  pub record FollowsFront (opening : List (K × V)) (kept front : List (RecordView K V F))
+      (b : BinView K V F) : Type 0 where
     pub distinct : HasDistinctKeys same_key opening
     pub kept_is : kept ≡ front ++ b.records
     pub legal : IsLegal same_key after (lookup same_key opening) front
@@ -19,7 +20,8 @@ module _ {K V F : Type 0} (same_key : K → K → Bool) (after : Call K V F → 
   abbrev pub HasHistory : List (K × V) → List (RecordView K V F) → BinView K V F → Type 0
   HasHistory opening kept b = (front : List (RecordView K V F)) × FollowsFront opening kept front b
 
-  -- a bin went on by more records: of those that it stored and the new ones a front, which is legal on the base, went into the base, and the others are stored
+  -- a bin went on by more records: of those that it stored and the new ones a front, which is legal on the base, went
+  -- into the base, and the others are stored
   pub record GoesOnPast (b : BinView K V F) (more front : List (RecordView K V F)) (c : BinView K V F) : Type 0 where
     pub stored_is : b.records ++ more ≡ front ++ c.records
     pub legal : IsLegal same_key after (lookup same_key b.base) front

@@ -40,7 +40,8 @@ module _ {K V F : Type 0} (same_key : K → K → Bool) (code : K → ℕ) (afte
     pub in_order : IsInOrder (birth same_key b.base b.records) b.entries
 
   -- what a bin keeps, from which it is lawful: its entries are the replay of its records over its base
-  pub record IsReplayed (salt : Salt) (class : ClassView) (base : List (K × V)) (records : List (RecordView K V F)) (entries : List (K × V)) : Type 0 where
+  pub record IsReplayed (salt : Salt) (class : ClassView) (base : List (K × V)) (records : List (RecordView K V F))
+      (entries : List (K × V)) : Type 0 where
     pub base_distinct : HasDistinctKeys same_key base
     pub base_of_class : All (λ e. is_of code salt class e.0 ≡ true) base
     pub records_of_class : All (λ r. is_of code salt class (key_of r.call) ≡ true) records

@@ -1,5 +1,6 @@
 -- What a bin stores beside its entries: a recorded one its base and its records, a lean one nothing.
-use Rattle.std.specs.Prelude.{◌≡◌, ◌≢◌, ℕ, ◌<◌, ◌≤◌, Bool, Option, Some, None, List, [], ◌∷◌, ◌++◌, length, take, drop, ◌⊎◌}
+use Rattle.std.specs.Prelude.{◌≡◌, ◌≢◌, ℕ, ◌<◌, ◌≤◌, Bool, Option, Some, None, List, [], ◌∷◌, ◌++◌, length, take, drop}
+use Rattle.std.specs.Prelude.{◌⊎◌}
 use Rattle.std.specs.declared.boxed.Box.{Box}
 use Rattle.bin_history.specs.Entries.{replay}
 use Rattle.bin_history.specs.Records.{RecordView}
@@ -35,16 +36,19 @@ module _ {K V F A : Type 0} where
 module _ {K V F A : Type 0} where
   -- there is room for one more record or, where there are 1,024, in the base for 512 of them
   abbrev pub CanFold : Option (Box (LogView K V F) A) → Type 0
-  CanFold (Some log) = (length log.value.records ≡ 1024 → 512 ≤ log.value.base_room) × (length log.value.records ≢ 1024 → 0 < log.value.record_room)
+  CanFold (Some log) = (length log.value.records ≡ 1024 → 512 ≤ log.value.base_room)
+      × (length log.value.records ≢ 1024 → 0 < log.value.record_room)
   CanFold None = Unit {0}
 
 -- base and records as they were, or the oldest 512 of 1,024 records folded into the base
-abbrev pub IsKeptOrFolded : {K V F : Type 0} → (K → K → Bool) → List (K × V) → List (RecordView K V F) → List (K × V) → List (RecordView K V F) → Type 0
+abbrev pub IsKeptOrFolded : {K V F : Type 0} → (K → K → Bool) → List (K × V) → List (RecordView K V F) → List (K × V) →
+    List (RecordView K V F) → Type 0
 IsKeptOrFolded same_key base records base' records' =
     ((base' ≡ base) × (records' ≡ records))
     ⊎ ((length records ≡ 1024) × (base' ≡ replay same_key base (take 512 records)) × (records' ≡ drop 512 records))
 
 -- the records that a bin of the form stores once it got one more
-abbrev pub with_one_more : {K V F : Type 0} → Form → List (RecordView K V F) → RecordView K V F → List (RecordView K V F)
+abbrev pub with_one_more : {K V F : Type 0} → Form → List (RecordView K V F) → RecordView K V F →
+    List (RecordView K V F)
 with_one_more Recorded records r = records ++ r ∷ []
 with_one_more Lean records r = []

@@ -1,5 +1,5 @@
 -- A call that was made on a bin.
-use Rattle.std.specs.Prelude.{◌≡◌, ℕ, Bool, Option, List, [], ◌∷◌}
+use Rattle.std.specs.Prelude.{◌≡◌, ℕ, Bool, Option, [], ◌∷◌}
 use Rattle.bin_history.specs.Calls.{key_of, after, reply}
 use Rattle.bin_history.specs.Entries.{lookup, store}
 use Rattle.bin_history.specs.Histories.{GoesOn}
@@ -8,10 +8,12 @@ use Rattle.bin_history.specs.Records.{RecordView}
 use Rattle.bin_history.specs.declared.call.Call.{Call}
 use Rattle.bin_history.specs.declared.call.Reply.{Reply}
 
-module _ {K V F : Type 0} (same_key : K → K → Bool) (same_value : V → V → Bool) (remapped : F → K → Option V → Option V) (merged : F → V → V → Option V) where
-  -- by this call of the client, after so many others of it, a bin became another: the record tells which value the call found at its key and
-  -- left there, the answer is its reply, and the bin's history goes on by the record
-  pub record IsMadeOn (client ordinal : ℕ) (call : Call K V F) (b c : BinView K V F) (answer : Reply V) (r : RecordView K V F) : Type 0 where
+module _ {K V F : Type 0} (same_key : K → K → Bool) (same_value : V → V → Bool) (remapped : F → K → Option V → Option V)
+    (merged : F → V → V → Option V) where
+  -- by this call of the client, after so many others of it, a bin became another: the record tells which value the call
+  -- found at its key and left there, the answer is its reply, and the bin's history goes on by the record
+  pub record IsMadeOn (client ordinal : ℕ) (call : Call K V F) (b c : BinView K V F) (answer : Reply V)
+      (r : RecordView K V F) : Type 0 where
     pub client_is : r.client ≡ client
     pub ordinal_is : r.ordinal ≡ ordinal
     pub call_is : r.call ≡ call

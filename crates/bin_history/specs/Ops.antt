@@ -1,7 +1,8 @@
 -- Calls without their keys, and keys as they are given.
 use Rattle.std.specs.Prelude.{Bool, true, false, Option, Some, None}
 use Rattle.bin_history.specs.declared.call.Call.{Call}
-use Rattle.bin_history.specs.declared.call.Call.TheVariants.{Get, Contains, Put, PutIfAbsent, Remove, RemoveIf, Replace, ReplaceIf, ComputeIfAbsent}
+use Rattle.bin_history.specs.declared.call.Call.TheVariants.{Get, Contains, Put, PutIfAbsent, Remove, RemoveIf, Replace}
+use Rattle.bin_history.specs.declared.call.Call.TheVariants.{ReplaceIf, ComputeIfAbsent}
 use Rattle.bin_history.specs.declared.call.Call.TheVariants.{ComputeIfPresent, Compute, Merge}
 use Rattle.bin_history.specs.declared.given.Given.{Given}
 use Rattle.bin_history.specs.declared.given.Given.TheVariants.{Owned, Lent}

@@ -39,22 +39,26 @@ abbrev pub kept_in : {K V F : Type 0} → Form → Call K V F → Option V → O
 kept_in Recorded call before after = Some (record { call = call; before = before; after = after })
 kept_in Lean call before after = None
 
-module _ {K V F : Type 0} (same_key : K → K → Bool) (same_value : V → V → Bool) (remapped : F → K → Option V → Option V) (merged : F → V → V → Option V) where
+module _ {K V F : Type 0} (same_key : K → K → Bool) (same_value : V → V → Bool) (remapped : F → K → Option V → Option V)
+    (merged : F → V → V → Option V) where
   -- all that the call does to these entries is worked out
   pub record IsWorkedOut (ready : ReadyView K V F) (entries : List (K × V)) : Type 0 where
     pub before_is : ready.before ≡ lookup same_key entries (key_of ready.call)
     pub after_is : ready.after ≡ after same_value remapped merged ready.call ready.before
-    pub reply_is : reply_of ready.answer (taken_from entries ready.change) ≡ reply same_value ready.call ready.before ready.after
+    pub reply_is : reply_of ready.answer (taken_from entries ready.change)
+        ≡ reply same_value ready.call ready.before ready.after
     pub has_index : HasIndex entries ready.change
     pub change_is : entries_after entries ready.change ≡ store same_key entries (key_of ready.call) ready.after
 
--- there is room for the record of the call, where the bin stores records, and for the entry that it adds, if it adds one
+-- there is room for the record of the call, where the bin stores records, and for the entry that it adds, if it adds
+-- one
 pub record HasMemoryFor {K V F : Type 0} (ready : ReadyView K V F) (b : BinView K V F) : Type 0 where
   pub record_room : b.form ≡ Recorded → 0 < b.record_room
   pub entry_room : Fits b.entry_room ready.change
   pub few : length b.records < 1024
 
-module _ {K V F : Type 0} (same_key : K → K → Bool) (code : K → ℕ) (same_value : V → V → Bool) (remapped : F → K → Option V → Option V)
+module _ {K V F : Type 0} (same_key : K → K → Bool) (code : K → ℕ) (same_value : V → V → Bool) (remapped : F → K →
+    Option V → Option V)
     (merged : F → V → V → Option V) where
   -- the call was prepared on this bin, and nothing was applied since
   pub record IsPrepared (ready : ReadyView K V F) (b : BinView K V F) : Type 0 where
@@ -65,7 +69,13 @@ module _ {K V F : Type 0} (same_key : K → K → Bool) (code : K → ℕ) (same
 
 -- the record of a call that is ready
 abbrev pub record_of : {K V F : Type 0} → ℕ → ℕ → ReadyView K V F → RecordView K V F
-record_of client ordinal ready = record { client = client; ordinal = ordinal; call = ready.call; before = ready.before; after = ready.after }
+record_of client ordinal ready = record {
+  client = client;
+  ordinal = ordinal;
+  call = ready.call;
+  before = ready.before;
+  after = ready.after;
+}
 
 -- base and records as they were
 pub record KeepsRecords {K V F : Type 0} (b c : BinView K V F) : Type 0 where

@@ -1,10 +1,11 @@
 -- Calls of which nothing can be refused.
-use Rattle.std.specs.Prelude.{◌≡◌, ℕ, ◌<◌, Bool, true, false, Option, None, is_some, is_none, length}
+use Rattle.std.specs.Prelude.{◌≡◌, ◌<◌, Bool, true, false, Option, None, is_some, is_none, length}
 use Rattle.bin_history.specs.Entries.{lookup}
 use Rattle.bin_history.specs.Lawful.{BinView}
 use Rattle.bin_history.specs.Ops.{may_add}
 use Rattle.bin_history.specs.declared.call.Call.{Call}
-use Rattle.bin_history.specs.declared.call.Call.TheVariants.{Get, Contains, Put, PutIfAbsent, Remove, RemoveIf, Replace, ReplaceIf, ComputeIfAbsent}
+use Rattle.bin_history.specs.declared.call.Call.TheVariants.{Get, Contains, Put, PutIfAbsent, Remove, RemoveIf, Replace}
+use Rattle.bin_history.specs.declared.call.Call.TheVariants.{ReplaceIf, ComputeIfAbsent}
 use Rattle.bin_history.specs.declared.call.Call.TheVariants.{ComputeIfPresent, Compute, Merge}
 use Rattle.bin_history.specs.declared.form.Form.TheVariants.{Recorded}
 use Rattle.bin_history.specs.declared.op.Op.{Op}
@@ -45,7 +46,8 @@ asks (op.Compute _) before = true
 asks (op.Merge _ _) before = is_some before
 
 -- nothing that the call on the key needs of this bin can be refused: no copy is, it asks no function, and there is room
-pub record IsSure {K V F : Type 0} (same_key : K → K → Bool) (key_copies : K → Type 0) (value_copies : V → Type 0) (b : BinView K V F) (k : K) (op : Op V F) :
+pub record IsSure {K V F : Type 0} (same_key : K → K → Bool) (key_copies : K → Type 0) (value_copies : V → Type 0)
+    (b : BinView K V F) (k : K) (op : Op V F) :
     Type 0 where
   pub key : key_copies k
   pub values : IsNeverRefused value_copies

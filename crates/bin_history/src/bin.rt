@@ -17,13 +17,14 @@ use hashkeys::{Class, HashKey, Salt};
 use std::alloc::{AllocError, Allocator};
 use std::marker::Model;
 
-/// A bin stores no more records than this. Where a call would add one more, the oldest half is first
-/// folded into the base.
+/// A bin stores no more records than this. Where a call would add one more, the oldest half is
+/// first folded into the base.
 pub const MOST_RECORDS: usize = 1024;
 
-/// A bin of a map: the entries of a class in order of insertion and, in the recorded form, the records of the
-/// calls that made them from a base. Contracts see it as a `BinView`; whatever they see is lawful
-/// (`Bin::lawful`). To contracts a lean bin has no records, and its base is its entries.
+/// A bin of a map: the entries of a class in order of insertion and, in the recorded form, the
+/// records of the calls that made them from a base. Contracts see it as a `BinView`; whatever they
+/// see is lawful (`Bin::lawful`). To contracts a lean bin has no records, and its base is its
+/// entries.
 #[derive(Drop)]
 pub struct Bin<K: HashKey, V: Clone + Eq, F: Remap<K, V> + Clone, A: Allocator> {
     entries: Vec<(K, V), A>,
@@ -51,20 +52,22 @@ impl<K: HashKey, V: Clone + Eq, F: Remap<K, V> + Clone, A: Allocator> Model for 
       entry_room = vec_capacity b.entries - vec_len b.entries;
     } };
 
-    ghost invariant = { λ b. IsReplayed K.eq K.code (after V.eq F.remapped F.merged) b.salt b.class (base_of b.log b.entries.items)
+    ghost invariant = { λ b. IsReplayed K.eq K.code (after V.eq F.remapped F.merged) b.salt b.class
+        (base_of b.log b.entries.items)
         (records_of b.log) b.entries.items };
 }
 
 impl<K: HashKey, V: Clone + Eq, F: Remap<K, V> + Clone, A: Allocator + Clone> Bin<K, V, F, A> {
-    ghost use Rattle.std.specs.Prelude.{[], true, Some, None, All, IfOk, MatchOption};
+    ghost use Rattle.std.specs.Prelude.{[], true, Some, None, All, IfOk, IsOk, MatchOption};
     ghost use Rattle.hashkeys.specs.Classes.{is_of};
     ghost use Rattle.bin_history.specs.Calls.{after};
     ghost use Rattle.bin_history.specs.Copies.{IsExact};
     ghost use Rattle.bin_history.specs.Entries.{lookup, HasDistinctKeys, replay};
     ghost use Rattle.bin_history.specs.Lawful.{IsLawful};
+    ghost use Rattle.bin_history.specs.declared.form.Form.TheVariants.{Lean};
 
-    /// A bin of the form with these pairs, in their order, and no records. The pairs' keys are distinct and of
-    /// the class. A lean bin takes no memory.
+    /// A bin of the form with these pairs, in their order, and no records. The pairs' keys are
+    /// distinct and of the class. A lean bin takes no memory.
     pub fn new(
         alloc: A,
         form: Form,
@@ -76,6 +79,7 @@ impl<K: HashKey, V: Clone + Eq, F: Remap<K, V> + Clone, A: Allocator + Clone> Bi
         requires values { IsExact V.is_clone }
         requires distinct { HasDistinctKeys K.eq base.items }
         requires of_class { All (λ e. is_of K.code salt class e.0 ≡ true) base.items }
+        ensures succeeds { (form ≡ Lean) → IsOk result }
         ensures form { IfOk result (λ b. b.form ≡ form) }
         ensures salt { IfOk result (λ b. b.salt ≡ salt) }
         ensures class { IfOk result (λ b. b.class ≡ class) }
@@ -137,7 +141,8 @@ impl<K: HashKey, V: Clone + Eq, F: Remap<K, V> + Clone, A: Allocator + Clone> Bi
         }
     }
 
-    /// The records of the calls since the base, oldest first: at most 1,024, and none in a lean bin.
+    /// The records of the calls since the base, oldest first: at most 1,024, and none in a lean
+    /// bin.
     pub fn records(&self) -> &[Record<K, V, F>]
         ensures { result.now ≡ self.now.records }
     {
@@ -156,7 +161,8 @@ impl<K: HashKey, V: Clone + Eq, F: Remap<K, V> + Clone, A: Allocator + Clone> Bi
 
     /// The value at a key.
     pub fn get(&self, key: &K) -> Option<&V>
-        ensures { MatchOption result (lookup K.eq self.now.entries key.now ≡ None) (λ value. lookup K.eq self.now.entries key.now ≡ Some value.now) }
+        ensures { MatchOption result (lookup K.eq self.now.entries key.now ≡ None)
+            (λ value. lookup K.eq self.now.entries key.now ≡ Some value.now) }
     {
         match find(&self.entries, key) {
             Some(i) => Some(&self.entries[i].1),
@@ -195,7 +201,8 @@ impl<K: HashKey, V: Clone + Eq, F: Remap<K, V> + Clone, A: Allocator + Clone> Bi
 }
 
 impl<K: HashKey, V: Clone + Eq, F: Remap<K, V> + Clone, A: Allocator + Clone> Bin<K, V, F, A> {
-    ghost use Rattle.std.specs.Prelude.{true, ◌+◌, ◌<◌, ◌^◌, ◌∷◌, [], length, IfOk, IsOk, OnOk, OnErr};
+    ghost use Rattle.std.specs.Prelude.{true, ◌+◌, ◌<◌, ◌^◌, ◌∷◌, [], length, IfOk, IsOk, OnOk};
+    ghost use Rattle.std.specs.Prelude.{OnErr};
     ghost use Rattle.hashkeys.specs.Classes.{is_of};
     ghost use Rattle.bin_history.specs.Calls.{after, key_of, reply};
     ghost use Rattle.bin_history.specs.Copies.{IsExact};
@@ -207,19 +214,22 @@ impl<K: HashKey, V: Clone + Eq, F: Remap<K, V> + Clone, A: Allocator + Clone> Bi
     ghost use Rattle.bin_history.specs.Readiness.{IsPrepared, KeepsOrFolds, record_of};
     ghost use Rattle.bin_history.specs.Sure.{IsSure, op_of};
 
-    /// Prepares a call on a key of the bin's class: makes all growths, asks the call's function, makes all copies,
-    /// and works out what the call does and replies, so that `apply` cannot fail. The entries stay; base and
-    /// records stay too, but where there are 1,024 records the oldest 512 are folded into the base. For
-    /// want of memory the call is dropped, and nothing else changes. Room for an entry is made only for a call
-    /// that may add one, on a key that is not there.
-    /// Where clones never fail, the call asks no function and there is room in hand, it is not refused.
+    /// Prepares a call on a key of the bin's class: makes all growths, asks the call's function,
+    /// makes all copies, and works out what the call does and replies, so that `apply` cannot fail.
+    /// The entries stay; base and records stay too, but where there are 1,024 records the oldest
+    /// 512 are folded into the base. For want of memory the call is dropped, and nothing else
+    /// changes. Room for an entry is made only for a call that may add one, on a key that is not
+    /// there. Where clones never fail, the call asks no function and there is room in hand, it is
+    /// not refused.
     pub fn prepare<'a>(&'a mut self, call: Call<K, V, F>) -> Result<Ready<K, V, F>, AllocError>
         requires keys { IsExact K.is_clone }
         requires values { IsExact V.is_clone }
         requires of_class { is_of K.code self.old.salt self.old.class (key_of call) ≡ true }
-        ensures ready { IfOk result (λ r. IsPrepared K.eq K.code V.eq F.remapped F.merged r self.new) }
+        ensures ready { IfOk result
+            (λ r. IsPrepared K.eq K.code V.eq F.remapped F.merged r self.new) }
         ensures call { IfOk result (λ r. r.call ≡ call) }
-        ensures succeeds { IsSure K.eq K.is_infallible V.is_infallible self.old (key_of call) (op_of call) → IsOk result }
+        ensures succeeds { IsSure K.eq K.is_infallible V.is_infallible self.old (key_of call)
+            (op_of call) → IsOk result }
         ensures ok { OnOk result (KeepsOrFolds K.eq self.old self.new) }
         ensures records { OnErr result (self.new.records ≡ self.old.records) }
         ensures base { OnErr result (self.new.base ≡ self.old.base) }
@@ -233,9 +243,9 @@ impl<K: HashKey, V: Clone + Eq, F: Remap<K, V> + Clone, A: Allocator + Clone> Bi
         self.prepare_on(key, op)
     }
 
-    /// The same of a call whose key is given beside it, handed over or lent. A lent key is copied where an entry is
-    /// made of it, and for the record in a recorded bin. A lean bin copies no value but one that is both stored and
-    /// answered.
+    /// The same of a call whose key is given beside it, handed over or lent. A lent key is copied
+    /// where an entry is made of it, and for the record in a recorded bin. A lean bin copies no
+    /// value but one that is both stored and answered.
     pub fn prepare_on(
         &mut self,
         key: Given<'_, K>,
@@ -244,9 +254,11 @@ impl<K: HashKey, V: Clone + Eq, F: Remap<K, V> + Clone, A: Allocator + Clone> Bi
         requires keys { IsExact K.is_clone }
         requires values { IsExact V.is_clone }
         requires of_class { is_of K.code self.old.salt self.old.class (key_in key) ≡ true }
-        ensures ready { IfOk result (λ r. IsPrepared K.eq K.code V.eq F.remapped F.merged r self.new) }
+        ensures ready { IfOk result
+            (λ r. IsPrepared K.eq K.code V.eq F.remapped F.merged r self.new) }
         ensures call { IfOk result (λ r. r.call ≡ call_on (key_in key.entry) op) }
-        ensures succeeds { IsSure K.eq K.is_infallible V.is_infallible self.old (key_in key.entry) op → IsOk result }
+        ensures succeeds { IsSure K.eq K.is_infallible V.is_infallible self.old
+            (key_in key.entry) op → IsOk result }
         ensures ok { OnOk result (KeepsOrFolds K.eq self.old self.new) }
         ensures records { OnErr result (self.new.records ≡ self.old.records) }
         ensures base { OnErr result (self.new.base ≡ self.old.base) }
@@ -264,10 +276,10 @@ impl<K: HashKey, V: Clone + Eq, F: Remap<K, V> + Clone, A: Allocator + Clone> Bi
         Ok(ready)
     }
 
-    /// Makes a call that was prepared on this bin, since when nothing was applied, as the call of this client,
-    /// below 64, after so many others of it, fewer than 2^58. It answers the reply and what the books need. A
-    /// recorded bin keeps the record; a lean one keeps the entries alone. It takes no memory: what it keeps goes into
-    /// the room that there is.
+    /// Makes a call that was prepared on this bin, since when nothing was applied, as the call of
+    /// this client, below 64, after so many others of it, fewer than 2^58. It answers the reply and
+    /// what the books need. A recorded bin keeps the record; a lean one keeps the entries alone. It
+    /// takes no memory: what it keeps goes into the room that there is.
     pub fn apply(
         &mut self,
         ready: Ready<K, V, F>,
@@ -279,12 +291,17 @@ impl<K: HashKey, V: Clone + Eq, F: Remap<K, V> + Clone, A: Allocator + Clone> Bi
         requires ordinal { ordinal < 2 ^ 58 }
         ensures reply { result.0 ≡ reply V.eq ready.call ready.before ready.after }
         ensures trace { result.1 ≡ record_of client ordinal ready }
-        ensures entries { self.new.entries ≡ store K.eq self.old.entries (key_of ready.call) ready.after }
-        ensures records { self.new.records ≡ with_one_more self.old.form self.old.records (record_of client ordinal ready) }
+        ensures entries { self.new.entries ≡ store K.eq self.old.entries
+            (key_of ready.call) ready.after }
+        ensures records { self.new.records ≡ with_one_more self.old.form self.old.records
+            (record_of client ordinal ready) }
         ensures base { self.old.form ≡ Recorded → self.new.base ≡ self.old.base }
-        ensures record_room { self.old.form ≡ Recorded → self.new.record_room + 1 ≡ self.old.record_room }
-        ensures entry_room { length self.new.entries + self.new.entry_room ≡ length self.old.entries + self.old.entry_room }
-        ensures history { GoesOn K.eq (after V.eq F.remapped F.merged) self.old (record_of client ordinal ready ∷ []) self.new }
+        ensures record_room { self.old.form ≡ Recorded →
+            self.new.record_room + 1 ≡ self.old.record_room }
+        ensures entry_room { length self.new.entries + self.new.entry_room
+            ≡ length self.old.entries + self.old.entry_room }
+        ensures history { GoesOn K.eq (after V.eq F.remapped F.merged) self.old
+            (record_of client ordinal ready ∷ []) self.new }
         ensures form { self.new.form ≡ self.old.form }
         ensures class { self.new.class ≡ self.old.class }
         ensures salt { self.new.salt ≡ self.old.salt }
@@ -327,8 +344,8 @@ impl<K: HashKey, V: Clone + Eq, F: Remap<K, V> + Clone, A: Allocator + Clone> Bi
         })
     }
 
-    /// The bins of the low and the high half of the class, in the bin's form, each with its part of base, records
-    /// and entries, in order. They are copies; the bin itself stays.
+    /// The bins of the low and the high half of the class, in the bin's form, each with its part of
+    /// base, records and entries, in order. They are copies; the bin itself stays.
     pub fn split(&self) -> Result<(Bin<K, V, F, A>, Bin<K, V, F, A>), AllocError>
         requires keys { IsExact K.is_clone }
         requires values { IsExact V.is_clone }

@@ -6,8 +6,8 @@ ghost use Rattle.bin_history.specs.Ops.{call_on};
 use crate::op::Op;
 use std::alloc::AllocError;
 
-/// A remapping function of keys `K` and values `V`, which may answer that the key is to have no value.
-/// It states which function it computes; it may fail only for want of memory.
+/// A remapping function of keys `K` and values `V`, which may answer that the key is to have no
+/// value. It states which function it computes; it may fail only for want of memory.
 pub trait Remap<K, V> {
     ghost remapped: { Self → K → Option V → Option V };
 

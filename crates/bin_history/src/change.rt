@@ -1,7 +1,9 @@
 //! Changes of a list of entries.
-ghost use Rattle.std.specs.Prelude.{◌≡◌, ◌<◌, ◌≤◌, ◌+◌, ◌-◌, IfOk, IsOk, option_copied, vec_len, vec_capacity};
+ghost use Rattle.std.specs.Prelude.{◌≡◌, ◌<◌, ◌≤◌, ◌+◌, ◌-◌, IfOk, IsOk, option_copied, vec_len};
+ghost use Rattle.std.specs.Prelude.{vec_capacity};
 ghost use Rattle.bin_history.specs.Entries.{lookup};
-ghost use Rattle.bin_history.specs.Changes.{IsIndexOf, change_at, change_to, change_by, entries_after, taken_from, HasIndex, Fits};
+ghost use Rattle.bin_history.specs.Changes.{IsIndexOf, change_at, change_to, change_by};
+ghost use Rattle.bin_history.specs.Changes.{entries_after, taken_from, HasIndex, Fits};
 ghost use Rattle.bin_history.specs.Copies.{IsExact};
 ghost use Rattle.bin_history.specs.Ops.{key_in};
 
@@ -11,12 +13,16 @@ use hashkeys::HashKey;
 use std::alloc::{AllocError, Allocator};
 use std::mem::replace;
 
-/// One change, at a known index.
+/// What a prepared call does to the entries of its bin, as contracts see it.
 #[derive(Drop)]
 pub enum Change<K, V> {
+    /// Nothing.
     Stay,
+    /// The entry at the index gets the value.
     Assign(usize, V),
+    /// The pair is added as the last entry.
     Add(K, V),
+    /// The entry at the index is taken out.
     Take(usize),
 }
 
@@ -76,7 +82,8 @@ impl<K: Drop, V> Change<K, V> {
 }
 
 impl<K: Clone + Drop, V: Drop> Change<K, V> {
-    /// The same of a key that was given: it is copied at most where it was lent and an entry is made.
+    /// The same of a key that was given: it is copied at most where it was lent and an entry is
+    /// made.
     fn given(
         key: Given<'_, K>,
         found: Option<usize>,
@@ -103,7 +110,8 @@ impl<K: Clone + Drop, V: Drop> Change<K, V> {
         value: Option<V>,
     ) -> Result<Change<K, V>, AllocError>
         requires { IsExact K.is_clone }
-        ensures change { IfOk result (λ change. change ≡ change_by found (key_in key.entry) effect value) }
+        ensures change { IfOk result
+            (λ change. change ≡ change_by found (key_in key.entry) effect value) }
         ensures succeeds { K.is_infallible (key_in key.entry) → IsOk result }
     {
         match effect {

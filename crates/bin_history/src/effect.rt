@@ -20,9 +20,10 @@ pub enum Effect<V> {
     Set(Option<V>),
 }
 
-/// What a call answers, before it is made.
+/// What a prepared call answers, as contracts see it.
 #[derive(Drop)]
 pub enum Answer<V> {
+    /// This reply.
     Known(Reply<V>),
     /// The value that the call takes away.
     Taken,

@@ -6,7 +6,8 @@ ghost use Rattle.bin_history.specs.Ops.{key_in};
 use crate::copies::copy_of;
 use std::alloc::AllocError;
 
-/// The key of a call: handed over, or lent for the time of the call. A lent key is copied only where it has to be kept.
+/// The key of a call: handed over, or lent for the time of the call. A lent key is copied only
+/// where it has to be kept.
 #[derive(Drop)]
 pub enum Given<'a, K> {
     Owned(K),

@@ -11,17 +11,20 @@ ghost use Rattle.bin_history.specs.Records.{RecordView};
 use crate::call::Remap;
 use hashkeys::HashKey;
 
-/// The part of a run, at the keys that any test passes, is the run of the part; and the part of a legal list is
-/// legal on the part of the map.
+/// The part of a run, at the keys that any test passes, is the run of the part; and the part of a
+/// legal list is legal on the part of the map.
 pub fn part_of_a_run<K: HashKey, V: Eq, F: Remap<K, V>>()
     ensures run { (test : K → Bool) (map : K → Option V) (rs : List (RecordView K V F)) (k : K)
-        → run K.eq (part_of_map test map) (part_of_records test rs) k ≡ part_of_map test (run K.eq map rs) k }
+        → run K.eq (part_of_map test map) (part_of_records test rs) k ≡ part_of_map test
+        (run K.eq map rs) k }
     ensures legal { (test : K → Bool) (map : K → Option V) (rs : List (RecordView K V F))
         → IsLegal K.eq (after V.eq F.remapped F.merged) map rs
-        → IsLegal K.eq (after V.eq F.remapped F.merged) (part_of_map test map) (part_of_records test rs) }
+        → IsLegal K.eq (after V.eq F.remapped F.merged) (part_of_map test map)
+        (part_of_records test rs) }
 {}
 
-/// In a legal list each key by itself behaves as a cell of one thread, and a list in which each key does is legal.
+/// In a legal list each key by itself behaves as a cell of one thread, and a list in which each key
+/// does is legal.
 pub fn cells_of_a_run<K: HashKey, V: Eq, F: Remap<K, V>>()
     ensures history { (map : K → Option V) (rs : List (RecordView K V F)) (k : K)
         → IsLegal K.eq (after V.eq F.remapped F.merged) map rs

@@ -24,11 +24,13 @@ mod work;
 
 pub use bin::{Bin, MOST_RECORDS};
 pub use call::{Call, Remap, Reply};
+pub use change::Change;
+pub use effect::Answer;
 pub use form::Form;
 pub use given::Given;
 pub use laws::{cells_of_a_run, count_after_a_run, part_of_a_run};
 pub use limits::{MOST_CALLS, MOST_CLIENTS, MOST_LEAN_CALLS};
 pub use op::Op;
-pub use ready::Ready;
+pub use ready::{Kept, Ready};
 pub use record::Record;
 pub use trace::Trace;

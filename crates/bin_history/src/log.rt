@@ -1,8 +1,10 @@
 //! What a recorded bin stores beside its entries.
-ghost use Rattle.std.specs.Prelude.{◌≡◌, ◌+◌, ◌<◌, ◌≤◌, ◌^◌, Option, List, [], length, IfOk, IsOk, OnOk};
+ghost use Rattle.std.specs.Prelude.{◌≡◌, ◌+◌, ◌<◌, ◌≤◌, ◌^◌, Option, List, [], length, IfOk, IsOk};
+ghost use Rattle.std.specs.Prelude.{OnOk};
 ghost use Rattle.hashkeys.specs.Classes.{is_of};
 ghost use Rattle.bin_history.specs.Copies.{IsExact};
-ghost use Rattle.bin_history.specs.Logs.{form_of, base_of, records_of, record_room_of, CanFold, IsKeptOrFolded, with_one_more};
+ghost use Rattle.bin_history.specs.Logs.{form_of, base_of, records_of, record_room_of, CanFold};
+ghost use Rattle.bin_history.specs.Logs.{IsKeptOrFolded, with_one_more};
 ghost use Rattle.bin_history.specs.Part.{part_of_entries, part_of_records};
 ghost use Rattle.bin_history.specs.Readiness.{kept_in};
 ghost use Rattle.bin_history.specs.declared.call.Call.{Call};
@@ -66,8 +68,10 @@ impl<K: HashKey, V: Clone, F: Clone, A: Allocator + Clone> Log<K, V, F, A> {
         requires keys { IsExact K.is_clone }
         requires values { IsExact V.is_clone }
         requires functions { IsExact F.is_clone }
-        ensures base { IfOk result (λ l. l.value.base ≡ part_of_entries (is_of K.code salt class) self.now.base) }
-        ensures records { IfOk result (λ l. l.value.records ≡ part_of_records (is_of K.code salt class) self.now.records) }
+        ensures base { IfOk result
+            (λ l. l.value.base ≡ part_of_entries (is_of K.code salt class) self.now.base) }
+        ensures records { IfOk result
+            (λ l. l.value.records ≡ part_of_records (is_of K.code salt class) self.now.records) }
     {
         let alloc = self.base.allocator();
         let base = part_of_entries(alloc.clone()?, salt, class, &self.base)?;
@@ -82,13 +86,15 @@ impl<K: HashKey, V: Clone, F: Clone, A: Allocator + Clone> Log<K, V, F, A> {
     }
 }
 
-/// Makes room in a log for one more record or, where it has 1,024, in its base for the oldest 512 of them.
+/// Makes room in a log for one more record or, where it has 1,024, in its base for the oldest 512
+/// of them.
 pub(crate) fn reserve_in<K: Drop, V: Drop, F: Drop, A: Allocator + Clone>(
     log: &mut Option<Box<Log<K, V, F, A>, A>>,
 ) -> Result<(), AllocError>
     requires few { length (records_of log.old) ≤ 1024 }
     ensures room { OnOk result (CanFold log.new) }
-    ensures succeeds { (form_of log.old ≡ Recorded → (length (records_of log.old) < 1024) × (0 < record_room_of log.old)) → IsOk result }
+    ensures succeeds { (form_of log.old ≡ Recorded → (length (records_of log.old) < 1024)
+        × (0 < record_room_of log.old)) → IsOk result }
     ensures form { form_of log.new ≡ form_of log.old }
     ensures base { (es : List (K × V)) → base_of log.new es ≡ base_of log.old es }
     ensures records { records_of log.new ≡ records_of log.old }
@@ -104,14 +110,17 @@ pub(crate) fn reserve_in<K: Drop, V: Drop, F: Drop, A: Allocator + Clone>(
     }
 }
 
-/// Folds the oldest 512 of 1,024 records of a log into its base. It changes nothing where there are fewer.
+/// Folds the oldest 512 of 1,024 records of a log into its base. It changes nothing where there are
+/// fewer.
 pub(crate) fn fold_in<K: HashKey, V: Drop, F: Drop, A: Allocator>(
     log: &mut Option<Box<Log<K, V, F, A>, A>>,
 )
     requires room { CanFold log.old }
     requires few { length (records_of log.old) ≤ 1024 }
     ensures form { form_of log.new ≡ form_of log.old }
-    ensures kept { (es : List (K × V)) → IsKeptOrFolded K.eq (base_of log.old es) (records_of log.old) (base_of log.new es) (records_of log.new) }
+    ensures kept { (es : List (K × V)) →
+        IsKeptOrFolded K.eq (base_of log.old es) (records_of log.old) (base_of log.new es)
+        (records_of log.new) }
     ensures room { form_of log.new ≡ Recorded → 0 < record_room_of log.new }
     ensures fewer { length (records_of log.new) < 1024 }
 {
@@ -135,10 +144,12 @@ pub(crate) fn add_to<K: Drop, V: Drop, F: Drop, A: Allocator>(
     requires room { form_of log.old ≡ Recorded → 0 < record_room_of log.old }
     ensures form { form_of log.new ≡ form_of log.old }
     ensures base { (es : List (K × V)) → base_of log.new es ≡ base_of log.old es }
-    ensures records { (call : Call K V F) (before after : Option V) → kept ≡ kept_in (form_of log.old) call before after
+    ensures records { (call : Call K V F) (before after : Option V) →
+        kept ≡ kept_in (form_of log.old) call before after
         → records_of log.new ≡ with_one_more (form_of log.old) (records_of log.old)
         (record { client = client; ordinal = ordinal; call = call; before = before; after = after }) }
-    ensures less_room { (call : Call K V F) (before after : Option V) → kept ≡ kept_in (form_of log.old) call before after
+    ensures less_room { (call : Call K V F) (before after : Option V) →
+        kept ≡ kept_in (form_of log.old) call before after
         → form_of log.old ≡ Recorded → record_room_of log.new + 1 ≡ record_room_of log.old }
 {
     if let (Some(log), Some(kept)) = (log, kept) {
@@ -163,8 +174,10 @@ pub(crate) fn part_of_log<K: HashKey, V: Clone, F: Clone, A: Allocator + Clone>(
     requires functions { IsExact F.is_clone }
     ensures form { IfOk result (λ part. form_of part ≡ form_of log.now) }
     ensures base { IfOk result (λ part. (es : List (K × V))
-        → base_of part (part_of_entries (is_of K.code salt class) es) ≡ part_of_entries (is_of K.code salt class) (base_of log.now es)) }
-    ensures records { IfOk result (λ part. records_of part ≡ part_of_records (is_of K.code salt class) (records_of log.now)) }
+        → base_of part (part_of_entries (is_of K.code salt class) es) ≡ part_of_entries
+        (is_of K.code salt class) (base_of log.now es)) }
+    ensures records { IfOk result
+        (λ part. records_of part ≡ part_of_records (is_of K.code salt class) (records_of log.now)) }
 {
     match log {
         Some(log) => Ok(Some(log.part(salt, class)?)),

@@ -28,8 +28,8 @@ impl<K: HashKey, V: Clone + Eq, F: Remap<K, V> + Clone, A: Allocator + Clone> Bi
         value_at(entries, key, find(entries, key))
     }
 
-    /// A call that reads a lean bin and leaves it as it is, without room, change or record. None of a recorded bin, and
-    /// of a call that may do more.
+    /// A call that reads a lean bin and leaves it as it is, without room, change or record. None of
+    /// a recorded bin, and of a call that may do more.
     fn read_on(
         &self,
         key: &K,
@@ -38,7 +38,10 @@ impl<K: HashKey, V: Clone + Eq, F: Remap<K, V> + Clone, A: Allocator + Clone> Bi
         ordinal: u64,
     ) -> Result<Option<(Reply<V>, Trace<K, V, F>)>, AllocError>
         requires values { IsExact V.is_clone }
-        ensures made { IfOk result (λ r. IfSome r (λ x. IsMadeOn K.eq V.eq F.remapped F.merged client ordinal (call_on key.now op.now) self.now self.now
+        ensures made { IfOk result
+            (λ r. IfSome r
+            (λ x. IsMadeOn K.eq V.eq F.remapped F.merged client ordinal
+            (call_on key.now op.now) self.now self.now
             x.0 x.1)) }
         ensures succeeds { IsNeverRefused V.is_infallible → IsOk result }
     {
@@ -63,9 +66,10 @@ impl<K: HashKey, V: Clone + Eq, F: Remap<K, V> + Clone, A: Allocator + Clone> Bi
         }
     }
 
-    /// Makes a call, as the call of this client, below 64, after so many others of it, fewer than 2^58: what `prepare_on`
-    /// and `apply` do, one after the other. It answers the reply and what the books need. Gets, and questions whether a key
-    /// has a value, are read off a lean bin. For want of memory the call is dropped, and nothing is changed.
+    /// Makes a call, as the call of this client, below 64, after so many others of it, fewer than
+    /// 2^58: what `prepare_on` and `apply` do, one after the other. It answers the reply and what
+    /// the books need. Gets, and questions whether a key has a value, are read off a lean bin. For
+    /// want of memory the call is dropped, and nothing is changed.
     pub fn make_on(
         &mut self,
         key: Given<'_, K>,
@@ -82,8 +86,11 @@ impl<K: HashKey, V: Clone + Eq, F: Remap<K, V> + Clone, A: Allocator + Clone> Bi
         requires of_class { is_of K.code self.old.salt self.old.class (key_in key) ≡ true }
         requires client { client < 64 }
         requires ordinal { ordinal < 2 ^ 58 }
-        ensures made { IfOk result (λ r. IsMadeOn K.eq V.eq F.remapped F.merged client ordinal (call_on (key_in key.entry) op) self.old self.new r.0 r.1) }
-        ensures succeeds { IsSure K.eq K.is_infallible V.is_infallible self.old (key_in key.entry) op → IsOk result }
+        ensures made { IfOk result
+            (λ r. IsMadeOn K.eq V.eq F.remapped F.merged client ordinal
+            (call_on (key_in key.entry) op) self.old self.new r.0 r.1) }
+        ensures succeeds { IsSure K.eq K.is_infallible V.is_infallible self.old
+            (key_in key.entry) op → IsOk result }
         ensures records { OnErr result (self.new.records ≡ self.old.records) }
         ensures base { OnErr result (self.new.base ≡ self.old.base) }
         ensures entries { OnErr result (self.new.entries ≡ self.old.entries) }

@@ -1,5 +1,6 @@
 //! Calls that are prepared.
-ghost use Rattle.std.specs.Prelude.{◌≡◌, ◌<◌, ℕ, Option, None, true, false, IfOk, IsOk, option_copied};
+ghost use Rattle.std.specs.Prelude.{◌≡◌, ◌<◌, ℕ, Option, None, true, false, IfOk, IsOk};
+ghost use Rattle.std.specs.Prelude.{option_copied};
 ghost use Rattle.bin_history.specs.Changes.{IsIndexOf, Fits, change_by, left_by};
 ghost use Rattle.bin_history.specs.Copies.{IsExact};
 ghost use Rattle.bin_history.specs.Entries.{lookup};
@@ -55,7 +56,8 @@ impl<K, V, F> Model for Ready<K, V, F> {
     } };
 }
 
-/// What a recorded bin does for a call of this effect, and keeps of it: the change and the record each have their own copies.
+/// What a recorded bin does for a call of this effect, and keeps of it: the change and the record
+/// each have their own copies.
 fn recorded<K: Clone + Drop, V: Clone + Drop, F: Drop>(
     found: Option<usize>,
     key: Given<'_, K>,
@@ -65,13 +67,15 @@ fn recorded<K: Clone + Drop, V: Clone + Drop, F: Drop>(
 ) -> Result<(Change<K, V>, Kept<K, V, F>), AllocError>
     requires keys { IsExact K.is_clone }
     requires values { IsExact V.is_clone }
-    ensures change { IfOk result (λ r. (value : Option V) × (effect ≡ Give → value ≡ value_of op) × (r.0 ≡ change_by found (key_in key.entry) effect value)) }
+    ensures change { IfOk result (λ r. (value : Option V) × (effect ≡ Give → value ≡ value_of op)
+        × (r.0 ≡ change_by found (key_in key.entry) effect value)) }
     ensures kept { IfOk result (λ r. r.1 ≡ record {
       call = call_on (key_in key.entry) op;
       before = option_copied before.entry;
       after = left_by op effect (option_copied before.entry);
     }) }
-    ensures succeeds { K.is_infallible (key_in key.entry) → IsNeverRefused V.is_infallible → IsOk result }
+    ensures succeeds { K.is_infallible (key_in key.entry) → IsNeverRefused V.is_infallible
+        → IsOk result }
 {
     let value = effect.copy_given(&op)?;
     let after = copy_of_option(effect.left(&op, before))?;
@@ -89,7 +93,8 @@ fn recorded<K: Clone + Drop, V: Clone + Drop, F: Drop>(
     ))
 }
 
-/// Works out all that a call does to the entries of a bin of this form, in which its key was looked for.
+/// Works out all that a call does to the entries of a bin of this form, in which its key was looked
+/// for.
 pub(crate) fn work_out<K: HashKey, V: Clone + Eq, F: Remap<K, V> + Drop>(
     entries: &[(K, V)],
     form: Form,
@@ -103,9 +108,11 @@ pub(crate) fn work_out<K: HashKey, V: Clone + Eq, F: Remap<K, V> + Drop>(
     ensures call { IfOk result (λ r. r.call ≡ call_on (key_in key.entry) op) }
     ensures ready { IfOk result (λ r. IsWorkedOut K.eq V.eq F.remapped F.merged r entries.now) }
     ensures kept { IfOk result (λ r. r.kept ≡ kept_in form r.call r.before r.after) }
-    ensures succeeds { K.is_infallible (key_in key.entry) → IsNeverRefused V.is_infallible → asks op (lookup K.eq entries.now (key_in key.entry)) ≡ false
+    ensures succeeds { K.is_infallible (key_in key.entry) → IsNeverRefused V.is_infallible →
+        asks op (lookup K.eq entries.now (key_in key.entry)) ≡ false
         → IsOk result }
-    ensures fits { IfOk result (λ r. (room : ℕ) → (found ≡ None → may_add op ≡ true → 0 < room) → Fits room r.change) }
+    ensures fits { IfOk result (λ r. (room : ℕ) → (found ≡ None → may_add op ≡ true → 0 < room) →
+        Fits room r.change) }
 {
     let before = value_at(entries, key.get(), found);
     let work = work_of(key.get(), &op, before)?;

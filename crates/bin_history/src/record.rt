@@ -21,9 +21,9 @@ pub enum Values<V> {
 /// Clients are numbered below this.
 const CLIENTS: u64 = 64;
 
-/// A call that was made: the client's number, the call's place among the client's calls, and the value at
-/// its key just before it and just after it. Contracts see a `RecordView`. A recorded bin keeps one for each
-/// call, so the two numbers share a word, and the two values one tag.
+/// A call that was made: the client's number, the call's place among the client's calls, and the
+/// value at its key just before it and just after it. Contracts see a `RecordView`. A recorded bin
+/// keeps one for each call, so the two numbers share a word, and the two values one tag.
 #[derive(Drop)]
 pub struct Record<K, V, F> {
     /// The ordinal times 64, and the client.
@@ -76,7 +76,14 @@ impl<K, V, F> Record<K, V, F> {
     ) -> Record<K, V, F>
         requires client { client < 64 }
         requires ordinal { ordinal < 2 ^ 58 }
-        ensures { result ≡ record { client = client; ordinal = ordinal; call = call; before = before; after = after } }
+        ensures { result ≡ record {
+          client = client;
+          ordinal = ordinal;
+          call = call;
+          before =
+              before;
+          after = after;
+        } }
     {
         Record {
             stamp: ordinal * CLIENTS + client as u64,

@@ -37,8 +37,10 @@ pub(crate) fn make_room_for<K: Drop, V: Drop, F, A: Allocator>(
     op: &Op<V, F>,
 ) -> Result<(), AllocError>
     ensures items { entries.new.items ≡ entries.old.items }
-    ensures room { OnOk result (found ≡ None → may_add op.now ≡ true → vec_len entries.new < vec_capacity entries.new) }
-    ensures succeeds { (found ≡ None → may_add op.now ≡ true → vec_len entries.old < vec_capacity entries.old) → IsOk result }
+    ensures room { OnOk result (found ≡ None → may_add op.now ≡ true →
+        vec_len entries.new < vec_capacity entries.new) }
+    ensures succeeds { (found ≡ None → may_add op.now ≡ true →
+        vec_len entries.old < vec_capacity entries.old) → IsOk result }
 {
     if found.is_none() && op.may_add() {
         entries.reserve(1)

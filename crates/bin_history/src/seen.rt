@@ -14,8 +14,8 @@ pub(crate) enum SeenCall<K, V, F> {
     Parts(Snapshot<K>, Snapshot<Op<V, F>>),
 }
 
-/// A call, and the values just before it and just after it, where there are any. Of the values it stores whether there
-/// are any; what they are, and the call, is in contracts alone.
+/// A call, and the values just before it and just after it, where there are any. Of the values it
+/// stores whether there are any; what they are, and the call, is in contracts alone.
 #[derive(Drop)]
 pub(crate) struct Seen<K, V, F> {
     pub(crate) call: SeenCall<K, V, F>,

@@ -24,7 +24,8 @@ pub(crate) fn part_of_entries<K: HashKey, V: Clone, A: Allocator>(
 ) -> Result<Vec<(K, V), A>, AllocError>
     requires keys { IsExact K.is_clone }
     requires values { IsExact V.is_clone }
-    ensures { IfOk result (λ part. part.items ≡ part_of_entries (is_of K.code salt class) entries.now) }
+    ensures { IfOk result
+        (λ part. part.items ≡ part_of_entries (is_of K.code salt class) entries.now) }
 {
     let mut part = Vec::new(alloc);
     for (key, value) in entries {
@@ -44,7 +45,8 @@ pub(crate) fn part_of_records<K: HashKey, V: Clone, F: Clone, A: Allocator>(
     requires keys { IsExact K.is_clone }
     requires values { IsExact V.is_clone }
     requires functions { IsExact F.is_clone }
-    ensures { IfOk result (λ part. part.items ≡ part_of_records (is_of K.code salt class) records.now) }
+    ensures { IfOk result
+        (λ part. part.items ≡ part_of_records (is_of K.code salt class) records.now) }
 {
     let mut part = Vec::new(alloc);
     for entry in records {

@@ -8,8 +8,8 @@ use crate::seen::{Seen, SeenCall, value_seen};
 use std::marker::Model;
 use std::snapshot::Snapshot;
 
-/// What the books of a map need of a call that was made: its record, in contracts alone. At run time it tells how the
-/// call changed the number of keys.
+/// What the books of a map need of a call that was made: its record, in contracts alone. At run
+/// time it tells how the call changed the number of keys.
 #[derive(Drop)]
 pub struct Trace<K, V, F> {
     client: Snapshot<u32>,

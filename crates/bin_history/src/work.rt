@@ -73,7 +73,12 @@ impl<V: Clone> Work<V> {
     /// A call that keeps the value, and answers it.
     fn keeping(value: Option<&V>) -> Result<Work<V>, AllocError>
         requires { IsExact V.is_clone }
-        ensures work { IfOk result (λ work. work ≡ record { effect = Keep; answer = Known (Value (option_copied value.entry)) }) }
+        ensures work { IfOk result
+            (λ work. work ≡ record {
+              effect = Keep;
+              answer =
+                  Known (Value (option_copied value.entry));
+            }) }
         ensures succeeds { IsNeverRefused V.is_infallible → IsOk result }
     {
         Ok(Work::known(Effect::Keep, Reply::Value(copy_of_option(value)?)))
@@ -82,7 +87,8 @@ impl<V: Clone> Work<V> {
     /// A call that gives the value that it brings, and answers it.
     fn giving(value: &V) -> Result<Work<V>, AllocError>
         requires { IsExact V.is_clone }
-        ensures work { IfOk result (λ work. work ≡ record { effect = Give; answer = Known (Value (Some value.now)) }) }
+        ensures work { IfOk result
+            (λ work. work ≡ record { effect = Give; answer = Known (Value (Some value.now)) }) }
         ensures succeeds { IsNeverRefused V.is_infallible → IsOk result }
     {
         Ok(Work::known(Effect::Give, Reply::Value(Some(copy_of(value)?))))
@@ -91,7 +97,8 @@ impl<V: Clone> Work<V> {
     /// A call that sets what a function made, and answers it.
     fn setting(value: Option<V>) -> Result<Work<V>, AllocError>
         requires { IsExact V.is_clone }
-        ensures { IfOk result (λ work. work ≡ record { effect = Set value; answer = Known (Value value) }) }
+        ensures { IfOk result
+            (λ work. work ≡ record { effect = Set value; answer = Known (Value value) }) }
     {
         let reply = Reply::Value(copy_of_option(value.as_ref())?);
         Ok(Work::known(Effect::Set(value), reply))
@@ -104,7 +111,8 @@ fn remapped<K, V: Clone, F: Remap<K, V>>(
     before: Option<&V>,
 ) -> Result<Work<V>, AllocError>
     requires { IsExact V.is_clone }
-    ensures { IfOk result (λ work. work ≡ (let value = F.remapped function.now key.now (option_copied before.entry) in
+    ensures { IfOk result
+        (λ work. work ≡ (let value = F.remapped function.now key.now (option_copied before.entry) in
         record { effect = Set value; answer = Known (Value value) })) }
 {
     Work::setting(function.remap(key, before)?)
@@ -122,16 +130,18 @@ fn merged<K, V: Clone, F: Remap<K, V>>(
     Work::setting(function.merge(old, given)?)
 }
 
-/// What the call on the key does and what it answers, by the value before it. The call's function is asked once at
-/// most.
+/// What the call on the key does and what it answers, by the value before it. The call's function
+/// is asked once at most.
 pub(crate) fn work_of<K, V: Clone + Eq, F: Remap<K, V>>(
     key: &K,
     op: &Op<V, F>,
     before: Option<&V>,
 ) -> Result<Work<V>, AllocError>
     requires { IsExact V.is_clone }
-    ensures work { IfOk result (λ work. IsWork V.eq F.remapped F.merged key.now op.now (option_copied before.entry) work) }
-    ensures succeeds { IsNeverRefused V.is_infallible → asks op.now (option_copied before.entry) ≡ false → IsOk result }
+    ensures work { IfOk result
+        (λ work. IsWork V.eq F.remapped F.merged key.now op.now (option_copied before.entry) work) }
+    ensures succeeds { IsNeverRefused V.is_infallible → asks op.now (option_copied before.entry)
+        ≡ false → IsOk result }
 {
     match op {
         Op::Get => Work::keeping(before),

@@ -106,7 +106,8 @@ fn each_call_replies_and_leaves_what_its_row_says(rt: HostRuntime) -> Result<(),
     Ok(())
 }
 
-/// A bin of class (16, 1) after 1,025 calls on two keys: both are put, one is taken away and put again.
+/// A bin of class (16, 1) after 1,025 calls on two keys: both are put, one is taken away and put
+/// again.
 fn folded(rt: &impl Abort, alloc: Global) -> Result<KeyBin, AllocError> {
     let mut bin = empty(alloc, Form::Recorded, Class::new(16, 1))?;
     let _ = make(rt, &mut bin, Call::Put(key(rt, b"q"), 1))?;
@@ -143,6 +144,26 @@ fn the_oldest_records_are_folded(rt: HostRuntime) -> Result<(), Fail> {
     assert!(rt; bin.get(&key(&rt, b"q")) == Some(&3));
     assert!(rt; bin.get(&key(&rt, b"A")).is_none());
     assert_halves(&rt, &bin)?;
+    Ok(())
+}
+
+/// A lean bin of class (16, 1) under the salt 16, by which the hash of `a` is 113 and that of `q`
+/// is 97.
+fn salted(rt: &impl Abort, alloc: Global) -> Result<KeyBin, AllocError> {
+    let class = Class::new(16, 1);
+    let mut bin = Bin::new(alloc, Form::Lean, Salt(16), class, Vec::new(alloc))?;
+    let _ = make(rt, &mut bin, Call::Put(key(rt, b"a"), 1))?;
+    let _ = make(rt, &mut bin, Call::Put(key(rt, b"q"), 2))?;
+    Ok(bin)
+}
+
+#[test]
+fn a_salted_bin_is_split_by_salted_hashes(rt: HostRuntime) -> Result<(), Fail> {
+    let bin = salted(&rt, rt.alloc())?;
+    assert!(rt; bin.class().n() < 65536);
+    let (low, high) = bin.split()?;
+    assert_entries(&rt, low.entries(), &[(b"q", 2)]);
+    assert_entries(&rt, high.entries(), &[(b"a", 1)]);
     Ok(())
 }
 

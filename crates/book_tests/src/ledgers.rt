@@ -1,5 +1,6 @@
 //! Ledgers at the program's keys.
-ghost use Rattle.std.specs.Prelude.{◌≡◌, ◌<◌, ◌≤◌, [], length, IfOk, IfErr, vec_len, vec_capacity, All};
+ghost use Rattle.std.specs.Prelude.{◌≡◌, ◌<◌, ◌≤◌, [], length, IfOk, IfErr, vec_len, vec_capacity};
+ghost use Rattle.std.specs.Prelude.{All};
 ghost use Rattle.hashkeys.specs.Classes.{IsTableSize};
 ghost use Rattle.count_ledger.specs.Opening.{new_passes, new_roles, lists_of};
 
@@ -20,7 +21,8 @@ type KeyRole = BinRole<Key, u64, ()>;
 
 type KeyUnsettled = Unsettled<Key, u64, (), Global>;
 
-/// A call: which client makes it, which role keeps it, on which key, and the values before and after it.
+/// A call: which client makes it, which role keeps it, on which key, and the values before and
+/// after it.
 #[derive(Drop)]
 struct Row {
     client: usize,

@@ -72,7 +72,8 @@ fn one_mover_moves_each_table_alone(rt: HostRuntime) -> Result<(), Fail> {
 
 #[test]
 fn two_movers_finish_a_table_of_32(rt: HostRuntime) -> Result<(), Fail> {
-    // Where memory is refused once, as in a run with `--fail-alloc N`, nothing is lost and the next try makes the move.
+    // Where memory is refused once, as in a run with `--fail-alloc N`, nothing is lost and the next
+    // try makes the move.
     let made = Strides::new(rt.alloc(), 32).or_else(|_| Strides::new(rt.alloc(), 32));
     let (strides, mut opener) = made?;
     let mut helper = strides.enter().expect(&rt, "a spare mover");
@@ -86,7 +87,8 @@ fn two_movers_finish_a_table_of_32(rt: HostRuntime) -> Result<(), Fail> {
     Ok(())
 }
 
-// Claims and finishes until there is no range left, and marks each that it had. Says whether it was last.
+// Claims and finishes until there is no range left, and marks each that it had. Says whether it was
+// last.
 fn moves_all(strides: &Strides<Global>, mut mover: Mover, marks: &[AtomicU64]) -> bool
     requires { mover.strides ≡ strides.now }
 {

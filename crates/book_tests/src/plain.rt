@@ -147,8 +147,8 @@ fn are_same(rt: &impl Abort, entries: &[(Key, u64)], pairs: &[(usize, u64)]) -> 
     entries.len() == pairs.len()
 }
 
-/// Makes 10,000 calls on a bin of the form and on a plain map, and answers which is the first that differs in its reply
-/// or in what it leaves.
+/// Makes 10,000 calls on a bin of the form and on a plain map, and answers which is the first that
+/// differs in its reply or in what it leaves.
 fn first_difference(rt: &impl Abort, alloc: Global, form: Form) -> Result<Option<u64>, AllocError> {
     let mut bin = Bin::new(alloc, form, Salt(0), Class::new(1, 0), Vec::new(alloc))?;
     let mut pairs = Vec::new(alloc);

@@ -1,5 +1,6 @@
 -- Folds of lists that lie side by side.
-use Rattle.std.proofs.Common.{◌≡◌, ℕ, ◌+◌, ◌<◌, ◌^◌, List, [], ◌∷◌, ◌++◌, length, get_or, take, Option, Some, None, refl, ap, sym, ◌∙◌, subst, arith}
+use Rattle.std.proofs.Common.{◌≡◌, ℕ, ◌+◌, ◌<◌, ◌^◌, List, [], ◌∷◌, ◌++◌, length, get_or, take, Option, Some, None}
+use Rattle.std.proofs.Common.{refl, ap, sym, ◌∙◌, subst, arith}
 use Rattle.std.specs.Prelude.{fold, map, unwrap_or, IfSome, MatchOption}
 use Rattle.std.proofs.lemmas.Grind.{fold-append}
 use Rattle.std.proofs.lemmas.List.{map-append, take_more}
@@ -15,7 +16,8 @@ few_with_basis within basis n None few b h = tt
 few_with_basis within basis n (Some a) few b h = (0, n, b, h, omega (arith, few))
 
 module _ {K V A : Type 0} (lift : K → V → A) (join : A → A → A) where
-  pub from_both : (a : A) (es fs : List (K × V)) → fold_from lift join a (es ++ fs) ≡ fold_from lift join (fold_from lift join a es) fs
+  pub from_both : (a : A) (es fs : List (K × V)) → fold_from lift join a (es ++ fs) ≡ fold_from lift join
+      (fold_from lift join a es) fs
   from_both a es fs = ap (fold join a) (map-append (λ e. lift e.0 e.1) es fs)
       ∙ fold-append join a (map (λ e. lift e.0 e.1) es) (map (λ e. lift e.0 e.1) fs)
 
@@ -32,13 +34,15 @@ module _ {K V A : Type 0} (lift : K → V → A) (join : A → A → A) where
   begun e es fs = ap Some (sym (from_both (lift e.0 e.1) es fs))
 
   module _ (associative : IsAssociative join) where
-    pub joined_from : (a b : A) (es : List (K × V)) → join a (fold_from lift join b es) ≡ fold_from lift join (join a b) es
+    pub joined_from : (a b : A) (es : List (K × V)) → join a (fold_from lift join b es)
+        ≡ fold_from lift join (join a b) es
     joined_from a b [] = refl
     joined_from a b (e ∷ es) = joined_from a (join b (lift e.0 e.1)) es
         ∙ ap (λ c. fold_from lift join c es) (sym (associative a b (lift e.0 e.1)))
 
     -- the fold of both is the join of the folds
-    pub fold_both : (a b : A) (es fs : List (K × V)) → Some a ≡ plain_fold lift join es → Some b ≡ plain_fold lift join fs
+    pub fold_both : (a b : A) (es fs : List (K × V)) → Some a ≡ plain_fold lift join es →
+        Some b ≡ plain_fold lift join fs
         → Some (join a b) ≡ plain_fold lift join (es ++ fs)
     fold_both a b [] fs h k = absurd (none_ne_some _ (sym h))
     fold_both a b (e ∷ es) [] h k = absurd (none_ne_some _ (sym k))
@@ -50,6 +54,7 @@ module _ {K V A : Type 0} (lift : K → V → A) (join : A → A → A) where
         ∙ ap Some (joined_from all (lift f.0 f.1) fs ∙ sym (from_both (lift e.0 e.1) es (f ∷ fs)))
 
     -- the fold from a basis is the basis joined with the plain fold
-    pub fold_based : (basis a : A) (es : List (K × V)) → Some a ≡ plain_fold lift join es → join basis a ≡ fold_from lift join basis es
+    pub fold_based : (basis a : A) (es : List (K × V)) → Some a ≡ plain_fold lift join es →
+        join basis a ≡ fold_from lift join basis es
     fold_based basis a [] h = absurd (none_ne_some _ (sym h))
     fold_based basis a (e ∷ es) h = ap (λ o. join basis (unwrap_or o a)) h ∙ joined_from basis (lift e.0 e.1) es

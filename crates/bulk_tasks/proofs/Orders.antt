@@ -1,17 +1,20 @@
 -- Folds of the same pairs in another order.
-use Rattle.std.proofs.Common.{◌≡◌, ℕ, zero, suc, ◌<◌, List, [], ◌∷◌, length, get_or, set, Option, Some, None, refl, ap, sym, ◌∙◌, arith}
+use Rattle.std.proofs.Common.{◌≡◌, ℕ, zero, suc, ◌<◌, List, [], ◌∷◌, length, get_or, set, Option, Some, None, refl, ap}
+use Rattle.std.proofs.Common.{sym, ◌∙◌, arith}
 use Rattle.std.specs.List.Sorted.{IsPermutation}
 use Rattle.std.specs.List.{swap}
 use Rattle.std.proofs.lemmas.List.Sorted.{IsPermutation-keeps}
 use Rattle.bulk_tasks.specs.Folds.{fold_from, plain_fold, IsAssociative, IsCommutative}
 use Rattle.bulk_tasks.proofs.Folding.{joined_from}
 
-module _ {K V A : Type 0} (lift : K → V → A) (join : A → A → A) (associative : IsAssociative join) (commutative : IsCommutative join) where
+module _ {K V A : Type 0} (lift : K → V → A) (join : A → A → A) (associative : IsAssociative join)
+    (commutative : IsCommutative join) where
   onto : A → Option A → Option A
   onto a None = Some a
   onto a (Some b) = Some (join a b)
 
-  first_onto : (e : K × V) (es : List (K × V)) → onto (lift e.0 e.1) (plain_fold lift join es) ≡ plain_fold lift join (e ∷ es)
+  first_onto : (e : K × V) (es : List (K × V)) → onto (lift e.0 e.1) (plain_fold lift join es)
+      ≡ plain_fold lift join (e ∷ es)
   unfolding onto
   first_onto e [] = refl
   first_onto e (f ∷ es) = ap Some (joined_from lift join associative (lift e.0 e.1) (lift f.0 f.1) es)
@@ -39,7 +42,8 @@ module _ {K V A : Type 0} (lift : K → V → A) (join : A → A → A) (associa
   swapped (e ∷ es) (suc i) (suc j) d p q = behind e (set (set es i (get_or es j d)) j (get_or es i d)) es
       (swapped es i j d (omega arith) (omega arith))
 
-  step : (es : List (K × V)) (i j : ℕ) → i < length es → j < length es → plain_fold lift join (swap es i j) ≡ plain_fold lift join es
+  step : (es : List (K × V)) (i j : ℕ) → i < length es → j < length es → plain_fold lift join (swap es i j)
+      ≡ plain_fold lift join es
   step [] i j p q = refl
   step (e ∷ es) i j p q = swapped (e ∷ es) i j e p q
 

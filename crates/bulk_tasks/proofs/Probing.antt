@@ -24,7 +24,8 @@ module _ {K V U : Type 0} (probe : K → V → Option U) where
   settled never may es fs Refused n h = h
 
   -- after nothing, what the rest has come to
-  pub after_nothing : (never_refuses : Bool) (may_give_up : Type 0) (es fs : List (K × V)) (part : Probed U) → IsNowhere probe es
+  pub after_nothing : (never_refuses : Bool) (may_give_up : Type 0) (es fs : List (K × V)) (part : Probed U) →
+      IsNowhere probe es
       → IsProbed probe never_refuses may_give_up fs part → IsProbed probe never_refuses may_give_up (es ++ fs) part
   after_nothing never may es fs (Found u) n h = found_right es fs u h
   after_nothing never may es fs Nothing n h = All-append (λ e. probe e.0 e.1 ≡ None) es fs n h

@@ -1,7 +1,8 @@
 -- Folds of pairs.
 use Rattle.std.specs.declared.alloc.AllocError.{AllocError}
 use Rattle.std.specs.List.Sorted.{IsPermutation}
-use Rattle.std.specs.Prelude.{◌≡◌, ℕ, ◌+◌, ◌^◌, ◌<◌, Bool, IsTrue, IfSome, Option, Some, None, Result, Ok, Err, List, [], ◌∷◌, length, map, fold}
+use Rattle.std.specs.Prelude.{◌≡◌, ℕ, ◌+◌, ◌^◌, ◌<◌, Bool, IsTrue, IfSome, Option, Some, None, Result, Ok, Err, List}
+use Rattle.std.specs.Prelude.{[], ◌∷◌, length, map, fold}
 
 module _ {K V A : Type 0} (lift : K → V → A) (join : A → A → A) where
   -- the lifted pairs, joined from left to right onto the basis
@@ -33,10 +34,12 @@ abbrev pub AreOfFew : {A : Type 0} → (ℕ → A → Type 0) → A → A → Ty
 AreOfFew {A} within a b = (n : ℕ) × (m : ℕ) × within n a × within m b × (n + m < 2 ^ 64)
 
 -- a fold of the pairs, within the bound of so many; it is refused only where a reducer may refuse
-abbrev pub IsFolded : {K V A : Type 0} → (K → V → A) → (A → A → A) → (ℕ → A → Type 0) → Bool → List (K × V) → Result (Option A) AllocError → Type 0
+abbrev pub IsFolded : {K V A : Type 0} → (K → V → A) → (A → A → A) → (ℕ → A → Type 0) → Bool → List (K × V) →
+    Result (Option A) AllocError → Type 0
 IsFolded lift join within never_refuses es (Ok a) = (a ≡ plain_fold lift join es) × IfSome a (within (length es))
 IsFolded lift join within never_refuses es (Err e) = ¬ IsTrue never_refuses
 
 -- whatever order the pairs stand in, they fold to the same
 abbrev pub FoldsInAnyOrder : {K V A : Type 0} → (K → V → A) → (A → A → A) → Type 0
-FoldsInAnyOrder {K} {V} lift join = (es fs : List (K × V)) → IsPermutation es fs → plain_fold lift join fs ≡ plain_fold lift join es
+FoldsInAnyOrder {K} {V} lift join = (es fs : List (K × V)) → IsPermutation es fs →
+    plain_fold lift join fs ≡ plain_fold lift join es

@@ -1,6 +1,6 @@
 //! What an action answers for all entries.
 ghost use Rattle.std.specs.Prelude.{◌≡◌, IfOk};
-ghost use Rattle.chm.specs.Quiets.{entries_of};
+ghost use Rattle.chm.specs.Headline.{entries_of};
 ghost use Rattle.bulk_tasks.specs.Actions.{answers};
 ghost use Rattle.bulk_tasks.specs.Plans.{IsPlanned};
 
@@ -31,7 +31,8 @@ impl<K, V, X: Action<K, V>> Stepper<K, V> for Acting<'_, X> {
 
     type Part = Result<Vec<X::R>, AllocError>;
 
-    ghost reached = { λ c es part. IfOk part (λ list. list.items ≡ answers (X.acted c.action.now) es) };
+    ghost reached = { λ c es part. IfOk part
+        (λ list. list.items ≡ answers (X.acted c.action.now) es) };
 
     fn start(&self) -> Result<Vec<X::R>, AllocError> {
         Ok(Vec::new(self.alloc))
@@ -70,7 +71,8 @@ impl<
 
     type Part = Result<Vec<X::R>, AllocError>;
 
-    ghost collected = { λ c es part. IfOk part (λ list. list.items ≡ answers (X.acted c.action.now) es) };
+    ghost collected = { λ c es part. IfOk part
+        (λ list. list.items ≡ answers (X.acted c.action.now) es) };
 
     fn collect(&self, bins: &[Bin<K, V, F, A>]) -> Result<Vec<X::R>, AllocError> {
         step_through(self, bins)
@@ -90,6 +92,10 @@ impl<
 
 /// Does the action with each entry. The answers come in walk order, one an entry. Where it is
 /// refused memory, what was done is done, and nothing is answered. It waits for its workers.
+///
+/// Where `a` has the value 1, and `b` 2, and the action answers the value:
+///
+///     for_each(rt, alloc, quiet, &Plan::new(0, 4), &Values)?.as_slice() == [1, 2].as_slice()
 pub fn for_each<
     K: HashKey + Send + Sync,
     V: Clone + Eq + Send + Sync,
@@ -107,7 +113,8 @@ pub fn for_each<
 ) -> Result<Vec<X::R>, BulkFault>
 where
     X::R: Send,
-    ensures answers { IfOk result (λ list. list.items ≡ answers (X.acted action.now) (entries_of quiet.now.bins)) }
+    ensures answers { IfOk result
+        (λ list. list.items ≡ answers (X.acted action.now) (entries_of quiet.now.bins)) }
     ensures workers { IsPlanned plan.now.workers result }
 {
     plan.check()?;

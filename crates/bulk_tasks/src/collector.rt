@@ -1,6 +1,6 @@
 //! What is collected from the pairs of bins, in parts that lie side by side.
 ghost use Rattle.std.specs.Prelude.{◌<◌, ◌+◌, ◌^◌, ◌++◌, List, length, slice_range};
-ghost use Rattle.chm.specs.Quiets.{entries_of};
+ghost use Rattle.chm.specs.Headline.{entries_of};
 ghost use Rattle.completers.specs.Parts.{AreParts};
 
 use bin_history::{Bin, Remap};
@@ -23,8 +23,10 @@ pub trait Collector<K: HashKey, V: Clone + Eq, F: Remap<K, V> + Clone, A: Alloca
 
     /// The part of two parts side by side, of fewer than 2^64 pairs together.
     fn append(&self, left: Self::Part, right: Self::Part) -> Self::Part
-        requires few { (es : List (K × V)) × (fs : List (K × V)) × collected self.now es left × collected self.now fs right × (length es + length fs < 2 ^ 64) }
-        ensures { (es fs : List (K × V)) → collected self.now es left → collected self.now fs right → collected self.now (es ++ fs) result };
+        requires few { (es : List (K × V)) × (fs : List (K × V)) × collected self.now es left
+            × collected self.now fs right × (length es + length fs < 2 ^ 64) }
+        ensures { (es fs : List (K × V)) → collected self.now es left → collected self.now fs right
+            → collected self.now (es ++ fs) result };
 }
 
 /// The bins of a closed map, whose ranges workers collect from.
@@ -50,11 +52,12 @@ impl<
     C: Collector<K, V, F, A>,
 > Relation for Collecting<'_, K, V, F, A, C> {
     ghost use Rattle.std.specs.Prelude.{slice_range};
-    ghost use Rattle.chm.specs.Quiets.{entries_of};
+    ghost use Rattle.chm.specs.Headline.{entries_of};
 
     type Part = C::Part;
 
-    ghost relates = { λ b lo hi part. C.collected b.collector.now (entries_of (slice_range b.bins.now lo hi)) part };
+    ghost relates = { λ b lo hi part. C.collected b.collector.now
+        (entries_of (slice_range b.bins.now lo hi)) part };
 }
 
 impl<
@@ -74,8 +77,11 @@ impl<
 
     fn join(&self, lo: usize, hi: usize, parts: Parts<C::Part>) -> C::Part
         requires range { lo < hi }
-        requires parts { AreParts (λ a b part. C.collected self.now.collector.now (entries_of (slice_range self.now.bins.now a b)) part) lo hi parts }
-        ensures { C.collected self.now.collector.now (entries_of (slice_range self.now.bins.now lo hi)) result }
+        requires parts { AreParts
+            (λ a b part. C.collected self.now.collector.now
+            (entries_of (slice_range self.now.bins.now a b)) part) lo hi parts }
+        ensures { C.collected self.now.collector.now
+            (entries_of (slice_range self.now.bins.now lo hi)) result }
     {
         let mut parts = parts;
         let Some(first) = parts.take() else {

@@ -8,7 +8,8 @@ use thiserror::Error;
 /// Why a bulk operation was refused. A bad number of workers is told before want of memory.
 #[derive(Clone, Copy, Debug, PartialEq, Eq, Error)]
 pub enum BulkFault {
-    /// The reducer, the probe or the action was refused memory, or the list of an action's answers was.
+    /// The reducer, the probe or the action was refused memory, or the list of an action's answers
+    /// was.
     #[error("no memory")]
     NoMemory,
     /// There are 0 or more than 16 workers.

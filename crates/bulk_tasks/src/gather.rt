@@ -1,6 +1,6 @@
 //! What the workers of a pool collect.
 ghost use Rattle.std.specs.Prelude.{◌≡◌, ◌<◌, ◌^◌, length};
-ghost use Rattle.chm.specs.Quiets.{entries_of};
+ghost use Rattle.chm.specs.Headline.{entries_of};
 ghost use Rattle.bulk_tasks.specs.Plans.{AreWorkers};
 
 use crate::batches::batch;

@@ -4,9 +4,9 @@ ghost use Rattle.std.specs.Prelude.{◌≡◌, IfErr};
 use crate::fault::BulkFault;
 use steal_pool::{MOST_WORKERS, OpenGate};
 
-/// How a bulk operation is shared out. The threshold is the least number of entries worth a
-/// task of their own (`batch` has the whole rule); there are 1 to `MOST_WORKERS` workers, the caller
-/// among them; and the gate is called before each task. A single task is done by the caller, and starts
+/// How a bulk operation is shared out. The threshold is the least number of entries worth a task of
+/// their own (`batch` has the whole rule); there are 1 to `MOST_WORKERS` workers, the caller among
+/// them; and the gate is called before each task. A single task is done by the caller, and starts
 /// no thread.
 #[derive(Drop, Debug)]
 pub struct Plan<'a, G> {

@@ -2,7 +2,8 @@
 use crate::traits::{BasedReducer, Reducer};
 use std::alloc::AllocError;
 
-/// The exact sum of the values, signed or unsigned, as a number of 128 bits, which holds that of fewer than 2^64 values. It is never refused.
+/// The exact sum of the values, signed or unsigned, as a number of 128 bits, which holds that of
+/// fewer than 2^64 values. It is never refused.
 #[derive(Clone, Copy, Debug)]
 pub struct Sum;
 
@@ -35,7 +36,10 @@ impl<K> Reducer<K, i64> for Sum {
 
     ghost commutative = { λ _ a b. +ℤ_comm a b };
 
-    ghost joins = { λ _ n m a b p q. (Prim.omega (arith, ints, p.0, q.0), Prim.omega (arith, ints, p.1, q.1)) };
+    ghost joins = { λ _ n m a b p q. (
+      Prim.omega (arith, ints, p.0, q.0),
+      Prim.omega (arith, ints, p.1, q.1),
+    ) };
 }
 
 impl<K> BasedReducer<K, i64> for Sum {
@@ -83,7 +87,14 @@ impl<K> Reducer<K, i64> for Greatest {
         Ok(left.max(right))
     }
 
-    ghost associative = { λ _ a b c. Prim.omega (arith, ints, int_max_is a b, int_max_is (int_max a b) c, int_max_is b c, int_max_is a (int_max b c)) };
+    ghost associative = { λ _ a b c. Prim.omega (
+      arith,
+      ints,
+      int_max_is a b,
+      int_max_is (int_max a b) c,
+      int_max_is b c,
+      int_max_is a (int_max b c),
+    ) };
 
     ghost commutative = { λ _ a b. Prim.omega (arith, ints, int_max_is a b, int_max_is b a) };
 

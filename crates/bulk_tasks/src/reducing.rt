@@ -1,7 +1,8 @@
 //! Reductions of all entries to one value.
-ghost use Rattle.std.specs.Prelude.{◌≡◌, ℕ, ◌+◌, ◌<◌, ◌^◌, List, length, IfOk, IfSome, IsOk, IsErrOf, IsTrue};
+ghost use Rattle.std.specs.Prelude.{◌≡◌, ℕ, ◌+◌, ◌<◌, ◌^◌, List, length, IfOk, IfSome, IsOk};
+ghost use Rattle.std.specs.Prelude.{IsErrOf, IsTrue};
 ghost use Rattle.std.specs.List.Sorted.{IsPermutation};
-ghost use Rattle.chm.specs.Quiets.{entries_of};
+ghost use Rattle.chm.specs.Headline.{entries_of};
 ghost use Rattle.bulk_tasks.specs.Folds.{fold_from, plain_fold, AreOfFew, FoldsInAnyOrder};
 ghost use Rattle.bulk_tasks.specs.Plans.{IsPlanned};
 
@@ -25,8 +26,10 @@ fn fold_onto<K, V, R: Reducer<K, V>>(
     entries: &[(K, V)],
 ) -> Result<R::A, AllocError>
     requires few { (n : ℕ) × R.within reducer.now n first × (n + length entries.now < 2 ^ 64) }
-    ensures fold { IfOk result (λ a. a ≡ fold_from (R.lifted reducer.now) (R.joined reducer.now) first entries.now) }
-    ensures within { (n : ℕ) → R.within reducer.now n first → IfOk result (R.within reducer.now (n + length entries.now)) }
+    ensures fold { IfOk result
+        (λ a. a ≡ fold_from (R.lifted reducer.now) (R.joined reducer.now) first entries.now) }
+    ensures within { (n : ℕ) → R.within reducer.now n first →
+        IfOk result (R.within reducer.now (n + length entries.now)) }
     ensures total { IsTrue R.never_refuses → IsOk result }
 {
     let mut folded = first;
@@ -45,9 +48,13 @@ fn fold_bins_onto<
     A: Allocator + Clone,
     R: Reducer<K, V>,
 >(reducer: &R, first: R::A, bins: &[Bin<K, V, F, A>]) -> Result<R::A, AllocError>
-    requires few { (n : ℕ) × R.within reducer.now n first × (n + length (entries_of bins.now) < 2 ^ 64) }
-    ensures fold { IfOk result (λ a. a ≡ fold_from (R.lifted reducer.now) (R.joined reducer.now) first (entries_of bins.now)) }
-    ensures within { (n : ℕ) → R.within reducer.now n first → IfOk result (R.within reducer.now (n + length (entries_of bins.now))) }
+    requires few { (n : ℕ) × R.within reducer.now n first
+        × (n + length (entries_of bins.now) < 2 ^ 64) }
+    ensures fold { IfOk result
+        (λ a. a ≡ fold_from (R.lifted reducer.now) (R.joined reducer.now) first
+        (entries_of bins.now)) }
+    ensures within { (n : ℕ) → R.within reducer.now n first →
+        IfOk result (R.within reducer.now (n + length (entries_of bins.now))) }
     ensures total { IsTrue R.never_refuses → IsOk result }
 {
     let mut folded = first;
@@ -74,7 +81,8 @@ impl<
 
     type Part = Result<Option<R::A>, AllocError>;
 
-    ghost collected = { λ c es part. IsFolded (R.lifted c.reducer.now) (R.joined c.reducer.now) (R.within c.reducer.now) R.never_refuses es part };
+    ghost collected = { λ c es part. IsFolded (R.lifted c.reducer.now) (R.joined c.reducer.now)
+        (R.within c.reducer.now) R.never_refuses es part };
 
     fn collect(&self, bins: &[Bin<K, V, F, A>]) -> Result<Option<R::A>, AllocError> {
         for (place, bin) in bins.iter().enumerate() {
@@ -111,14 +119,16 @@ fn any_order<K, V, R: Reducer<K, V>>(reducer: &R)
     let _ = reducer;
 }
 
-// The fold from a basis, made of the plain fold: the basis joined to it, or alone where there were no pairs.
+// The fold from a basis, made of the plain fold: the basis joined to it, or alone where there were
+// no pairs.
 fn join_onto<K, V, R: Reducer<K, V>>(
     reducer: &R,
     basis: R::A,
     folded: Option<R::A>,
 ) -> Result<R::A, AllocError>
     requires few { IfSome folded (AreOfFew (R.within reducer.now) basis) }
-    ensures fold { IfOk result (λ a. (es : List (K × V)) → folded ≡ plain_fold (R.lifted reducer.now) (R.joined reducer.now) es
+    ensures fold { IfOk result (λ a. (es : List (K × V)) →
+        folded ≡ plain_fold (R.lifted reducer.now) (R.joined reducer.now) es
         → a ≡ fold_from (R.lifted reducer.now) (R.joined reducer.now) basis es) }
     ensures total { IsTrue R.never_refuses → IsOk result }
 {
@@ -131,6 +141,10 @@ fn join_onto<K, V, R: Reducer<K, V>>(
 /// The value of all entries by the reducer: what lifting each and joining from left to right in
 /// walk order gives; none of no entries. With a reducer that never refuses it is refused a bad
 /// number of workers alone. It waits for its workers.
+///
+/// Where `a` has the value 1, and `b` 2:
+///
+///     reduce(rt, alloc, quiet, &Plan::new(0, 4), &Greatest)? == Some(2)
 pub fn reduce<
     K: HashKey + Send + Sync,
     V: Clone + Eq + Send + Sync,
@@ -148,8 +162,10 @@ pub fn reduce<
 ) -> Result<Option<R::A>, BulkFault>
 where
     R::A: Send,
-    ensures fold { IfOk result (λ a. a ≡ plain_fold (R.lifted reducer.now) (R.joined reducer.now) (entries_of quiet.now.bins)) }
-    ensures order { IfOk result (λ a. (es : List (K × V)) → IsPermutation (entries_of quiet.now.bins) es
+    ensures fold { IfOk result (λ a. a ≡ plain_fold (R.lifted reducer.now) (R.joined reducer.now)
+        (entries_of quiet.now.bins)) }
+    ensures order { IfOk result (λ a. (es : List (K × V)) →
+        IsPermutation (entries_of quiet.now.bins) es
         → a ≡ plain_fold (R.lifted reducer.now) (R.joined reducer.now) es) }
     ensures workers { IsPlanned plan.now.workers result }
     ensures total { IsTrue R.never_refuses → ¬ IsErrOf result BulkFault.NoMemory }
@@ -159,7 +175,12 @@ where
     Ok(gather(rt, alloc, quiet, plan, &Folding { reducer })?)
 }
 
-/// The value of all entries by the reducer, as `reduce` gives it, from the reducer's basis on.
+/// The value of all entries by the reducer, as `reduce` gives it, from the reducer's basis on. It
+/// waits for its workers.
+///
+/// Where `a` has the value 1, and `b` 2:
+///
+///     reduce_based(rt, alloc, quiet, &Plan::new(0, 4), &Sum)? == 3
 pub fn reduce_based<
     K: HashKey + Send + Sync,
     V: Clone + Eq + Send + Sync,
@@ -177,8 +198,10 @@ pub fn reduce_based<
 ) -> Result<R::A, BulkFault>
 where
     R::A: Send,
-    ensures fold { IfOk result (λ a. a ≡ fold_from (R.lifted reducer.now) (R.joined reducer.now) (R.based reducer.now) (entries_of quiet.now.bins)) }
-    ensures order { IfOk result (λ a. (es : List (K × V)) → IsPermutation (entries_of quiet.now.bins) es
+    ensures fold { IfOk result (λ a. a ≡ fold_from (R.lifted reducer.now) (R.joined reducer.now)
+        (R.based reducer.now) (entries_of quiet.now.bins)) }
+    ensures order { IfOk result (λ a. (es : List (K × V)) →
+        IsPermutation (entries_of quiet.now.bins) es
         → a ≡ fold_from (R.lifted reducer.now) (R.joined reducer.now) (R.based reducer.now) es) }
     ensures workers { IsPlanned plan.now.workers result }
     ensures total { IsTrue R.never_refuses → ¬ IsErrOf result BulkFault.NoMemory }

@@ -1,6 +1,6 @@
 //! A search of all entries.
 ghost use Rattle.std.specs.Prelude.{◌≡◌, IfOk, IsErrOf, IsTrue};
-ghost use Rattle.chm.specs.Quiets.{entries_of};
+ghost use Rattle.chm.specs.Headline.{entries_of};
 ghost use Rattle.bulk_tasks.specs.Plans.{IsPlanned};
 ghost use Rattle.bulk_tasks.specs.Searches.{IsSearched};
 
@@ -37,7 +37,8 @@ impl Finds for Somewhere {
     ghost finds = { λ index. index ≡ 0 };
 }
 
-/// Collects the first that a probe finds. Where it may give up, a part does so at the first bin that it comes to after something was found.
+/// Collects the first that a probe finds. Where it may give up, a part does so at the first bin
+/// that it comes to after something was found.
 #[derive(Drop)]
 pub(crate) struct Searching<'a, P> {
     pub(crate) probe: &'a P,
@@ -51,7 +52,8 @@ impl<K, V, P: Probe<K, V>> Stepper<K, V> for Searching<'_, P> {
 
     type Part = Probed<P::U>;
 
-    ghost reached = { λ c es part. IsProbed (P.probed c.probe.now) P.never_refuses (IsTrue c.may_give_up) es part };
+    ghost reached = { λ c es part. IsProbed (P.probed c.probe.now) P.never_refuses
+        (IsTrue c.may_give_up) es part };
 
     fn start(&self) -> Probed<P::U> {
         Probed::Nothing
@@ -103,7 +105,8 @@ impl<
 
     type Part = Probed<P::U>;
 
-    ghost collected = { λ c es part. IsProbed (P.probed c.probe.now) P.never_refuses (IsTrue c.may_give_up) es part };
+    ghost collected = { λ c es part. IsProbed (P.probed c.probe.now) P.never_refuses
+        (IsTrue c.may_give_up) es part };
 
     fn collect(&self, bins: &[Bin<K, V, F, A>]) -> Probed<P::U> {
         step_through(self, bins)
@@ -155,6 +158,10 @@ pub(crate) fn search_alone<
 /// Something that the probe finds in some entry, or none where it finds nothing in any. Once
 /// something is found other entries may be left out. With a probe that never refuses it is refused
 /// a bad number of workers alone. It waits for its workers.
+///
+/// Where `a` has the value 1, and `b` 2, and the probe finds a value above its number:
+///
+///     search(rt, alloc, quiet, &Plan::new(0, 4), &Above(1))? == Some(2)
 pub fn search<
     K: HashKey + Send + Sync,
     V: Clone + Eq + Send + Sync,

@@ -1,6 +1,6 @@
 //! What is collected pair by pair.
 ghost use Rattle.std.specs.Prelude.{◌++◌, ◌∷◌, [], List, IsTrue};
-ghost use Rattle.chm.specs.Quiets.{entries_of};
+ghost use Rattle.chm.specs.Headline.{entries_of};
 
 use bin_history::{Bin, Remap};
 use hashkeys::HashKey;
@@ -18,7 +18,8 @@ pub trait Stepper<K, V> {
 
     /// The part with one pair more.
     fn add(&self, part: Self::Part, key: &K, value: &V) -> Self::Part
-        ensures { (es : List (K × V)) → reached self.now es part → reached self.now (es ++ (key.now, value.now) ∷ []) result };
+        ensures { (es : List (K × V)) → reached self.now es part →
+            reached self.now (es ++ (key.now, value.now) ∷ []) result };
 
     /// The same part, or one that says that the stepper gives up. It is asked for before each bin.
     fn look_again(&self, part: Self::Part) -> Self::Part
@@ -26,12 +27,14 @@ pub trait Stepper<K, V> {
 
     /// Whether no further pair changes the part.
     fn is_settled(&self, part: &Self::Part) -> bool
-        ensures { IsTrue result → (es fs : List (K × V)) → reached self.now es part.now → reached self.now (es ++ fs) part.now };
+        ensures { IsTrue result → (es fs : List (K × V)) → reached self.now es part.now →
+            reached self.now (es ++ fs) part.now };
 }
 
 // The part with these pairs more.
 fn add_all<K, V, S: Stepper<K, V>>(stepper: &S, part: S::Part, entries: &[(K, V)]) -> S::Part
-    ensures { (es : List (K × V)) → S.reached stepper.now es part → S.reached stepper.now (es ++ entries.now) result }
+    ensures { (es : List (K × V)) → S.reached stepper.now es part →
+        S.reached stepper.now (es ++ entries.now) result }
 {
     let mut part = part;
     for (key, value) in entries {

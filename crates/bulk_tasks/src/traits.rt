@@ -6,7 +6,8 @@ use std::alloc::AllocError;
 
 /// What makes one value of all pairs: each is lifted, and the lifted values are joined. Join is
 /// associative and commutative, so it does not matter which are joined first. A reducer states a
-/// bound within which the value of so many pairs lies, and is asked to join values of fewer than 2^64 pairs alone.
+/// bound within which the value of so many pairs lies, and is asked to join values of fewer than
+/// 2^64 pairs alone.
 pub trait Reducer<K, V> {
     ghost use Rattle.std.specs.Prelude.{ℕ, Bool};
     ghost use Rattle.bulk_tasks.specs.Folds.{AreOfFew, IsAssociative, IsCommutative, JoinsWithin};

@@ -1,5 +1,6 @@
 -- What is known of a map when its bins and all its books are back.
-use Rattle.std.proofs.Common.{◌≡◌, ℕ, zero, suc, ◌+◌, ◌%◌, ◌^◌, ◌<◌, ◌≤◌, ◌==◌, Bool, Decides, cond, Option, Some, None, inl, inr, pos, ◌+ℤ◌, List, [], ◌∷◌}
+use Rattle.std.proofs.Common.{◌≡◌, ℕ, zero, suc, ◌+◌, ◌%◌, ◌^◌, ◌<◌, ◌≤◌, ◌==◌, Bool, Decides, cond, Option, Some, None}
+use Rattle.std.proofs.Common.{inl, inr, pos, ◌+ℤ◌, List, [], ◌∷◌}
 use Rattle.std.proofs.Common.{length, count_by, refl, sym, ap, subst, ◌∙◌, arith, All}
 use Rattle.std.proofs.lemmas.Bool.{eq-eqb}
 use Rattle.std.proofs.lemmas.Int.{ints}
@@ -23,14 +24,16 @@ use Rattle.generations.specs.BinsWithRoles.{AreBinsWithRoles, classes_of_bins}
 use Rattle.generations.specs.Views.{GenerationsView}
 use Rattle.generations.specs.Walks.{IsWalk}
 use Rattle.chm.specs.Closing.{IsNotClosed}
-use Rattle.chm.specs.Quiets.{QuietView, entries_of, IsQuiet}
+use Rattle.chm.specs.Headline.{QuietView, entries_of, IsQuiet}
 use Rattle.chm.specs.Views.{MapView, bins_of}
 use Rattle.chm.specs.declared.fault.Fault.TheVariants.{NoMemory, PassMissing, BinMissing}
 
-module _ {K V F : Type 0} (same : K → K → Bool) (tells : (x y : K) → Decides (same x y) (x ≡ y)) (code : K → ℕ) (after : Call K V F → Option V → Option V)
+module _ {K V F : Type 0} (same : K → K → Bool) (tells : (x y : K) → Decides (same x y) (x ≡ y)) (code : K → ℕ)
+    (after : Call K V F → Option V → Option V)
     (g : GenerationsView) where
   -- the roles of a map's bins are of its ledger
-  pub ledgers_of_roles : (bins : List (BinView K V F)) (roles : List (RoleView K V F)) → AreBinsWithRoles same code after g bins roles
+  pub ledgers_of_roles : (bins : List (BinView K V F)) (roles : List (RoleView K V F)) →
+      AreBinsWithRoles same code after g bins roles
       → All (λ r. r.ledger ≡ g.ledger) roles
   ledgers_of_roles [] [] with_roles = All-nil (λ (r : RoleView K V F). r.ledger ≡ g.ledger)
   ledgers_of_roles [] (r ∷ rs) with_roles = absurd with_roles
@@ -39,7 +42,8 @@ module _ {K V F : Type 0} (same : K → K → Bool) (tells : (x y : K) → Decid
       All-cons (λ (r : RoleView K V F). r.ledger ≡ g.ledger) r rs with_role.ledger (ledgers_of_roles bs rs with_roles)
 
   -- there are as many pairs as the roles' opening pairs and deltas say
-  pub count_of_bins : (bins : List (BinView K V F)) (roles : List (RoleView K V F)) → AreBinsWithRoles same code after g bins roles
+  pub count_of_bins : (bins : List (BinView K V F)) (roles : List (RoleView K V F)) →
+      AreBinsWithRoles same code after g bins roles
       → All (λ b. b.entries ≡ replay same b.base b.records) bins
       → total_of (λ r. pos (length r.opening) +ℤ sum_of_deltas r.kept) roles ≡ pos (length (entries_of bins))
   count_of_bins [] [] with_roles replayed = refl
@@ -47,19 +51,23 @@ module _ {K V F : Type 0} (same : K → K → Bool) (tells : (x y : K) → Decid
   count_of_bins (b ∷ bs) [] with_roles replayed = absurd with_roles
   count_of_bins (b ∷ bs) (r ∷ rs) (with_role, with_roles) replayed =
       let R : BinView K V F → Type 0 = λ b. b.entries ≡ replay same b.base b.records in
-      let here = BinAgrees-count same tells code after b r with_role.agree with_role.lawful (All-head R b bs replayed) in
+      let here = BinAgrees-count same tells code after b r with_role.agree with_role.lawful
+      (All-head R b bs replayed) in
       let rest = count_of_bins bs rs with_roles (All-tail R b bs replayed) in
       let both = length-append b.entries (entries_of bs) in
       omega (arith, ints)
 
   -- so the map is closed, whatever its books are now called
-  pub IsQuiet-closed : (n : ℕ) (l ledger : LedgerView K V) (bins : List (BinView K V F)) (rs roles : List (RoleView K V F)) (ps passes : List (PassView K V F))
+  pub IsQuiet-closed : (n : ℕ) (l ledger : LedgerView K V) (bins : List (BinView K V F))
+      (rs roles : List (RoleView K V F)) (ps passes : List (PassView K V F))
       → l ≡ ledger → rs ≡ roles → ps ≡ passes → n ≡ g.n → g ≡ bins_of (record { ledger = ledger; n = g.n })
-      → IsTableSize g.n → IsWalk g.n (classes_of_bins bins) → AreBinsWithRoles same code after g bins roles → AreReconciled code ledger passes roles
+      → IsTableSize g.n → IsWalk g.n (classes_of_bins bins) → AreBinsWithRoles same code after g bins roles →
+      AreReconciled code ledger passes roles
       → IsQuiet same code after (record { ledger = l; n = n; bins = bins; roles = rs; passes = ps })
   IsQuiet-closed n l ledger bins rs roles ps passes is_l is_rs is_ps is_n home size walk with_roles books =
       let Whole : QuietView K V F → Type 0 = IsQuiet same code after in
-      let called : ◌≡◌ {A = QuietView K V F} (record { ledger = ledger; n = g.n; bins = bins; roles = roles; passes = passes })
+      let called : ◌≡◌ {A = QuietView K V F}
+      (record { ledger = ledger; n = g.n; bins = bins; roles = roles; passes = passes })
       (record { ledger = l; n = n; bins = bins; roles = rs; passes = ps }) =
       λ i. record { ledger = sym is_l i; n = sym is_n i; bins = bins; roles = sym is_rs i; passes = sym is_ps i } in
       subst Whole called (record {
@@ -73,41 +81,58 @@ upto_ones : (n : ℕ) → upto (λ _. 1) n ≡ n
 upto_ones zero = upto-none (λ _. 1)
 upto_ones (suc n) =
     let next : suc n ≡ n + 1 = omega arith in
-    let one : upto (λ _. 1) 1 ≡ 1 = upto-same (λ _. 1) (λ r. cond (r == 0) 1 0) 1 (λ r lt. sym (ap (λ (b : Bool). cond b 1 0) (eq-eqb r 0 (omega arith))))
+    let one : upto (λ _. 1) 1 ≡ 1 =
+    upto-same (λ _. 1) (λ r. cond (r == 0) 1 0) 1
+    (λ r lt. sym (ap (λ (b : Bool). cond b 1 0) (eq-eqb r 0 (omega arith))))
     ∙ upto-one 0 1 (omega arith) in
     ap (upto (λ _. 1)) next ∙ upto-more (λ _. 1) n 1 ∙ (let rest = upto_ones n in omega arith)
 
-module _ {K V F : Type 0} (code : K → ℕ) (ledger : LedgerView K V) (passes : List (PassView K V F)) (roles : List (RoleView K V F))
+module _ {K V F : Type 0} (code : K → ℕ) (ledger : LedgerView K V) (passes : List (PassView K V F))
+    (roles : List (RoleView K V F))
     (all : AreReconciled code ledger passes roles) where
   -- there are as many passes as clients
   pub as_many_passes : length passes ≡ ledger.clients
   as_many_passes =
       let n = ledger.clients in
       let Once : PassView K V F → Type 0 = λ p. upto (λ h. cond (p.client == h) 1 0) n ≡ 1 in
-      let once : All Once passes = All-weaker (IsPassOf ledger) Once (λ p is. upto-same (λ h. cond (p.client == h) 1 0) (λ h. cond (h == p.client) 1 0) n
-      (λ h lt. ap (λ (b : Bool). cond b 1 0) (eqb_turn p.client h)) ∙ upto-one p.client n is.client) passes all.each_pass in
+      let once : All Once passes =
+      All-weaker (IsPassOf ledger) Once
+      (λ p is. upto-same (λ h. cond (p.client == h) 1 0) (λ h. cond (h == p.client) 1 0) n
+      (λ h lt. ap (λ (b : Bool). cond b 1 0) (eqb_turn p.client h)) ∙ upto-one p.client n is.client) passes
+      all.each_pass in
       sym (length_is_sum passes)
       ∙ sym (upto-count (λ (p : PassView K V F) h. p.client == h) (λ _. 1) n passes once)
       ∙ upto-same (λ h. count_by (λ (p : PassView K V F). p.client == h) passes) (λ _. 1) n all.each_client
       ∙ upto_ones n
 
   -- the word of what all clients changed, added to the number of opening pairs, is the number of pairs that there are
-  pub word_of_count : (opened word count : ℕ) → ledger.clients ≤ 32 → opened ≡ length ledger.opening → opened ≤ 4294967295 → word ≡ word_of (total_made passes)
-      → total_of (λ r. pos (length r.opening) +ℤ sum_of_deltas r.kept) roles ≡ pos count → (opened + word) % 2 ^ 64 ≡ count
+  pub word_of_count : (opened word count : ℕ) → ledger.clients ≤ 32 → opened ≡ length ledger.opening →
+      opened ≤ 4294967295 → word ≡ word_of (total_made passes)
+      → total_of (λ r. pos (length r.opening) +ℤ sum_of_deltas r.kept) roles ≡ pos count →
+      (opened + word) % 2 ^ 64 ≡ count
   word_of_count opened word count few_clients opened_is few word_is counted =
       let many = as_many_passes in
       let bounds = total_made_bounds ledger passes all.each_pass in
-      let sum : pos opened +ℤ total_made passes ≡ pos count = ap (λ (n : ℕ). pos n +ℤ total_made passes) opened_is ∙ count-settled code ledger passes roles all
+      let sum : pos opened +ℤ total_made passes ≡ pos count = ap (λ (n : ℕ). pos n +ℤ total_made passes) opened_is
+      ∙ count-settled code ledger passes roles all
       ∙ counted in
       let low : count < 2 ^ 64 = omega (arith, ints, bounds.0, bounds.1) in
-      (λ i. (sym (word_of_natural opened (omega arith)) i + word_is i) % 2 ^ 64) ∙ sym (word_of-add (pos opened) (total_made passes)) ∙ ap word_of sum
+      (λ i. (sym (word_of_natural opened (omega arith)) i + word_is i) % 2 ^ 64)
+      ∙ sym (word_of-add (pos opened) (total_made passes)) ∙ ap word_of sum
       ∙ word_of_natural count low
 
 -- the refusals of a close
 module _ {K V F : Type 0} (map : MapView K V) (passes : List (PassView K V F)) where
-  pub NotClosed-missing : length passes < map.ledger.clients → IsNotClosed map passes (record { fault = PassMissing; map = Some map; passes = passes })
+  pub NotClosed-missing : length passes < map.ledger.clients →
+      IsNotClosed map passes (record { fault = PassMissing; map = Some map; passes = passes })
   NotClosed-missing few =
-      record { passes_are = refl; missing = ((λ _. few), (λ _. refl)); kept = inr ((λ e. absurd cc), refl); faults = inr (inl refl) }
+      record {
+        passes_are = refl;
+        missing = ((λ _. few), (λ _. refl));
+        kept = inr ((λ e. absurd cc), refl);
+        faults =
+            inr (inl refl);
+      }
 
   pub NotClosed-memory : map.ledger.clients ≤ length passes → (same : MapView K V) → same ≡ map
       → IsNotClosed map passes (record { fault = NoMemory; map = Some same; passes = passes })
@@ -119,6 +144,12 @@ module _ {K V F : Type 0} (map : MapView K V) (passes : List (PassView K V F)) w
         faults = inl refl;
       }
 
-  pub NotClosed-bins : map.ledger.clients ≤ length passes → IsNotClosed map passes (record { fault = BinMissing; map = None; passes = passes })
+  pub NotClosed-bins : map.ledger.clients ≤ length passes →
+      IsNotClosed map passes (record { fault = BinMissing; map = None; passes = passes })
   NotClosed-bins all =
-      record { passes_are = refl; missing = ((λ e. absurd cc), (λ few. absurd (omega arith))); kept = inl (refl, refl); faults = inr (inr refl) }
+      record {
+        passes_are = refl;
+        missing = ((λ e. absurd cc), (λ few. absurd (omega arith)));
+        kept = inl (refl, refl);
+        faults = inr (inr refl);
+      }

@@ -7,7 +7,8 @@ use Rattle.count_ledger.specs.Words.{word_of}
 use Rattle.count_ledger.proofs.WordSums.{word_of-add, word_of_natural, cast_signed-word_of}
 
 -- the word of a count at the opening and of a sum of deltas is that of their sum
-pub count_word : (opened word : ℕ) (total : ℤ) → opened ≤ 4294967295 → word ≡ word_of total → neg_ℤ (pos 4611686018427387904) ≤ℤ total
+pub count_word : (opened word : ℕ) (total : ℤ) → opened ≤ 4294967295 → word ≡ word_of total →
+    neg_ℤ (pos 4611686018427387904) ≤ℤ total
     → total ≤ℤ pos 4611686018427387904
     → cast_signed w64 ((opened + word) % 2 ^ 64) ≡ pos opened +ℤ total
 count_word opened word total few is low high =

@@ -6,7 +6,8 @@ use Rattle.chm.specs.Refusals.{AreClients}
 use Rattle.chm.specs.declared.fault.Fault.{Fault}
 use Rattle.chm.specs.declared.fault.Fault.TheVariants.{NoMemory}
 
-pub IsLimited-ok : {T : Type 0} (HasRoom : Type 0) (n : ℕ) (x : T) → HasRoom → AreClients n → IsLimited {T = T} HasRoom n (Ok x)
+pub IsLimited-ok : {T : Type 0} (HasRoom : Type 0) (n : ℕ) (x : T) → HasRoom → AreClients n →
+    IsLimited {T = T} HasRoom n (Ok x)
 IsLimited-ok HasRoom n x room clients = record {
   ok = λ is. (room, clients);
   capacity = (λ is. absurd cc, λ none. absurd (none room));
@@ -14,7 +15,8 @@ IsLimited-ok HasRoom n x room clients = record {
   faults = tt;
 }
 
-pub IsLimited-refused : {T : Type 0} (HasRoom : Type 0) (n : ℕ) (r : Result T Fault) → IsErrAnd r (λ fault. fault ≡ NoMemory) → HasRoom → AreClients n
+pub IsLimited-refused : {T : Type 0} (HasRoom : Type 0) (n : ℕ) (r : Result T Fault) →
+    IsErrAnd r (λ fault. fault ≡ NoMemory) → HasRoom → AreClients n
     → IsLimited HasRoom n r
 IsLimited-refused HasRoom n (Ok x) refused room clients = absurd refused
 IsLimited-refused {T} HasRoom n (Err fault) is room clients =

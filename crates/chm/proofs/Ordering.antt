@@ -1,5 +1,6 @@
 -- The calls of a closed map in one order are those of a one-thread map.
-use Rattle.std.proofs.Common.{◌≡◌, ℕ, ◌<◌, ◌==◌, Bool, true, cond, Option, None, Decides, List, All, sym, ap, ◌∙◌, subst, arith}
+use Rattle.std.proofs.Common.{◌≡◌, ℕ, ◌<◌, ◌==◌, Bool, true, cond, Option, None, Decides, List, All, sym, ap, ◌∙◌}
+use Rattle.std.proofs.Common.{subst, arith}
 use Rattle.std.proofs.lemmas.List.Elements.{All-filter, All-get_or, All-weaker}
 use Rattle.hashkeys.specs.Classes.{covers, is_of}
 use Rattle.hashkeys.specs.Hashing.{hash_of}
@@ -20,14 +21,15 @@ use Rattle.count_ledger.specs.Books.{IsRoleOf}
 use Rattle.count_ledger.specs.Views.{PassView, RoleView}
 use Rattle.count_ledger.proofs.Filters.{filter_within, filter_turn}
 use Rattle.generations.specs.Views.{GenerationsView}
-use Rattle.chm.specs.Quiets.{QuietView, IsQuiet, entries_of}
+use Rattle.chm.specs.Headline.{QuietView, IsQuiet, entries_of, IsOneOrder, IsHistoryOfKey}
 use Rattle.chm.specs.Views.{bins_of}
 use Rattle.count_ledger.specs.Settled.{IsOrder}
-use Rattle.chm.specs.Orders.{IsOneOrder, IsHistoryOfKey}
 use Rattle.chm.proofs.Homes.{IsHome, home, distinct}
 
-module _ {K V F : Type 0} (same : K → K → Bool) (tells : (x y : K) → Decides (same x y) (x ≡ y)) (code : K → ℕ) (after : Call K V F → Option V → Option V)
-    (q : QuietView K V F) (calls : List (RecordView K V F)) (quiet : IsQuiet same code after q) (order : IsOrder code q.ledger q.passes q.roles calls) where
+module _ {K V F : Type 0} (same : K → K → Bool) (tells : (x y : K) → Decides (same x y) (x ≡ y)) (code : K → ℕ)
+    (after : Call K V F → Option V → Option V)
+    (q : QuietView K V F) (calls : List (RecordView K V F)) (quiet : IsQuiet same code after q)
+    (order : IsOrder code q.ledger q.passes q.roles calls) where
   abbrev g : GenerationsView
   g = bins_of (record { ledger = q.ledger; n = q.n })
 
@@ -42,15 +44,18 @@ module _ {K V F : Type 0} (same : K → K → Bool) (tells : (x y : K) → Decid
     part = All-get_or (λ r. part_of_records (is_of code r.salt r.class) calls ≡ r.kept) q.roles i d lt order.kept;
   }
 
-  module _ (k : K) (b : BinView K V F) (r : RoleView K V F) (is_kept : IsKept r) (at_home : IsHome same tells code after g (entries_of q.bins) k b r) where
+  module _ (k : K) (b : BinView K V F) (r : RoleView K V F) (is_kept : IsKept r)
+      (at_home : IsHome same tells code after g (entries_of q.bins) k b r) where
     of_class : is_of code r.salt r.class k ≡ true
-    of_class = (λ i. covers (sym at_home.with_role.agree.class i) (hash_of (is_kept.role.salt i) (code k))) ∙ at_home.covered
+    of_class = (λ i. covers (sym at_home.with_role.agree.class i) (hash_of (is_kept.role.salt i) (code k)))
+        ∙ at_home.covered
 
     -- the calls on the key are those of the role that are on it
     on_key : records_on same k r.kept ≡ records_on same k calls
     on_key =
         ap (records_on same k) (sym is_kept.part)
-        ∙ filter_within (λ (x : RecordView K V F). same (key_of x.call) k) (λ x. is_of code r.salt r.class (key_of x.call))
+        ∙ filter_within (λ (x : RecordView K V F). same (key_of x.call) k)
+        (λ x. is_of code r.salt r.class (key_of x.call))
         (λ x is. ap (is_of code r.salt r.class) ((tells (key_of x.call) k).0 is) ∙ of_class) calls
 
     opened : lookup same r.opening k ≡ lookup same q.ledger.opening k
@@ -63,7 +68,8 @@ module _ {K V F : Type 0} (same : K → K → Bool) (tells : (x y : K) → Decid
     abbrev b_replayed : BinView K V F
     b_replayed = record b { entries = replay same b.base b.records }
 
-    history : IsLegal same after (lookup same r.opening) r.kept × (replay same b.base b.records ≡ replay same r.opening r.kept)
+    history : IsLegal same after (lookup same r.opening) r.kept
+        × (replay same b.base b.records ≡ replay same r.opening r.kept)
     history =
         let (front, h) = at_home.with_role.agree.history in
         HasHistory-replay same tells code after r.opening r.kept b_replayed (
@@ -76,26 +82,32 @@ module _ {K V F : Type 0} (same : K → K → Bool) (tells : (x y : K) → Decid
     cell : IsCellHistory after (lookup same q.ledger.opening k) (records_on same k calls)
     cell =
         subst (λ (v : Option V). IsCellHistory after v (records_on same k calls)) opened
-        (subst (IsCellHistory after (lookup same r.opening k)) on_key (IsLegal-cell same tells after (lookup same r.opening) r.kept k history.0))
+        (subst (IsCellHistory after (lookup same r.opening k)) on_key
+        (IsLegal-cell same tells after (lookup same r.opening) r.kept k history.0))
 
     value : lookup same (entries_of q.bins) k ≡ run same (lookup same q.ledger.opening) calls k
     value =
         at_home.value
         ∙ at_home.with_role.lawful.same_map k
-        ∙ sym (ap (λ (m : K → Option V). m k) (lookup-replay same tells b.base b.records at_home.with_role.lawful.base_distinct))
+        ∙ sym (ap (λ (m : K → Option V). m k)
+        (lookup-replay same tells b.base b.records at_home.with_role.lawful.base_distinct))
         ∙ ap (λ (es : List (K × V)). lookup same es k) history.1
-        ∙ ap (λ (m : K → Option V). m k) (lookup-replay same tells r.opening r.kept (at_home.with_role.agree.history).1.distinct)
+        ∙ ap (λ (m : K → Option V). m k)
+        (lookup-replay same tells r.opening r.kept (at_home.with_role.agree.history).1.distinct)
         ∙ run-cell same tells (lookup same r.opening) r.kept k
         ∙ (λ i. cell_after (opened i) (on_key i))
         ∙ sym (run-cell same tells (lookup same q.ledger.opening) calls k)
 
-  home_of : (k : K) → (b : BinView K V F) × (r : RoleView K V F) × IsKept r × IsHome same tells code after g (entries_of q.bins) k b r
-  home_of k = home same tells code after g IsKept q.bins q.roles k quiet.with_roles kept (quiet.walk.each_hash (hash_of q.ledger.salt (code k)))
+  home_of : (k : K) → (b : BinView K V F) × (r : RoleView K V F) × IsKept r × IsHome same tells code after g
+      (entries_of q.bins) k b r
+  home_of k = home same tells code after g IsKept q.bins q.roles k quiet.with_roles kept
+      (quiet.walk.each_hash (hash_of q.ledger.salt (code k)))
 
   pub IsOneOrder-closed : IsOneOrder same code after q calls
   IsOneOrder-closed = record {
     books = order;
-    legal = IsLegal-cells same tells after (lookup same q.ledger.opening) calls (λ k. let (b, r, is_kept, at_home) = home_of k in cell k b r is_kept at_home);
+    legal = IsLegal-cells same tells after (lookup same q.ledger.opening) calls (λ k. let (b, r, is_kept, at_home) =
+        home_of k in cell k b r is_kept at_home);
     final = λ k. let (b, r, is_kept, at_home) = home_of k in value k b r is_kept at_home;
   }
 
@@ -108,7 +120,8 @@ module _ {K V F : Type 0} (same : K → K → Bool) (tells : (x y : K) → Decid
         clients = All-filter on (λ (x : RecordView K V F). x.client < q.ledger.clients) calls order.clients;
         own = All-weaker (λ (p : PassView K V F). by_client p.client calls ≡ p.made)
             (λ p. by_client p.client (records_on same k calls) ≡ records_on same k p.made)
-            (λ p made. filter_turn (λ (x : RecordView K V F). x.client == p.client) on calls ∙ ap (records_on same k) made) q.passes order.made;
+            (λ p made. filter_turn (λ (x : RecordView K V F). x.client == p.client) on calls
+            ∙ ap (records_on same k) made) q.passes order.made;
         legal = IsLegal-cell same tells after (lookup same q.ledger.opening) calls k one.legal;
         final = one.final k ∙ run-cell same tells (lookup same q.ledger.opening) calls k;
       }

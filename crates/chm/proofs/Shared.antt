@@ -20,25 +20,39 @@ use Rattle.transfer.proofs.Shared as transfer
 use Rattle.chm.specs.contracts.map.Map as Map
 use Rattle.chm.specs.contracts.map.Map.TheInside as MapInside
 
-module _ (K V F A : RattleType) (hash : HashKey.Ghosts K.Denot) (key_eq : Eq.Ghosts K.Denot) (key_same : PartialEq.Ghosts K.Denot)
-    (key_clone : Clone.Ghosts K.Denot) (value_clone : Clone.Ghosts V.Denot) (value_eq : Eq.Ghosts V.Denot) (value_same : PartialEq.Ghosts V.Denot)
-    (remap : Remap.Ghosts F.Denot K.Denot V.Denot) (function_clone : Clone.Ghosts F.Denot) (alloc : Allocator.Ghosts A.Denot)
-    (sk : IsSend K) (sv : IsSend V) (sf : IsSend F) (sa : IsSend A) (yk : IsSync K) (yv : IsSync V) (yf : IsSync F) (ya : IsSync A)
+module _ (K V F A : RattleType) (hash : HashKey.Ghosts K.Denot) (key_eq : Eq.Ghosts K.Denot)
+    (key_same : PartialEq.Ghosts K.Denot)
+    (key_clone : Clone.Ghosts K.Denot) (value_clone : Clone.Ghosts V.Denot) (value_eq : Eq.Ghosts V.Denot)
+    (value_same : PartialEq.Ghosts V.Denot)
+    (remap : Remap.Ghosts F.Denot K.Denot V.Denot) (function_clone : Clone.Ghosts F.Denot)
+    (alloc : Allocator.Ghosts A.Denot)
+    (sk : IsSend K) (sv : IsSend V) (sf : IsSend F) (sa : IsSend A) (yk : IsSync K) (yv : IsSync V) (yf : IsSync F)
+    (ya : IsSync A)
     (frees : Frees alloc alloc.dealloc_token) where
   ledger_fields : AllSync (shape (LedgerInside.the_type K V F A hash key_eq key_same key_clone alloc)).fields
-  ledger_fields = (search (sendable, the_words.the_sync, the_lease.the_sync) depth 20, (search sendable depth 20, (search sendable depth 20, tt)))
+  ledger_fields = (
+    search (sendable, the_words.the_sync, the_lease.the_sync) depth 20,
+    (search sendable depth 20, (search sendable depth 20, tt)),
+  )
 
   ledger_sync : IsSync (Ledger.the_row K V F A hash key_eq key_same key_clone alloc)
   ledger_sync = search (sendable, ledger_fields) depth 20
 
-  fields : AllSync (shape (MapInside.the_type K V F A hash key_eq key_same key_clone value_clone value_eq value_same remap function_clone alloc)).fields
+  fields : AllSync
+      (shape (MapInside.the_type K V F A hash key_eq key_same key_clone value_clone value_eq value_same remap
+      function_clone alloc)).fields
   fields = (
     ledger_sync,
     (
-      generations.map_sync K V F A hash key_eq key_same key_clone value_clone value_eq value_same remap function_clone alloc sk sv sf sa yk yv yf ya frees,
-      (search (sendable, crosses, ruled.the_sync, once.the_sync, transfer.strides_send, transfer.strides_sync) depth 30, (search sendable depth 20, tt)),
+      generations.map_sync K V F A hash key_eq key_same key_clone value_clone value_eq value_same remap function_clone
+          alloc sk sv sf sa yk yv yf ya frees,
+      (
+        search (sendable, crosses, ruled.the_sync, once.the_sync, transfer.strides_send, transfer.strides_sync) depth 30,
+        (search sendable depth 20, tt),
+      ),
     ),
   )
 
-  pub map_sync : IsSync (Map.the_row K V F A hash key_eq key_same key_clone value_clone value_eq value_same remap function_clone alloc)
+  pub map_sync : IsSync
+      (Map.the_row K V F A hash key_eq key_same key_clone value_clone value_eq value_same remap function_clone alloc)
   map_sync = search (sendable, fields) depth 30

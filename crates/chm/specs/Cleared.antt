@@ -21,18 +21,21 @@ pub record IsRemoval {K V F : Type 0} (r : RecordView K V F) : Type 0 where
 
 -- the pass made some more calls, each of which took a key away
 abbrev pub HasRemoved : {K V F : Type 0} → PassView K V F → PassView K V F → Type 0
-HasRemoved {K} {V} {F} old new = (removals : List (RecordView K V F)) × All IsRemoval removals × (new ≡ record old { made = old.made ++ removals })
+HasRemoved {K} {V} {F} old new = (removals : List (RecordView K V F)) × All IsRemoval removals
+    × (new ≡ record old { made = old.made ++ removals })
 
 -- the same of keys of a class
 abbrev pub HasRemovedIn : {K V F : Type 0} → (K → ℕ) → Salt → ClassView → PassView K V F → PassView K V F → Type 0
 HasRemovedIn {K} {V} {F} code salt class old new =
-    (removals : List (RecordView K V F)) × All IsRemoval removals × All (λ r. is_of code salt class (key_of r.call) ≡ true) removals
+    (removals : List (RecordView K V F)) × All IsRemoval removals
+    × All (λ r. is_of code salt class (key_of r.call) ≡ true) removals
     × (new ≡ record old { made = old.made ++ removals })
 
 module _ {K V F : Type 0} (same_key : K → K → Bool) (code : K → ℕ) (after : Call K V F → Option V → Option V) where
   -- a walk over the bins as they were left would have shown none with entries
   abbrev pub IsCleared : ℕ → LedgerView K V → PassView K V F → Type 0
-  IsCleared n ledger pass = (visits : List (VisitView K V)) × AreVisits same_key code after n ledger pass visits × All (λ v. v.entries ≡ []) visits
+  IsCleared n ledger pass = (visits : List (VisitView K V)) × AreVisits same_key code after n ledger pass visits
+      × All (λ v. v.entries ≡ []) visits
 
   -- a bin that was met has entries left
   abbrev pub HasLeft : LedgerView K V → PassView K V F → Type 0
@@ -47,4 +50,5 @@ HasOwnLeft same_key code ledger pass = (c : ClassView)
 abbrev pub IsEmptied : {K V F : Type 0} → (K → K → Bool) → (K → ℕ) → ℕ → LedgerView K V → PassView K V F → Type 0
 IsEmptied same_key code n ledger pass =
     (classes : List ClassView) × IsWalk n classes
-    × All (λ c. replay same_key (opening_in code ledger c) (part_of_records (is_of code ledger.salt c) pass.made) ≡ []) classes
+    × All (λ c. replay same_key (opening_in code ledger c) (part_of_records (is_of code ledger.salt c) pass.made) ≡ [])
+    classes

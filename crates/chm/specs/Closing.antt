@@ -11,8 +11,10 @@ pub record NotClosedView (K V F : Type 0) : Type 0 where
   pub map : Option (MapView K V)
   pub passes : List (PassView K V F)
 
--- the passes came back as they were; so did the map, but where bins were missing; and a pass was missing just where there were fewer than clients
-pub record IsNotClosed {K V F : Type 0} (map : MapView K V) (passes : List (PassView K V F)) (e : NotClosedView K V F) : Type 0 where
+-- the passes came back as they were; so did the map, but where bins were missing; and a pass was missing just where
+-- there were fewer than clients
+pub record IsNotClosed {K V F : Type 0} (map : MapView K V) (passes : List (PassView K V F))
+    (e : NotClosedView K V F) : Type 0 where
   pub passes_are : e.passes ≡ passes
   pub missing : (e.fault ≡ PassMissing) ↔ (length passes < map.ledger.clients)
   pub kept : ((e.fault ≡ BinMissing) × (e.map ≡ None)) ⊎ ((e.fault ≢ BinMissing) × (e.map ≡ Some map))

@@ -1,13 +1,10 @@
 pub mod Views
+pub mod Headline
 pub mod Histories
-pub mod Called
-pub mod Answered
 pub mod Sizes
 pub mod Refusals
 pub mod Opened
 pub mod Visits
-pub mod Quiets
-pub mod Orders
 pub mod Closing
 pub mod Cleared
 pub mod Reopened

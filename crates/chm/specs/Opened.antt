@@ -10,8 +10,10 @@ use Rattle.chm.specs.Views.{MapView}
 use Rattle.chm.specs.declared.fault.Fault.{Fault}
 use Rattle.chm.specs.declared.fault.Fault.TheVariants.{BadCapacity, BadClients}
 
--- a map without entries, of this form and salt, whose table is for the capacity, with a pass that made nothing for each of its n clients
-pub record IsNew {K V F : Type 0} (f : Form) (s : Salt) (capacity n : ℕ) (map : MapView K V) (all : List (PassView K V F)) : Type 0 where
+-- a map without entries, of this form and salt, whose table is for the capacity, with a pass that made nothing for each
+-- of its n clients
+pub record IsNew {K V F : Type 0} (f : Form) (s : Salt) (capacity n : ℕ) (map : MapView K V)
+    (all : List (PassView K V F)) : Type 0 where
   pub form : map.ledger.form ≡ f
   pub salt : map.ledger.salt ≡ s
   pub clients : map.ledger.clients ≡ n

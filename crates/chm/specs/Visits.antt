@@ -10,7 +10,7 @@ use Rattle.count_ledger.specs.Views.{LedgerView, PassView, RoleView}
 use Rattle.generations.specs.BinsWithRoles.{IsBinWithRole}
 use Rattle.generations.specs.Walks.{IsWalk}
 use Rattle.chm.specs.Views.{MapView, opening_in, bins_of}
-use Rattle.chm.specs.Histories.{IsHistory}
+use Rattle.chm.specs.Headline.{IsHistory}
 
 -- a visit: the class of a bin, and its entries
 pub record VisitView (K V : Type 0) : Type 0 where
@@ -40,16 +40,22 @@ module _ {K V F : Type 0} (same_key : K → K → Bool) (code : K → ℕ) (afte
         × (v.entries ≡ replay same_key (opening_in code ledger v.class) kept)
 
   -- visits of a whole table that opened with n bins: in walk order, and every hash is of one of them
-  pub record AreVisits (n : ℕ) (ledger : LedgerView K V) (pass : PassView K V F) (visits : List (VisitView K V)) : Type 0 where
+  pub record AreVisits (n : ℕ) (ledger : LedgerView K V) (pass : PassView K V F)
+      (visits : List (VisitView K V)) : Type 0 where
     pub each : All (IsVisit ledger pass) visits
     pub walk : IsWalk n (classes_of_visits visits)
 
 -- the entries are what the client's own calls made of the opening map's part
-abbrev pub IsOwn : {K V F : Type 0} → (K → K → Bool) → (K → ℕ) → LedgerView K V → PassView K V F → VisitView K V → Type 0
-IsOwn same_key code ledger pass v = v.entries ≡ replay same_key (opening_in code ledger v.class) (part_of_records (is_of code ledger.salt v.class) pass.made)
+abbrev pub IsOwn : {K V F : Type 0} → (K → K → Bool) → (K → ℕ) → LedgerView K V → PassView K V F →
+    VisitView K V → Type 0
+IsOwn same_key code ledger pass v = v.entries ≡ replay same_key (opening_in code ledger v.class)
+    (part_of_records (is_of code ledger.salt v.class) pass.made)
 
--- a bin of the map for the key's hash, which is lawful and agrees with a role of the map's ledger, has this value at the key
-abbrev pub IsShown : {K V F : Type 0} → (K → K → Bool) → (K → ℕ) → (Call K V F → Option V → Option V) → MapView K V → K → Option V → Type 0
+-- a bin of the map for the key's hash, which is lawful and agrees with a role of the map's ledger, has this value at
+-- the key
+abbrev pub IsShown : {K V F : Type 0} → (K → K → Bool) → (K → ℕ) → (Call K V F → Option V → Option V) → MapView K V →
+    K → Option V → Type 0
 IsShown {K} {V} {F} same_key code after map key value =
-    (b : BinView K V F) × (r : RoleView K V F) × IsBinWithRole same_key code after (bins_of map) b r × (is_of code map.ledger.salt b.class key ≡ true)
+    (b : BinView K V F) × (r : RoleView K V F) × IsBinWithRole same_key code after (bins_of map) b r
+    × (is_of code map.ledger.salt b.class key ≡ true)
     × (value ≡ lookup same_key b.entries key)

@@ -10,8 +10,8 @@ use hashkeys::HashKey;
 use std::alloc::Allocator;
 
 impl<K: HashKey, V: Clone + Eq, F: Remap<K, V> + Clone, A: Allocator> Map<K, V, F, A> {
-    /// How many keys the calls of this pass added, less how many they took away, as a 64-bit two's complement number. It is exact,
-    /// whatever other clients do meanwhile, and waits for nobody.
+    /// How many keys the calls of this pass added, less how many they took away, as a 64-bit two's
+    /// complement number. It is exact, whatever other clients do meanwhile, and waits for nobody.
     ///
     ///     let before = map.balance(pass);
     ///     map.put(rt, pass, 1, 5)?;

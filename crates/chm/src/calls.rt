@@ -2,10 +2,13 @@
 ghost use Rattle.std.specs.Prelude.{◌≡◌, ◌<◌, length, IfOk, OnErr};
 ghost use Rattle.bin_history.specs.Ops.{call_on, key_in};
 ghost use Rattle.bin_history.specs.Copies.{IsExact};
-ghost use Rattle.bin_history.specs.declared.call.Call.TheVariants.{Get, Contains, Put, PutIfAbsent, Remove, RemoveIf, Replace, ReplaceIf, ComputeIfAbsent, ComputeIfPresent, Compute, Merge};
+ghost use Rattle.bin_history.specs.declared.call.Call.TheVariants.{Get, Contains, Put, PutIfAbsent};
+ghost use Rattle.bin_history.specs.declared.call.Call.TheVariants.{Remove, RemoveIf, Replace};
+ghost use Rattle.bin_history.specs.declared.call.Call.TheVariants.{ReplaceIf, ComputeIfAbsent};
+ghost use Rattle.bin_history.specs.declared.call.Call.TheVariants.{ComputeIfPresent, Compute};
+ghost use Rattle.bin_history.specs.declared.call.Call.TheVariants.{Merge};
 ghost use Rattle.count_ledger.specs.Limits.{most_calls};
-ghost use Rattle.chm.specs.Answered.{AreExact, IsAnswered};
-ghost use Rattle.chm.specs.Called.{IsCalled};
+ghost use Rattle.chm.specs.Headline.{AreExact, IsAnswered, IsCalled};
 
 use crate::fault::Fault;
 use crate::map::Map;
@@ -22,7 +25,8 @@ impl<
     F: Remap<K, V> + Clone + Drop,
     A: Allocator + Clone,
 > Map<K, V, F, A> {
-    /// Makes a call on the bin of its key, which it holds meanwhile, and posts it. For want of memory nothing is changed or posted.
+    /// Makes a call on the bin of its key, which it holds meanwhile, and posts it. For want of
+    /// memory nothing is changed or posted.
     fn make<R: Wait>(
         &self,
         rt: &R,
@@ -34,7 +38,8 @@ impl<
         requires values { IsExact V.is_clone }
         requires pass { pass.old.ledger ≡ self.now.ledger.id }
         requires room { length pass.old.made < most_calls self.now.ledger.form }
-        ensures called { IfOk result (λ r. IsCalled K.eq K.code V.eq F.remapped F.merged self.now.ledger
+        ensures called { IfOk result
+            (λ r. IsCalled K.eq K.code V.eq F.remapped F.merged self.now.ledger
             (call_on (key_in key.entry) op) pass.old pass.new r.0) }
         ensures refused { OnErr result (pass.new ≡ pass.old) }
     {
@@ -49,8 +54,9 @@ impl<
         Ok((reply, Landed { class, grew }))
     }
 
-    /// Makes a call, whichever of the twelve it is. It posts the call, and then does the call's part for the table. The pass is full after 1,000,000
-    /// calls in a recorded map, and after 2^57 in a lean one.
+    /// Makes a call, whichever of the twelve it is. It posts the call, and then does the call's
+    /// part for the table. The pass is full after 1,000,000 calls in a recorded map, and after 2^57
+    /// in a lean one.
     ///
     ///     map.call(rt, pass, Call::Put(1, 5))?;
     ///     map.call(rt, pass, Call::Get(1))? == Reply::Value(Some(5))
@@ -62,15 +68,16 @@ impl<
     ) -> Result<Reply<V>, Fault>
         requires exact { AreExact K.is_clone V.is_clone F.is_clone }
         requires pass { pass.old.ledger ≡ self.now.ledger.id }
-        ensures { IsAnswered K.eq K.code V.eq F.remapped F.merged self.now.ledger call pass.old pass.new result }
+        ensures { IsAnswered K.eq K.code V.eq F.remapped F.merged self.now.ledger call pass.old
+            pass.new result }
     {
         let (key, op) = call.into_parts();
         let key: Given<'a, K> = Given::Owned(key);
         self.call_on(rt, pass, key, op)
     }
 
-    /// The same of a call whose key is given beside it, handed over or lent. A lent key is copied where an entry is made of
-    /// it, and for the record in a recorded map.
+    /// The same of a call whose key is given beside it, handed over or lent. A lent key is copied
+    /// where an entry is made of it, and for the record in a recorded map.
     ///
     ///     map.call_on(rt, pass, Given::Owned(1), Op::Put(5))?;
     ///     map.call_on(rt, pass, Given::Lent(&1), Op::Get)? == Reply::Value(Some(5))
@@ -83,7 +90,8 @@ impl<
     ) -> Result<Reply<V>, Fault>
         requires exact { AreExact K.is_clone V.is_clone F.is_clone }
         requires pass { pass.old.ledger ≡ self.now.ledger.id }
-        ensures { IsAnswered K.eq K.code V.eq F.remapped F.merged self.now.ledger (call_on (key_in key.entry) op) pass.old pass.new result }
+        ensures { IsAnswered K.eq K.code V.eq F.remapped F.merged self.now.ledger
+            (call_on (key_in key.entry) op) pass.old pass.new result }
     {
         if pass.made() >= self.ledger.most_calls() {
             return Err(Fault::PassFull);
@@ -101,7 +109,8 @@ impl<
     pub fn get<R: Wait>(&self, rt: &R, pass: &mut Pass<K, V, F>, key: K) -> Result<Reply<V>, Fault>
         requires exact { AreExact K.is_clone V.is_clone F.is_clone }
         requires pass { pass.old.ledger ≡ self.now.ledger.id }
-        ensures { IsAnswered K.eq K.code V.eq F.remapped F.merged self.now.ledger (Get key) pass.old pass.new result }
+        ensures { IsAnswered K.eq K.code V.eq F.remapped F.merged self.now.ledger
+            (Get key) pass.old pass.new result }
     {
         self.call(rt, pass, Call::Get(key))
     }
@@ -119,7 +128,8 @@ impl<
     ) -> Result<Reply<V>, Fault>
         requires exact { AreExact K.is_clone V.is_clone F.is_clone }
         requires pass { pass.old.ledger ≡ self.now.ledger.id }
-        ensures { IsAnswered K.eq K.code V.eq F.remapped F.merged self.now.ledger (Contains key) pass.old pass.new result }
+        ensures { IsAnswered K.eq K.code V.eq F.remapped F.merged self.now.ledger
+            (Contains key) pass.old pass.new result }
     {
         self.call(rt, pass, Call::Contains(key))
     }
@@ -138,7 +148,8 @@ impl<
     ) -> Result<Reply<V>, Fault>
         requires exact { AreExact K.is_clone V.is_clone F.is_clone }
         requires pass { pass.old.ledger ≡ self.now.ledger.id }
-        ensures { IsAnswered K.eq K.code V.eq F.remapped F.merged self.now.ledger (Put key value) pass.old pass.new result }
+        ensures { IsAnswered K.eq K.code V.eq F.remapped F.merged self.now.ledger
+            (Put key value) pass.old pass.new result }
     {
         self.call(rt, pass, Call::Put(key, value))
     }
@@ -157,7 +168,8 @@ impl<
     ) -> Result<Reply<V>, Fault>
         requires exact { AreExact K.is_clone V.is_clone F.is_clone }
         requires pass { pass.old.ledger ≡ self.now.ledger.id }
-        ensures { IsAnswered K.eq K.code V.eq F.remapped F.merged self.now.ledger (PutIfAbsent key value) pass.old pass.new result }
+        ensures { IsAnswered K.eq K.code V.eq F.remapped F.merged self.now.ledger
+            (PutIfAbsent key value) pass.old pass.new result }
     {
         self.call(rt, pass, Call::PutIfAbsent(key, value))
     }
@@ -175,7 +187,8 @@ impl<
     ) -> Result<Reply<V>, Fault>
         requires exact { AreExact K.is_clone V.is_clone F.is_clone }
         requires pass { pass.old.ledger ≡ self.now.ledger.id }
-        ensures { IsAnswered K.eq K.code V.eq F.remapped F.merged self.now.ledger (Remove key) pass.old pass.new result }
+        ensures { IsAnswered K.eq K.code V.eq F.remapped F.merged self.now.ledger
+            (Remove key) pass.old pass.new result }
     {
         self.call(rt, pass, Call::Remove(key))
     }
@@ -194,7 +207,8 @@ impl<
     ) -> Result<Reply<V>, Fault>
         requires exact { AreExact K.is_clone V.is_clone F.is_clone }
         requires pass { pass.old.ledger ≡ self.now.ledger.id }
-        ensures { IsAnswered K.eq K.code V.eq F.remapped F.merged self.now.ledger (RemoveIf key value) pass.old pass.new result }
+        ensures { IsAnswered K.eq K.code V.eq F.remapped F.merged self.now.ledger
+            (RemoveIf key value) pass.old pass.new result }
     {
         self.call(rt, pass, Call::RemoveIf(key, value))
     }
@@ -213,7 +227,8 @@ impl<
     ) -> Result<Reply<V>, Fault>
         requires exact { AreExact K.is_clone V.is_clone F.is_clone }
         requires pass { pass.old.ledger ≡ self.now.ledger.id }
-        ensures { IsAnswered K.eq K.code V.eq F.remapped F.merged self.now.ledger (Replace key value) pass.old pass.new result }
+        ensures { IsAnswered K.eq K.code V.eq F.remapped F.merged self.now.ledger
+            (Replace key value) pass.old pass.new result }
     {
         self.call(rt, pass, Call::Replace(key, value))
     }
@@ -233,12 +248,14 @@ impl<
     ) -> Result<Reply<V>, Fault>
         requires exact { AreExact K.is_clone V.is_clone F.is_clone }
         requires pass { pass.old.ledger ≡ self.now.ledger.id }
-        ensures { IsAnswered K.eq K.code V.eq F.remapped F.merged self.now.ledger (ReplaceIf key old new) pass.old pass.new result }
+        ensures { IsAnswered K.eq K.code V.eq F.remapped F.merged self.now.ledger
+            (ReplaceIf key old new) pass.old pass.new result }
     {
         self.call(rt, pass, Call::ReplaceIf(key, old, new))
     }
 
-    /// Gives a key without a value what the function makes of none. It replies the value after. Nothing but the key's bin is held while the function runs.
+    /// Gives a key without a value what the function makes of none. It replies the value after.
+    /// Nothing but the key's bin is held while the function runs.
     ///
     ///     map.compute_if_absent(rt, pass, 1, Plus(5))? == Reply::Value(Some(5))
     ///     map.compute_if_absent(rt, pass, 1, Plus(2))? == Reply::Value(Some(5))
@@ -251,12 +268,14 @@ impl<
     ) -> Result<Reply<V>, Fault>
         requires exact { AreExact K.is_clone V.is_clone F.is_clone }
         requires pass { pass.old.ledger ≡ self.now.ledger.id }
-        ensures { IsAnswered K.eq K.code V.eq F.remapped F.merged self.now.ledger (ComputeIfAbsent key function) pass.old pass.new result }
+        ensures { IsAnswered K.eq K.code V.eq F.remapped F.merged self.now.ledger
+            (ComputeIfAbsent key function) pass.old pass.new result }
     {
         self.call(rt, pass, Call::ComputeIfAbsent(key, function))
     }
 
-    /// Gives a key with a value what the function makes of it. It replies the value after. Nothing but the key's bin is held while the function runs.
+    /// Gives a key with a value what the function makes of it. It replies the value after. Nothing
+    /// but the key's bin is held while the function runs.
     ///
     ///     map.compute_if_present(rt, pass, 1, Plus(2))? == Reply::Value(None)
     ///     map.put(rt, pass, 1, 5)?;
@@ -270,12 +289,14 @@ impl<
     ) -> Result<Reply<V>, Fault>
         requires exact { AreExact K.is_clone V.is_clone F.is_clone }
         requires pass { pass.old.ledger ≡ self.now.ledger.id }
-        ensures { IsAnswered K.eq K.code V.eq F.remapped F.merged self.now.ledger (ComputeIfPresent key function) pass.old pass.new result }
+        ensures { IsAnswered K.eq K.code V.eq F.remapped F.merged self.now.ledger
+            (ComputeIfPresent key function) pass.old pass.new result }
     {
         self.call(rt, pass, Call::ComputeIfPresent(key, function))
     }
 
-    /// Gives the key what the function makes of its value, or of none. It replies the value after. Nothing but the key's bin is held while the function runs.
+    /// Gives the key what the function makes of its value, or of none. It replies the value after.
+    /// Nothing but the key's bin is held while the function runs.
     ///
     ///     map.compute(rt, pass, 1, Plus(5))? == Reply::Value(Some(5))
     ///     map.compute(rt, pass, 1, Plus(2))? == Reply::Value(Some(7))
@@ -288,7 +309,8 @@ impl<
     ) -> Result<Reply<V>, Fault>
         requires exact { AreExact K.is_clone V.is_clone F.is_clone }
         requires pass { pass.old.ledger ≡ self.now.ledger.id }
-        ensures { IsAnswered K.eq K.code V.eq F.remapped F.merged self.now.ledger (Compute key function) pass.old pass.new result }
+        ensures { IsAnswered K.eq K.code V.eq F.remapped F.merged self.now.ledger
+            (Compute key function) pass.old pass.new result }
     {
         self.call(rt, pass, Call::Compute(key, function))
     }
@@ -308,7 +330,8 @@ impl<
     ) -> Result<Reply<V>, Fault>
         requires exact { AreExact K.is_clone V.is_clone F.is_clone }
         requires pass { pass.old.ledger ≡ self.now.ledger.id }
-        ensures { IsAnswered K.eq K.code V.eq F.remapped F.merged self.now.ledger (Merge key value function) pass.old pass.new result }
+        ensures { IsAnswered K.eq K.code V.eq F.remapped F.merged self.now.ledger
+            (Merge key value function) pass.old pass.new result }
     {
         self.call(rt, pass, Call::Merge(key, value, function))
     }

@@ -1,10 +1,12 @@
 //! Emptying a map, bin by bin in walk order.
-ghost use Rattle.std.specs.Prelude.{◌≡◌, ◌≢◌, ◌<◌, ◌≤◌, ◌↔◌, [], length, IfOk, IfErr, IsErrOf, OnOk, OnErr};
+ghost use Rattle.std.specs.Prelude.{◌≡◌, ◌≢◌, ◌<◌, ◌≤◌, ◌↔◌, [], length, IfOk, IfErr, IsErrOf};
+ghost use Rattle.std.specs.Prelude.{OnOk, OnErr};
 ghost use Rattle.bin_history.specs.Calls.{after};
 ghost use Rattle.bin_history.specs.Copies.{IsExact};
 ghost use Rattle.count_ledger.specs.Agreement.{BinAgrees};
 ghost use Rattle.count_ledger.specs.Limits.{most_calls};
-ghost use Rattle.chm.specs.Cleared.{HasLeft, HasOwnLeft, HasRemoved, HasRemovedIn, IsCleared, IsEmptied};
+ghost use Rattle.chm.specs.Cleared.{HasLeft, HasOwnLeft, HasRemoved, HasRemovedIn, IsCleared};
+ghost use Rattle.chm.specs.Cleared.{IsEmptied};
 ghost use Rattle.chm.specs.Refusals.{IsOfCall};
 ghost use Rattle.chm.specs.Visits.{IsFirstOf, IsVisit};
 
@@ -43,7 +45,8 @@ impl<
         ensures salt { bin.new.salt ≡ bin.old.salt }
         ensures ledger { role.new.ledger ≡ role.old.ledger }
         ensures agree { BinAgrees K.eq (after V.eq F.remapped F.merged) bin.new role.new }
-        ensures full { IsErrOf result Fault.PassFull → most_calls self.now.ledger.form ≤ length pass.new.made }
+        ensures full { IsErrOf result Fault.PassFull →
+            most_calls self.now.ledger.form ≤ length pass.new.made }
         ensures left { IsErrOf result Fault.PassFull → bin.new.entries ≢ [] }
         ensures faults { IfErr result IsOfCall }
     {
@@ -76,7 +79,8 @@ impl<
         ensures salt { bin.new.salt ≡ bin.old.salt }
         ensures ledger { role.new.ledger ≡ role.old.ledger }
         ensures agree { BinAgrees K.eq (after V.eq F.remapped F.merged) bin.new role.new }
-        ensures full { IsErrOf result Fault.PassFull → most_calls self.now.ledger.form ≤ length pass.new.made }
+        ensures full { IsErrOf result Fault.PassFull →
+            most_calls self.now.ledger.form ≤ length pass.new.made }
         ensures left { IsErrOf result Fault.PassFull → bin.new.entries ≢ [] }
         ensures faults { IfErr result IsOfCall }
     {
@@ -97,12 +101,16 @@ impl<
         requires values { IsExact V.is_clone }
         requires pass { pass.old.ledger ≡ self.now.ledger.id }
         ensures removed { HasRemoved pass.old pass.new }
-        ensures there { IfOk result (λ its. HasRemovedIn K.code self.now.ledger.salt its pass.old pass.new) }
+        ensures there { IfOk result
+            (λ its. HasRemovedIn K.code self.now.ledger.salt its pass.old pass.new) }
         ensures first { IfOk result (λ its. IsFirstOf class its) }
-        ensures visit { IfOk result (λ its. IsVisit K.eq K.code (after V.eq F.remapped F.merged) self.now.ledger pass.new
+        ensures visit { IfOk result
+            (λ its. IsVisit K.eq K.code (after V.eq F.remapped F.merged) self.now.ledger pass.new
             (record { class = its; entries = [] })) }
-        ensures full { IsErrOf result Fault.PassFull → most_calls self.now.ledger.form ≤ length pass.new.made }
-        ensures left { IsErrOf result Fault.PassFull → HasLeft K.eq K.code (after V.eq F.remapped F.merged) self.now.ledger pass.new }
+        ensures full { IsErrOf result Fault.PassFull →
+            most_calls self.now.ledger.form ≤ length pass.new.made }
+        ensures left { IsErrOf result Fault.PassFull →
+            HasLeft K.eq K.code (after V.eq F.remapped F.merged) self.now.ledger pass.new }
         ensures faults { IfErr result IsOfCall }
     {
         let mut held = self.hold_first(rt, class);
@@ -117,9 +125,10 @@ impl<
         Ok(class)
     }
 
-    /// Takes all entries away, bin by bin in walk order, each bin under one hold, by a remove of each entry that it meets. Others may put new ones
-    /// into bins that were left; with one client the map is then empty. Where a remove is refused, those made before it stand; a full pass refuses none but
-    /// where an entry is left.
+    /// Takes all entries away, bin by bin in walk order, each bin under one hold, by a remove of
+    /// each entry that it meets. Others may put new ones into bins that were left; with one client
+    /// the map is then empty. Where a remove is refused, those made before it stand; a full pass
+    /// refuses none but where an entry is left.
     ///
     ///     map.put(rt, pass, 1, 5)?;
     ///     map.clear(rt, pass)?;
@@ -128,12 +137,18 @@ impl<
         requires keys { IsExact K.is_clone }
         requires values { IsExact V.is_clone }
         requires pass { pass.old.ledger ≡ self.now.ledger.id }
-        ensures cleared { OnOk result (IsCleared K.eq K.code (after V.eq F.remapped F.merged) self.now.n self.now.ledger pass.new) }
-        ensures emptied { self.now.ledger.clients ≡ 1 → OnOk result (IsEmptied K.eq K.code self.now.n self.now.ledger pass.new) }
+        ensures cleared { OnOk result
+            (IsCleared K.eq K.code (after V.eq F.remapped F.merged) self.now.n
+            self.now.ledger pass.new) }
+        ensures emptied { self.now.ledger.clients ≡ 1 →
+            OnOk result (IsEmptied K.eq K.code self.now.n self.now.ledger pass.new) }
         ensures removed { HasRemoved pass.old pass.new }
-        ensures full { IsErrOf result Fault.PassFull → most_calls self.now.ledger.form ≤ length pass.new.made }
-        ensures left { IsErrOf result Fault.PassFull → HasLeft K.eq K.code (after V.eq F.remapped F.merged) self.now.ledger pass.new }
-        ensures own_left { self.now.ledger.clients ≡ 1 → IsErrOf result Fault.PassFull → HasOwnLeft K.eq K.code self.now.ledger pass.new }
+        ensures full { IsErrOf result Fault.PassFull →
+            most_calls self.now.ledger.form ≤ length pass.new.made }
+        ensures left { IsErrOf result Fault.PassFull →
+            HasLeft K.eq K.code (after V.eq F.remapped F.merged) self.now.ledger pass.new }
+        ensures own_left { self.now.ledger.clients ≡ 1 → IsErrOf result Fault.PassFull →
+            HasOwnLeft K.eq K.code self.now.ledger pass.new }
         ensures faults { IfErr result IsOfCall }
     {
         walk_laws();

@@ -15,7 +15,8 @@ use std::marker::Model;
 use std::snapshot::Snapshot;
 use std::sync::Wait;
 
-/// Why a map could not be closed, with the passes as they were handed in. The map comes back too, as it was, but where bins were missing.
+/// Why a map could not be closed, with the passes as they were handed in. The map comes back too,
+/// as it was, but where bins were missing.
 pub struct NotClosed<K: HashKey, V: Clone + Eq, F: Remap<K, V> + Clone, A: Allocator> {
     pub fault: Fault,
     pub map: Option<Map<K, V, F, A>>,
@@ -31,7 +32,8 @@ impl<K: HashKey, V: Clone + Eq, F: Remap<K, V> + Clone, A: Allocator> Model
     ghost view = { λ e. record { fault = e.fault; map = e.map; passes = e.passes.items } };
 }
 
-/// The entries of each of these bins are the replay of its records over its base. It changes nothing.
+/// The entries of each of these bins are the replay of its records over its base. It changes
+/// nothing.
 fn replayed<K: HashKey, V: Clone + Eq, F: Remap<K, V> + Clone, A: Allocator + Clone>(
     bins: &[Bin<K, V, F, A>],
 )
@@ -48,8 +50,9 @@ impl<
     F: Remap<K, V> + Clone + Drop,
     A: Allocator + Clone,
 > Map<K, V, F, A> {
-    /// Closes the map, with the passes of all clients. The closed map knows that the role of each bin kept just the calls that the clients made on
-    /// its keys, each once and in its client's order. Where a pass is missing, or for want of memory, map and passes come back.
+    /// Closes the map, with the passes of all clients. The closed map knows that the role of each
+    /// bin kept just the calls that the clients made on its keys, each once and in its client's
+    /// order. Where a pass is missing, or for want of memory, map and passes come back.
     ///
     ///     match map.close(rt, passes) {
     ///         Ok(quiet) => Ok(quiet),

@@ -5,13 +5,15 @@ ghost use Rattle.chm.specs.declared.fault.Fault.TheVariants.{NoMemory};
 use std::alloc::{AllocError, AllocFailed};
 use thiserror::Error;
 
-/// Why a call of a map was refused. Where two could be told, those on arguments and passes come before want of memory.
+/// Why a call of a map was refused. Where two could be told, those on arguments and passes come
+/// before want of memory.
 #[derive(Clone, Copy, Debug, PartialEq, Eq, Error)]
 pub enum Fault {
     /// A growth, a copy or a making was refused.
     #[error("no memory")]
     NoMemory,
-    /// The asked table is of 0 or more than 4,096 bins; or a map of more than 4,294,967,295 entries was to be opened again.
+    /// The asked table is of 0 or more than 4,096 bins; or a map of more than 4,294,967,295 entries
+    /// was to be opened again.
     #[error("the capacity is not 1 to 4096")]
     BadCapacity,
     /// There are 0 or more than 32 clients.

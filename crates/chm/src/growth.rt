@@ -11,7 +11,8 @@ use transfer::{Mover, Strides};
 /// The widest table has 2 to this many bins, and there is a move from each narrower one.
 const MOST_EXPONENT: u32 = 16;
 
-/// The rule of the resize word, which is four times the exponent of the table's size, and the phase.
+/// The rule of the resize word, which is four times the exponent of the table's size, and the
+/// phase.
 pub(crate) struct ResizeWord;
 
 impl Rule for ResizeWord {
@@ -31,8 +32,8 @@ pub(crate) enum Phase {
     Moving,
 }
 
-/// What the resize word said when it was looked at: the table that calls go by has 2 to the exponent bins, and a move
-/// from it is open or not.
+/// What the resize word said when it was looked at: the table that calls go by has 2 to the
+/// exponent bins, and a move from it is open or not.
 #[derive(Clone, Copy, PartialEq, Eq, Debug)]
 pub(crate) struct Table {
     pub(crate) exponent: u32,
@@ -61,8 +62,8 @@ fn word_of(exponent: u32, phase: Phase) -> u64
     4 * u64::from(exponent) + number
 }
 
-/// The right of one client to open a move from a table. It is a duty too: it cannot be dropped, so who has it says that
-/// the move is `ready`, or `shut`s it for a later call to open.
+/// The right of one client to open a move from a table. It is a duty too: it cannot be dropped, so
+/// who has it says that the move is `ready`, or `shut`s it for a later call to open.
 pub(crate) struct Opening {
     table: Table,
     ghost size: { table.exponent ≤ 16 },
@@ -173,8 +174,8 @@ impl<A: Allocator> Growth<A> {
             .store(word_of(table.exponent, Phase::Still), SeqCst);
     }
 
-    /// Makes the table of twice the size the one that calls go by. The mover was told that all bins of the move are
-    /// finished, which one is.
+    /// Makes the table of twice the size the one that calls go by. The mover was told that all bins
+    /// of the move are finished, which one is.
     pub(crate) fn publish(&self, doubling: &Doubling<A>, mover: &Mover)
         requires mover { mover.now.strides ≡ doubling.now.strides }
         requires last { mover.now.last ≡ true }

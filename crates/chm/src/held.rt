@@ -6,8 +6,7 @@ ghost use Rattle.bin_history.specs.Copies.{IsExact};
 ghost use Rattle.bin_history.specs.Ops.{call_on, key_in};
 ghost use Rattle.count_ledger.specs.Agreement.{BinAgrees};
 ghost use Rattle.count_ledger.specs.Limits.{most_calls};
-ghost use Rattle.chm.specs.Called.{IsCalledOn};
-ghost use Rattle.chm.specs.Histories.{IsMet};
+ghost use Rattle.chm.specs.Histories.{IsCalledOn, IsMet};
 
 use crate::map::Map;
 use bin_history::{Bin, Given, Op, Remap, Reply};
@@ -21,8 +20,8 @@ impl<
     F: Remap<K, V> + Clone + Drop,
     A: Allocator + Clone,
 > Map<K, V, F, A> {
-    /// Makes a call on a bin that is held, and posts it. It replies, and says whether the call made its key present. For
-    /// want of memory nothing is posted, and the entries stay.
+    /// Makes a call on a bin that is held, and posts it. It replies, and says whether the call made
+    /// its key present. For want of memory nothing is posted, and the entries stay.
     pub(crate) fn call_under(
         &self,
         pass: &mut Pass<K, V, F>,
@@ -38,9 +37,12 @@ impl<
         requires room { length pass.old.made < most_calls self.now.ledger.form }
         requires agree { BinAgrees K.eq (after V.eq F.remapped F.merged) bin.old role.old }
         requires of_class { is_of K.code bin.old.salt bin.old.class (key_in key) ≡ true }
-        ensures called { IfOk result (λ r. IsCalledOn K.eq K.code V.eq F.remapped F.merged bin.old.entries bin.new.entries
+        ensures called { IfOk result
+            (λ r. IsCalledOn K.eq K.code V.eq F.remapped F.merged bin.old.entries bin.new.entries
             (call_on (key_in key.entry) op) pass.old pass.new r.0) }
-        ensures met { OnOk result (IsMet K.eq K.code (after V.eq F.remapped F.merged) self.now.ledger pass.old bin.old role.old) }
+        ensures met { OnOk result
+            (IsMet K.eq K.code (after V.eq F.remapped F.merged) self.now.ledger pass.old
+            bin.old role.old) }
         ensures refused { OnErr result (pass.new ≡ pass.old) }
         ensures stayed { OnErr result (bin.new.entries ≡ bin.old.entries) }
         ensures form { bin.new.form ≡ bin.old.form }
@@ -55,7 +57,8 @@ impl<
         Ok((reply, trace.delta() == 1))
     }
 
-    /// Lets the pass and the role of a bin that is held tell what the bin's entries are. It changes nothing.
+    /// Lets the pass and the role of a bin that is held tell what the bin's entries are. It changes
+    /// nothing.
     pub(crate) fn meet_under(
         &self,
         pass: &mut Pass<K, V, F>,
@@ -65,7 +68,8 @@ impl<
         requires pass { pass.old.ledger ≡ self.now.ledger.id }
         requires role { role.old.ledger ≡ self.now.ledger.id }
         requires agree { BinAgrees K.eq (after V.eq F.remapped F.merged) bin.now role.old }
-        ensures met { IsMet K.eq K.code (after V.eq F.remapped F.merged) self.now.ledger pass.old bin.now role.old }
+        ensures met { IsMet K.eq K.code (after V.eq F.remapped F.merged) self.now.ledger pass.old
+            bin.now role.old }
         ensures same_pass { pass.new ≡ pass.old }
         ensures same_role { role.new ≡ role.old }
     {

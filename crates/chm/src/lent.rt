@@ -1,7 +1,7 @@
 //! Calls that borrow their key.
 ghost use Rattle.std.specs.Prelude.{◌≡◌};
 ghost use Rattle.bin_history.specs.declared.call.Call.TheVariants.{Get, Contains, Remove, Replace};
-ghost use Rattle.chm.specs.Answered.{AreExact, IsAnswered};
+ghost use Rattle.chm.specs.Headline.{AreExact, IsAnswered};
 
 use crate::fault::Fault;
 use crate::map::Map;
@@ -29,7 +29,8 @@ impl<
     ) -> Result<Reply<V>, Fault>
         requires exact { AreExact K.is_clone V.is_clone F.is_clone }
         requires pass { pass.old.ledger ≡ self.now.ledger.id }
-        ensures { IsAnswered K.eq K.code V.eq F.remapped F.merged self.now.ledger (Get key.now) pass.old pass.new result }
+        ensures { IsAnswered K.eq K.code V.eq F.remapped F.merged self.now.ledger
+            (Get key.now) pass.old pass.new result }
     {
         self.call_on(rt, pass, Given::Lent(key), Op::Get)
     }
@@ -46,12 +47,14 @@ impl<
     ) -> Result<Reply<V>, Fault>
         requires exact { AreExact K.is_clone V.is_clone F.is_clone }
         requires pass { pass.old.ledger ≡ self.now.ledger.id }
-        ensures { IsAnswered K.eq K.code V.eq F.remapped F.merged self.now.ledger (Contains key.now) pass.old pass.new result }
+        ensures { IsAnswered K.eq K.code V.eq F.remapped F.merged self.now.ledger
+            (Contains key.now) pass.old pass.new result }
     {
         self.call_on(rt, pass, Given::Lent(key), Op::Contains)
     }
 
-    /// The same as `remove`, with the key borrowed. Takes the key away, and replies the value before.
+    /// The same as `remove`, with the key borrowed. Takes the key away, and replies the value
+    /// before.
     ///
     ///     map.put(rt, pass, 1, 5)?;
     ///     map.remove_by(rt, pass, &1)? == Reply::Value(Some(5))
@@ -64,12 +67,14 @@ impl<
     ) -> Result<Reply<V>, Fault>
         requires exact { AreExact K.is_clone V.is_clone F.is_clone }
         requires pass { pass.old.ledger ≡ self.now.ledger.id }
-        ensures { IsAnswered K.eq K.code V.eq F.remapped F.merged self.now.ledger (Remove key.now) pass.old pass.new result }
+        ensures { IsAnswered K.eq K.code V.eq F.remapped F.merged self.now.ledger
+            (Remove key.now) pass.old pass.new result }
     {
         self.call_on(rt, pass, Given::Lent(key), Op::Remove)
     }
 
-    /// The same as `replace`, with the key borrowed. Gives the key this value where it has one, and replies the value before.
+    /// The same as `replace`, with the key borrowed. Gives the key this value where it has one, and
+    /// replies the value before.
     ///
     ///     map.put(rt, pass, 1, 5)?;
     ///     map.replace_by(rt, pass, &1, 6)? == Reply::Value(Some(5))
@@ -83,7 +88,8 @@ impl<
     ) -> Result<Reply<V>, Fault>
         requires exact { AreExact K.is_clone V.is_clone F.is_clone }
         requires pass { pass.old.ledger ≡ self.now.ledger.id }
-        ensures { IsAnswered K.eq K.code V.eq F.remapped F.merged self.now.ledger (Replace key.now value) pass.old pass.new result }
+        ensures { IsAnswered K.eq K.code V.eq F.remapped F.merged self.now.ledger
+            (Replace key.now value) pass.old pass.new result }
     {
         self.call_on(rt, pass, Given::Lent(key), Op::Replace(value))
     }

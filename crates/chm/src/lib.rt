@@ -1,10 +1,11 @@
-//! A map of keys to values that many threads call at once. A call holds the bin of
-//! its key, makes the call there and posts it to the books of its client and of the
-//! bin, before it gives the bin back. Each call so answers the reply of the one record that it made, in the one-thread map that the bin is.
+//! A map of keys to values that many threads call at once. A call holds the bin of its key, makes
+//! the call there and posts it to the books of its client and of the bin, before it gives the bin
+//! back. Each call so answers the reply of the one record that it made, in the one-thread map that
+//! the bin is.
 //!
-//! The table grows while it is called. After a call that made its key present, where there
-//! are three keys to four bins, the call's client opens a move to twice the bins, and
-//! moves 16 of them at a time; calls that meet a moved bin help. No refusal in a move is an error of a call.
+//! The table grows while it is called. After a call that made its key present, where there are
+//! three keys to four bins, the call's client opens a move to twice the bins, and moves 16 of them
+//! at a time; calls that meet a moved bin help. No refusal in a move is an error of a call.
 #![tactic(auto)]
 
 mod balance;

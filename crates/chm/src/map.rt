@@ -1,5 +1,6 @@
 //! A map that many threads share, and how it is opened.
-ghost use Rattle.std.specs.Prelude.{◌≡◌, ◌≤◌, ◌<◌, ◌^◌, pos, ◌+ℤ◌, [], length, flat_map, replicate, All, IfOk};
+ghost use Rattle.std.specs.Prelude.{◌≡◌, ◌≤◌, ◌<◌, ◌^◌, pos, ◌+ℤ◌, [], length, flat_map, replicate};
+ghost use Rattle.std.specs.Prelude.{All, IfOk};
 ghost use Rattle.std.specs.Int.{w64, int_max, cast_signed};
 ghost use Rattle.hashkeys.specs.Classes.{IsTableSize};
 ghost use Rattle.bin_history.specs.Copies.{IsExact};
@@ -20,12 +21,13 @@ use hashkeys::{HashKey, Salt};
 use std::alloc::{AllocError, Allocator};
 use std::marker::Model;
 
-/// A map of keys to values that many threads call at once. Each thread calls with a pass of its own, which is one client's right
-/// to make calls; when all passes are back the map can be closed. Contracts see its books and the number of bins that it opened with.
+/// A map of keys to values that many threads call at once. Each thread calls with a pass of its
+/// own, which is one client's right to make calls; when all passes are back the map can be closed.
+/// Contracts see its books and the number of bins that it opened with.
 ///
-/// In the examples of its calls the map has keys and values of type `u64`, one client, whose pass is `pass`, and no
-/// entries yet. `Plus(n)` is a function that adds n to a value, or to 0 where there is none; a merge adds n to the sum
-/// of both.
+/// In the examples of its calls the map has keys and values of type `u64`, one client, whose pass
+/// is `pass`, and no entries yet. `Plus(n)` is a function that adds n to a value, or to 0 where
+/// there is none; a merge adds n to the sum of both.
 #[derive(Drop)]
 pub struct Map<K: HashKey, V: Clone + Eq, F: Remap<K, V> + Clone, A: Allocator> {
     pub(crate) ledger: Ledger<K, V, F, A>,
@@ -70,16 +72,18 @@ impl<
     /// The capacity of a map that nobody chose another for, in bins.
     pub const DEFAULT_CAPACITY: usize = 16;
 
-    /// A map without entries, and a pass for each client. Its table begins with the least power of two of bins that is at
-    /// least the capacity, which is 1 to 4,096; there are 1 to 32 clients. The salt of its hashes is 0. Its bins store the records of calls, and a pass
-    /// makes 1,000,000 calls; `lean` opens a map without either.
+    /// A map without entries, and a pass for each client. Its table begins with the least power of
+    /// two of bins that is at least the capacity, which is 1 to 4,096; there are 1 to 32 clients.
+    /// The salt of its hashes is 0. Its bins store the records of calls, and a pass makes 1,000,000
+    /// calls; `lean` opens a map without either.
     ///
     ///     let (map, passes): Opened<u64, u64, Plus, Global> = Map::new(alloc, 16, 4)?;
     ///     map.clients() == 4 && passes.len() == 4
     pub fn new(alloc: A, capacity: usize, clients: u32) -> Result<Opened<K, V, F, A>, Fault>
         requires keys { IsExact K.is_clone }
         requires values { IsExact V.is_clone }
-        ensures new { IfOk result (λ r. IsNew Recorded (record { 0 = 0 }) capacity clients r.0 r.1.items) }
+        ensures new { IfOk result
+            (λ r. IsNew Recorded (record { 0 = 0 }) capacity clients r.0 r.1.items) }
         ensures limits { IsLimited (IsCapacity capacity) clients result }
     {
         Map::with_salt(alloc, capacity, clients, Salt(0))
@@ -103,8 +107,8 @@ impl<
         Map::with_form(alloc, Form::Recorded, capacity, clients, salt)
     }
 
-    /// The same as `with_salt`, but the map is lean: its bins store no records of calls, and a pass makes 2^57 calls. What is
-    /// proved of its calls is the same.
+    /// The same as `with_salt`, but the map is lean: its bins store no records of calls, and a pass
+    /// makes 2^57 calls. What is proved of its calls is the same.
     ///
     ///     let (map, passes): Opened<u64, u64, Plus, Global> = Map::lean(alloc, 16, 4, Salt(0))?;
     ///     map.form() == Form::Lean
@@ -165,7 +169,8 @@ impl<
         ensures form { IfOk result (λ r. r.0.ledger.form ≡ form) }
         ensures salt { IfOk result (λ r. r.0.ledger.salt ≡ salt) }
         ensures clients { IfOk result (λ r. r.0.ledger.clients ≡ clients) }
-        ensures opening { IfOk result (λ r. r.0.ledger.opening ≡ flat_map (λ base. base) (lists_of bases)) }
+        ensures opening { IfOk result
+            (λ r. r.0.ledger.opening ≡ flat_map (λ base. base) (lists_of bases)) }
         ensures n { IfOk result (λ r. r.0.n ≡ length bases.items) }
         ensures passes { IfOk result (λ r. r.1.items ≡ new_passes r.0.ledger.id clients) }
     {
@@ -200,8 +205,9 @@ fn count_of(word: u64) -> u64
 }
 
 impl<K: HashKey, V: Clone + Eq, F: Remap<K, V> + Clone, A: Allocator> Map<K, V, F, A> {
-    /// How many keys there are, as far as a look at one client's count after the other tells: while other threads
-    /// call, it is the number at no one moment, and nothing but its range is promised.
+    /// How many keys there are, as far as a look at one client's count after the other tells: while
+    /// other threads call, it is the number at no one moment, and nothing but its range is
+    /// promised.
     ///
     ///     map.put(rt, pass, 1, 5)?;
     ///     map.mapping_count() == 1
@@ -211,13 +217,15 @@ impl<K: HashKey, V: Clone + Eq, F: Remap<K, V> + Clone, A: Allocator> Map<K, V, 
         count_of(self.opened.wrapping_add(self.ledger.sum()))
     }
 
-    /// How many keys there are, by the passes of all clients: those at the opening, and the sum of all deltas.
+    /// How many keys there are, by the passes of all clients: those at the opening, and the sum of
+    /// all deltas.
     ///
     ///     map.mapping_count_all(&mut passes) == 0
     pub fn mapping_count_all(&self, passes: &mut [Pass<K, V, F>]) -> u64
         requires own { All (λ p. p.ledger ≡ self.now.ledger.id) passes.old }
         requires all { length passes.old ≡ self.now.ledger.clients }
-        ensures count { pos result ≡ int_max (pos 0) (pos (length self.now.ledger.opening) +ℤ total_made passes.old) }
+        ensures count { pos result ≡ int_max (pos 0)
+            (pos (length self.now.ledger.opening) +ℤ total_made passes.old) }
         ensures same { passes.new ≡ passes.old }
     {
         count_of(self.opened.wrapping_add(self.ledger.sum_all(passes)))

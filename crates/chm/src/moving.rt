@@ -1,7 +1,8 @@
-//! What calls do for the table once their own work is done. No refusal here is an error of the call.
+//! What calls do for the table once their own work is done. No refusal here is an error of the
+//! call.
 ghost use Rattle.std.specs.Prelude.{◌≡◌, ◌≤◌};
 ghost use Rattle.hashkeys.specs.Classes.{IsTableSize};
-ghost use Rattle.chm.specs.Answered.{AreExact};
+ghost use Rattle.chm.specs.Headline.{AreExact};
 ghost use Rattle.transfer.specs.Views.{IsUnfinished};
 
 use crate::growth::{Doubling, Table};
@@ -26,7 +27,8 @@ impl<
     F: Remap<K, V> + Clone + Drop,
     A: Allocator + Clone,
 > Map<K, V, F, A> {
-    /// Forwards a bin that the table has outgrown, helps an open move with one stride, and opens a move where there are too many keys.
+    /// Forwards a bin that the table has outgrown, helps an open move with one stride, and opens a
+    /// move where there are too many keys.
     pub(crate) fn after_call<R: Wait>(&self, rt: &R, landed: &Landed)
         requires exact { AreExact K.is_clone V.is_clone F.is_clone }
     {
@@ -52,7 +54,8 @@ impl<
         }
     }
 
-    /// Moves the bins of a range that the mover claimed, and publishes the wider table where it was the last.
+    /// Moves the bins of a range that the mover claimed, and publishes the wider table where it was
+    /// the last.
     fn move_range<R: Wait>(&self, rt: &R, doubling: &Doubling<A>, mover: &mut Mover, range: Range)
         requires exact { AreExact K.is_clone V.is_clone F.is_clone }
         requires mover { mover.old.strides ≡ doubling.now.strides }
@@ -97,7 +100,8 @@ impl<
         }
     }
 
-    /// Tries to open a move, and then moves strides until none is left. For want of memory for its places or its strides there is no move.
+    /// Tries to open a move, and then moves strides until none is left. For want of memory for its
+    /// places or its strides there is no move.
     fn grow<R: Wait>(&self, rt: &R, table: Table)
         requires exact { AreExact K.is_clone V.is_clone F.is_clone }
         requires table { table.exponent ≤ 16 }

@@ -3,8 +3,7 @@ ghost use Rattle.std.specs.Prelude.{◌≡◌, List, length};
 ghost use Rattle.bin_history.specs.Calls.{after};
 ghost use Rattle.bin_history.specs.Entries.{HasDistinctKeys};
 ghost use Rattle.bin_history.specs.Records.{RecordView};
-ghost use Rattle.chm.specs.Orders.{IsHistoryOfKey, IsOneOrder};
-ghost use Rattle.chm.specs.Quiets.{entries_of, IsQuiet};
+ghost use Rattle.chm.specs.Headline.{IsHistoryOfKey, IsOneOrder, entries_of, IsQuiet};
 
 use bin_history::{Bin, Form, Remap};
 use count_ledger::{BinRole, Ledger, Pass};
@@ -13,8 +12,8 @@ use std::alloc::Allocator;
 use std::marker::Model;
 use std::snapshot::Snapshot;
 
-/// A map that nobody calls any more: its bins do not change. Contracts see its bins beside the books that it was closed with.
-/// In the examples of its calls it has one key, 1, with the value 5.
+/// A map that nobody calls any more: its bins do not change. Contracts see its bins beside the
+/// books that it was closed with. In the examples of its calls it has one key, 1, with the value 5.
 #[derive(Drop)]
 pub struct Quiet<K: HashKey, V: Clone + Eq, F: Remap<K, V> + Clone, A: Allocator> {
     pub(crate) bins: Vec<Bin<K, V, F, A>, A>,
@@ -30,11 +29,18 @@ pub struct Quiet<K: HashKey, V: Clone + Eq, F: Remap<K, V> + Clone, A: Allocator
 impl<K: HashKey, V: Clone + Eq, F: Remap<K, V> + Clone, A: Allocator> Model for Quiet<K, V, F, A> {
     ghost use Rattle.std.specs.Prelude.{◌≡◌, length};
     ghost use Rattle.bin_history.specs.Calls.{after};
-    ghost use Rattle.chm.specs.Quiets.{QuietView, entries_of, IsQuiet};
+    ghost use Rattle.chm.specs.Headline.{QuietView, entries_of, IsQuiet};
 
     ghost Value = { QuietView K V F };
 
-    ghost view = { λ q. record { ledger = q.ledger.value; n = q.n; bins = q.bins.items; roles = q.roles.value.items; passes = q.passes.value.items } };
+    ghost view = { λ q. record {
+      ledger = q.ledger.value;
+      n = q.n;
+      bins = q.bins.items;
+      roles =
+          q.roles.value.items;
+      passes = q.passes.value.items;
+    } };
 
     ghost invariant = { λ q.
         IsQuiet K.eq K.code (after V.eq F.remapped F.merged) (record { ledger = q.ledger.value; n = q.n; bins = q.bins.items; roles = q.roles.value.items; passes = q.passes.value.items })
@@ -95,21 +101,23 @@ impl<K: HashKey, V: Clone + Eq, F: Remap<K, V> + Clone, A: Allocator> Quiet<K, V
         let _ = &self.bins;
     }
 
-    /// There is one order of all calls of all clients, in which they are those of a
-    /// one-thread map: each client's in that client's order, each bin's as its role kept
-    /// them, legal on the opening map, and they leave the pairs of this map. It does nothing when it runs.
+    /// There is one order of all calls of all clients, in which they are those of a one-thread map:
+    /// each client's in that client's order, each bin's as its role kept them, legal on the opening
+    /// map, and they leave the pairs of this map. It does nothing when it runs.
     pub fn one_order(&self)
-        ensures { (calls : List (RecordView K V F)) × IsOneOrder K.eq K.code (after V.eq F.remapped F.merged) self.now calls }
+        ensures { (calls : List (RecordView K V F))
+            × IsOneOrder K.eq K.code (after V.eq F.remapped F.merged) self.now calls }
     {
         let _ = &self.bins;
     }
 
-    /// What holds of each key: no key stands twice, and all calls on one key, which are of
-    /// each client just those that it made on the key, in its order, are calls of one
-    /// cell, from the value that the key had at the opening to the one that it has. It does nothing when it runs.
+    /// What holds of each key: no key stands twice, and all calls on one key, which are of each
+    /// client just those that it made on the key, in its order, are calls of one cell, from the
+    /// value that the key had at the opening to the one that it has. It does nothing when it runs.
     pub fn histories(&self)
         ensures distinct { HasDistinctKeys K.eq (entries_of self.now.bins) }
-        ensures each_key { (k : K) → (rs : List (RecordView K V F)) × IsHistoryOfKey K.eq (after V.eq F.remapped F.merged) self.now k rs }
+        ensures each_key { (k : K) → (rs : List (RecordView K V F))
+            × IsHistoryOfKey K.eq (after V.eq F.remapped F.merged) self.now k rs }
     {
         let _ = &self.bins;
     }
@@ -125,7 +133,7 @@ pub struct Entries<'a, K: HashKey, V: Clone + Eq, F: Remap<K, V> + Clone, A: All
 impl<'a, K: HashKey, V: Clone + Eq, F: Remap<K, V> + Clone, A: Allocator> Model
     for Entries<'a, K, V, F, A> {
     ghost use Rattle.std.specs.Prelude.{List, ◌++◌};
-    ghost use Rattle.chm.specs.Quiets.{entries_of};
+    ghost use Rattle.chm.specs.Headline.{entries_of};
 
     ghost Value = { List (K × V) };
 

@@ -3,7 +3,7 @@ ghost use Rattle.std.specs.Prelude.{◌≡◌, ◌≤◌, length, flat_map, IfOk
 ghost use Rattle.hashkeys.specs.Classes.{IsTableSize};
 ghost use Rattle.bin_history.specs.Copies.{IsExact};
 ghost use Rattle.count_ledger.specs.Opening.{lists_of};
-ghost use Rattle.chm.specs.Quiets.{entries_of};
+ghost use Rattle.chm.specs.Headline.{entries_of};
 ghost use Rattle.chm.specs.Opened.{IsLimited};
 ghost use Rattle.chm.specs.Reopened.{parts_by_class, IsReopened};
 
@@ -28,8 +28,10 @@ fn deal<K: HashKey + Drop, V: Clone + Eq + Drop, F: Remap<K, V> + Clone, A: Allo
     requires keys { IsExact K.is_clone }
     requires values { IsExact V.is_clone }
     requires size { IsTableSize n }
-    ensures dealt { IfOk result (λ bases. lists_of bases ≡ parts_by_class K.code salt n pairs.entry) }
-    ensures total { IfOk result (λ bases. length (flat_map (λ base. base) (lists_of bases)) ≡ length pairs.entry) }
+    ensures dealt { IfOk result
+        (λ bases. lists_of bases ≡ parts_by_class K.code salt n pairs.entry) }
+    ensures total { IfOk result (λ bases. length (flat_map (λ base. base) (lists_of bases))
+        ≡ length pairs.entry) }
 {
     let mut bases = no_bases(alloc, n)?;
     for (key, value) in pairs {
@@ -47,15 +49,16 @@ impl<
     A: Allocator + Clone,
 > Quiet<K, V, F, A> {
     /// Opens a map with copies of the pairs, which go into their bins in walk order, and with
-    /// passes that made nothing for 1 to 32 clients. It has this map's form, and its table
-    /// is the least from this map's opening one on that has room for them. The closed map stays as it is.
+    /// passes that made nothing for 1 to 32 clients. It has this map's form, and its table is the
+    /// least from this map's opening one on that has room for them. The closed map stays as it is.
     ///
     ///     let (map, passes) = quiet.reopen(2)?;
     ///     map.clients() == 2 && map.mapping_count() == 1
     pub fn reopen(&self, clients: u32) -> Result<Opened<K, V, F, A>, Fault>
         requires keys { IsExact K.is_clone }
         requires values { IsExact V.is_clone }
-        ensures new { IfOk result (λ r. IsReopened K.eq K.code self.now self.now.ledger.salt clients r.0 r.1.items) }
+        ensures new { IfOk result
+            (λ r. IsReopened K.eq K.code self.now self.now.ledger.salt clients r.0 r.1.items) }
         ensures limits { IsLimited (length (entries_of self.now.bins) ≤ 4294967295) clients result }
     {
         self.reopen_with(clients, self.salt)
@@ -68,7 +71,8 @@ impl<
     pub fn reopen_with(&self, clients: u32, salt: Salt) -> Result<Opened<K, V, F, A>, Fault>
         requires keys { IsExact K.is_clone }
         requires values { IsExact V.is_clone }
-        ensures new { IfOk result (λ r. IsReopened K.eq K.code self.now salt clients r.0 r.1.items) }
+        ensures new { IfOk result
+            (λ r. IsReopened K.eq K.code self.now salt clients r.0 r.1.items) }
         ensures limits { IsLimited (length (entries_of self.now.bins) ≤ 4294967295) clients result }
     {
         let count = self.mapping_count();

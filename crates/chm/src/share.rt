@@ -11,7 +11,8 @@ use std::sync::Wait;
 use std::thread;
 use std::thread::Threads;
 
-/// What each of the clients that share a map does, in a thread of its own, by calls with the pass that it is lent.
+/// What each of the clients that share a map does, in a thread of its own, by calls with the pass
+/// that it is lent.
 pub trait Sharing<K: HashKey, V: Clone + Eq, F: Remap<K, V> + Clone, A: Allocator> {
     ghost use Rattle.count_ledger.specs.Views.{PassView};
 
@@ -26,9 +27,10 @@ pub trait Sharing<K: HashKey, V: Clone + Eq, F: Remap<K, V> + Clone, A: Allocato
 }
 
 impl<K: HashKey, V: Clone + Eq, F: Remap<K, V> + Clone, A: Allocator> Map<K, V, F, A> {
-    /// Lends each pass to a thread of its own, in which the work makes calls of the map, all at the same time; where a thread cannot be
-    /// started its client works in a thread that there is, after others, so no client may wait for another. All have ended when this
-    /// returns. Each pass is then of the map still, and as the work left it.
+    /// Lends each pass to a thread of its own, in which the work makes calls of the map, all at the
+    /// same time; where a thread cannot be started its client works in a thread that there is,
+    /// after others, so no client may wait for another. All have ended when this returns. Each pass
+    /// is then of the map still, and as the work left it.
     ///
     /// Where each of four clients adds 1 at 1, as `map.merge(rt, pass, 1, 1, Plus(0))` does:
     ///
@@ -48,7 +50,8 @@ impl<K: HashKey, V: Clone + Eq, F: Remap<K, V> + Clone, A: Allocator> Map<K, V, 
         requires { All (λ p. p.ledger ≡ self.now.ledger.id) passes.old }
         ensures own { All (λ p. p.ledger ≡ self.now.ledger.id) passes.new }
         ensures len { length passes.new ≡ length passes.old }
-        ensures done { (i : ℕ) (d : PassView K V F) → i < length passes.old → W.does work.now (slice_index_or passes.old i d) (slice_index_or passes.new i d) }
+        ensures done { (i : ℕ) (d : PassView K V F) → i < length passes.old →
+            W.does work.now (slice_index_or passes.old i d) (slice_index_or passes.new i d) }
     {
         let lend = |_number: usize, pass: &mut Pass<K, V, F>|
             requires { pass.now.ledger ≡ self.now.ledger.id }

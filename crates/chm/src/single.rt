@@ -1,7 +1,7 @@
 //! One key of a closed map.
 ghost use Rattle.std.specs.Prelude.{◌≡◌, None, Some, MatchOption};
 ghost use Rattle.bin_history.specs.Entries.{lookup};
-ghost use Rattle.chm.specs.Quiets.{entries_of};
+ghost use Rattle.chm.specs.Headline.{entries_of};
 
 use crate::quiet::Quiet;
 use bin_history::{Bin, Remap};
@@ -13,7 +13,8 @@ fn value_in<'a, K: HashKey, V: Clone + Eq, F: Remap<K, V> + Clone, A: Allocator 
     bins: &'a [Bin<K, V, F, A>],
     key: &K,
 ) -> Option<&'a V>
-    ensures { MatchOption result (lookup K.eq (entries_of bins.now) key.now ≡ None) (λ value. lookup K.eq (entries_of bins.now) key.now ≡ Some value.now) }
+    ensures { MatchOption result (lookup K.eq (entries_of bins.now) key.now ≡ None)
+        (λ value. lookup K.eq (entries_of bins.now) key.now ≡ Some value.now) }
 {
     for bin in bins {
         if let Some(value) = bin.get(key) {

@@ -1,7 +1,7 @@
 //! The pairs of a closed map, taken out of it.
 ghost use Rattle.std.specs.Prelude.{◌≡◌, [], ◌≤◌, length, vec_len, vec_capacity, IfOk, IfErr};
 ghost use Rattle.bin_history.specs.Entries.{HasDistinctKeys};
-ghost use Rattle.chm.specs.Quiets.{entries_of};
+ghost use Rattle.chm.specs.Headline.{entries_of};
 
 use crate::quiet::Quiet;
 use bin_history::{Bin, Remap};
@@ -43,8 +43,9 @@ impl<
         Vec::with_capacity(self.bins.allocator().clone()?, self.count as usize)
     }
 
-    /// The pairs, bin by bin, as `entries` goes over them, taken out of the map by value: no key and no value is copied. It asks
-    /// for the memory of one list. Where that is refused the closed map comes back as it was.
+    /// The pairs, bin by bin, as `entries` goes over them, taken out of the map by value: no key
+    /// and no value is copied. It asks for the memory of one list. Where that is refused the closed
+    /// map comes back as it was.
     ///
     ///     match quiet.into_entries() {
     ///         Ok(pairs) => pairs.as_slice() == [(1, 5)].as_slice(),

@@ -3,7 +3,7 @@ ghost use Rattle.std.specs.Prelude.{◌≡◌, All, IfOk, IfErr, option_copied};
 ghost use Rattle.bin_history.specs.Calls.{after};
 ghost use Rattle.bin_history.specs.Copies.{IsExact};
 ghost use Rattle.generations.specs.Places.{AreAt};
-ghost use Rattle.chm.specs.Called.{IsFound};
+ghost use Rattle.chm.specs.Headline.{IsFound};
 ghost use Rattle.bin_history.specs.Entries.{HasDistinctKeys};
 ghost use Rattle.chm.specs.Visits.{AreVisits, IsFirstOf, IsOwn, IsShown, IsVisit, shown_by};
 
@@ -39,9 +39,11 @@ impl<
     F: Remap<K, V> + Clone + Drop,
     A: Allocator + Clone,
 > Map<K, V, F, A> {
-    /// Waits for the first of the bins of a class. A bin of a wider class has hashes that were passed before, so it is given back and asked for again.
+    /// Waits for the first of the bins of a class. A bin of a wider class has hashes that were
+    /// passed before, so it is given back and asked for again.
     pub(crate) fn hold_first<R: Wait>(&self, rt: &R, class: Class) -> Held<'_, K, V, F, A>
-        ensures at { AreAt K.eq (after V.eq F.remapped F.merged) result.place.now result.bin.value result.role }
+        ensures at { AreAt K.eq (after V.eq F.remapped F.merged) result.place.now
+            result.bin.value result.role }
         ensures first { IsFirstOf class result.bin.value.class }
         ensures ledger { result.role.ledger ≡ self.now.ledger.id }
         ensures salt { result.bin.value.salt ≡ self.now.ledger.salt }
@@ -68,7 +70,8 @@ impl<
         requires keys { IsExact K.is_clone }
         requires values { IsExact V.is_clone }
         requires pass { pass.old.ledger ≡ self.now.ledger.id }
-        ensures visit { IfOk result (IsVisit K.eq K.code (after V.eq F.remapped F.merged) self.now.ledger pass.old) }
+        ensures visit { IfOk result
+            (IsVisit K.eq K.code (after V.eq F.remapped F.merged) self.now.ledger pass.old) }
         ensures first { IfOk result (λ v. IsFirstOf class v.class) }
         ensures same { pass.new ≡ pass.old }
     {
@@ -86,9 +89,11 @@ impl<
         })
     }
 
-    /// Shows the entries of each bin in walk order, one bin after the other, each as it was while it was held. No key comes twice. Calls of others may come
-    /// between two bins; calls of the pass's own client do not, so with one client the walk shows the map. A walk does not promise that other
-    /// clients really made the calls it shows; `close` does. For want of memory nothing is shown.
+    /// Shows the entries of each bin in walk order, one bin after the other, each as it was while
+    /// it was held. No key comes twice. Calls of others may come between two bins; calls of the
+    /// pass's own client do not, so with one client the walk shows the map. A walk does not promise
+    /// that other clients really made the calls it shows; `close` does. For want of memory nothing
+    /// is shown.
     ///
     ///     map.put(rt, pass, 1, 5)?;
     ///     let visits = map.walk(rt, pass)?;
@@ -101,9 +106,12 @@ impl<
         requires keys { IsExact K.is_clone }
         requires values { IsExact V.is_clone }
         requires pass { pass.old.ledger ≡ self.now.ledger.id }
-        ensures visits { IfOk result (λ v. AreVisits K.eq K.code (after V.eq F.remapped F.merged) self.now.n self.now.ledger pass.old v.items) }
+        ensures visits { IfOk result
+            (λ v. AreVisits K.eq K.code (after V.eq F.remapped F.merged) self.now.n self.now.ledger
+            pass.old v.items) }
         ensures distinct { IfOk result (λ v. HasDistinctKeys K.eq (shown_by v.items)) }
-        ensures own { self.now.ledger.clients ≡ 1 → IfOk result (λ v. All (IsOwn K.eq K.code self.now.ledger pass.old) v.items) }
+        ensures own { self.now.ledger.clients ≡ 1 →
+            IfOk result (λ v. All (IsOwn K.eq K.code self.now.ledger pass.old) v.items) }
         ensures same { pass.new ≡ pass.old }
         ensures faults { IfErr result (λ fault. fault ≡ Fault.NoMemory) }
     {
@@ -123,8 +131,9 @@ impl<
         unreachable!()
     }
 
-    /// A copy of the value at a key, which is the one that a call of the pass's client would find now. It waits for the key's bin as a call does, but it is no
-    /// call: nothing is posted, the pass stays as it was, and a full pass may look as well. For want of memory nothing is told.
+    /// A copy of the value at a key, which is the one that a call of the pass's client would find
+    /// now. It waits for the key's bin as a call does, but it is no call: nothing is posted, the
+    /// pass stays as it was, and a full pass may look as well. For want of memory nothing is told.
     ///
     ///     map.put(rt, pass, 1, 5)?;
     ///     map.look_up(rt, pass, &1)? == Some(5)
@@ -137,7 +146,8 @@ impl<
     ) -> Result<Option<V>, Fault>
         requires values { IsExact V.is_clone }
         requires pass { pass.old.ledger ≡ self.now.ledger.id }
-        ensures found { IfOk result (IsFound K.eq K.code (after V.eq F.remapped F.merged) self.now.ledger pass.old key.now) }
+        ensures found { IfOk result
+            (IsFound K.eq K.code (after V.eq F.remapped F.merged) self.now.ledger pass.old key.now) }
         ensures same { pass.new ≡ pass.old }
         ensures faults { IfErr result (λ fault. fault ≡ Fault.NoMemory) }
     {
@@ -151,13 +161,15 @@ impl<
         Ok(value?)
     }
 
-    /// A copy of the value at a key, read beside others that read the bin. It is no call: nothing is posted, and which moment it shows is not said.
+    /// A copy of the value at a key, read beside others that read the bin. It is no call: nothing
+    /// is posted, and which moment it shows is not said.
     ///
     ///     map.put(rt, pass, 1, 5)?;
     ///     map.glance(rt, &1)? == Some(5)
     pub fn glance<R: Wait>(&self, rt: &R, key: &K) -> Result<Option<V>, Fault>
         requires values { IsExact V.is_clone }
-        ensures shown { IfOk result (IsShown K.eq K.code (after V.eq F.remapped F.merged) self.now key.now) }
+        ensures shown { IfOk result
+            (IsShown K.eq K.code (after V.eq F.remapped F.merged) self.now key.now) }
         ensures faults { IfErr result (λ fault. fault ≡ Fault.NoMemory) }
     {
         let shown = self.bins.read(rt, self.salt().hash_of(key));

@@ -1,8 +1,7 @@
 //! Runs of scripts whose clients call at the same time.
-use crate::samples::{check_with, told};
-use facing_cli::{ClientGate, Gate, Options, Reader, Writer, run};
-use hashkeys::Salt;
-use std::alloc::AllocGlobal;
+use crate::samples::{check_with, options, told, told_under};
+use facing_cli::{ClientGate, Gate};
+use std::alloc::{AllocError, AllocGlobal, Global};
 use std::process::Abort;
 use std::sync::Wait;
 use std::sync::atomic::AtomicU64;
@@ -13,87 +12,115 @@ use std::thread::Threads;
 
 /// Whichever client is first finds no value, and the other the first one's.
 #[test]
-fn two_clients_put_one_key(rt: HostRuntime) -> Result<(), Fail> {
+fn two_clients_put_one_key(rt: HostRuntime) {
     let script = b"client\nput a 1\nclient\nput a 2\nquery\ncount\n";
-    let (status, text) = told(&rt, script, &Options::new(4, 16)?)?;
-    assert_eq!(rt; status, 0);
-    let wanted = [
-        "client 0\nnone\nclient 1\nsome 1\n1\n",
-        "client 0\nsome 2\nclient 1\nnone\n1\n",
-    ];
-    assert!(rt; wanted.iter().any(|one| text.as_slice() == one.as_bytes()));
-    Ok(())
+    let (status, text) = told(&rt, script, &options(&rt, 4, 16, 0));
+    let is_first = text.as_slice() == b"client 0\nnone\nclient 1\nsome 1\n1\n".as_slice();
+    let is_second = text.as_slice() == b"client 0\nsome 2\nclient 1\nnone\n1\n".as_slice();
+    assert!(rt; status == 0 && (is_first || is_second), "{text:?}");
+}
+
+/// A script of so many clients, each of which makes one call so often, and its query.
+fn script_of_calls(
+    alloc: Global,
+    clients: u32,
+    call: &str,
+    times: u32,
+    query: &str,
+) -> Result<String, AllocError> {
+    let mut script = String::new(alloc);
+    for _ in 0..clients {
+        script.push_str("client\n")?;
+        for _ in 0..times {
+            script.push_str(call)?;
+        }
+    }
+    script.push_str("query\n")?;
+    script.push_str(query)?;
+    Ok(script)
+}
+
+/// How many lines of a text are this one.
+fn count_lines(rt: &impl Abort, text: &[u8], wanted: &str) -> u32 {
+    let mut count = 0u32;
+    for line in str::from_utf8(text).expect(rt, "a text").lines() {
+        count = count.saturating_add(u32::from(line == wanted));
+    }
+    count
 }
 
 /// Of 32 clients that put one key where it is absent, one does.
 #[test]
 fn one_of_32_clients_is_first(rt: HostRuntime) -> Result<(), Fail> {
-    let mut script = String::new(rt.alloc());
-    for _ in 0..32 {
-        script.push_str("client\nput_if_absent a 1\n")?;
-    }
-    script.push_str("query\ncount\n")?;
-    let (status, text) = told(&rt, script.as_bytes(), &Options::new(4, 16)?)?;
-    assert_eq!(rt; status, 0);
-    let lines = str::from_utf8(&text)?.lines();
-    let (mut first, mut later) = (0u32, 0u32);
-    for line in lines {
-        first = first.saturating_add(u32::from(line == "none"));
-        later = later.saturating_add(u32::from(line == "some 1"));
-    }
-    assert_eq!(rt; (first, later), (1, 31));
-    assert!(rt; text.ends_with(b"\n1\n"));
+    let script = script_of_calls(rt.alloc(), 32, "put_if_absent a 1\n", 1, "count\n")?;
+    let (status, text) = told(&rt, script.as_bytes(), &options(&rt, 4, 16, 0));
+    drop(script);
+    let found = (
+        count_lines(&rt, &text, "none"),
+        count_lines(&rt, &text, "some 1"),
+    );
+    let is_one = text.ends_with(b"\n1\n");
+    drop(text);
+    assert!(rt; status == 0 && is_one && found == (1, 31), "{found:?}");
     Ok(())
 }
 
-/// So many clients add 1 to one key, each so often. Each sum is the reply of one call.
-fn count_together<R: Threads + Wait + Sync + Abort + AllocGlobal>(
-    rt: &R,
-    clients: usize,
-    calls: usize,
-) -> Result<(), Fail> {
-    let mut script = String::new(rt.alloc());
-    for _ in 0..clients {
-        script.push_str("client\n")?;
-        for _ in 0..calls {
-            script.push_str("merge a 1 sum\n")?;
-        }
-    }
-    script.push_str("query\nlist 1\n")?;
-    let (status, text) = told(rt, script.as_bytes(), &Options::new(4, 16)?)?;
-    assert_eq!(rt; status, 0);
-    let most = clients.saturating_mul(calls);
-    assert!(rt; text.ends_with(format!(in rt.alloc(); "\na {most}\n")?.as_bytes()));
-    let mut replies = vec![in rt.alloc(); 0u32; most.saturating_add(1)]?;
-    for line in str::from_utf8(&text)?.lines() {
+/// Counts how often each sum was replied, at the place of its number. Sums past the most are
+/// counted at 0.
+fn count_sums(alloc: Global, text: &str, most: u32) -> Result<Vec<u32>, AllocError> {
+    let mut replies = vec![in alloc; 0u32; (most as usize).saturating_add(1)]?;
+    for line in text.lines() {
         if let Some(sum) = line.strip_prefix("some ") {
-            let sum: usize = sum.parse()?;
-            let Some(count) = replies.get_mut(sum) else {
-                panic!(rt; "a sum of {sum}");
-            };
-            *count = count.saturating_add(1);
+            let place = sum.parse().ok().filter(|sum| *sum <= most).unwrap_or(0);
+            if let Some(count) = replies.get_mut(place as usize) {
+                *count = count.saturating_add(1);
+            }
         }
     }
-    assert_eq!(rt; replies.first(), Some(&0));
-    assert!(rt; replies.iter().skip(1).all(|count| *count == 1));
+    Ok(replies)
+}
+
+/// None of them is 0, and each of the others is there once.
+fn assert_once(rt: &impl Abort, replies: &[u32]) {
+    for (sum, count) in replies.iter().enumerate() {
+        assert!(rt; *count == u32::from(sum > 0), "the sum {sum}");
+    }
+}
+
+/// So many clients add 1 to one key, each so often. Each sum is the reply of one call, and the last
+/// is the value.
+fn assert_sums<R: Threads + Wait + Sync + Abort + AllocGlobal>(
+    rt: &R,
+    clients: u32,
+    calls: u32,
+    last: &[u8],
+) -> Result<(), Fail> {
+    let script = script_of_calls(rt.alloc(), clients, "merge a 1 sum\n", calls, "list 1\n")?;
+    let (status, text) = told(rt, script.as_bytes(), &options(rt, 4, 16, 0));
+    drop(script);
+    assert!(rt; status == 0 && text.ends_with(last));
+    let most = clients.saturating_mul(calls);
+    let replies = count_sums(rt.alloc(), str::from_utf8(&text).expect(rt, "a text"), most)?;
+    drop(text);
+    assert_once(rt, &replies);
     Ok(())
 }
 
 #[test]
 fn two_clients_count_to_2000(rt: HostRuntime) -> Result<(), Fail> {
-    count_together(&rt, 2, 1000)
+    assert_sums(&rt, 2, 1000, b"\na 2000\n")
 }
 
 #[test]
-fn all_32_clients_count_to_3200(rt: HostRuntime) -> Result<(), Fail> {
-    count_together(&rt, 32, 100)
+fn all_32_clients_count_to_32000(rt: HostRuntime) -> Result<(), Fail> {
+    assert_sums(&rt, 32, 1000, b"\na 32000\n")
 }
 
-/// The table grows from one bin while 32 clients put 40 keys each, take every second of them away again, and read one.
-#[test]
-fn clients_of_many_keys_do_not_meet(rt: HostRuntime) -> Result<(), Fail> {
-    let mut script = String::new(rt.alloc());
-    let mut wanted = String::new(rt.alloc());
+/// A script of 32 clients that put 40 keys each, take every second of them away again and read one,
+/// and what it prints.
+fn script_of_many_keys(alloc: Global) -> Result<(String, String), AllocError> {
+    let mut script = String::new(alloc);
+    let mut wanted = String::new(alloc);
     for client in 0..32 {
         script.push_str("client\n")?;
         writeln!(wanted, "client {client}")?;
@@ -111,27 +138,33 @@ fn clients_of_many_keys_do_not_meet(rt: HostRuntime) -> Result<(), Fail> {
     }
     script.push_str("query\ncount\nreduce sum 1\nreduce max 1\n")?;
     wanted.push_str("640\n12800\nsome 39\n")?;
+    Ok((script, wanted))
+}
+
+/// The table grows from one bin while they call.
+#[test]
+fn clients_of_many_keys_do_not_meet(rt: HostRuntime) -> Result<(), Fail> {
+    let (script, wanted) = script_of_many_keys(rt.alloc())?;
     for salt in [0, 1, u32::MAX] {
-        let options = Options::with_salt(4, 1, Salt(salt))?;
-        check_with(&rt, &options, script.as_bytes(), 0, &wanted)?;
+        let options = options(&rt, 4, 1, salt);
+        check_with(&rt, &options, script.as_bytes(), 0, &wanted);
     }
     Ok(())
 }
 
 /// What a script with one client prints does not change with the size of the table or the salt.
 #[test]
-fn one_client_prints_the_same_under_any_salt(rt: HostRuntime) -> Result<(), Fail> {
+fn one_client_prints_the_same_under_any_salt(rt: HostRuntime) {
     let script =
         b"client\nput q 1\nput a 2\nput Aa 3\nput zzzzzz 4\nput BB 5\nremove a\nmerge q 9 max\nquery\ncount\nreduce sum 1\nlist 1\n";
     let wanted =
         "client 0\nnone\nnone\nnone\nnone\nnone\nsome 2\nsome 9\n4\n21\nAa 3\nBB 5\nq 9\nzzzzzz 4\n";
     for capacity in [1, 2, 16, 4096] {
         for salt in [0, 1, 2112, u32::MAX] {
-            let options = Options::with_salt(4, capacity, Salt(salt))?;
-            check_with(&rt, &options, script, 0, wanted)?;
+            let options = options(&rt, 4, capacity, salt);
+            check_with(&rt, &options, script, 0, wanted);
         }
     }
-    Ok(())
 }
 
 /// Counts each client's calls, and those that came in another place than their number says.
@@ -159,28 +192,24 @@ impl ClientGate for Counting {
 
 /// Client 0 makes two calls, and client 1 three.
 #[test]
-fn the_gate_sees_each_client_s_calls_in_order(rt: HostRuntime) -> Result<(), Fail> {
+fn the_gate_sees_each_client_s_calls_in_order(rt: HostRuntime) {
     let script = b"client\nput a 1\nget a\nclient\nget b\nremove b\nget b\nquery\n";
     let gate = Counting {
         calls: [AtomicU64::new(0), AtomicU64::new(0)],
         misplaced: AtomicU64::new(0),
     };
-    run(
-        &rt,
-        rt.alloc(),
-        &mut Reader::new(script.as_slice()),
-        &mut Writer::new(Vec::new(rt.alloc())),
-        &Options::new(4, 16)?,
-        &gate,
-    )?;
-    assert_eq!(rt; gate.calls[0].load(SeqCst), 2);
-    assert_eq!(rt; gate.calls[1].load(SeqCst), 3);
-    assert_eq!(rt; gate.misplaced.load(SeqCst), 0);
-    Ok(())
+    let (status, text) = told_under(&rt, script, &options(&rt, 4, 16, 0), &gate);
+    drop(text);
+    let calls = [gate.calls[0].load(SeqCst), gate.calls[1].load(SeqCst)];
+    let misplaced = gate.misplaced.load(SeqCst);
+    assert!(rt;
+        status == 0 && misplaced == 0 && calls == [2, 3],
+        "{calls:?}"
+    );
 }
 
-/// Lets client 0's first call wait until client 1 is about to make its own, and that one until client 0 is about to
-/// make its third; each for so many turns at most.
+/// Lets client 0's first call wait until client 1 is about to make its own, and that one until
+/// client 0 is about to make its third; each for so many turns at most.
 #[derive(Drop)]
 struct Meeting {
     first_come: AtomicU64,
@@ -220,30 +249,19 @@ impl ClientGate for Meeting {
     }
 }
 
-/// Clients that play one after the other miss each other here. Where the gate came after its call, client 1 would find
-/// nothing: its call would be made before client 0's first comes back.
+/// Clients that play one after the other miss each other here. Where the gate came after its call,
+/// client 1 would find nothing: its call would be made before client 0's first comes back.
 #[test]
-fn clients_call_at_the_same_time_each_after_its_gate(rt: HostRuntime) -> Result<(), Fail> {
+fn clients_call_at_the_same_time_each_after_its_gate(rt: HostRuntime) {
+    let script = b"client\nget b\nput a 1\nget b\nclient\nget a\nquery\ncount\n";
     let gate = Meeting {
         first_come: AtomicU64::new(0),
         last_come: AtomicU64::new(0),
         missed: AtomicU64::new(0),
     };
-    let mut output = Writer::new(Vec::new(rt.alloc()));
-    run(
-        &rt,
-        rt.alloc(),
-        &mut Reader::new(
-            b"client\nget b\nput a 1\nget b\nclient\nget a\nquery\ncount\n".as_slice(),
-        ),
-        &mut output,
-        &Options::new(4, 16)?,
-        &gate,
-    )?;
-    assert_eq!(rt; gate.missed.load(SeqCst), 0);
-    assert_eq!(rt;
-        output.inner.as_slice(),
-        b"client 0\nnone\nnone\nnone\nclient 1\nsome 1\n1\n".as_slice()
-    );
-    Ok(())
+    let (status, text) = told_under(&rt, script, &options(&rt, 4, 16, 0), &gate);
+    let is_same = text.as_slice()
+        == b"client 0\nnone\nnone\nnone\nclient 1\nsome 1\n1\n".as_slice();
+    let missed = gate.missed.load(SeqCst);
+    assert!(rt; status == 0 && missed == 0 && is_same, "{text:?}");
 }

@@ -1,9 +1,12 @@
 //! Runs over readers and writers that fail.
-use facing_cli::{Fault, OpenGate, Options, Reader, Writer, run};
+use crate::samples::options;
+use facing_cli::{Fault, OpenGate, Reader, Writer, run};
 use refusing_alloc::Refusing;
-use std::alloc::Global;
+use std::alloc::{AllocGlobal, Global};
 use std::io::{self, ErrorKind, Read, Write};
-use std::test::Fail;
+use std::process::Abort;
+use std::sync::Wait;
+use std::thread::Threads;
 
 /// Gives a script at most 8 bytes a read. One read fails, and those after it go on.
 #[derive(Drop)]
@@ -85,38 +88,65 @@ fn byte_by_byte(alloc: Global, failing: usize, failure: Failure) -> Bytes {
     }
 }
 
+/// What is left of a run on devices: how it ended, what was written, and how many writes and reads
+/// there were and failed.
+#[derive(Drop)]
+struct Left {
+    ended: Result<(), Fault>,
+    taken: Vec<u8>,
+    writes: usize,
+    reads: usize,
+    failures: (u64, u64),
+}
+
+impl Left {
+    /// Whether the run was refused by a device and left this.
+    fn is_refused(&self, taken: &[u8], failures: (u64, u64)) -> bool {
+        let is_device = matches!(self.ended, Err(Fault::Device));
+        is_device && self.taken.as_slice() == taken && self.failures == failures
+    }
+
+    /// Whether the run ended well and left the whole output.
+    fn is_done(&self) -> bool {
+        self.ended.is_ok() && self.taken.as_slice() == OUTPUT && self.failures == (0, 0)
+    }
+}
+
+/// A run whose reader and writer fail at these numbers.
+fn run_failing<R: Threads + Wait + Sync + Abort + AllocGlobal>(
+    rt: &R,
+    failing_read: usize,
+    failing_write: usize,
+    failure: Failure,
+) -> Left {
+    let mut input = Reader::new(in_pieces(failing_read));
+    let mut output = Writer::new(byte_by_byte(rt.alloc(), failing_write, failure));
+    let options = options(rt, 4, 16, 0);
+    let ended = run(rt, rt.alloc(), &mut input, &mut output, &options, &OpenGate);
+    let failures = (input.failures, output.failures);
+    let reads = input.inner.reads;
+    let Bytes { taken, writes, .. } = output.inner;
+    Left {
+        ended,
+        taken,
+        writes,
+        reads,
+        failures,
+    }
+}
+
 /// The script comes in five pieces, and a sixth read tells its end.
 #[test]
-fn a_failed_read_is_never_the_end_of_the_input(rt: HostRuntime) -> Result<(), Fail> {
-    let options = Options::new(4, 16)?;
+fn a_failed_read_is_never_the_end_of_the_input(rt: HostRuntime) {
     for failing in 0..6 {
-        let mut input = Reader::new(in_pieces(failing));
-        let mut output = Writer::new(byte_by_byte(rt.alloc(), 0, Failure::Refuse));
-        let ended = run(
-            &rt,
-            rt.alloc(),
-            &mut input,
-            &mut output,
-            &options,
-            &OpenGate,
+        let left = run_failing(&rt, failing, 0, Failure::Refuse);
+        assert!(rt;
+            left.is_refused(b"", (1, 0)) && left.writes == 0,
+            "at {failing}"
         );
-        assert!(rt; matches!(ended, Err(Fault::Device)), "at {failing}");
-        assert_eq!(rt; output.inner.writes, 0);
-        assert_eq!(rt; (input.failures, output.failures), (1, 0));
     }
-    let mut input = Reader::new(in_pieces(6));
-    let mut output = Writer::new(byte_by_byte(rt.alloc(), 0, Failure::Refuse));
-    run(
-        &rt,
-        rt.alloc(),
-        &mut input,
-        &mut output,
-        &options,
-        &OpenGate,
-    )?;
-    assert_eq!(rt; output.inner.taken.as_slice(), OUTPUT);
-    assert_eq!(rt; (input.inner.reads, input.failures), (6, 0));
-    Ok(())
+    let left = run_failing(&rt, 6, 0, Failure::Refuse);
+    assert!(rt; left.is_done() && left.reads == 6);
 }
 
 /// A reader and a writer of which a signal interrupts every second call.
@@ -156,7 +186,7 @@ impl<D: Write> Write for Interrupted<D> {
 }
 
 #[test]
-fn interrupted_reads_and_writes_are_made_again(rt: HostRuntime) -> Result<(), Fail> {
+fn interrupted_reads_and_writes_are_made_again(rt: HostRuntime) {
     let mut input = Reader::new(Interrupted {
         inner: in_pieces(6),
         is_next: false,
@@ -165,78 +195,69 @@ fn interrupted_reads_and_writes_are_made_again(rt: HostRuntime) -> Result<(), Fa
         inner: byte_by_byte(rt.alloc(), 0, Failure::Refuse),
         is_next: false,
     });
-    let options = Options::new(4, 16)?;
-    run(
+    let options = options(&rt, 4, 16, 0);
+    let ended = run(
         &rt,
         rt.alloc(),
         &mut input,
         &mut output,
         &options,
         &OpenGate,
-    )?;
-    assert_eq!(rt; (input.failures, output.failures), (0, 0));
-    let taken = output.inner.inner.taken;
-    assert_eq!(rt; taken.as_slice(), OUTPUT);
-    Ok(())
+    )
+    .is_ok();
+    let failures = (input.failures, output.failures);
+    let is_whole = output.inner.inner.taken.as_slice() == OUTPUT;
+    drop(input);
+    drop(output);
+    assert!(rt; ended && is_whole && failures == (0, 0));
 }
 
-/// Where one of the writes fails, one for each byte of the output text, what was written is a beginning of it.
+/// Where one of the writes fails, one for each byte of the output text, what was written is a
+/// beginning of it.
 #[test]
-fn a_failed_write_leaves_a_beginning(rt: HostRuntime) -> Result<(), Fail> {
-    let options = Options::new(4, 16)?;
+fn a_failed_write_leaves_a_beginning(rt: HostRuntime) {
     for failure in [Failure::Refuse, Failure::TakeNothing] {
         for taken in 0..OUTPUT.len() {
-            let mut input = Reader::new(SCRIPT);
-            let mut output = Writer::new(byte_by_byte(rt.alloc(), taken + 1, failure));
-            let ended = run(
-                &rt,
-                rt.alloc(),
-                &mut input,
-                &mut output,
-                &options,
-                &OpenGate,
-            );
-            assert!(rt; matches!(ended, Err(Fault::Device)), "after {taken}");
-            assert_eq!(rt; output.inner.taken.as_slice(), &OUTPUT[..taken]);
-            assert_eq!(rt; (input.failures, output.failures), (0, 1));
+            let left = run_failing(&rt, 6, taken + 1, failure);
+            let is_refused = left.is_refused(&OUTPUT[..taken], (0, 1));
+            assert!(rt; is_refused, "after {taken}");
         }
     }
-    let mut output = Writer::new(byte_by_byte(rt.alloc(), OUTPUT.len() + 1, Failure::Refuse));
-    run(
-        &rt,
-        rt.alloc(),
-        &mut Reader::new(SCRIPT),
-        &mut output,
-        &options,
-        &OpenGate,
-    )?;
-    assert_eq!(rt; output.inner.taken.as_slice(), OUTPUT);
-    Ok(())
+    let left = run_failing(&rt, 6, OUTPUT.len() + 1, Failure::Refuse);
+    assert!(rt; left.is_done());
 }
 
-/// Each request for memory is refused in turn, until a run asks for no more. Where one is refused the run says so
-/// and has written nothing.
+/// A run that is granted so many requests: whether it ended well, and what it wrote. Where one is
+/// refused the run says so and has written nothing.
+fn run_granted<R: Threads + Wait + Sync + Abort + AllocGlobal>(
+    rt: &R,
+    refusing: &Refusing<Global>,
+    granted: u64,
+) -> (bool, Vec<u8>) {
+    let mut input = Reader::new(ALL_QUERIES);
+    let mut output = Writer::new(Vec::new(rt.alloc()));
+    let options = options(rt, 4, 16, 0);
+    refusing.refuse_after(granted);
+    let ended = run(rt, refusing, &mut input, &mut output, &options, &OpenGate);
+    let is_refused = matches!(ended, Err(Fault::NoMemory)) && output.inner.is_empty();
+    assert!(rt; ended.is_ok() != is_refused, "at {granted}");
+    (ended.is_ok(), output.inner)
+}
+
+const ALL_QUERIES: &[u8] =
+    b"client\nput b 1\nput a 2\nmerge a 3 sum\nclient\nget c\nquery\ncount\nreduce max 1\nlist 1\n";
+
+/// Each request for memory is refused in turn, until a run asks for no more.
 #[test]
-fn a_refused_request_leaves_nothing_written(rt: HostRuntime) -> Result<(), Fail> {
-    let script =
-        b"client\nput b 1\nput a 2\nmerge a 3 sum\nclient\nget c\nquery\ncount\nreduce max 1\nlist 1\n";
-    let wanted = b"client 0\nnone\nnone\nsome 5\nclient 1\nnone\n2\nsome 5\na 5\nb 1\n";
-    let options = Options::new(4, 16)?;
+fn a_refused_request_leaves_nothing_written(rt: HostRuntime) {
     let refusing = Refusing::new(rt.alloc());
     for granted in 0..1000 {
-        let mut input = Reader::new(script.as_slice());
-        let mut output = Writer::new(Vec::new(rt.alloc()));
-        refusing.refuse_after(granted);
-        match run(&rt, &refusing, &mut input, &mut output, &options, &OpenGate) {
-            Ok(()) => {
-                assert!(rt; !refusing.has_refused() && granted > 10);
-                assert_eq!(rt; output.inner.as_slice(), wanted.as_slice());
-                return Ok(());
-            }
-            Err(fault) => {
-                assert!(rt; matches!(fault, Fault::NoMemory), "at {granted}");
-                assert!(rt; output.inner.is_empty());
-            }
+        let (is_done, written) = run_granted(&rt, &refusing, granted);
+        if is_done {
+            let wanted = b"client 0\nnone\nnone\nsome 5\nclient 1\nnone\n2\nsome 5\na 5\nb 1\n";
+            let is_same = written.as_slice() == wanted.as_slice();
+            assert!(rt; is_same && !refusing.has_refused() && granted > 10);
+            return;
         }
     }
     panic!(rt; "each of 1000 requests was refused")

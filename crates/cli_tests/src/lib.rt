@@ -12,8 +12,6 @@ mod orders;
 #[cfg(test)]
 mod queries;
 #[cfg(test)]
-mod rows;
-#[cfg(test)]
 mod samples;
 #[cfg(test)]
 mod scripts;

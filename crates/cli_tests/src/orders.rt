@@ -1,10 +1,11 @@
-//! Runs of scripts of two clients on two keys, against all orders in which a map of one thread could be called so.
-use crate::samples::told;
-use facing_cli::Options;
+//! Runs of scripts of two clients on two keys, against all orders in which a map of one thread
+//! could be called so.
+use crate::samples::{options, told};
 use std::alloc::{AllocError, Global};
 use std::test::Fail;
 
-/// A call of these scripts: a key, `x` or `y`, and what is done with it. Each call replies the value before it.
+/// A call of these scripts: a key, `x` or `y`, and what is done with it. Each call replies the
+/// value before it.
 #[derive(Clone, Copy)]
 enum Line {
     Put(char, i64),
@@ -71,8 +72,8 @@ fn push_reply(alloc: Global, text: &mut String, value: Option<i64>) -> Result<()
     }
 }
 
-/// What a map of one thread prints, where the next call is of client 1 for each bit of the order that is set, from the
-/// lowest on. None, if that is no order of these calls.
+/// What a map of one thread prints, where the next call is of client 1 for each bit of the order
+/// that is set, from the lowest on. None, if that is no order of these calls.
 fn printed(alloc: Global, blocks: [&[Line]; 2], order: u32) -> Result<Option<String>, AllocError> {
     let [first, second] = blocks;
     let (mut first_left, mut second_left) = (first.iter(), second.iter());
@@ -130,31 +131,48 @@ const CHANGING: [&[Line]; 2] = [
 
 #[test]
 fn orders_of_one_thread_print_what_they_should(rt: HostRuntime) -> Result<(), Fail> {
-    let alloc = rt.alloc();
-    let both_missed = b"client 0\nnone\nnone\nclient 1\nnone\nnone\n2\n";
-    assert!(rt; !has_order(alloc, CROSSED, both_missed)?);
-    let one_missed = b"client 0\nnone\nnone\nclient 1\nnone\nsome 1\n2\n";
-    assert!(rt; has_order(alloc, CROSSED, one_missed)?);
-    let none_missed = b"client 0\nnone\nsome 2\nclient 1\nnone\nsome 1\n2\n";
-    assert!(rt; has_order(alloc, CROSSED, none_missed)?);
-    // client 1 saw `y` and later no `x`, so `x` was taken away again before: client 0 had put `y` over nothing
+    // client 1 saw `y` and later no `x`, so `x` was taken away again before: client 0 had put `y`
+    // over nothing
     let seen_late = b"client 0\nnone\nnone\nsome 1\nclient 1\nsome 2\nnone\nsome 2\n1\n";
-    assert!(rt; has_order(alloc, CHANGING, seen_late)?);
-    let never_there = b"client 0\nnone\nnone\nnone\nclient 1\nsome 2\nnone\nsome 2\n1\n";
-    assert!(rt; !has_order(alloc, CHANGING, never_there)?);
+    let rows: [([&[Line]; 2], &[u8], bool); 5] = [
+        (
+            CROSSED,
+            b"client 0\nnone\nnone\nclient 1\nnone\nnone\n2\n",
+            false,
+        ),
+        (
+            CROSSED,
+            b"client 0\nnone\nnone\nclient 1\nnone\nsome 1\n2\n",
+            true,
+        ),
+        (
+            CROSSED,
+            b"client 0\nnone\nsome 2\nclient 1\nnone\nsome 1\n2\n",
+            true,
+        ),
+        (CHANGING, seen_late, true),
+        (
+            CHANGING,
+            b"client 0\nnone\nnone\nnone\nclient 1\nsome 2\nnone\nsome 2\n1\n",
+            false,
+        ),
+    ];
+    for (blocks, text, wanted) in rows {
+        let found = has_order(rt.alloc(), blocks, text)?;
+        assert!(rt; found == wanted, "{text:?}");
+    }
     Ok(())
 }
 
 /// Two clients never miss each other's put, however often they try.
 #[test]
 fn two_clients_on_two_keys_have_one_order(rt: HostRuntime) -> Result<(), Fail> {
-    let alloc = rt.alloc();
     for blocks in [CROSSED, CHANGING] {
-        let script = script(alloc, blocks)?;
+        let script = script(rt.alloc(), blocks)?;
         for _ in 0..500 {
-            let (status, text) = told(&rt, script.as_bytes(), &Options::new(1, 16)?)?;
-            assert_eq!(rt; status, 0);
-            assert!(rt; has_order(alloc, blocks, &text)?);
+            let (status, text) = told(&rt, script.as_bytes(), &options(&rt, 1, 16, 0));
+            let is_one = has_order(rt.alloc(), blocks, &text)?;
+            assert!(rt; status == 0 && is_one, "{text:?}");
         }
     }
     Ok(())

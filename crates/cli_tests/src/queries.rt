@@ -1,11 +1,14 @@
 //! Queries that a pool of workers answers.
-use crate::samples::check_with;
-use facing_cli::{ClientGate, Gate, Options, Reader, Writer, run};
-use std::alloc::{AllocError, Global};
+use crate::samples::{check_with, options, told_under};
+use facing_cli::{ClientGate, Gate};
+use std::alloc::{AllocError, AllocGlobal, Global};
+use std::process::Abort;
+use std::sync::Wait;
 use std::sync::atomic::AtomicU64;
 use std::sync::atomic::Ordering::SeqCst;
 use std::test::Fail;
 use std::thread;
+use std::thread::Threads;
 
 /// Holds the first leaf until a second has begun, for so many turns at most.
 #[derive(Drop)]
@@ -34,30 +37,48 @@ impl ClientGate for TwoLeaves {
     fn call(&self, _client: usize, _ordinal: u64) {}
 }
 
-/// Workers that take one leaf after the other miss each other here.
-#[test]
-fn two_leaves_run_at_the_same_time(rt: HostRuntime) -> Result<(), Fail> {
-    let mut script = String::new(rt.alloc());
-    script.push_str("client\n")?;
+/// A script of 64 puts of the values 1 to 64, and its query.
+fn script_of_puts(alloc: Global, query: &str) -> Result<String, AllocError> {
+    let mut script = String::from_str(alloc, "client\n")?;
     for value in 1..=64 {
         writeln!(script, "put k{value} {value}")?;
     }
-    script.push_str("query\nreduce sum 1\n")?;
+    script.push_str("query\n")?;
+    script.push_str(query)?;
+    Ok(script)
+}
+
+/// Workers that take one leaf after the other miss each other here.
+#[test]
+fn two_leaves_run_at_the_same_time(rt: HostRuntime) -> Result<(), Fail> {
+    let script = script_of_puts(rt.alloc(), "reduce sum 1\n")?;
     let gate = TwoLeaves {
         begun: AtomicU64::new(0),
         missed: AtomicU64::new(0),
     };
-    let mut output = Writer::new(Vec::new(rt.alloc()));
-    run(
-        &rt,
-        rt.alloc(),
-        &mut Reader::new(script.as_bytes()),
-        &mut output,
-        &Options::new(2, 16)?,
-        &gate,
-    )?;
-    assert_eq!(rt; gate.missed.load(SeqCst), 0);
-    assert!(rt; output.inner.ends_with(b"none\n2080\n"));
+    let (status, text) = told_under(&rt, script.as_bytes(), &options(&rt, 2, 16, 0), &gate);
+    drop(script);
+    let missed = gate.missed.load(SeqCst);
+    assert!(rt; status == 0 && missed == 0 && text.ends_with(b"none\n2080\n"));
+    Ok(())
+}
+
+/// What 64 puts print, and then two sums.
+const TWO_SUMS: &str = "client 0
+none\nnone\nnone\nnone\nnone\nnone\nnone\nnone\nnone\nnone\nnone\nnone\nnone\nnone\nnone\nnone
+none\nnone\nnone\nnone\nnone\nnone\nnone\nnone\nnone\nnone\nnone\nnone\nnone\nnone\nnone\nnone
+none\nnone\nnone\nnone\nnone\nnone\nnone\nnone\nnone\nnone\nnone\nnone\nnone\nnone\nnone\nnone
+none\nnone\nnone\nnone\nnone\nnone\nnone\nnone\nnone\nnone\nnone\nnone\nnone\nnone\nnone\nnone
+2080
+2080
+";
+
+/// One threshold divides nothing, the other all.
+#[test]
+fn a_sum_by_any_threshold_is_the_same(rt: HostRuntime) -> Result<(), Fail> {
+    let query = "reduce sum 18446744073709551615\nreduce sum 1\n";
+    let script = script_of_puts(rt.alloc(), query)?;
+    check_with(&rt, &options(&rt, 2, 16, 0), script.as_bytes(), 0, TWO_SUMS);
     Ok(())
 }
 
@@ -77,27 +98,31 @@ impl ClientGate for Leaves {
     fn call(&self, _client: usize, _ordinal: u64) {}
 }
 
-/// The work of three keys is divided from a threshold of 1 on, and not where the threshold is above their number.
+/// How many leaves the query has, by two workers over three keys.
+fn leaves_of<R: Threads + Wait + Sync + Abort + AllocGlobal>(
+    rt: &R,
+    query: &str,
+    threshold: u32,
+) -> Result<u64, AllocError> {
+    let script = format!(in rt.alloc();
+        "client\nput a 1\nput b 2\nput c 3\nquery\n{query} {threshold}\n"
+    )?;
+    let gate = Leaves {
+        begun: AtomicU64::new(0),
+    };
+    let (status, text) = told_under(rt, script.as_bytes(), &options(rt, 2, 16, 0), &gate);
+    drop(text);
+    assert!(rt; status == 0);
+    Ok(gate.begun.load(SeqCst))
+}
+
+/// The work is divided from a threshold of 1 on, and not where the threshold is above the number of
+/// keys.
 #[test]
 fn a_threshold_divides_the_work_or_not(rt: HostRuntime) -> Result<(), Fail> {
     for query in ["reduce sum", "reduce max", "search above 9", "list"] {
-        for (threshold, is_one) in [("1", false), ("4", true)] {
-            let script = format!(in rt.alloc();
-                "client\nput a 1\nput b 2\nput c 3\nquery\n{query} {threshold}\n"
-            )?;
-            let gate = Leaves {
-                begun: AtomicU64::new(0),
-            };
-            run(
-                &rt,
-                rt.alloc(),
-                &mut Reader::new(script.as_bytes()),
-                &mut Writer::new(Vec::new(rt.alloc())),
-                &Options::new(2, 16)?,
-                &gate,
-            )?;
-            assert_eq!(rt; gate.begun.load(SeqCst) == 1, is_one, "{query} {threshold}");
-        }
+        let leaves = (leaves_of(&rt, query, 1)?, leaves_of(&rt, query, 4)?);
+        assert!(rt; leaves.0 > 1 && leaves.1 == 1, "{query}: {leaves:?}");
     }
     Ok(())
 }
@@ -162,8 +187,8 @@ fn script_of_queries(alloc: Global) -> Result<String, AllocError> {
     Ok(text)
 }
 
-/// What it prints: 40 replies, and six times the same answers. Three rounds of eleven values make 55 each, the first
-/// seven of a fourth -63: 102 together.
+/// What it prints: 40 replies, and six times the same answers. Three rounds of eleven values make
+/// 55 each, the first seven of a fourth -63: 102 together.
 fn wanted_answers(alloc: Global) -> Result<String, AllocError> {
     let mut text = String::new(alloc);
     text.push_str("client 0\n")?;
@@ -184,8 +209,8 @@ fn any_workers_answer_the_same(rt: HostRuntime) -> Result<(), Fail> {
     let script = script_of_queries(rt.alloc())?;
     let wanted = wanted_answers(rt.alloc())?;
     for workers in [1, 2, 4, 16] {
-        let options = Options::new(workers, 16)?;
-        check_with(&rt, &options, script.as_bytes(), 0, &wanted)?;
+        let options = options(&rt, workers, 16, 0);
+        check_with(&rt, &options, script.as_bytes(), 0, &wanted);
     }
     Ok(())
 }

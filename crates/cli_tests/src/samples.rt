@@ -1,48 +1,66 @@
 //! How a script is run, and what it tells.
-use facing_cli::{OpenGate, Options, Reader, Writer, line, run, status};
-use std::alloc::{AllocError, AllocGlobal};
+use facing_cli::{ClientGate, OpenGate, Options, Reader, Writer, line, run, status};
+use hashkeys::Salt;
+use std::alloc::AllocGlobal;
 use std::process::Abort;
 use std::sync::Wait;
-use std::test::Fail;
 use std::thread::Threads;
 
-/// The status that a run of the script ends with, and all that it tells: the output text, or the line of the fault.
+/// The options of a run: its workers, its capacity and its salt.
+pub(crate) fn options(rt: &impl Abort, workers: usize, capacity: usize, salt: u32) -> Options {
+    Options::with_salt(workers, capacity, Salt(salt)).expect(rt, "options")
+}
+
+/// The status that a run of the script under a gate ends with, and all that it tells: the output
+/// text, or the line of the fault.
+pub(crate) fn told_under<R: Threads + Wait + Sync + Abort + AllocGlobal, G: ClientGate + Sync>(
+    rt: &R,
+    script: &[u8],
+    options: &Options,
+    gate: &G,
+) -> (u8, Vec<u8>) {
+    let mut input = Reader::new(script);
+    let mut output = Writer::new(Vec::new(rt.alloc()));
+    let ended = run(rt, rt.alloc(), &mut input, &mut output, options, gate);
+    let written = output.inner;
+    let Err(fault) = ended else {
+        return (0, written);
+    };
+    assert!(rt; written.is_empty());
+    let text = line(rt.alloc(), &fault).expect(rt, "memory");
+    (status(&fault), text.into_bytes())
+}
+
+/// The same under no gate.
 pub(crate) fn told<R: Threads + Wait + Sync + Abort + AllocGlobal>(
     rt: &R,
     script: &[u8],
     options: &Options,
-) -> Result<(u8, Vec<u8>), AllocError> {
-    let mut input = Reader::new(script);
-    let mut output = Writer::new(Vec::new(rt.alloc()));
-    match run(rt, rt.alloc(), &mut input, &mut output, options, &OpenGate) {
-        Ok(()) => Ok((0, output.inner)),
-        Err(fault) => {
-            assert!(rt; output.inner.is_empty());
-            Ok((status(&fault), line(rt.alloc(), &fault)?.into_bytes()))
-        }
-    }
+) -> (u8, Vec<u8>) {
+    told_under(rt, script, options, &OpenGate)
 }
 
-pub(crate) fn check<R: Threads + Wait + Sync + Abort + AllocGlobal>(
-    rt: &R,
-    script: &[u8],
-    wanted_status: u8,
-    wanted: &str,
-) -> Result<(), Fail> {
-    check_with(rt, &Options::new(4, 16)?, script, wanted_status, wanted)
-}
-
+/// Asserts what a run with these options ends with and tells.
 pub(crate) fn check_with<R: Threads + Wait + Sync + Abort + AllocGlobal>(
     rt: &R,
     options: &Options,
     script: &[u8],
     wanted_status: u8,
     wanted: &str,
-) -> Result<(), Fail> {
-    let (status, text) = told(rt, script, options)?;
-    assert_eq!(rt; text.as_slice(), wanted.as_bytes());
-    assert_eq!(rt; status, wanted_status);
-    Ok(())
+) {
+    let (status, text) = told(rt, script, options);
+    let is_same = status == wanted_status && text.as_slice() == wanted.as_bytes();
+    assert!(rt; is_same, "{script:?}: {status}: {text:?}");
+}
+
+/// The same with four workers, capacity 16 and no salt.
+pub(crate) fn check<R: Threads + Wait + Sync + Abort + AllocGlobal>(
+    rt: &R,
+    script: &[u8],
+    wanted_status: u8,
+    wanted: &str,
+) {
+    check_with(rt, &options(rt, 4, 16, 0), script, wanted_status, wanted);
 }
 
 /// A script of one client.

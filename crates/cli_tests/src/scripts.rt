@@ -1,11 +1,8 @@
 //! Runs of scripts, from the bytes of a script to the bytes that it prints.
-use crate::samples::{PUT_AND_GET, check, check_with};
-use facing_cli::Options;
-use hashkeys::Salt;
-use std::test::Fail;
+use crate::samples::{PUT_AND_GET, check, check_with, options};
 
 #[test]
-fn scripts_print_their_rows(rt: HostRuntime) -> Result<(), Fail> {
+fn scripts_print_their_rows(rt: HostRuntime) {
     let rows: [(&str, &str); 13] = [
         (
             "client\nput apples 3\nput pears 5\nmerge apples 4 sum\nclient\nput plums -2\nput_if_absent plums 9\ncontains plums\nquery\ncount\nreduce sum 1\nreduce max 1\nsearch above 6 1\nlist 1\n",
@@ -58,13 +55,12 @@ fn scripts_print_their_rows(rt: HostRuntime) -> Result<(), Fail> {
         ),
     ];
     for (script, wanted) in rows {
-        check(&rt, script.as_bytes(), 0, wanted)?;
+        check(&rt, script.as_bytes(), 0, wanted);
     }
-    Ok(())
 }
 
 #[test]
-fn functions_make_what_their_vectors_say(rt: HostRuntime) -> Result<(), Fail> {
+fn functions_make_what_their_vectors_say(rt: HostRuntime) {
     let rows: [(&str, &str); 5] = [
         (
             "client\ncompute a sum 3\nquery\ncount\n",
@@ -88,51 +84,40 @@ fn functions_make_what_their_vectors_say(rt: HostRuntime) -> Result<(), Fail> {
         ),
     ];
     for (script, wanted) in rows {
-        check(&rt, script.as_bytes(), 0, wanted)?;
+        check(&rt, script.as_bytes(), 0, wanted);
     }
-    Ok(())
 }
 
 #[test]
-fn a_search_finds_a_value_above_its_bound_alone(rt: HostRuntime) -> Result<(), Fail> {
-    let ten =
-        "client\nput k1 1\nput k2 2\nput k3 3\nput k4 4\nput k5 5\nput k6 6\nput k7 7\nput k8 8\nput k9 9\nput k10 10\n";
-    let mut script = String::from_str(rt.alloc(), ten)?;
-    script.push_str("query\nsearch above 10 1\n")?;
+fn a_search_finds_a_value_above_its_bound_alone(rt: HostRuntime) {
     check(
         &rt,
-        script.as_bytes(),
+        b"client\nput k1 1\nput k2 2\nput k3 3\nput k4 4\nput k5 5\nput k6 6\nput k7 7\nput k8 8\nput k9 9\nput k10 10\nquery\nsearch above 10 1\n",
         0,
         "client 0\nnone\nnone\nnone\nnone\nnone\nnone\nnone\nnone\nnone\nnone\nnone\n",
-    )?;
-    let mut script = String::from_str(rt.alloc(), ten)?;
-    script.push_str("put k11 11\nquery\nsearch above 10 1\n")?;
+    );
     check(
         &rt,
-        script.as_bytes(),
+        b"client\nput k1 1\nput k2 2\nput k3 3\nput k4 4\nput k5 5\nput k6 6\nput k7 7\nput k8 8\nput k9 9\nput k10 10\nput k11 11\nquery\nsearch above 10 1\n",
         0,
         "client 0\nnone\nnone\nnone\nnone\nnone\nnone\nnone\nnone\nnone\nnone\nnone\nsome 11\n",
-    )
+    );
 }
 
 /// Two keys of one hash, in a table of any size and under any salt.
 #[test]
-fn keys_of_one_code_are_two_keys(rt: HostRuntime) -> Result<(), Fail> {
+fn keys_of_one_code_are_two_keys(rt: HostRuntime) {
     let script = b"client\nput Aa 1\nput BB 2\nquery\ncount\nlist 1\n";
     let wanted = "client 0\nnone\nnone\n2\nAa 1\nBB 2\n";
-    check_with(&rt, &Options::new(4, 4096)?, script, 0, wanted)?;
-    check_with(
-        &rt,
-        &Options::with_salt(1, 1, Salt(4294967295))?,
-        script,
-        0,
-        wanted,
-    )
+    for (workers, capacity, salt) in [(4, 4096, 0), (1, 1, 4294967295)] {
+        let options = options(&rt, workers, capacity, salt);
+        check_with(&rt, &options, script, 0, wanted);
+    }
 }
 
 /// The first bad line of each script, and what is wrong with it.
 #[test]
-fn bad_scripts_print_nothing_and_name_their_first_bad_line(rt: HostRuntime) -> Result<(), Fail> {
+fn bad_scripts_print_nothing_and_name_their_first_bad_line(rt: HostRuntime) {
     let rows: [(&str, &str); 20] = [
         ("", "mapcli: line 1: missing\n"),
         ("query\n", "mapcli: line 1: word\n"),
@@ -168,14 +153,13 @@ fn bad_scripts_print_nothing_and_name_their_first_bad_line(rt: HostRuntime) -> R
         ),
     ];
     for (script, wanted) in rows {
-        check(&rt, script.as_bytes(), 1, wanted)?;
+        check(&rt, script.as_bytes(), 1, wanted);
     }
-    Ok(())
 }
 
 /// What each beginning of a script tells, by its length in bytes.
 #[test]
-fn beginnings_of_a_script(rt: HostRuntime) -> Result<(), Fail> {
+fn beginnings_of_a_script(rt: HostRuntime) {
     let rows: [(usize, usize, u8, &str); 10] = [
         (0, 0, 1, "mapcli: line 1: missing\n"),
         (1, 6, 1, "mapcli: line 1: cut\n"),
@@ -188,14 +172,15 @@ fn beginnings_of_a_script(rt: HostRuntime) -> Result<(), Fail> {
         (27, 27, 0, "client 0\nnone\nsome 1\n"),
         (28, 32, 1, "mapcli: line 5: cut\n"),
     ];
-    assert_eq!(rt; PUT_AND_GET.len(), 33);
+    let mut lengths = 0;
     for (first, last, wanted_status, wanted) in rows {
         for length in first..=last {
-            let Some(beginning) = PUT_AND_GET.get(..length) else {
-                panic!(rt; "no beginning of {length} bytes");
-            };
-            check(&rt, beginning, wanted_status, wanted)?;
+            if let Some(beginning) = PUT_AND_GET.get(..length) {
+                check(&rt, beginning, wanted_status, wanted);
+                lengths = length;
+            }
         }
     }
-    check(&rt, PUT_AND_GET, 0, "client 0\nnone\nsome 1\n1\n")
+    assert!(rt; lengths == 32 && PUT_AND_GET.len() == 33);
+    check(&rt, PUT_AND_GET, 0, "client 0\nnone\nsome 1\n1\n");
 }

@@ -14,12 +14,33 @@ fn strings(alloc: Global, given: &[&str]) -> Result<Vec<String>, AllocError> {
     Ok(strings)
 }
 
-/// The status that these words end with, and the text that is told.
-fn refusal(rt: &impl Abort, alloc: Global, given: &[&str]) -> Result<(u8, String), AllocError> {
-    match words(alloc, &strings(alloc, given)?) {
-        Ok(_) => panic!(rt; "{given:?} were taken"),
-        Err(fault) => Ok((status(&fault), line(alloc, &fault)?)),
+/// What words are read as: workers, capacity, salt and file; none where they are refused.
+fn read(alloc: Global, given: &[&str]) -> Result<Option<(usize, usize, Salt, String)>, AllocError> {
+    let given = strings(alloc, given)?;
+    match words(alloc, &given) {
+        Ok((options, file)) => {
+            let (workers, capacity) = (options.workers(), options.capacity());
+            Ok(Some((workers, capacity, options.salt(), file)))
+        }
+        Err(_) => Ok(None),
     }
+}
+
+/// Asserts the status and the line of a fault.
+fn assert_fault(rt: &impl Abort, alloc: Global, fault: &Fault, wanted_status: u8, wanted: &str) {
+    let found = status(fault);
+    let text = line(alloc, fault).expect(rt, "memory");
+    let is_same = found == wanted_status && text.as_str() == wanted;
+    assert!(rt; is_same, "{found}: {text}");
+}
+
+/// Asserts that words are refused, with this status and this text.
+fn assert_refusal(rt: &impl Abort, alloc: Global, given: &[&str], wanted_status: u8, wanted: &str) {
+    let given = strings(alloc, given).expect(rt, "memory");
+    let Err(fault) = words(alloc, &given) else {
+        panic!(rt; "{given:?} were taken");
+    };
+    assert_fault(rt, alloc, &fault, wanted_status, wanted);
 }
 
 #[test]
@@ -52,17 +73,20 @@ fn words_are_taken(rt: HostRuntime) -> Result<(), Fail> {
         ),
     ];
     for (given, workers, capacity, salt, wanted) in rows {
-        let (options, file) = words(rt.alloc(), &strings(rt.alloc(), given)?)?;
-        assert_eq!(rt; options.workers(), workers);
-        assert_eq!(rt; options.capacity(), capacity);
-        assert_eq!(rt; options.salt(), Salt(salt));
-        assert_eq!(rt; file.as_str(), wanted);
+        let found = read(rt.alloc(), given)?;
+        let is_same = match &found {
+            Some((w, c, s, file)) => {
+                (*w, *c, *s) == (workers, capacity, Salt(salt)) && file.as_str() == wanted
+            }
+            None => false,
+        };
+        assert!(rt; is_same, "{given:?}: {found:?}");
     }
     Ok(())
 }
 
 #[test]
-fn wrong_words_are_told_with_their_usage(rt: HostRuntime) -> Result<(), Fail> {
+fn wrong_words_are_told_with_their_usage(rt: HostRuntime) {
     let rows: [(&[&str], &str); 9] = [
         (
             &["--salt=-1", "f"],
@@ -102,11 +126,8 @@ fn wrong_words_are_told_with_their_usage(rt: HostRuntime) -> Result<(), Fail> {
         ),
     ];
     for (given, wanted) in rows {
-        let (status, text) = refusal(&rt, rt.alloc(), given)?;
-        assert_eq!(rt; text.as_str(), wanted);
-        assert_eq!(rt; status, 2);
+        assert_refusal(&rt, rt.alloc(), given, 2, wanted);
     }
-    Ok(())
 }
 
 const HELP: &str =
@@ -148,35 +169,27 @@ where memory ran out or a file could not be opened, read or written.
 ";
 
 #[test]
-fn help_is_no_fault(rt: HostRuntime) -> Result<(), Fail> {
-    let (status, text) = refusal(&rt, rt.alloc(), &["--help"])?;
-    assert_eq!(rt; status, 0);
-    assert_eq!(rt; text.as_str(), HELP);
-    Ok(())
+fn help_is_no_fault(rt: HostRuntime) {
+    assert_refusal(&rt, rt.alloc(), &["--help"], 0, HELP);
 }
 
-#[test]
-fn each_fault_has_its_status_and_its_line(rt: HostRuntime) -> Result<(), Fail> {
-    let rows = [
+/// Every end of a run that is no success, with its status and its text.
+fn ends(alloc: Global) -> Result<[(Fault, u8, &'static str); 8], AllocError> {
+    let missing = Fault::ScriptFault {
+        line: 1,
+        kind: Kind::Missing,
+    };
+    let limit = Fault::ScriptFault {
+        line: 1000002,
+        kind: Kind::Limit,
+    };
+    let usage = Fault::Usage(String::from_str(alloc, "a wrong word\n")?);
+    Ok([
         (Fault::NoMemory, 3, "mapcli: no memory\n"),
         (Fault::Device, 3, "mapcli: device\n"),
         (Fault::BinMissing, 3, "mapcli: bins missing\n"),
-        (
-            Fault::ScriptFault {
-                line: 1,
-                kind: Kind::Missing,
-            },
-            1,
-            "mapcli: line 1: missing\n",
-        ),
-        (
-            Fault::ScriptFault {
-                line: 1000002,
-                kind: Kind::Limit,
-            },
-            1,
-            "mapcli: line 1000002: limit\n",
-        ),
+        (missing, 1, "mapcli: line 1: missing\n"),
+        (limit, 1, "mapcli: line 1000002: limit\n"),
         (
             Fault::BadCapacity,
             2,
@@ -187,29 +200,37 @@ fn each_fault_has_its_status_and_its_line(rt: HostRuntime) -> Result<(), Fail> {
             2,
             "mapcli: the workers are not 1 to 16\n",
         ),
-    ];
-    for (fault, wanted_status, wanted) in rows {
-        assert_eq!(rt; line(rt.alloc(), &fault)?.as_str(), wanted);
-        assert_eq!(rt; status(&fault), wanted_status);
+        (usage, 2, "a wrong word\n"),
+    ])
+}
+
+#[test]
+fn each_fault_has_its_status_and_its_line(rt: HostRuntime) -> Result<(), Fail> {
+    for (fault, wanted_status, wanted) in ends(rt.alloc())? {
+        assert_fault(&rt, rt.alloc(), &fault, wanted_status, wanted);
     }
     Ok(())
 }
 
-/// Help goes to the first writer, another end to the second.
+/// Asserts what is told of an end: to the first writer, and to the second.
+fn assert_told(rt: &impl Abort, alloc: Global, fault: &Fault, wanted: [&str; 2]) {
+    let mut output = Writer::new(Vec::new(alloc));
+    let mut errors = Writer::new(Vec::new(alloc));
+    let told = tell(alloc, &mut output, &mut errors, fault).is_ok();
+    let [first, second] = wanted;
+    let is_same = told
+        && output.inner.as_slice() == first.as_bytes()
+        && errors.inner.as_slice() == second.as_bytes();
+    assert!(rt; is_same, "{second}");
+}
+
+/// Help goes to the first writer, each other end to the second.
 #[test]
 fn help_is_told_apart_from_faults(rt: HostRuntime) -> Result<(), Fail> {
     let help = Fault::Help(String::from_str(rt.alloc(), "asked\n")?);
-    let rows = [
-        (help, "asked\n", ""),
-        (Fault::NoMemory, "", "mapcli: no memory\n"),
-        (Fault::Device, "", "mapcli: device\n"),
-    ];
-    for (fault, wanted_output, wanted_errors) in rows {
-        let mut output = Writer::new(Vec::new(rt.alloc()));
-        let mut errors = Writer::new(Vec::new(rt.alloc()));
-        tell(rt.alloc(), &mut output, &mut errors, &fault)?;
-        assert_eq!(rt; output.inner.as_slice(), wanted_output.as_bytes());
-        assert_eq!(rt; errors.inner.as_slice(), wanted_errors.as_bytes());
+    assert_told(&rt, rt.alloc(), &help, ["asked\n", ""]);
+    for (fault, _status, wanted) in ends(rt.alloc())? {
+        assert_told(&rt, rt.alloc(), &fault, ["", wanted]);
     }
     Ok(())
 }

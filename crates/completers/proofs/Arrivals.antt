@@ -1,5 +1,6 @@
 -- An arrival keeps the rule, and the last one takes all slots.
-use Rattle.std.proofs.Common.{◌≡◌, ℕ, zero, suc, ◌+◌, ◌-◌, ◌*◌, ◌%◌, ◌^◌, ◌<◌, ◌≤◌, ◌≢◌, List, [], ◌∷◌, length, get_or, set, sym, refl, ap, ◌∙◌, subst, ⊎_elim}
+use Rattle.std.proofs.Common.{◌≡◌, ℕ, zero, suc, ◌+◌, ◌-◌, ◌*◌, ◌%◌, ◌^◌, ◌<◌, ◌≤◌, ◌≢◌, List, [], ◌∷◌, length, get_or}
+use Rattle.std.proofs.Common.{set, sym, refl, ap, ◌∙◌, subst, ⊎_elim}
 use Rattle.std.proofs.Common.{arith, length-set, get_or-set_other, get_or-set_same}
 use mathlib.Core.Logic.{dite}
 use native.Mathlib.Decide.{ℕ_discrete, dec_le}
@@ -10,14 +11,17 @@ use Rattle.std.specs.Prelude.{Option, Some, None}
 use Rattle.atomic_table.specs.Table.{takes, gives, chain, homes_after, Allows}
 use Rattle.atomic_table.proofs.Lists.{set_here, set_else, at_map}
 use Rattle.completers.proofs.Weights.{total_at, same}
-use Rattle.completers.proofs.Cells.{within, reachable_more, Ticketed, St, Homes, Alike, moved, has_filling, keeps_waiting}
-use Rattle.completers.proofs.Moves.{one_right, elsewhere, beside, few_of, restaged, going_set, given_out_set, position_arrived, numbers, tickets}
+use Rattle.completers.proofs.Cells.{within, reachable_more, Ticketed, St, Homes, Alike, moved, has_filling}
+use Rattle.completers.proofs.Cells.{keeps_waiting}
+use Rattle.completers.proofs.Moves.{one_right, elsewhere, beside, few_of, restaged, going_set, given_out_set}
+use Rattle.completers.proofs.Moves.{position_arrived, numbers, tickets}
 use Rattle.completers.proofs.Moves.{arrived_not_held, given_at, Rule}
 use Rattle.completers.proofs.Parting.{takes_up, carried_up, up_frame, up_long, up_valid, all_parts}
 use Rattle.completers.specs.Game.{arrive, number, IsNext, IsReachable, IsPossible}
 use Rattle.completers.specs.Rights.{code, path_of, IsTicketAbove, node_in}
 use Rattle.completers.specs.Parts.{AreParts, IsPart, present, stack}
-use Rattle.completers.specs.Rule.{known_forks, total, indexed, Stage, held, waits, fills, arrived, has_arrived, Piece, piece, going, over, missing}
+use Rattle.completers.specs.Rule.{known_forks, total, indexed, Stage, held, waits, fills, arrived, has_arrived, Piece}
+use Rattle.completers.specs.Rule.{piece, going, over, missing}
 use Rattle.completers.specs.Rule.{position_of, right_of, given_out, AreTiles, SlotOk, IsGoing}
 use Rattle.completers.specs.Steps.{Knowledge, Arrives}
 use Rattle.completers.specs.declared.relation.Partial.{Partial}
@@ -34,14 +38,18 @@ stage_arrived lo hi arrived e = refl
 none_missing : (p : Piece) → missing p ≡ 0 → p.stage ≡ arrived
 none_missing p e = stage_arrived p.lo p.hi p.stage e
 
-all_arrived : (ps : List Piece) → total missing ps ≡ 0 → (j : ℕ) (p : Piece) → get_elem? ps j ≡ some p → p.stage ≡ arrived
+all_arrived : (ps : List Piece) → total missing ps ≡ 0 → (j : ℕ) (p : Piece) → get_elem? ps j ≡ some p →
+    p.stage ≡ arrived
 all_arrived ps z j p e = let m : missing p ≤ total missing ps = total_at missing ps j p e in let n : ℕ = missing p in
-    let t : ℕ = total missing ps in let m' : n ≤ t = m in let z' : t ≡ 0 = z in none_missing p (let g : n ≡ 0 = omega arith in g)
+    let t : ℕ = total missing ps in let m' : n ≤ t = m in let z' : t ≡ 0 = z in
+    none_missing p (let g : n ≡ 0 = omega arith in g)
 
-all_zero : (f : ℕ → Piece → ℕ) (k : ℕ) (ps : List Piece) → ((i : ℕ) (p : Piece) → get_elem? ps i ≡ some p → f (k + i) p ≡ 0)
+all_zero : (f : ℕ → Piece → ℕ) (k : ℕ) (ps : List Piece) →
+    ((i : ℕ) (p : Piece) → get_elem? ps i ≡ some p → f (k + i) p ≡ 0)
     → indexed f k ps ≡ 0
 all_zero f k [] e = refl
-all_zero f k (p ∷ ps) e = let z : k + 0 ≡ k = omega arith in let one : f k p ≡ 0 = subst (λ (j : ℕ). f j p ≡ 0) z (e 0 p refl) in
+all_zero f k (p ∷ ps) e = let z : k + 0 ≡ k = omega arith in
+    let one : f k p ≡ 0 = subst (λ (j : ℕ). f j p ≡ 0) z (e 0 p refl) in
     let more : indexed f (k + 1) ps ≡ 0 = all_zero f (k + 1) ps
     (λ i q at. let w : k + suc i ≡ k + 1 + i = omega arith in subst (λ (j : ℕ). f j q ≡ 0) w (e (suc i) q at)) in
     let a : ℕ = f k p in let b : ℕ = indexed f (k + 1) ps in let a' : a ≡ 0 = one in let b' : b ≡ 0 = more in
@@ -55,7 +63,8 @@ present_at [] i close = absurd (close (omega arith))
 present_at (x ∷ xs) zero close = (x, refl)
 present_at (x ∷ xs) (suc i) close = present_at xs i (λ h. close (omega arith))
 
-first_piece : (lo top : ℕ) (ps : List Piece) → AreTiles lo top ps → (p : Piece) × (get_elem? ps 0 ≡ some p) × (p.lo ≡ lo)
+first_piece : (lo top : ℕ) (ps : List Piece) → AreTiles lo top ps →
+    (p : Piece) × (get_elem? ps 0 ≡ some p) × (p.lo ≡ lo)
 first_piece lo top [] t = absurd t
 first_piece lo top (p ∷ ps) t = (p, refl, t.0)
 
@@ -71,9 +80,11 @@ module _ {P : Type 0} (fits : ℕ → ℕ → P → Type 0) (bins : ℕ) where
       → missing (piece lo hi st) ≡ 1 → (2 * n < length s.words) × (0 < get_or s.words (2 * n) 0)
   counted s r n i lo hi st t one = let g : IsGoing fits bins s.words s.homes n t.low t.top t.above t.pieces =
       r.each_node n (going t.low t.top t.above t.pieces) t.cell_is in
-      let a : missing (piece lo hi st) ≤ total missing t.pieces = total_at missing t.pieces i (piece lo hi st) t.piece_is in
+      let a : missing (piece lo hi st) ≤ total missing t.pieces =
+      total_at missing t.pieces i (piece lo hi st) t.piece_is in
       let w = within r.cells n (going t.low t.top t.above t.pieces) t.cell_is in let wide = r.words_wide in
-      let m : ℕ = missing (piece lo hi st) in let u : ℕ = total missing t.pieces in let a' : m ≤ u = a in let o : m ≡ 1 = one in
+      let m : ℕ = missing (piece lo hi st) in let u : ℕ = total missing t.pieces in let a' : m ≤ u = a in
+      let o : m ≡ 1 = one in
       let c : get_or s.words (2 * n) 0 ≡ u = g.number_is in let l : ℕ = length r.cells in let w' : n < l = w in
       let k : ℕ = length s.words in let wide' : k ≡ 2 * l = wide in
       let x : ℕ = get_or s.words (2 * n) 0 in let c' : x ≡ u = c in
@@ -88,27 +99,32 @@ module _ {P : Type 0} (fits : ℕ → ℕ → P → Type 0) (bins : ℕ) where
       let q : 0 < total (same x) above = subst (λ (l : List Right). 0 < total (same x) l) (sym one.5) self in
       let t = keeps_waiting fits bins s r n (going low top above ps) one.0 one.1 low top one.2 one.3 at q in
       let w : one.0 < length r.cells = within r.cells one.0 (going t.low t.top t.above t.pieces) t.cell_is in
-      let l : ℕ = length r.cells in let w' : one.0 < l = w in let h : ℕ = length s.homes in let e : h ≡ 8 * l = r.homes_wide in
+      let l : ℕ = length r.cells in let w' : one.0 < l = w in let h : ℕ = length s.homes in
+      let e : h ≡ 8 * l = r.homes_wide in
       let e' : h ≡ slots = wide in
-      subst (λ (rs : List Right). 8 * node_in rs + 8 ≤ slots) (sym one.5) (let z : 8 * one.0 + 8 ≤ slots = omega arith in z)) is
+      subst (λ (rs : List Right). 8 * node_in rs + 8 ≤ slots) (sym one.5) (let z : 8 * one.0 + 8 ≤ slots =
+      omega arith in z)) is
 
   plays : (s : St fits bins) (r : Rule fits bins s) (n i lo hi : ℕ) (t : Ticketed r.cells n i lo hi fills)
       → IsNext (position_of t.pieces) (arrive i)
   plays s r n i lo hi t = (
     at_map (λ (p : Piece). has_arrived p.stage) t.pieces i (piece lo hi fills) t.piece_is,
-    (λ z. given_at t.pieces (piece lo hi fills) (subst (λ (k : ℕ). get_elem? t.pieces k ≡ some (piece lo hi fills)) z t.piece_is)),
+    (λ z. given_at t.pieces (piece lo hi fills)
+        (subst (λ (k : ℕ). get_elem? t.pieces k ≡ some (piece lo hi fills)) z t.piece_is)),
   )
 
   module _ (slots id : ℕ) (n i lo hi fk d : ℕ) (up : List Above) (xp : Partial P) (part : IsPart fits lo hi xp) where
     abbrev me : Knowledge P
     me = (Fills n i lo hi fk d up ∷ [], (8 * n + i, Some xp) ∷ [])
 
-    arrives_step : Allows (Rule fits bins) slots id me (2 * n) (λ x. (x + (2 ^ 64 - 1)) % 2 ^ 64) (Arrives fits bins slots me)
+    arrives_step : Allows (Rule fits bins) slots id me (2 * n) (λ x. (x + (2 ^ 64 - 1)) % 2 ^ 64)
+        (Arrives fits bins slots me)
     arrives_step s r wide at small =
         let car : List (ℕ × Option (Partial P)) = [] in let v : List Right = Fills n i lo hi fk d up ∷ [] in
         let f = has_filling fits bins s r id v n i lo hi fk d up at (one_right (Fills n i lo hi fk d up)) in
         let t : Ticketed r.cells n i lo hi fills = f.0 in let ps = t.pieces in
-        let g : IsGoing fits bins s.words s.homes n t.low t.top t.above ps = r.each_node n (going t.low t.top t.above ps) t.cell_is in
+        let g : IsGoing fits bins s.words s.homes n t.low t.top t.above ps =
+        r.each_node n (going t.low t.top t.above ps) t.cell_is in
         let x : ℕ = get_or s.words (2 * n) 0 in
         let room = counted s r n i lo hi fills t refl in let y : ℕ = (x + (2 ^ 64 - 1)) % 2 ^ 64 in
         let less : y + 1 ≡ x = less_one x room.1 small in
@@ -116,7 +132,8 @@ module _ {P : Type 0} (fits : ℕ → ℕ → P → Type 0) (bins : ℕ) where
         let homes' : Homes fits bins = set s.homes k (some (Some xp)) in let words' : List ℕ = set s.words (2 * n) y in
         let now : get_or words' (2 * n) 0 ≡ y = get_or-set_same s.words (2 * n) y 0 room.0 in
         let in_row : k < length s.homes =
-        (let w = within r.cells n (going t.low t.top t.above ps) t.cell_is in let l : ℕ = length r.cells in let w' : n < l = w in
+        (let w = within r.cells n (going t.low t.top t.above ps) t.cell_is in let l : ℕ = length r.cells in
+        let w' : n < l = w in
         let h : ℕ = length s.homes in let wide' : h ≡ 8 * l = r.homes_wide in let q : k < h = omega arith in q) in
         let slot : SlotOk fits bins homes' k lo hi arrived = (xp, set_here s.homes k (some (Some xp)) in_row, part) in
         let code_same : get_or words' (2 * n + 1) 0 ≡ get_or s.words (2 * n + 1) 0 =
@@ -150,13 +167,18 @@ module _ {P : Type 0} (fits : ℕ → ℕ → P → Type 0) (bins : ℕ) where
         going_set fits bins s r n i lo hi fills arrived t (λ e. arrived_not_held e) words' homes' code_same number_same
         (λ j apart _. beside fits bins s.homes n i (some (Some xp)) j apart) slot played' in
         let done : total missing qs ≡ 0 = (let a : get_or words' (2 * n) 0 ≡ total missing qs = g'.number_is in
-        let b : ℕ = total missing qs in let c : ℕ = get_or words' (2 * n) 0 in let a' : c ≡ b = a in let c' : c ≡ y = now in
+        let b : ℕ = total missing qs in let c : ℕ = get_or words' (2 * n) 0 in let a' : c ≡ b = a in
+        let c' : c ≡ y = now in
         let o : x ≡ 1 = one in let q : b ≡ 0 = omega arith in q) in
-        let all = all_arrived qs done in let value : ℕ → Option (Partial P) = λ j. read (get_elem? homes' (8 * n + j)) in
-        let shows : (j : ℕ) (p : Piece) → get_elem? qs j ≡ some p → (z : Partial P) × (get_elem? homes' (8 * n + j) ≡ some (some (Some z)))
-        × IsPart fits p.lo p.hi z = λ j p e. subst (λ (st : Stage). SlotOk fits bins homes' (8 * n + j) p.lo p.hi st) (all j p e)
+        let all = all_arrived qs done in let value : ℕ → Option (Partial P) =
+        λ j. read (get_elem? homes' (8 * n + j)) in
+        let shows : (j : ℕ) (p : Piece) → get_elem? qs j ≡ some p →
+        (z : Partial P) × (get_elem? homes' (8 * n + j) ≡ some (some (Some z)))
+        × IsPart fits p.lo p.hi z =
+        λ j p e. subst (λ (st : Stage). SlotOk fits bins homes' (8 * n + j) p.lo p.hi st) (all j p e)
         (g'.each_slot j p e) in
-        let there : (j : ℕ) → j < 8 → get_elem? homes' (8 * n + j) ≡ some (some (value j)) = λ j low. dite (dec_le (length qs) j)
+        let there : (j : ℕ) → j < 8 → get_elem? homes' (8 * n + j) ≡ some (some (value j)) =
+        λ j low. dite (dec_le (length qs) j)
         (λ far. let e = g'.others j far low in e ∙ ap (λ (o : Option (Partial P)). some (some o)) (sym (ap read e)))
         (λ close. let p = present_at qs j close in let z = shows j p.0 p.1 in
         z.1 ∙ ap (λ (o : Option (Partial P)). some (some o)) (sym (ap read z.1))) in
@@ -181,10 +203,13 @@ module _ {P : Type 0} (fits : ℕ → ℕ → P → Type 0) (bins : ℕ) where
                     ∙ (up_frame n value 7 (8 * m + j) homes' car (λ u l e. apart (omega arith)) ∙ o.2 j low)),
               ))
               tt
-              (λ h. let a = given_out_set h n t.low t.top t.above ps i (piece lo hi fills) (piece lo hi arrived) t.piece_is in
+              (λ h. let a = given_out_set h n t.low t.top t.above ps i (piece lo hi fills)
+              (piece lo hi arrived) t.piece_is in
               let z : given_out h n (going t.low t.top t.above qs) ≡ 0 =
-              all_zero _ 0 qs (λ j p e. ap (λ (st : Stage). right_of h n t.above (length qs) (0 + j) p.lo p.hi st) (all j p e)) in
-              let u : ℕ = given_out h n (going t.low t.top t.above qs) in let u' : ℕ = given_out h n (going t.low t.top t.above ps) in
+              all_zero _ 0 qs (λ j p e. ap (λ (st : Stage). right_of h n t.above (length qs) (0 + j) p.lo p.hi st)
+              (all j p e)) in
+              let u : ℕ = given_out h n (going t.low t.top t.above qs) in
+              let u' : ℕ = given_out h n (going t.low t.top t.above ps) in
               let c : ℕ = h (Fills n i lo hi (known_forks i (length ps)) (code t.above) (path_of t.above)) in
               let c' : ℕ = h (Fills n i lo hi fk d up) in let a' : u + c ≡ u' + 0 = a in let z' : u ≡ 0 = z in
               let e : c' ≡ c = λ k. h (Fills n i lo hi (f.1 k) (f.2 k) (f.3 k)) in let b : ℕ = total h t.above in
@@ -198,7 +223,8 @@ module _ {P : Type 0} (fits : ℕ → ℕ → P → Type 0) (bins : ℕ) where
               all_slots = ap (λ (l : List (ℕ × Option (Partial P))). (8 * n, value 0) ∷ l) (carried_up n value 7 car);
               mine = ap read (set_here s.homes k (some (Some xp)) in_row);
               parts = parts;
-              first = (let o = first_piece t.low t.top qs g'.tiled in let z = shows 0 o.0 o.1 in (z.0, ap read z.1, z.2.0 ∙ o.2));
+              first = (let o = first_piece t.low t.top qs g'.tiled in let z = shows 0 o.0 o.1 in
+                  (z.0, ap read z.1, z.2.0 ∙ o.2));
               above = g.above_is;
               coded = sym f.2;
               path = sym f.3;
@@ -214,14 +240,17 @@ module _ {P : Type 0} (fits : ℕ → ℕ → P → Type 0) (bins : ℕ) where
               (length-set s.words (2 * n) y) (length-set s.homes k (some (Some xp))) others code_same number_same
               (λ j apart _. beside fits bins s.homes n i (some (Some xp)) j apart) slot played'
               (λ h. let c : ℕ = h (Fills n i lo hi (known_forks i (length ps)) (code t.above) (path_of t.above)) in
-              let c' : ℕ = h (Fills n i lo hi fk d up) in let e : c' ≡ c = λ k. h (Fills n i lo hi (f.1 k) (f.2 k) (f.3 k)) in
+              let c' : ℕ = h (Fills n i lo hi fk d up) in
+              let e : c' ≡ c = λ k. h (Fills n i lo hi (f.1 k) (f.2 k) (f.3 k)) in
               let q : 0 + c ≤ c' + 0 + 0 = omega arith in q),
           (told, (λ one. absurd (more one))),
         ))
 
   pub arrives : (slots id : ℕ) (found : Knowledge P) (n i lo hi fk d : ℕ) (up : List Above) (xp : Partial P)
       → found ≡ (Fills n i lo hi fk d up ∷ [], (8 * n + i, Some xp) ∷ []) → IsPart fits lo hi xp
-      → Allows (Rule fits bins) slots id found (2 * n) (λ x. (x + (2 ^ 64 - 1)) % 2 ^ 64) (Arrives fits bins slots found)
+      → Allows (Rule fits bins) slots id found (2 * n) (λ x. (x + (2 ^ 64 - 1)) % 2 ^ 64)
+      (Arrives fits bins slots found)
   arrives slots id found n i lo hi fk d up xp is part =
-      subst (λ (m : Knowledge P). Allows (Rule fits bins) slots id m (2 * n) (λ x. (x + (2 ^ 64 - 1)) % 2 ^ 64) (Arrives fits bins slots m))
+      subst (λ (m : Knowledge P). Allows (Rule fits bins) slots id m (2 * n) (λ x. (x + (2 ^ 64 - 1)) % 2 ^ 64)
+      (Arrives fits bins slots m))
       (sym is) (arrives_step slots id n i lo hi fk d up xp part)

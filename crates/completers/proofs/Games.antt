@@ -1,5 +1,6 @@
 -- The law of the completion game.
-use Rattle.std.proofs.Common.{◌≡◌, ℕ, zero, suc, ◌+◌, ◌<◌, ◌≤◌, eq-eqb, ne_eqb, Bool, true, false, cond, List, [], ◌∷◌, ◌++◌, set, sym, refl, ap, ◌∙◌, subst}
+use Rattle.std.proofs.Common.{◌≡◌, ℕ, zero, suc, ◌+◌, ◌<◌, ◌≤◌, eq-eqb, ne_eqb, Bool, true, false, cond, List, [], ◌∷◌}
+use Rattle.std.proofs.Common.{◌++◌, set, sym, refl, ap, ◌∙◌, subst}
 use Rattle.std.proofs.Common.{arith}
 use mathlib.Core.Logic.{dite}
 use mathlib.Core.Option.{some, some-injective, some-ne-none}
@@ -7,7 +8,8 @@ use native.Mathlib.Decide.{ℕ_discrete}
 use Rattle.std.proofs.lemmas.Bool.{false≢true}
 use lib.ListN.{get_elem?}
 use Rattle.atomic_table.proofs.Lists.{at_longer}
-use Rattle.completers.specs.Game.{Event, fork, own, arrive, Position, start, number, IsNext, after, IsGame, position_after, waiting, is_last, lasts}
+use Rattle.completers.specs.Game.{Event, fork, own, arrive, Position, start, number, IsNext, after, IsGame}
+use Rattle.completers.specs.Game.{position_after, waiting, is_last, lasts}
 use Rattle.completers.specs.Game.{IsComplete, OneLast}
 
 -- the own ticket doesn't arrive before it is given out
@@ -17,7 +19,8 @@ Sound p = p.has_given ≡ false → get_elem? p.arrived 0 ≡ some false
 waits : (bs : List Bool) (t : ℕ) → get_elem? bs t ≡ some false → 0 < waiting bs
 waits [] t e = absurd (some-ne-none false (sym e))
 waits (b ∷ bs) zero e = subst (λ (x : Bool). 0 < cond x 0 1 + waiting bs) (sym (some-injective b false e)) (omega arith)
-waits (b ∷ bs) (suc t) e = let m = waits bs t e in let k : ℕ = cond b 0 1 in let w : ℕ = waiting bs in let m' : 0 < w = m in
+waits (b ∷ bs) (suc t) e = let m = waits bs t e in let k : ℕ = cond b 0 1 in let w : ℕ = waiting bs in
+    let m' : 0 < w = m in
     let r : 0 < k + w = omega arith in r
 
 longer : (bs : List Bool) → waiting (bs ++ false ∷ []) ≡ waiting bs + 1
@@ -25,7 +28,8 @@ longer [] = refl
 longer (b ∷ bs) = let e = longer bs in let k : ℕ = cond b 0 1 in let w : ℕ = waiting bs in
     ap (λ (z : ℕ). k + z) e ∙ (let g : k + (w + 1) ≡ k + w + 1 = omega arith in g)
 
-sound_set : (bs : List Bool) (t : ℕ) → ¬ (t ≡ 0) → get_elem? bs 0 ≡ some false → get_elem? (set bs t true) 0 ≡ some false
+sound_set : (bs : List Bool) (t : ℕ) → ¬ (t ≡ 0) → get_elem? bs 0 ≡ some false →
+    get_elem? (set bs t true) 0 ≡ some false
 sound_set [] t n e = e
 sound_set (b ∷ bs) zero n e = absurd (n refl)
 sound_set (b ∷ bs) (suc t) n e = e
@@ -50,14 +54,17 @@ abbrev Ends : Position → List Event → Type 0
 Ends p es = (before : List Event) × (t : ℕ) × (es ≡ before ++ arrive t ∷ []) × (lasts p before ≡ 0) × (lasts p es ≡ 1)
 
 abbrev Law : Position → List Event → Type 0
-Law p es = (lasts p es ≤ 1) × (number (position_after p es) ≡ 0 → Ends p es) × (lasts p es ≡ 1 → IsComplete (position_after p es))
+Law p es = (lasts p es ≤ 1) × (number (position_after p es) ≡ 0 → Ends p es)
+    × (lasts p es ≡ 1 → IsComplete (position_after p es))
 
 -- an event that isn't last
 more : (p : Position) (e : Event) (es : List Event) → is_last p e ≡ false → Law (after p e) es → Law p (e ∷ es)
 more p e es miss l = let n : (k : ℕ) → cond (is_last p e) 1 0 + k ≡ k = λ k. ap (λ (b : Bool). cond b 1 0 + k) miss
-    ∙ (let g : 0 + k ≡ k = omega arith in g) in let here : lasts p (e ∷ es) ≡ lasts (after p e) es = n (lasts (after p e) es) in (
+    ∙ (let g : 0 + k ≡ k = omega arith in g) in let here : lasts p (e ∷ es) ≡ lasts (after p e) es =
+    n (lasts (after p e) es) in (
       subst (λ (k : ℕ). k ≤ 1) (sym here) l.0,
-      (λ z. let r = l.1 z in (e ∷ r.0, r.1, ap (λ (xs : List Event). e ∷ xs) r.2, n (lasts (after p e) r.0) ∙ r.3, here ∙ r.4)),
+      (λ z. let r = l.1 z in
+          (e ∷ r.0, r.1, ap (λ (xs : List Event). e ∷ xs) r.2, n (lasts (after p e) r.0) ∙ r.3, here ∙ r.4)),
       (λ one. l.2 (sym here ∙ one)),
     )
 

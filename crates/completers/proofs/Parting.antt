@@ -1,5 +1,6 @@
 -- The parts of a node in range order, and the act that takes all its slots.
-use Rattle.std.proofs.Common.{◌≡◌, ℕ, zero, suc, ◌+◌, ◌-◌, ◌*◌, ◌<◌, ◌≤◌, ◌≢◌, List, [], ◌∷◌, length, sym, refl, ap, ◌∙◌, subst, arith, length-set, Contains}
+use Rattle.std.proofs.Common.{◌≡◌, ℕ, zero, suc, ◌+◌, ◌-◌, ◌*◌, ◌<◌, ◌≤◌, ◌≢◌, List, [], ◌∷◌, length, sym, refl, ap}
+use Rattle.std.proofs.Common.{◌∙◌, subst, arith, length-set, Contains}
 use mathlib.Core.Logic.{dite}
 use native.Mathlib.Decide.{ℕ_discrete}
 use mathlib.Core.Option.{none, some, some-injective, some-ne-none}
@@ -21,13 +22,15 @@ module _ {P : Type 0} where
   pub carried_up : (n : ℕ) (y : ℕ → Option (Partial P)) (j : ℕ) (c : List (ℕ × Option (Partial P)))
       → carried_after c (takes_up n y j) ≡ pile n y j c
   carried_up n y zero c = refl
-  carried_up n y (suc j) c = ap (λ (l : List (ℕ × Option (Partial P))). (8 * n + suc j, y (suc j)) ∷ l) (carried_up n y j c)
+  carried_up n y (suc j) c = ap (λ (l : List (ℕ × Option (Partial P))). (8 * n + suc j, y (suc j)) ∷ l)
+      (carried_up n y j c)
 
   pub up_frame : (n : ℕ) (y : ℕ → Option (Partial P)) (j k : ℕ) (hs : List (maybe.Option (Option (Partial P))))
       (c : List (ℕ × Option (Partial P))) → ((t : ℕ) → t < j → k ≢ 8 * n + suc t)
       → get_elem? (homes_after hs c (takes_up n y j)) k ≡ get_elem? hs k
   up_frame n y zero k hs c far = refl
-  up_frame n y (suc j) k hs c far = set_else (homes_after hs c (takes_up n y j)) (8 * n + suc j) k none (far j (omega arith))
+  up_frame n y (suc j) k hs c far = set_else (homes_after hs c (takes_up n y j)) (8 * n + suc j) k none
+      (far j (omega arith))
       ∙ up_frame n y j k hs c (λ t l. far t (omega arith))
 
   pub up_long : (n : ℕ) (y : ℕ → Option (Partial P)) (j : ℕ) (hs : List (maybe.Option (Option (Partial P))))
@@ -46,7 +49,8 @@ module _ {P : Type 0} where
 
 module _ {P : Type 0} (fits : ℕ → ℕ → P → Type 0) (y : ℕ → Option (Partial P)) where
   -- a part in front
-  front_part : (lo hi top : ℕ) (x : Partial P) (xs : List (Partial P)) → lo < hi → IsPart fits lo hi x → AreParts fits hi top xs
+  front_part : (lo hi top : ℕ) (x : Partial P) (xs : List (Partial P)) → lo < hi → IsPart fits lo hi x →
+      AreParts fits hi top xs
       → AreParts fits lo top (x ∷ xs)
   front_part lo hi top x xs less is parts = (
     is.0,
@@ -56,7 +60,8 @@ module _ {P : Type 0} (fits : ℕ → ℕ → P → Type 0) (y : ℕ → Option 
   )
 
   climbs : (top : ℕ) (fs : List Piece) (j hi mid : ℕ) → AreBelow hi mid fs → AreParts fits mid top (present (stack y j))
-      → ((t : ℕ) (p : Piece) → get_elem? fs t ≡ some p → (x : Partial P) × (y (j + 1 + t) ≡ Some x) × IsPart fits p.lo p.hi x)
+      → ((t : ℕ) (p : Piece) → get_elem? fs t ≡ some p → (x : Partial P) × (y (j + 1 + t) ≡ Some x)
+      × IsPart fits p.lo p.hi x)
       → AreParts fits hi top (present (stack y (j + length fs)))
   climbs top [] j hi mid d parts shows = let z : j ≡ j + 0 = omega arith in
       subst (λ (k : ℕ). AreParts fits hi top (present (stack y k))) z
@@ -67,13 +72,16 @@ module _ {P : Type 0} (fits : ℕ → ℕ → P → Type 0) (y : ℕ → Option 
       subst (λ (o : Option (Partial P)). AreParts fits p.lo top (present (o ∷ stack y j))) (sym is)
       (front_part p.lo p.hi top one.0 (present (stack y j)) d.1 one.2
       (subst (λ (k : ℕ). AreParts fits k top (present (stack y j))) (sym d.0) parts)) in
-      let u : suc j + length ps ≡ j + suc (length ps) = omega arith in subst (λ (k : ℕ). AreParts fits hi top (present (stack y k))) u
-      (climbs top ps (suc j) hi p.lo d.2 here (λ t q e. let s = shows (suc t) q e in let w : j + 1 + suc t ≡ suc j + 1 + t = omega arith in
+      let u : suc j + length ps ≡ j + suc (length ps) = omega arith in
+      subst (λ (k : ℕ). AreParts fits hi top (present (stack y k))) u
+      (climbs top ps (suc j) hi p.lo d.2 here (λ t q e. let s = shows (suc t) q e in
+      let w : j + 1 + suc t ≡ suc j + 1 + t = omega arith in
       (s.0, subst (λ (k : ℕ). y k ≡ Some s.0) w s.1, s.2)))
 
   nones : (d j : ℕ) → ((t : ℕ) → t < d → y (j + 1 + t) ≡ None) → present (stack y (j + d)) ≡ present (stack y j)
   nones zero j blank = let z : j + 0 ≡ j = omega arith in ap (λ (k : ℕ). present (stack y k)) z
-  nones (suc d) j blank = let z : j + suc d ≡ suc (j + d) = omega arith in let w : j + 1 + d ≡ suc (j + d) = omega arith in
+  nones (suc d) j blank = let z : j + suc d ≡ suc (j + d) = omega arith in
+      let w : j + 1 + d ≡ suc (j + d) = omega arith in
       ap (λ (k : ℕ). present (stack y k)) z ∙ (ap (λ (o : Option (Partial P)). present (o ∷ stack y (j + d)))
       (subst (λ (k : ℕ). y k ≡ None) w (blank d (omega arith))) ∙ nones d j (λ t l. blank t (omega arith)))
 
@@ -81,7 +89,8 @@ module _ {P : Type 0} (fits : ℕ → ℕ → P → Type 0) (y : ℕ → Option 
       → ((j : ℕ) (p : Piece) → get_elem? qs j ≡ some p → (x : Partial P) × (y j ≡ Some x) × IsPart fits p.lo p.hi x)
       → ((j : ℕ) → length qs ≤ j → j < 8 → y j ≡ None) → AreParts fits lo top (present (y 0 ∷ stack y 7))
   all_parts lo top [] tiled few shows blank = absurd tiled
-  all_parts lo top (p ∷ ps) tiled few shows blank = let one = shows 0 p refl in let k : ℕ = length ps in let d : ℕ = 7 - k in
+  all_parts lo top (p ∷ ps) tiled few shows blank = let one = shows 0 p refl in let k : ℕ = length ps in
+      let d : ℕ = 7 - k in
       let few' : suc k ≤ 8 = few in let z : 0 + k + d ≡ 7 = omega arith in
       let up = climbs top ps 0 p.hi top tiled.2 refl
       (λ t q e. let s = shows (suc t) q e in let w : suc t ≡ 0 + 1 + t = omega arith in
@@ -89,14 +98,17 @@ module _ {P : Type 0} (fits : ℕ → ℕ → P → Type 0) (y : ℕ → Option 
       let gone : present (stack y (0 + k + d)) ≡ present (stack y (0 + k)) =
       nones d (0 + k) (λ t l. blank (0 + k + 1 + t) (omega arith) (omega arith)) in
       let same : present (stack y 7) ≡ present (stack y (0 + k)) = ap (λ (j : ℕ). present (stack y j)) (sym z) ∙ gone in
-      let rest : AreParts fits p.hi top (present (stack y 7)) = subst (λ (l : List (Partial P)). AreParts fits p.hi top l) (sym same) up in
+      let rest : AreParts fits p.hi top (present (stack y 7)) =
+      subst (λ (l : List (Partial P)). AreParts fits p.hi top l) (sym same) up in
       subst (λ (o : Option (Partial P)). AreParts fits lo top (present (o ∷ stack y 7))) (sym one.1)
-      (front_part lo p.hi top one.0 (present (stack y 7)) tiled.1 (subst (λ (l : ℕ). IsPart fits l p.hi one.0) tiled.0 one.2) rest)
+      (front_part lo p.hi top one.0 (present (stack y 7)) tiled.1
+      (subst (λ (l : ℕ). IsPart fits l p.hi one.0) tiled.0 one.2) rest)
 
 first : {P : Type 0} (x : Partial P) (os : List (Option (Partial P))) → Contains (present (Some x ∷ os)) x
 first x os = (0, (let n : ℕ = length (present os) in let q : 0 < suc n = omega arith in q), refl)
 
-behind : {P : Type 0} (o : Option (Partial P)) (os : List (Option (Partial P))) (x : Partial P) → Contains (present os) x
+behind : {P : Type 0} (o : Option (Partial P)) (os : List (Option (Partial P))) (x : Partial P) →
+    Contains (present os) x
     → Contains (present (o ∷ os)) x
 behind None os x c = c
 behind (Some z) os x c = (
@@ -111,12 +123,14 @@ module _ {P : Type 0} (y : ℕ → Option (Partial P)) where
   in_stack : (j i : ℕ) (x : Partial P) → 0 < i → i ≤ j → y i ≡ Some x → Contains (present (stack y j)) x
   in_stack zero i x pos most is = absurd (omega arith)
   in_stack (suc j) i x pos most is = dite (ℕ_discrete i (suc j))
-      (λ here. subst (λ (o : Option (Partial P)). Contains (present (o ∷ stack y j)) x) (sym (subst (λ (k : ℕ). y k ≡ Some x) here is))
+      (λ here. subst (λ (o : Option (Partial P)). Contains (present (o ∷ stack y j)) x)
+      (sym (subst (λ (k : ℕ). y k ≡ Some x) here is))
       (first x (stack y j)))
       (λ below. behind (y (suc j)) (stack y j) x (in_stack j i x pos (omega arith) is))
 
   pub among : (i : ℕ) (x : Partial P) → i < 8 → y i ≡ Some x → Contains (present (y 0 ∷ stack y 7)) x
   among i x small is = dite (ℕ_discrete i 0)
-      (λ here. subst (λ (o : Option (Partial P)). Contains (present (o ∷ stack y 7)) x) (sym (subst (λ (k : ℕ). y k ≡ Some x) here is))
+      (λ here. subst (λ (o : Option (Partial P)). Contains (present (o ∷ stack y 7)) x)
+      (sym (subst (λ (k : ℕ). y k ≡ Some x) here is))
       (first x (stack y 7)))
       (λ forked. behind (y 0) (stack y 7) x (in_stack 7 i x (omega arith) (omega arith) is))

@@ -16,7 +16,10 @@ module _ {P : Type 0} where
   IsLast Early = ⊥
   IsLast (Last parts above) = Unit {0}
 
--- the parts of a whole node of the tree, side by side over the range that it was opened for, and the nearest of the tickets above it. Only the root has none
-abbrev pub IsWholeNode : {B P : Type 0} → TreeView B → (ℕ → ℕ → P → Type 0) → List Above → List (Partial P) → Option TicketView → Type 0
-IsWholeNode tree fits up parts above = (opened_from up < opened_to tree.bins up) × AreParts fits (opened_from up) (opened_to tree.bins up) parts
+-- the parts of a whole node of the tree, side by side over the range that it was opened for, and the nearest of the
+-- tickets above it. Only the root has none
+abbrev pub IsWholeNode : {B P : Type 0} → TreeView B → (ℕ → ℕ → P → Type 0) → List Above → List (Partial P) →
+    Option TicketView → Type 0
+IsWholeNode tree fits up parts above = (opened_from up < opened_to tree.bins up) × AreParts fits (opened_from up)
+    (opened_to tree.bins up) parts
     × (above ≡ nearest tree.identity up)

@@ -1,5 +1,6 @@
 -- The completion game of one node.
--- A node has its own ticket, number 0, and one for each fork, numbered from 1 in the order of the forks. Its number is how many of them have not arrived.
+-- A node has its own ticket, number 0, and one for each fork, numbered from 1 in the order of the forks. Its number is
+-- how many of them have not arrived.
 use Rattle.std.specs.Prelude.{◌≡◌, ℕ, ◌+◌, ◌≤◌, ◌==◌, Bool, true, false, if◌then◌else◌, List, [], ◌∷◌, ◌++◌, slice_set}
 use mathlib.Core.Option.{some}
 use lib.ListN.{get_elem?}
@@ -60,13 +61,15 @@ abbrev pub IsComplete : Position → Type 0
 IsComplete p = (p.has_given ≡ true) × (number p ≡ 0)
 
 abbrev pub EndsInLast : List Event → Type 0
-EndsInLast es = (before : List Event) × (t : ℕ) × (es ≡ before ++ arrive t ∷ []) × (lasts start before ≡ 0) × (lasts start es ≡ 1)
+EndsInLast es = (before : List Event) × (t : ℕ) × (es ≡ before ++ arrive t ∷ []) × (lasts start before ≡ 0)
+    × (lasts start es ≡ 1)
 
 -- in every game there is at most one last arrival. Where the own ticket is given out
 -- and all tickets have arrived there is exactly one, the final event, and nowhere else
 abbrev pub OneLast : Type 0
 OneLast = (es : List Event) → IsGame start es
-    → (lasts start es ≤ 1) × (IsComplete (position_after start es) → EndsInLast es) × (lasts start es ≡ 1 → IsComplete (position_after start es))
+    → (lasts start es ≤ 1) × (IsComplete (position_after start es) → EndsInLast es)
+    × (lasts start es ≡ 1 → IsComplete (position_after start es))
 
 -- some list of events leads there
 abbrev pub IsReachable : Position → Type 0

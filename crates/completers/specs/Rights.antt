@@ -1,4 +1,5 @@
--- What a list of rights says. A token's rights begin with its own right: a supply's and a node's go on with nodes that are not opened.
+-- What a list of rights says. A token's rights begin with its own right: a supply's and a node's go on with nodes that
+-- are not opened.
 use Rattle.std.specs.Prelude.{◌≡◌, ◌⊎◌, ℕ, zero, suc, ◌+◌, ◌*◌, ◌/◌, ◌<◌, List, [], ◌∷◌, take, drop, length}
 use Rattle.completers.specs.declared.rule.Above.{Above}
 use Rattle.completers.specs.declared.rule.Right.{Right}

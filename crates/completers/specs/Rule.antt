@@ -1,6 +1,8 @@
 -- The rule of a tree's table.
--- Word 2 m is the number of the node m, and word 2 m + 1 the code of the ticket above it. Slot 8 m + i is that of the ticket i of the node m.
-use Rattle.std.specs.Prelude.{◌≡◌, ℕ, zero, suc, ◌+◌, ◌-◌, ◌*◌, ◌<◌, ◌≤◌, Bool, true, false, if◌then◌else◌, List, [], ◌∷◌, map, length, slice_index, Option}
+-- Word 2 m is the number of the node m, and word 2 m + 1 the code of the ticket above it. Slot 8 m + i is that of the
+-- ticket i of the node m.
+use Rattle.std.specs.Prelude.{◌≡◌, ℕ, zero, suc, ◌+◌, ◌-◌, ◌*◌, ◌<◌, ◌≤◌, Bool, true, false, if◌then◌else◌, List, []}
+use Rattle.std.specs.Prelude.{◌∷◌, map, length, slice_index, Option}
 use Rattle.std.specs.Prelude.{Some, None}
 use mathlib.Core.Option.{some}
 use mathlib.Core.Option as maybe
@@ -108,7 +110,8 @@ module _ {P : Type 0} (fits : ℕ → ℕ → P → Type 0) (bins : ℕ) where
     SlotOk fills = Unit {0}
     SlotOk arrived = (x : Partial P) × (get_elem? homes k ≡ some (some (Some x))) × IsPart fits lo hi x
 
-  pub record IsGoing (words : List ℕ) (homes : List (maybe.Option (Option (Partial P)))) (m lo top : ℕ) (above : List Right) (ps : List Piece) : Type 0 where
+  pub record IsGoing (words : List ℕ) (homes : List (maybe.Option (Option (Partial P)))) (m lo top : ℕ)
+      (above : List Right) (ps : List Piece) : Type 0 where
     pub number_is : slice_index words (2 * m) ≡ total missing ps
     pub code_is : slice_index words (2 * m + 1) ≡ code above
     pub above_is : IsTicketAbove bins lo top above
@@ -132,4 +135,5 @@ module _ {P : Type 0} (fits : ℕ → ℕ → P → Type 0) (bins : ℕ) where
     pub homes_wide : length s.homes ≡ 8 * length cells
     pub few_nodes : length cells ≤ most_nodes
     pub each_node : (m : ℕ) (c : Cell) → get_elem? cells m ≡ some c → CellOk s.words s.homes m c
-    pub each_right : (h : Right → ℕ) → total (λ v. total h v) s.views + total (kept_by h) cells ≤ indexed (given_out h) 0 cells
+    pub each_right : (h : Right → ℕ) → total (λ v. total h v) s.views + total (kept_by h) cells
+        ≤ indexed (given_out h) 0 cells

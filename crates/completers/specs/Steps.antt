@@ -3,7 +3,8 @@ use Rattle.std.specs.Prelude.{◌≡◌, ◌≢◌, ℕ, ◌+◌, ◌-◌, ◌*�
 use Rattle.atomic_table.specs.Table.{Me, rest}
 use Rattle.completers.specs.Game.{fork, own, arrive, number, IsPossible}
 use Rattle.completers.specs.Parts.{AreParts, present, stack, pile}
-use Rattle.completers.specs.Rights.{IsTicketAbove, code, path_of, node_in, ticket_in, tickets_in, forks_in, code_in, up_in}
+use Rattle.completers.specs.Rights.{IsTicketAbove, code, path_of, node_in, ticket_in, tickets_in, forks_in, code_in}
+use Rattle.completers.specs.Rights.{up_in}
 use Rattle.completers.specs.declared.relation.Partial.{Partial}
 use Rattle.completers.specs.declared.rule.Above.{Above}
 use Rattle.completers.specs.declared.rule.Right.{Right}
@@ -46,7 +47,8 @@ abbrev pub opened_rights : ℕ → List Right → List Right
 opened_rights bins [] = []
 opened_rights bins (Unopened n ∷ rs) = Opened n 0 bins 1 [] ∷ rs
 opened_rights bins (Opened n lo hi k up ∷ rs) = []
-opened_rights bins (Waits n i lo hi f up ∷ rs) = opened_rights_for lo hi (record { node = n; number = i; lo = lo; hi = hi; forks = f } ∷ up) rs
+opened_rights bins (Waits n i lo hi f up ∷ rs) =
+    opened_rights_for lo hi (record { node = n; number = i; lo = lo; hi = hi; forks = f } ∷ up) rs
 opened_rights bins (Fills n i lo hi f c up ∷ rs) = []
 
 abbrev pub Knowledge : Type 0 → Type 0
@@ -57,10 +59,12 @@ module _ {P : Type 0} where
   Opens bins m m' = m' ≡ (opened_rights bins m.0, m.1)
 
   abbrev pub Forks : ℕ → Knowledge P → ℕ → Knowledge P → Type 0
-  Forks mid m found m' = (m' ≡ (forked_rights mid m.0, m.1)) × IsPossible fork (λ p. (number p ≡ found) × (length p.arrived ≡ tickets_in m.0))
+  Forks mid m found m' = (m' ≡ (forked_rights mid m.0, m.1))
+      × IsPossible fork (λ p. (number p ≡ found) × (length p.arrived ≡ tickets_in m.0))
 
   abbrev pub Owns : Knowledge P → ℕ → Knowledge P → Type 0
-  Owns m found m' = (m' ≡ (own_rights m.0, m.1)) × IsPossible own (λ p. (number p ≡ found) × (length p.arrived ≡ tickets_in m.0))
+  Owns m found m' = (m' ≡ (own_rights m.0, m.1))
+      × IsPossible own (λ p. (number p ≡ found) × (length p.arrived ≡ tickets_in m.0))
 
   abbrev pub Takes : Knowledge P → ℕ → Knowledge P → Type 0
   Takes m found m' = m' ≡ (filling_rights found m.0, (8 * node_in m.0 + ticket_in m.0, None) ∷ m.1)
@@ -70,7 +74,8 @@ module _ {P : Type 0} where
   in_front [] = None
   in_front (x ∷ xs) = x.1
 
-  -- all slots of the node, what the ticket put into its own among them, and the right above the node, for the range that it was opened for
+  -- all slots of the node, what the ticket put into its own among them, and the right above the node, for the range
+  -- that it was opened for
   pub record TakesAll (fits : ℕ → ℕ → P → Type 0) (bins slots : ℕ) (m m' : Knowledge P) : Type 0 where
     pub lo : ℕ
     pub hi : ℕ
@@ -85,5 +90,7 @@ module _ {P : Type 0} where
     pub inside : m'.0 ≢ [] → 8 * node_in m'.0 + 8 ≤ slots
 
   abbrev pub Arrives : (ℕ → ℕ → P → Type 0) → ℕ → ℕ → Knowledge P → ℕ → Knowledge P → Type 0
-  Arrives fits bins slots m found m' = IsPossible (arrive (ticket_in m.0)) (λ p. (number p ≡ found) × (ticket_in m.0 ≡ 0 → length p.arrived ≡ forks_in m.0 + 1))
+  Arrives fits bins slots m found m' =
+      IsPossible (arrive (ticket_in m.0))
+      (λ p. (number p ≡ found) × (ticket_in m.0 ≡ 0 → length p.arrived ≡ forks_in m.0 + 1))
       × (found ≡ 1 → TakesAll fits bins slots m m')

@@ -3,7 +3,8 @@ use Rattle.std.specs.Prelude.{ℕ, ◌+◌, ◌-◌, ◌^◌, List, [], ◌∷�
 use Rattle.completers.specs.declared.rule.Above.{Above}
 pub use Rattle.atomic_table.specs.Seated.{TableId}
 
--- a tree: what no other tree shares with it, what its parts relate to, the end of its range, and how many tickets a node can have
+-- a tree: what no other tree shares with it, what its parts relate to, the end of its range, and how many tickets a
+-- node can have
 pub record TreeView (B : Type 0) : Type 0 where
   pub identity : TableId
   pub relation : B
@@ -46,7 +47,8 @@ path_from (Some t) = record { node = t.node; number = t.number; lo = t.lo; hi = 
 -- the nearest of the tickets above a node
 abbrev pub nearest : TableId → List Above → Option TicketView
 nearest tree [] = None
-nearest tree (t ∷ up) = Some (record { tree = tree; node = t.node; number = t.number; lo = t.lo; hi = t.hi; forks = t.forks; above = up })
+nearest tree (t ∷ up) =
+    Some (record { tree = tree; node = t.node; number = t.number; lo = t.lo; hi = t.hi; forks = t.forks; above = up })
 
 -- the range that a node with these tickets above it was opened for: that of the nearest, or of the whole tree
 abbrev pub opened_from : List Above → ℕ
@@ -66,13 +68,39 @@ new_node s up lo hi = record { tree = s.tree; node = s.first; lo = lo; hi = hi; 
 
 -- the node, its new ticket and the new ticket's supply after a fork at mid
 abbrev pub after_fork : ℕ → NodeView → NodeView
-after_fork mid n = record { tree = n.tree; node = n.node; lo = n.lo; hi = mid; forks = n.forks + 1; level = n.level - 1; above = n.above }
+after_fork mid n = record {
+  tree = n.tree;
+  node = n.node;
+  lo = n.lo;
+  hi = mid;
+  forks = n.forks + 1;
+  level = n.level - 1;
+  above = n.above;
+}
 
 abbrev pub forked_ticket : ℕ → NodeView → TicketView
-forked_ticket mid n = record { tree = n.tree; node = n.node; number = n.forks + 1; lo = mid; hi = n.hi; forks = 0; above = n.above }
+forked_ticket mid n = record {
+  tree = n.tree;
+  node = n.node;
+  number = n.forks + 1;
+  lo = mid;
+  hi = n.hi;
+  forks =
+      0;
+  above = n.above;
+}
 
 abbrev pub forked_supply : NodeView → SupplyView
 forked_supply n = record { tree = n.tree; first = n.node + 2 ^ (n.level - 1); level = n.level - 1 }
 
 abbrev pub own_ticket : NodeView → TicketView
-own_ticket n = record { tree = n.tree; node = n.node; number = 0; lo = n.lo; hi = n.hi; forks = n.forks; above = n.above }
+own_ticket n = record {
+  tree = n.tree;
+  node = n.node;
+  number = 0;
+  lo = n.lo;
+  hi = n.hi;
+  forks =
+      n.forks;
+  above = n.above;
+}

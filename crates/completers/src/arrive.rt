@@ -1,5 +1,6 @@
 //! Arrivals.
-ghost use Rattle.std.specs.Prelude.{◌≡◌, ◌≢◌, ℕ, ◌+◌, ◌*◌, ◌<◌, ◌≤◌, List, [], ◌∷◌, map, length, Contains, MatchOption, None, Some};
+ghost use Rattle.std.specs.Prelude.{◌≡◌, ◌≢◌, ℕ, ◌+◌, ◌*◌, ◌<◌, ◌≤◌, List, [], ◌∷◌, map, length};
+ghost use Rattle.std.specs.Prelude.{Contains, MatchOption, None, Some};
 ghost use Rattle.atomic_table.specs.Table.{rest, turned};
 ghost use Rattle.completers.specs.Limits.{most_slots};
 ghost use Rattle.completers.specs.Parts.{AreParts, pile, slots_of, present};
@@ -45,7 +46,8 @@ impl<B: Relation, A: Allocator> Tree<B, A> {
     // What is in all slots of the node.
     fn empty_all(&self, seat: &mut TokenSeat<B::Part>, node: usize) -> Slots<B::Part>
         requires table { seat.old.table_id ≡ self.now.identity }
-        requires inside { (8 * node + 8 ≤ seat.old.table_id.slots) × (seat.old.table_id.slots ≤ most_slots) }
+        requires inside { (8 * node + 8 ≤ seat.old.table_id.slots)
+            × (seat.old.table_id.slots ≤ most_slots) }
         requires slots { (y : _) × (seat.old.me.1 ≡ (8 * node, y 0) ∷ pile node y 7 []) }
         ensures table { seat.new.table_id ≡ seat.old.table_id }
         ensures rights { seat.new.me.0 ≡ seat.old.me.0 }
@@ -71,10 +73,13 @@ impl<B: Relation, A: Allocator> Tree<B, A> {
         slots: &Slots<B::Part>,
     ) -> Option<Ticket<B::Part>>
         requires table { seat.table_id ≡ self.now.identity }
-        requires above { (lo : ℕ) × (hi : ℕ) × AreParts (B.relates self.now.relation) lo hi (present (slots_of slots.now))
-            × IsTicketAbove self.now.bins lo hi seat.me.0 × (code_of seat.me.0 ≡ code) × (seat.me.0 ≢ [] → 8 * node_in seat.me.0 + 8 ≤ seat.table_id.slots)
+        requires above { (lo : ℕ) × (hi : ℕ) × AreParts (B.relates self.now.relation) lo hi
+            (present (slots_of slots.now))
+            × IsTicketAbove self.now.bins lo hi seat.me.0 × (code_of seat.me.0 ≡ code)
+            × (seat.me.0 ≢ [] → 8 * node_in seat.me.0 + 8 ≤ seat.table_id.slots)
             × ((x : _) × (slots.now.own ≡ Some x) × (x.lo ≡ lo)) }
-        ensures { IsWholeNode self.now (B.relates self.now.relation) (path_of seat.me.0) (present (slots_of slots.now)) result }
+        ensures { IsWholeNode self.now (B.relates self.now.relation) (path_of seat.me.0)
+            (present (slots_of slots.now)) result }
     {
         if code == 0 {
             return None;
@@ -94,7 +99,8 @@ impl<B: Relation, A: Allocator> Tree<B, A> {
     fn fill(&self, ticket: Ticket<B::Part>, partial: Partial<B::Part>) -> (TokenSeat<B::Part>, u64)
         requires tree { ticket.tree ≡ self.now.identity }
         ensures table { result.0.table_id ≡ self.now.identity }
-        ensures inside { (8 * ticket.node + 8 ≤ result.0.table_id.slots) × (result.0.table_id.slots ≤ most_slots) × (ticket.number < 8) }
+        ensures inside { (8 * ticket.node + 8 ≤ result.0.table_id.slots)
+            × (result.0.table_id.slots ≤ most_slots) × (ticket.number < 8) }
         ensures slot { result.0.me ≡ (
           Fills ticket.node ticket.number ticket.lo ticket.hi ticket.forks result.1 ticket.above ∷ [],
           (8 * ticket.node + ticket.number, Some partial) ∷ [],
@@ -123,7 +129,8 @@ impl<B: Relation, A: Allocator> Tree<B, A> {
         requires range { (partial.lo ≡ ticket.lo) × (partial.hi ≡ ticket.hi) }
         requires part { B.relates self.now.relation partial.lo partial.hi partial.part }
         ensures last { MatchArrival result (Unit {0})
-            (λ parts above. Contains parts partial × IsWholeNode self.now (B.relates self.now.relation) ticket.above parts above) }
+            (λ parts above. Contains parts partial
+            × IsWholeNode self.now (B.relates self.now.relation) ticket.above parts above) }
         // The own ticket of a node that forked nothing.
         ensures alone { ticket.number ≡ 0 → ticket.forks ≡ 0 → IsLast result }
     {

@@ -40,7 +40,8 @@ impl<I: Finds> Found<I> {
         }
     }
 
-    /// Claims that something was found at an index below 65,536. True for the first claimer only, whose index is shown from then on.
+    /// Claims that something was found at an index below 65,536. True for the first claimer only,
+    /// whose index is shown from then on.
     pub fn claim(&self, index: u64) -> bool
         requires small { index < most_indices }
         requires found { I.finds index }

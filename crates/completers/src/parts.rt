@@ -18,7 +18,8 @@ pub(crate) struct Slots<P> {
     pub(crate) fork1: Option<Partial<P>>,
 }
 
-/// Parts in range order: a node's own, and those of its forks, the last fork's first. There are up to 8, and they are taken one by one.
+/// Parts in range order: a node's own, and those of its forks, the last fork's first. There are up
+/// to 8, and they are taken one by one.
 #[derive(Drop)]
 pub struct Parts<P> {
     slots: Slots<P>,
@@ -63,7 +64,8 @@ impl<P> Slots<P> {
     }
 
     fn take(&mut self) -> Option<Partial<P>>
-        ensures { MatchOption result ((present (slots_of self.old) ≡ []) × (present (slots_of self.new) ≡ []))
+        ensures { MatchOption result ((present (slots_of self.old) ≡ [])
+            × (present (slots_of self.new) ≡ []))
             (λ x. present (slots_of self.old) ≡ x ∷ present (slots_of self.new)) }
     {
         if let Some(x) = self.own.take() {
@@ -100,7 +102,8 @@ impl<P> Parts<P> {
 
     /// The next part, in range order. None: all are taken.
     pub fn take(&mut self) -> Option<Partial<P>>
-        ensures { MatchOption result ((self.old ≡ []) × (self.new ≡ [])) (λ x. self.old ≡ x ∷ self.new) }
+        ensures { MatchOption result ((self.old ≡ []) × (self.new ≡ []))
+            (λ x. self.old ≡ x ∷ self.new) }
     {
         self.slots.take()
     }

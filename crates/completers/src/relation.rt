@@ -1,7 +1,8 @@
 //! Parts of ranges.
 ghost use Rattle.std.specs.Prelude.{ℕ};
 
-/// Which parts a range may have. The type's value holds what it depends on, as the bins that are counted.
+/// Which parts a range may have. The type's value holds what it depends on, as the bins that are
+/// counted.
 pub trait Relation {
     /// What a range gives.
     type Part: Drop;

@@ -22,11 +22,14 @@ pub type Path = LinkedList<Above>;
 pub enum Right {
     /// Open a node.
     Unopened(u64),
-    /// Fork at a node, or give out its own ticket: the node, its range, how many tickets it has, and the tickets above it.
+    /// Fork at a node, or give out its own ticket: the node, its range, how many tickets it has,
+    /// and the tickets above it.
     Opened(u64, u64, u64, u64, Path),
-    /// Arrive: the node, the ticket's number and range, how many forks the node has, where the ticket is its own (else 0), and the tickets above the node.
+    /// Arrive: the node, the ticket's number and range, how many forks the node has, where the
+    /// ticket is its own (else 0), and the tickets above the node.
     Waits(u64, u64, u64, u64, u64, Path),
-    /// The same while the ticket's slot is with the token, which has read the code of the ticket above.
+    /// The same while the ticket's slot is with the token, which has read the code of the ticket
+    /// above.
     Fills(u64, u64, u64, u64, u64, u64, Path),
 }
 

@@ -1,4 +1,5 @@
-//! The tokens of a tree. None can be cloned. A token that is dropped is a right that nobody has any more.
+//! The tokens of a tree. None can be cloned. A token that is dropped is a right that nobody has any
+//! more.
 ghost use Rattle.std.specs.Prelude.{◌≡◌, ◌<◌};
 
 use crate::rule::TokenSeat;
@@ -41,7 +42,16 @@ impl<P: Drop> Model for Node<P> {
 
     ghost Value = { NodeView };
 
-    ghost view = { λ n. record { tree = n.seat.table_id; node = n.node; lo = n.lo; hi = n.hi; forks = n.forks; level = n.level; above = up_in n.seat.me.0 } };
+    ghost view = { λ n. record {
+      tree = n.seat.table_id;
+      node = n.node;
+      lo = n.lo;
+      hi =
+          n.hi;
+      forks = n.forks;
+      level = n.level;
+      above = up_in n.seat.me.0;
+    } };
 
     ghost invariant = { λ n. IsNode n.seat.table_id n.seat.me n.node n.lo n.hi n.forks n.level };
 }

@@ -56,7 +56,8 @@ impl<B: Relation, A: Allocator> Tree<B, A> {
     /// parts of its tickets. Its root is to have the range from 0 up to `bins`, and each part
     /// stands in the relation of `about` to its range. Err: there was no memory.
     ///
-    /// In every order of forks and arrivals at a node at most one arrival is the last, and it is the final event.
+    /// In every order of forks and arrivals at a node at most one arrival is the last, and it is
+    /// the final event.
     pub fn new(
         alloc: A,
         about: &B,
@@ -66,8 +67,10 @@ impl<B: Relation, A: Allocator> Tree<B, A> {
     ) -> Result<(Tree<B, A>, Supply<B::Part>), AllocError>
         requires nodes { (level : ℕ) × (level ≤ 7) × (nodes ≡ 2 ^ level) }
         requires slots { (0 < slots) × (slots ≤ 8) }
-        ensures tree { IfOk result (λ t. (t.0.relation ≡ about.now) × (t.0.bins ≡ bins) × (t.0.slots ≡ slots)) }
-        ensures supply { IfOk result (λ t. (t.1.tree ≡ t.0.identity) × (t.1.first ≡ 0) × (nodes ≡ 2 ^ t.1.level) × (t.1.level ≤ 7)) }
+        ensures tree { IfOk result (λ t. (t.0.relation ≡ about.now) × (t.0.bins ≡ bins)
+            × (t.0.slots ≡ slots)) }
+        ensures supply { IfOk result (λ t. (t.1.tree ≡ t.0.identity) × (t.1.first ≡ 0)
+            × (nodes ≡ 2 ^ t.1.level) × (t.1.level ≤ 7)) }
         ensures game { OneLast }
     {
         completion_game();
@@ -77,7 +80,8 @@ impl<B: Relation, A: Allocator> Tree<B, A> {
             bins,
         };
         let level = level_of(nodes);
-        // Each node has two words, its number and the code of the ticket above it. Both are 1 until it is opened.
+        // Each node has two words, its number and the code of the ticket above it. Both are 1 until
+        // it is opened.
         let unopened = [1u64; MOST_WORDS];
         let words = &unopened[..2 * nodes];
         let (board, seat) = Table::vacant(alloc, words, 8 * nodes, &key)?;

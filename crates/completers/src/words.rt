@@ -19,7 +19,8 @@ pub(crate) fn write_code<B: Relation, W: OfTree<B::Part>>(
     requires table { seat.old.table_id ≡ words.now.table_id }
     requires word { 2 * node + 1 < words.now.table_id.words }
     requires few { words.now.table_id.words ≤ most_words }
-    requires rule { Allows (Holds (B.relates words.now.key.relation.value) words.now.key.bins) words.now.table_id.slots seat.old.id seat.old.me (2 * node + 1)
+    requires rule { Allows (Holds (B.relates words.now.key.relation.value) words.now.key.bins)
+        words.now.table_id.slots seat.old.id seat.old.me (2 * node + 1)
         (λ _. code) (λ _. Opens W.bins seat.old.me) }
     ensures table { seat.new.table_id ≡ seat.old.table_id }
     ensures told { Opens W.bins seat.old.me seat.new.me }
@@ -37,7 +38,8 @@ pub(crate) fn count_up<B: Relation, W: Cut>(
     requires table { seat.old.table_id ≡ words.now.table_id }
     requires word { 2 * node < words.now.table_id.words }
     requires few { words.now.table_id.words ≤ most_words }
-    requires rule { Allows (Holds (B.relates words.now.key.relation.value) words.now.key.bins) words.now.table_id.slots seat.old.id seat.old.me (2 * node)
+    requires rule { Allows (Holds (B.relates words.now.key.relation.value) words.now.key.bins)
+        words.now.table_id.slots seat.old.id seat.old.me (2 * node)
         (λ n. (n + 1) % 2 ^ 64) (Forks W.mid seat.old.me) }
     ensures table { seat.new.table_id ≡ seat.old.table_id }
     ensures told { (found : ℕ) × Forks W.mid seat.old.me found seat.new.me }
@@ -55,8 +57,10 @@ pub(crate) fn count_down<B: Relation, W: OfTree<B::Part>>(
     requires table { seat.old.table_id ≡ words.now.table_id }
     requires word { 2 * node < words.now.table_id.words }
     requires few { words.now.table_id.words ≤ most_words }
-    requires rule { Allows (Holds (B.relates words.now.key.relation.value) words.now.key.bins) words.now.table_id.slots seat.old.id seat.old.me (2 * node)
-        (λ n. (n + (2 ^ 64 - 1)) % 2 ^ 64) (Arrives W.fits W.bins words.now.table_id.slots seat.old.me) }
+    requires rule { Allows (Holds (B.relates words.now.key.relation.value) words.now.key.bins)
+        words.now.table_id.slots seat.old.id seat.old.me (2 * node)
+        (λ n. (n + (2 ^ 64 - 1)) % 2 ^ 64)
+        (Arrives W.fits W.bins words.now.table_id.slots seat.old.me) }
     ensures table { seat.new.table_id ≡ seat.old.table_id }
     ensures told { Arrives W.fits W.bins words.now.table_id.slots seat.old.me result seat.new.me }
 {

@@ -28,7 +28,8 @@ neither a b false f e = refl
 neither true b true f e = e
 neither false b true f e = absurd (let x = f refl in cc)
 
-module _ {K V F : Type 0} (code : K → ℕ) (t : TermsView K V) (words : List ℕ) (calls : List (RecordView K V F)) (salt : Salt) (class : ClassView)
+module _ {K V F : Type 0} (code : K → ℕ) (t : TermsView K V) (words : List ℕ) (calls : List (RecordView K V F))
+    (salt : Salt) (class : ClassView)
     (pairs : List (K × V)) (kept : List (RecordView K V F)) where
   abbrev whole : Book K V F
   whole = Role salt class pairs kept
@@ -38,9 +39,11 @@ module _ {K V F : Type 0} (code : K → ℕ) (t : TermsView K V) (words : List �
     half_sound f = (
       f.0,
       ap (part_of_entries (is_of code salt half)) f.1
-          ∙ filter_within (λ (e : K × V). is_of code salt half e.0) (λ e. is_of code salt class e.0) (λ e. within (hash_of salt (code e.0))) _,
+          ∙ filter_within (λ (e : K × V). is_of code salt half e.0) (λ e. is_of code salt class e.0)
+          (λ e. within (hash_of salt (code e.0))) _,
       All-filter (λ (r : RecordView K V F). is_of code salt half (key_of r.call)) (λ r. r.client < t.clients) kept f.2,
-      sym (filter_within (λ (r : RecordView K V F). is_of code salt half (key_of r.call)) (λ r. is_of code salt class (key_of r.call))
+      sym (filter_within (λ (r : RecordView K V F). is_of code salt half (key_of r.call))
+          (λ r. is_of code salt class (key_of r.call))
           (λ r. within (hash_of salt (code (key_of r.call)))) calls)
           ∙ ap (part_of_records (is_of code salt half)) f.3,
     )
@@ -61,11 +64,14 @@ module _ {K V F : Type 0} (code : K → ℕ) (t : TermsView K V) (words : List �
         → Among (IsSound code t words calls) (AreTogether code) (books_with_halves code (whole ∷ []))
     divided_fit a = (half_sound (low_half class) low a.0, (apart, tt), (half_sound (high_half class) high a.0, tt, tt))
 
-    pub divided_others : (u : List (Book K V F)) → Across (AreTogether code) (whole ∷ []) u → Across (AreTogether code) (books_with_halves code (whole ∷ [])) u
+    pub divided_others : (u : List (Book K V F)) → Across (AreTogether code) (whole ∷ []) u →
+        Across (AreTogether code) (books_with_halves code (whole ∷ [])) u
     divided_others u x = (
-      Each-weaker (AreTogether code whole) (AreTogether code (half_book code salt (low_half class) pairs kept)) (half_beside (low_half class) low) u x.0,
+      Each-weaker (AreTogether code whole) (AreTogether code (half_book code salt (low_half class) pairs kept))
+          (half_beside (low_half class) low) u x.0,
       (
-        Each-weaker (AreTogether code whole) (AreTogether code (half_book code salt (high_half class) pairs kept)) (half_beside (high_half class) high) u x.0,
+        Each-weaker (AreTogether code whole) (AreTogether code (half_book code salt (high_half class) pairs kept))
+            (half_beside (high_half class) high) u x.0,
         tt,
       ),
     )

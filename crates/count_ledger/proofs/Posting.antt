@@ -1,5 +1,6 @@
 -- A post: the pass and the role get the record, and the client's word its delta.
-use Rattle.std.proofs.Common.{◌≡◌, ℕ, ◌+◌, ◌*◌, ◌%◌, ◌^◌, ◌<◌, ◌==◌, ◌&&◌, Bool, true, false, List, [], ◌∷◌, ◌++◌, length, set, sym, ap, ◌∙◌, arith}
+use Rattle.std.proofs.Common.{◌≡◌, ℕ, ◌+◌, ◌*◌, ◌%◌, ◌^◌, ◌<◌, ◌==◌, ◌&&◌, Bool, true, false, List, [], ◌∷◌, ◌++◌}
+use Rattle.std.proofs.Common.{length, set, sym, ap, ◌∙◌, arith}
 use Rattle.std.specs.Prelude.{slice_index}
 use Rattle.std.specs.List.{AllByRecursion as Each}
 use Rattle.std.proofs.lemmas.List.{get_or-set_same, get_or-set_other, length_push}
@@ -22,7 +23,8 @@ use Rattle.count_ledger.specs.Steps.{books_with_record}
 use Rattle.count_ledger.proofs.Filters.{filter_push_kept, filter_push_left}
 use Rattle.count_ledger.proofs.WordSums.{word_of-add, sum_of_deltas-push}
 
-AreNumbered-push : {K V F : Type 0} (c n : ℕ) (made : List (RecordView K V F)) (r : RecordView K V F) → AreNumbered c n made → r.client ≡ c
+AreNumbered-push : {K V F : Type 0} (c n : ℕ) (made : List (RecordView K V F)) (r : RecordView K V F) →
+    AreNumbered c n made → r.client ≡ c
     → r.ordinal ≡ n + length made → AreNumbered c n (made ++ r ∷ [])
 AreNumbered-push c n [] r m by at = (by, omega arith, tt)
 AreNumbered-push c n (x ∷ xs) r m by at = (m.0, m.1, AreNumbered-push c (n + 1) xs r m.2 by (omega arith))
@@ -31,9 +33,12 @@ other_of : (a b : Bool) → (a && b) ≡ false → a ≡ true → b ≡ false
 other_of true b e t = e
 other_of false b e t = absurd cc
 
-module _ {K V F : Type 0} (code : K → ℕ) (t : TermsView K V) (words : List ℕ) (calls : List (RecordView K V F)) (sized : length words ≡ 8 * (t.clients + 1))
-    (c : ℕ) (made : List (RecordView K V F)) (salt : Salt) (class : ClassView) (pairs : List (K × V)) (kept : List (RecordView K V F)) (r : RecordView K V F)
-    (by : r.client ≡ c) (next : r.ordinal ≡ length made) (room : length made < most_calls t.form) (on : is_of code salt class (key_of r.call) ≡ true) where
+module _ {K V F : Type 0} (code : K → ℕ) (t : TermsView K V) (words : List ℕ) (calls : List (RecordView K V F))
+    (sized : length words ≡ 8 * (t.clients + 1))
+    (c : ℕ) (made : List (RecordView K V F)) (salt : Salt) (class : ClassView) (pairs : List (K × V))
+    (kept : List (RecordView K V F)) (r : RecordView K V F)
+    (by : r.client ≡ c) (next : r.ordinal ≡ length made) (room : length made < most_calls t.form)
+    (on : is_of code salt class (key_of r.call) ≡ true) where
   abbrev pub words_after : List ℕ
   words_after = set words (8 * (c + 1)) ((slice_index words (8 * (c + 1)) + word_of (delta r)) % 2 ^ 64)
 
@@ -43,16 +48,19 @@ module _ {K V F : Type 0} (code : K → ℕ) (t : TermsView K V) (words : List �
   abbrev before : List (Book K V F)
   before = Pass c made ∷ Role salt class pairs kept ∷ []
 
-  pass_sound : IsSound code t words calls (Pass c made) → IsSound code t words_after calls_after (Pass c (made ++ r ∷ []))
+  pass_sound : IsSound code t words calls (Pass c made) →
+      IsSound code t words_after calls_after (Pass c (made ++ r ∷ []))
   pass_sound f =
       let there : 8 * (c + 1) < length words = (let low = f.0 in omega arith) in
       let long = length_push made r in (
         f.0,
         AreNumbered-push c 0 made r f.1 by (omega arith),
         omega arith,
-        get_or-set_same words (8 * (c + 1)) _ 0 there ∙ ap (λ (n : ℕ). (n + word_of (delta r)) % 2 ^ 64) f.3 ∙ sym (word_of-add (sum_of_deltas made) (delta r))
+        get_or-set_same words (8 * (c + 1)) _ 0 there ∙ ap (λ (n : ℕ). (n + word_of (delta r)) % 2 ^ 64) f.3
+            ∙ sym (word_of-add (sum_of_deltas made) (delta r))
             ∙ ap word_of (sym (sum_of_deltas-push made r)),
-        filter_push_kept (λ x. x.client == c) calls r (eq-eqb _ _ by) ∙ ap (λ (l : List (RecordView K V F)). l ++ r ∷ []) f.4,
+        filter_push_kept (λ x. x.client == c) calls r (eq-eqb _ _ by)
+            ∙ ap (λ (l : List (RecordView K V F)). l ++ r ∷ []) f.4,
       )
 
   role_sound : c < t.clients → IsSound code t words calls (Role salt class pairs kept)
@@ -61,7 +69,8 @@ module _ {K V F : Type 0} (code : K → ℕ) (t : TermsView K V) (words : List �
     f.0,
     f.1,
     All-push (λ (x : RecordView K V F). x.client < t.clients) kept r f.2 (omega arith),
-    filter_push_kept (λ x. is_of code salt class (key_of x.call)) calls r on ∙ ap (λ (l : List (RecordView K V F)). l ++ r ∷ []) f.3,
+    filter_push_kept (λ x. is_of code salt class (key_of x.call)) calls r on
+        ∙ ap (λ (l : List (RecordView K V F)). l ++ r ∷ []) f.3,
   )
 
   pub posted_fit : Among (IsSound code t words calls) (AreTogether code) before
@@ -73,11 +82,14 @@ module _ {K V F : Type 0} (code : K → ℕ) (t : TermsView K V) (words : List �
   )
 
   -- another role's class does not have the key
-  not_on : salt ≡ t.salt → (s : Salt) (k : ClassView) → s ≡ t.salt → AreApart class k → is_of code s k (key_of r.call) ≡ false
+  not_on : salt ≡ t.salt → (s : Salt) (k : ClassView) → s ≡ t.salt → AreApart class k →
+      is_of code s k (key_of r.call) ≡ false
   not_on own s k is apart = rw (is ∙ sym own) (other_of _ _ (apart (hash_of salt (code (key_of r.call)))) on)
 
-  -- another book is as sound as before: no other client's word has changed, and the call is of another client, or on a key of another class
-  other_sound : salt ≡ t.salt → (b : Book K V F) → AreTogether code (Pass c made) b → AreTogether code (Role salt class pairs kept) b
+  -- another book is as sound as before: no other client's word has changed, and the call is of another client, or on a
+  -- key of another class
+  other_sound : salt ≡ t.salt → (b : Book K V F) → AreTogether code (Pass c made) b →
+      AreTogether code (Role salt class pairs kept) b
       → IsSound code t words calls b → IsSound code t words_after calls_after b
   other_sound own (Pass d m) ne e f = (
     f.0,
@@ -86,19 +98,23 @@ module _ {K V F : Type 0} (code : K → ℕ) (t : TermsView K V) (words : List �
     get_or-set_other words (8 * (c + 1)) (8 * (d + 1)) _ 0 (λ e. ne (omega arith)) ∙ f.3,
     filter_push_left (λ x. x.client == d) calls r (ne_eqb _ _ (λ q. ne (sym by ∙ q))) ∙ f.4,
   )
-  other_sound own (Role s k o l) a apart f = (f.0, f.1, f.2, filter_push_left (λ x. is_of code s k (key_of x.call)) calls r (not_on own s k f.0 apart) ∙ f.3)
+  other_sound own (Role s k o l) a apart f =
+      (f.0, f.1, f.2, filter_push_left (λ x. is_of code s k (key_of x.call)) calls r (not_on own s k f.0 apart) ∙ f.3)
 
   pass_beside : (b : Book K V F) → AreTogether code (Pass c made) b → AreTogether code (Pass c (made ++ r ∷ [])) b
   pass_beside (Pass d m) ne = ne
   pass_beside (Role s k o l) e = tt
 
-  role_beside : (b : Book K V F) → AreTogether code (Role salt class pairs kept) b → AreTogether code (Role salt class pairs (kept ++ r ∷ [])) b
+  role_beside : (b : Book K V F) → AreTogether code (Role salt class pairs kept) b →
+      AreTogether code (Role salt class pairs (kept ++ r ∷ [])) b
   role_beside (Pass d m) e = tt
   role_beside (Role s k o l) apart = apart
 
-  others_fit : salt ≡ t.salt → (u : List (Book K V F)) → Among (IsSound code t words calls) (AreTogether code) u → Each (AreTogether code (Pass c made)) u
+  others_fit : salt ≡ t.salt → (u : List (Book K V F)) → Among (IsSound code t words calls) (AreTogether code) u →
+      Each (AreTogether code (Pass c made)) u
       → Each (AreTogether code (Role salt class pairs kept)) u
-      → Among (IsSound code t words_after calls_after) (AreTogether code) u × Across (AreTogether code) (books_with_record r before) u
+      → Among (IsSound code t words_after calls_after) (AreTogether code) u
+      × Across (AreTogether code) (books_with_record r before) u
   others_fit own [] a p q = (tt, (tt, (tt, tt)))
   others_fit own (b ∷ bs) a p q =
       let rest = others_fit own bs a.2 p.1 q.1 in (
@@ -108,5 +124,6 @@ module _ {K V F : Type 0} (code : K → ℕ) (t : TermsView K V) (words : List �
 
   pub posted_others : Among (IsSound code t words calls) (AreTogether code) before → (u : List (Book K V F))
       → Among (IsSound code t words calls) (AreTogether code) u → Across (AreTogether code) before u
-      → Among (IsSound code t words_after calls_after) (AreTogether code) u × Across (AreTogether code) (books_with_record r before) u
+      → Among (IsSound code t words_after calls_after) (AreTogether code) u
+      × Across (AreTogether code) (books_with_record r before) u
   posted_others f u a x = others_fit f.2.0.0 u a x.0 x.1.0

@@ -1,5 +1,6 @@
 -- What the rule says of all books together.
-use Rattle.std.proofs.Common.{◌≡◌, ◌≢◌, ℕ, ◌<◌, ◌≤◌, ◌==◌, ◌&&◌, Bool, true, false, cond, List, [], ◌∷◌, ◌++◌, length, map, sym, ap, subst, ◌∙◌, arith, All}
+use Rattle.std.proofs.Common.{◌≡◌, ◌≢◌, ℕ, ◌<◌, ◌≤◌, ◌==◌, ◌&&◌, Bool, true, false, cond, List, [], ◌∷◌, ◌++◌, length}
+use Rattle.std.proofs.Common.{map, sym, ap, subst, ◌∙◌, arith, All}
 use Rattle.std.specs.List.{AllByRecursion as Each}
 use Rattle.std.proofs.lemmas.Bool.Decides.{nat_tests}
 use Rattle.std.proofs.lemmas.List.Elements.{All-from_recursion, All-weaker, filter_passes}
@@ -29,11 +30,13 @@ module _ {A B : Type 0} (f : A → B) where
   Each-map Q [] e = tt
   Each-map Q (x ∷ xs) e = (e.0, Each-map Q xs e.1)
 
-  Among-of_map : (P : B → Type 0) (R : B → B → Type 0) (xs : List A) → Among P R (map f xs) → Among (λ x. P (f x)) (λ x y. R (f x) (f y)) xs
+  Among-of_map : (P : B → Type 0) (R : B → B → Type 0) (xs : List A) → Among P R (map f xs) →
+      Among (λ x. P (f x)) (λ x y. R (f x) (f y)) xs
   Among-of_map P R [] a = tt
   Among-of_map P R (x ∷ xs) a = (a.0, Each-of_map (R (f x)) xs a.1, Among-of_map P R xs a.2)
 
-  Among-map : (P : A → Type 0) (R : B → B → Type 0) (xs : List A) → Among P (λ x y. R (f x) (f y)) xs → Among (λ _. Unit {0}) R (map f xs)
+  Among-map : (P : A → Type 0) (R : B → B → Type 0) (xs : List A) → Among P (λ x y. R (f x) (f y)) xs →
+      Among (λ _. Unit {0}) R (map f xs)
   Among-map P R [] a = tt
   Among-map P R (x ∷ xs) a = (tt, Each-map (R (f x)) xs a.1, Among-map P R xs a.2)
 
@@ -53,13 +56,16 @@ two_clients : (a b k : ℕ) → a ≢ b → ((a == k) && (b == k)) ≡ false
 two_clients a b k ne = grind (arith, nat_tests)
 
 one_client : (c n : ℕ) → c < n → upto (λ k. cond (c == k) 1 0) n ≡ 1
-one_client c n lt = upto-same (λ k. cond (c == k) 1 0) (λ k. cond (k == c) 1 0) n (λ k l. ap (λ (b : Bool). cond b 1 0) (eqb_turn c k)) ∙ upto-one c n lt
+one_client c n lt = upto-same (λ k. cond (c == k) 1 0) (λ k. cond (k == c) 1 0) n
+    (λ k l. ap (λ (b : Bool). cond b 1 0) (eqb_turn c k)) ∙ upto-one c n lt
 
-module _ {K V F : Type 0} (code : K → ℕ) (id : LedgerId) (t : TermsView K V) (words : List ℕ) (calls : List (RecordView K V F)) where
+module _ {K V F : Type 0} (code : K → ℕ) (id : LedgerId) (t : TermsView K V) (words : List ℕ)
+    (calls : List (RecordView K V F)) where
   pub IsPassOf-sound : (p : PassView K V F) → IsSound code t words calls (pass_book p) → IsPassOf (ledger_of id t) p
   IsPassOf-sound p s = record { client = s.0; numbered = s.1; at_most = s.2 }
 
-  pub IsRoleOf-sound : (r : RoleView K V F) → IsSound code t words calls (role_book r) → IsRoleOf code (ledger_of id t) r
+  pub IsRoleOf-sound : (r : RoleView K V F) → IsSound code t words calls (role_book r) →
+      IsRoleOf code (ledger_of id t) r
   IsRoleOf-sound r s = record {
     salt = s.0;
     opening = s.1;
@@ -68,42 +74,59 @@ module _ {K V F : Type 0} (code : K → ℕ) (id : LedgerId) (t : TermsView K V)
         (filter_passes (λ (x : RecordView K V F). is_of code r.salt r.class (key_of x.call)) calls);
   }
 
-  pub AreReconciled-settled : (ps : List (PassView K V F)) (rs : List (RoleView K V F)) → t.clients ≤ length ps → AreWide (classes_of_roles rs)
-      → Among (IsSound code t words calls) (AreTogether code) (map role_book rs ++ map pass_book ps) → AreReconciled code (ledger_of id t) ps rs
+  pub AreReconciled-settled : (ps : List (PassView K V F)) (rs : List (RoleView K V F)) → t.clients ≤ length ps →
+      AreWide (classes_of_roles rs)
+      → Among (IsSound code t words calls) (AreTogether code) (map role_book rs ++ map pass_book ps) →
+      AreReconciled code (ledger_of id t) ps rs
   AreReconciled-settled ps rs enough wide a =
       let P = IsSound code t words calls in
       let R = AreTogether code in
       let passes = Among-of_map pass_book P R ps (Among-right P R (map role_book rs) (map pass_book ps) a) in
       let roles = Among-of_map role_book P R rs (Among-left P R (map role_book rs) (map pass_book ps) a) in
       let made = All-from_recursion (λ p. by_client p.client calls ≡ p.made) ps
-      (Each-from_among (λ p. P (pass_book p)) (λ p q. R (pass_book p) (pass_book q)) (λ p. by_client p.client calls ≡ p.made) (λ p s. s.4) ps passes) in
-      let kept = All-from_recursion (λ r. part_of_records (is_of code r.salt r.class) calls ≡ r.kept) rs (Each-from_among (λ r. P (role_book r))
-      (λ r s. R (role_book r) (role_book s)) (λ r. part_of_records (is_of code r.salt r.class) calls ≡ r.kept) (λ r s. s.3) rs roles) in
-      let apart = Among-weaker (λ p. P (pass_book p)) (λ p q. R (pass_book p) (pass_book q)) (λ p q. (k : ℕ) → ((p.client == k) && (q.client == k)) ≡ false)
+      (Each-from_among (λ p. P (pass_book p)) (λ p q. R (pass_book p) (pass_book q))
+      (λ p. by_client p.client calls ≡ p.made) (λ p s. s.4) ps passes) in
+      let kept = All-from_recursion (λ r. part_of_records (is_of code r.salt r.class) calls ≡ r.kept) rs
+      (Each-from_among (λ r. P (role_book r))
+      (λ r s. R (role_book r) (role_book s)) (λ r. part_of_records (is_of code r.salt r.class) calls ≡ r.kept)
+      (λ r s. s.3) rs roles) in
+      let apart = Among-weaker (λ p. P (pass_book p)) (λ p q. R (pass_book p) (pass_book q)) (λ p q. (k : ℕ) →
+      ((p.client == k) && (q.client == k)) ≡ false)
       (λ p q ne k. two_clients p.client q.client k ne) ps passes in
       record {
         each_pass = All-from_recursion (IsPassOf (ledger_of id t)) ps
-            (Each-from_among (λ p. P (pass_book p)) (λ p q. R (pass_book p) (pass_book q)) (IsPassOf (ledger_of id t)) IsPassOf-sound ps passes);
+            (Each-from_among (λ p. P (pass_book p)) (λ p q. R (pass_book p) (pass_book q))
+            (IsPassOf (ledger_of id t)) IsPassOf-sound ps passes);
         each_client = hit_once (λ p k. p.client == k) (λ p. P (pass_book p)) (λ _. 1) t.clients ps apart
             (All-from_recursion (λ p. upto (λ k. cond (p.client == k) 1 0) t.clients ≡ 1) ps
-            (Each-from_among (λ p. P (pass_book p)) (λ p q. R (pass_book p) (pass_book q)) (λ p. upto (λ k. cond (p.client == k) 1 0) t.clients ≡ 1)
+            (Each-from_among (λ p. P (pass_book p)) (λ p q. R (pass_book p) (pass_book q))
+            (λ p. upto (λ k. cond (p.client == k) 1 0) t.clients ≡ 1)
             (λ p s. one_client p.client t.clients s.0) ps passes)) (let n = length_is_sum ps in omega arith);
         each_role = All-from_recursion (IsRoleOf code (ledger_of id t)) rs
-            (Each-from_among (λ r. P (role_book r)) (λ r s. R (role_book r) (role_book s)) (IsRoleOf code (ledger_of id t)) IsRoleOf-sound rs roles);
-        each_hash = CoverOnce-wide (λ _. Unit {0}) (classes_of_roles rs) wide (Among-map (λ r. r.class) (λ r. P (role_book r)) AreApart rs roles);
-        agree = All-weaker (λ r. part_of_records (is_of code r.salt r.class) calls ≡ r.kept) (λ r. All (λ p. BooksAgree code p r) ps)
+            (Each-from_among (λ r. P (role_book r)) (λ r s. R (role_book r) (role_book s))
+            (IsRoleOf code (ledger_of id t)) IsRoleOf-sound rs roles);
+        each_hash = CoverOnce-wide (λ _. Unit {0}) (classes_of_roles rs) wide
+            (Among-map (λ r. r.class) (λ r. P (role_book r)) AreApart rs roles);
+        agree = All-weaker (λ r. part_of_records (is_of code r.salt r.class) calls ≡ r.kept)
+            (λ r. All (λ p. BooksAgree code p r) ps)
             (λ r kept_is. All-weaker (λ p. by_client p.client calls ≡ p.made) (λ p. BooksAgree code p r)
-            (λ p made_is. agree_by (is_of code r.salt r.class) p.client calls p.made r.kept made_is kept_is) ps made) rs kept;
+            (λ p made_is. agree_by (is_of code r.salt r.class) p.client calls p.made r.kept made_is kept_is) ps made) rs
+            kept;
         order = (
           calls,
           record {
             clients = each_call code t.salt t.clients rs calls
-                (CoverOnce-wide (λ _. Unit {0}) (classes_of_roles rs) wide (Among-map (λ r. r.class) (λ r. P (role_book r)) AreApart rs roles))
+                (CoverOnce-wide (λ _. Unit {0}) (classes_of_roles rs) wide
+                (Among-map (λ r. r.class) (λ r. P (role_book r)) AreApart rs roles))
                 (All-from_recursion (λ r. r.salt ≡ t.salt) rs
-                (Each-from_among (λ r. P (role_book r)) (λ r s. R (role_book r) (role_book s)) (λ r. r.salt ≡ t.salt) (λ r s. s.0) rs roles))
-                (All-from_recursion (λ r. All (λ x. x.client < t.clients) (part_of_records (is_of code r.salt r.class) calls)) rs
-                (Each-from_among (λ r. P (role_book r)) (λ r s. R (role_book r) (role_book s)) (λ r. All (λ x. x.client < t.clients)
-                (part_of_records (is_of code r.salt r.class) calls)) (λ r s. subst (All (λ x. x.client < t.clients)) (sym s.3) s.2) rs roles));
+                (Each-from_among (λ r. P (role_book r)) (λ r s. R (role_book r) (role_book s)) (λ r. r.salt ≡ t.salt)
+                (λ r s. s.0) rs roles))
+                (All-from_recursion
+                (λ r. All (λ x. x.client < t.clients) (part_of_records (is_of code r.salt r.class) calls)) rs
+                (Each-from_among (λ r. P (role_book r)) (λ r s. R (role_book r) (role_book s))
+                (λ r. All (λ x. x.client < t.clients)
+                (part_of_records (is_of code r.salt r.class) calls))
+                (λ r s. subst (All (λ x. x.client < t.clients)) (sym s.3) s.2) rs roles));
             made = made;
             kept = kept;
           },

@@ -40,7 +40,8 @@ module _ {A : Type 0} (R : A → A → Type 0) where
 
   pub Across-turn : ((x y : A) → R x y → R y x) → (xs ys : List A) → Across R xs ys → Across R ys xs
   Across-turn turn [] ys c = Across-nil ys
-  Across-turn turn (x ∷ xs) ys c = Across-cons ys x xs (Each-weaker (R x) (λ y. R y x) (turn x) ys c.0) (Across-turn turn xs ys c.1)
+  Across-turn turn (x ∷ xs) ys c = Across-cons ys x xs (Each-weaker (R x) (λ y. R y x) (turn x) ys c.0)
+      (Across-turn turn xs ys c.1)
 
 module _ {A : Type 0} (P : A → Type 0) (R : A → A → Type 0) where
   pub Among-append : (xs ys : List A) → Among P R xs → Among P R ys → Across R xs ys → Among P R (xs ++ ys)

@@ -8,7 +8,8 @@ use Rattle.bin_history.specs.declared.call.Call.{Call}
 use Rattle.count_ledger.specs.Views.{RoleView}
 
 -- they have one class and one salt, and the bin is what the role's records made of its opening pairs
-pub record BinAgrees {K V F : Type 0} (same_key : K → K → Bool) (after : Call K V F → Option V → Option V) (b : BinView K V F) (r : RoleView K V F) :
+pub record BinAgrees {K V F : Type 0} (same_key : K → K → Bool) (after : Call K V F → Option V → Option V)
+    (b : BinView K V F) (r : RoleView K V F) :
     Type 0 where
   pub class : b.class ≡ r.class
   pub salt : b.salt ≡ r.salt

@@ -18,7 +18,8 @@ module _ {K V F : Type 0} where
   abbrev pub AgreeOn : (K → Bool) → ℕ → List (RecordView K V F) → List (RecordView K V F) → Type 0
   AgreeOn test client made kept = by_client client kept ≡ part_of_records test made
 
-  -- the books of a pass and of a role agree: the role keeps, in order, just those of the client's calls that are on keys of its class
+  -- the books of a pass and of a role agree: the role keeps, in order, just those of the client's calls that are on
+  -- keys of its class
   abbrev pub BooksAgree : (K → ℕ) → PassView K V F → RoleView K V F → Type 0
   BooksAgree code p r = AgreeOn (is_of code r.salt r.class) p.client p.made r.kept
 
@@ -28,7 +29,8 @@ module _ {K V F : Type 0} where
     pub numbered : AreNumbered p.client 0 p.made
     pub at_most : length p.made ≤ most_calls ledger.form
 
-  -- what a ledger's rule says of a role by itself: its opening pairs are those of its class, and it kept calls on keys of its class alone
+  -- what a ledger's rule says of a role by itself: its opening pairs are those of its class, and it kept calls on keys
+  -- of its class alone
   pub record IsRoleOf (code : K → ℕ) (ledger : LedgerView K V) (r : RoleView K V F) : Type 0 where
     pub salt : r.salt ≡ ledger.salt
     pub opening : r.opening ≡ part_of_entries (is_of code r.salt r.class) ledger.opening

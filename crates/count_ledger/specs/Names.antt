@@ -7,5 +7,14 @@ numbers_of id = id.words ∷ id.slots ∷ id.views_name ∷ id.atom ∷ id.block
 
 -- the identity with these numbers
 abbrev pub id_of : List ℕ → LedgerId
-id_of (a ∷ b ∷ c ∷ d ∷ e ∷ f ∷ names) = record { words = a; slots = b; views_name = c; atom = d; block = e; offset = f; slot_names = names }
+id_of (a ∷ b ∷ c ∷ d ∷ e ∷ f ∷ names) = record {
+  words = a;
+  slots = b;
+  views_name = c;
+  atom = d;
+  block = e;
+  offset =
+      f;
+  slot_names = names;
+}
 id_of _ = record { words = 0; slots = 0; views_name = 0; atom = 0; block = 0; offset = 0; slot_names = [] }

@@ -20,7 +20,8 @@ class_at bases i = record { n = length bases; index = i }
 
 -- each base has keys of the class at its index alone
 abbrev pub AreOfTheirClasses : {K V : Type 0} → (K → ℕ) → Salt → List (List (K × V)) → Type 0
-AreOfTheirClasses code salt bases = (i : ℕ) → i < length bases → All (λ e. is_of code salt (class_at bases i) e.0 ≡ true) (base_at bases i)
+AreOfTheirClasses code salt bases = (i : ℕ) → i < length bases →
+    All (λ e. is_of code salt (class_at bases i) e.0 ≡ true) (base_at bases i)
 
 -- a pass that made nothing
 abbrev pub new_pass : {K V F : Type 0} → LedgerId → ℕ → PassView K V F
@@ -32,7 +33,14 @@ new_passes id clients = map (new_pass id) (range_with_len 0 clients)
 
 -- a role that keeps nothing, over the base at an index
 abbrev pub new_role : {K V F : Type 0} → LedgerId → Salt → List (List (K × V)) → ℕ → RoleView K V F
-new_role id salt bases i = record { ledger = id; salt = salt; class = class_at bases i; opening = base_at bases i; kept = [] }
+new_role id salt bases i = record {
+  ledger = id;
+  salt = salt;
+  class = class_at bases i;
+  opening =
+      base_at bases i;
+  kept = [];
+}
 
 -- a role for each base
 abbrev pub new_roles : {K V F : Type 0} → LedgerId → Salt → List (List (K × V)) → List (RoleView K V F)

@@ -1,4 +1,5 @@
--- The rule of a ledger's table: there is one order of all calls; the books agree, and each client's word is the sum of its deltas.
+-- The rule of a ledger's table: there is one order of all calls; the books agree, and each client's word is the sum of
+-- its deltas.
 use Rattle.std.specs.Prelude.{◌≡◌, ◌≢◌, ℕ, ◌+◌, ◌*◌, ◌<◌, ◌≤◌, List, [], ◌∷◌, ◌++◌, length, map, slice_index, All}
 use Rattle.std.specs.List.{AllByRecursion, range_with_len}
 use mathlib.Core.Option.{some}
@@ -41,7 +42,8 @@ module _ {K V F : Type 0} where
     abbrev pub IsSound : TermsView K V → List ℕ → List (RecordView K V F) → Book K V F → Type 0
     IsSound t words calls (Pass c made) = (c < t.clients) × AreNumbered c 0 made × (length made ≤ most_calls t.form)
         × (slice_index words (8 * (c + 1)) ≡ word_of (sum_of_deltas made)) × (by_client c calls ≡ made)
-    IsSound t words calls (Role salt class pairs kept) = (salt ≡ t.salt) × (pairs ≡ part_of_entries (is_of code salt class) (opening_of t))
+    IsSound t words calls (Role salt class pairs kept) =
+        (salt ≡ t.salt) × (pairs ≡ part_of_entries (is_of code salt class) (opening_of t))
         × All (λ r. r.client < t.clients) kept × (part_of_records (is_of code salt class) calls ≡ kept)
 
     -- of two books: two passes have two clients, and two roles have no hash in common
@@ -64,7 +66,8 @@ module _ {K V F : Type 0} where
   new_role_book t i = Role t.salt (class_at t.bases i) (base_at t.bases i) []
 
   abbrev pub first_books : TermsView K V → List (Book K V F)
-  first_books t = map new_pass_book (range_with_len 0 t.clients) ++ map (new_role_book t) (range_with_len 0 (length t.bases))
+  first_books t = map new_pass_book (range_with_len 0 t.clients) ++ map (new_role_book t)
+      (range_with_len 0 (length t.bases))
 
 -- a ledger, by its table's identity and what it was told
 abbrev pub ledger_of : {K V : Type 0} → LedgerId → TermsView K V → LedgerView K V

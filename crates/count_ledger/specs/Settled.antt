@@ -9,7 +9,8 @@ use Rattle.count_ledger.specs.Books.{BooksAgree, IsPassOf, IsRoleOf, classes_of_
 
 -- all calls of all clients in one order: each client's are, in order, those that its pass
 -- made, and those on keys of a role's class are, in order, those that the role kept
-pub record IsOrder {K V F : Type 0} (code : K → ℕ) (ledger : LedgerView K V) (passes : List (PassView K V F)) (roles : List (RoleView K V F))
+pub record IsOrder {K V F : Type 0} (code : K → ℕ) (ledger : LedgerView K V) (passes : List (PassView K V F))
+    (roles : List (RoleView K V F))
     (calls : List (RecordView K V F)) : Type 0 where
   pub clients : All (λ x. x.client < ledger.clients) calls
   pub made : All (λ p. by_client p.client calls ≡ p.made) passes
@@ -17,7 +18,8 @@ pub record IsOrder {K V F : Type 0} (code : K → ℕ) (ledger : LedgerView K V)
 
 -- the passes are those of all clients, each once; the roles' classes have every hash once;
 -- and for each role and client the books agree, as there is one order of all calls
-pub record AreReconciled {K V F : Type 0} (code : K → ℕ) (ledger : LedgerView K V) (passes : List (PassView K V F)) (roles : List (RoleView K V F)) :
+pub record AreReconciled {K V F : Type 0} (code : K → ℕ) (ledger : LedgerView K V) (passes : List (PassView K V F))
+    (roles : List (RoleView K V F)) :
     Type 0 where
   pub each_pass : All (IsPassOf ledger) passes
   pub each_client : (client : ℕ) → client < ledger.clients → count_by (λ p. p.client == client) passes ≡ 1

@@ -7,7 +7,8 @@ use Rattle.bin_history.specs.declared.form.Form.{Form}
 -- which ledger it is: no two have one identity
 pub use Rattle.atomic_table.specs.Seated.{TableId as LedgerId}
 
--- a ledger: the form of the bins whose books it keeps, the salt of their hashes, how many clients it has, and the pairs that its bins opened with
+-- a ledger: the form of the bins whose books it keeps, the salt of their hashes, how many clients it has, and the pairs
+-- that its bins opened with
 pub record LedgerView (K V : Type 0) : Type 0 where
   pub id : LedgerId
   pub form : Form

@@ -39,11 +39,17 @@ impl<K, V, A: Allocator> Model for Terms<K, V, A> {
 
     ghost Value = { TermsView K V };
 
-    ghost view = { λ t. record { form = t.form; salt = t.salt; clients = t.clients; bases = lists_of t.bases.value } };
+    ghost view = { λ t. record {
+      form = t.form;
+      salt = t.salt;
+      clients = t.clients;
+      bases =
+          lists_of t.bases.value;
+    } };
 }
 
-/// All calls stand in one list, in the order of their posts; each pass made those by its client, each role kept those on keys of its class; and each client's
-/// word is the sum of its deltas.
+/// All calls stand in one list, in the order of their posts; each pass made those by its client,
+/// each role kept those on keys of its class; and each client's word is the sum of its deltas.
 pub(crate) struct LedgerRule;
 
 impl<K: HashKey, V, F, A: Allocator> TableRule<(), View<K, V, F>, Terms<K, V, A>> for LedgerRule {
@@ -54,5 +60,6 @@ impl<K: HashKey, V, F, A: Allocator> TableRule<(), View<K, V, F>, Terms<K, V, A>
     ghost first = { first_books };
 }
 
-/// The table, as its users share it. Word 0 is only read: joining a pass and a role loads it; client c counts in word 8(c + 1).
+/// The table, as its users share it. Word 0 is only read: joining a pass and a role loads it;
+/// client c counts in word 8(c + 1).
 pub(crate) type Books<K, V, F, A> = Shared<(), View<K, V, F>, Terms<K, V, A>, LedgerRule>;

@@ -1,5 +1,6 @@
 //! How a ledger is made: all books begin in one seat, and each pass and role gets its own.
-ghost use Rattle.std.specs.Prelude.{◌≡◌, ◌+◌, ◌*◌, ◌<◌, ◌≤◌, [], ◌∷◌, ◌++◌, length, map, flat_map, IfOk, vec_capacity};
+ghost use Rattle.std.specs.Prelude.{◌≡◌, ◌+◌, ◌*◌, ◌<◌, ◌≤◌, [], ◌∷◌, ◌++◌, length, map, flat_map};
+ghost use Rattle.std.specs.Prelude.{IfOk, vec_capacity};
 ghost use Rattle.std.specs.List.{range_with_len};
 ghost use Rattle.hashkeys.specs.Classes.{IsTableSize};
 ghost use Rattle.count_ledger.specs.Opening.{AreOfTheirClasses, lists_of, new_passes, new_roles};
@@ -69,7 +70,8 @@ fn deal_passes<K: HashKey, V, F, A: Allocator>(
     requires view { all.old.views ≡ first_books shared.now.key ∷ [] }
     ensures passes { passes.new.items ≡ new_passes all.old.table_id clients }
     ensures all { all.new.table_id ≡ all.old.table_id }
-    ensures others { all.new.views ≡ map (new_role_book shared.now.key) (range_with_len 0 (length shared.now.key.bases)) ∷ [] }
+    ensures others { all.new.views ≡ map (new_role_book shared.now.key)
+        (range_with_len 0 (length shared.now.key.bases)) ∷ [] }
 {
     for client in 0..clients {
         let seat = take_first(shared, all);
@@ -95,7 +97,8 @@ fn deal_roles<K: HashKey, V, F, A: Allocator>(
     requires empty { roles.old.items ≡ [] }
     requires room { n ≤ vec_capacity roles.old }
     requires view { all.old.views ≡ map (new_role_book shared.now.key) (range_with_len 0 n) ∷ [] }
-    ensures roles { roles.new.items ≡ new_roles all.old.table_id shared.now.key.salt shared.now.key.bases }
+    ensures roles { roles.new.items ≡ new_roles all.old.table_id shared.now.key.salt
+        shared.now.key.bases }
 {
     for index in 0..n {
         let seat = take_first(shared, all);
@@ -107,9 +110,10 @@ fn deal_roles<K: HashKey, V, F, A: Allocator>(
 }
 
 impl<K: HashKey, V, F, A: Allocator + Clone> Ledger<K, V, F, A> {
-    /// A ledger of bins of the form over the pairs of the bases, a pass for each client, and a role for each class of as many as
-    /// there are bases. The bases are 1 to 65,536, a power of two, and the keys of each are of the class at its place.
-    /// The passes made nothing; the roles keep nothing, each over the base at its place.
+    /// A ledger of bins of the form over the pairs of the bases, a pass for each client, and a role
+    /// for each class of as many as there are bases. The bases are 1 to 65,536, a power of two, and
+    /// the keys of each are of the class at its place. The passes made nothing; the roles keep
+    /// nothing, each over the base at its place.
     pub fn new(
         alloc: A,
         form: Form,
@@ -131,7 +135,8 @@ impl<K: HashKey, V, F, A: Allocator + Clone> Ledger<K, V, F, A> {
         ensures form { IfOk result (λ r. r.0.form ≡ form) }
         ensures salt { IfOk result (λ r. r.0.salt ≡ salt) }
         ensures clients { IfOk result (λ r. r.0.clients ≡ clients) }
-        ensures opening { IfOk result (λ r. r.0.opening ≡ flat_map (λ base. base) (lists_of bases.now)) }
+        ensures opening { IfOk result
+            (λ r. r.0.opening ≡ flat_map (λ base. base) (lists_of bases.now)) }
         ensures passes { IfOk result (λ r. r.1.items ≡ new_passes r.0.id clients) }
         ensures roles { IfOk result (λ r. r.2.items ≡ new_roles r.0.id salt (lists_of bases.now)) }
     {

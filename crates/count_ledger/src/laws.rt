@@ -1,5 +1,6 @@
 //! Laws of agreement and of sums, as contracts. The functions do nothing when they run.
-ghost use Rattle.std.specs.Prelude.{◌≡◌, ℕ, ◌+◌, ◌%◌, ◌^◌, ◌<◌, ◌≤◌, ℤ, pos, ◌+ℤ◌, ◌≤ℤ◌, neg_ℤ, FitsSigned, List, [], ◌∷◌, ◌++◌, length, All};
+ghost use Rattle.std.specs.Prelude.{◌≡◌, ℕ, ◌+◌, ◌%◌, ◌^◌, ◌<◌, ◌≤◌, ℤ, pos, ◌+ℤ◌, ◌≤ℤ◌, neg_ℤ};
+ghost use Rattle.std.specs.Prelude.{FitsSigned, List, [], ◌∷◌, ◌++◌, length, All};
 ghost use Rattle.std.specs.Int.{w64, cast_signed};
 ghost use Rattle.hashkeys.specs.Classes.{ClassView};
 ghost use Rattle.bin_history.specs.BinPart.{IsPartOf};
@@ -20,16 +21,19 @@ ghost use Rattle.count_ledger.specs.Words.{word_of, total_of, total_made, total_
 use bin_history::Remap;
 use hashkeys::HashKey;
 
-/// A bin and its role agree when both are new, and go on agreeing when both go on by the same records, when the
-/// bin's records are folded, and when bin and role divide. What the role kept is then legal on its opening pairs, the
-/// bin's entries are their replay, and there are as many as opening pairs and deltas say.
+/// A bin and its role agree when both are new, and go on agreeing when both go on by the same
+/// records, when the bin's records are folded, and when bin and role divide. What the role kept is
+/// then legal on its opening pairs, the bin's entries are their replay, and there are as many as
+/// opening pairs and deltas say.
 pub fn agreement_laws<K: HashKey, V: Eq, F: Remap<K, V>>()
     ensures new { (b : BinView K V F) (r : RoleView K V F)
-        → b.class ≡ r.class → b.salt ≡ r.salt → HasDistinctKeys K.eq b.base → b.base ≡ r.opening → b.records ≡ [] → r.kept ≡ []
+        → b.class ≡ r.class → b.salt ≡ r.salt → HasDistinctKeys K.eq b.base → b.base ≡ r.opening →
+        b.records ≡ [] → r.kept ≡ []
         → BinAgrees K.eq (after V.eq F.remapped F.merged) b r }
     ensures gone_on { (b c : BinView K V F) (r s : RoleView K V F) (more : List (RecordView K V F))
         → BinAgrees K.eq (after V.eq F.remapped F.merged) b r
-        → c.class ≡ b.class → c.salt ≡ b.salt → GoesOn K.eq (after V.eq F.remapped F.merged) b more c
+        → c.class ≡ b.class → c.salt ≡ b.salt →
+        GoesOn K.eq (after V.eq F.remapped F.merged) b more c
         → s ≡ record r { kept = r.kept ++ more }
         → BinAgrees K.eq (after V.eq F.remapped F.merged) c s }
     ensures prepared { (b c : BinView K V F) (r : RoleView K V F)
@@ -45,7 +49,8 @@ pub fn agreement_laws<K: HashKey, V: Eq, F: Remap<K, V>>()
         → BinAgrees K.eq (after V.eq F.remapped F.merged) b r
         → IsLawful K.eq K.code (after V.eq F.remapped F.merged) b
         → b.entries ≡ replay K.eq b.base b.records
-        → IsLegal K.eq (after V.eq F.remapped F.merged) (lookup K.eq r.opening) r.kept × (b.entries ≡ replay K.eq r.opening r.kept) }
+        → IsLegal K.eq (after V.eq F.remapped F.merged) (lookup K.eq r.opening) r.kept
+        × (b.entries ≡ replay K.eq r.opening r.kept) }
     ensures count { (b : BinView K V F) (r : RoleView K V F)
         → BinAgrees K.eq (after V.eq F.remapped F.merged) b r
         → IsLawful K.eq K.code (after V.eq F.remapped F.merged) b
@@ -53,24 +58,28 @@ pub fn agreement_laws<K: HashKey, V: Eq, F: Remap<K, V>>()
         → pos (length b.entries) ≡ pos (length r.opening) +ℤ sum_of_deltas r.kept }
 {}
 
-/// Once all books are back, what all clients made and what all roles keep have one sum of deltas; and the
-/// opening pairs of the ledger are those of its roles.
+/// Once all books are back, what all clients made and what all roles keep have one sum of deltas;
+/// and the opening pairs of the ledger are those of its roles.
 pub fn totals_of_all<K: HashKey, V, F>()
-    ensures deltas { (ledger : LedgerView K V) (passes : List (PassView K V F)) (roles : List (RoleView K V F))
+    ensures deltas { (ledger : LedgerView K V) (passes : List (PassView K V F))
+        (roles : List (RoleView K V F))
         → AreReconciled K.code ledger passes roles
         → total_made passes ≡ total_kept roles }
-    ensures count { (ledger : LedgerView K V) (passes : List (PassView K V F)) (roles : List (RoleView K V F))
+    ensures count { (ledger : LedgerView K V) (passes : List (PassView K V F))
+        (roles : List (RoleView K V F))
         → AreReconciled K.code ledger passes roles
-        → pos (length ledger.opening) +ℤ total_made passes ≡ total_of (λ r. pos (length r.opening) +ℤ sum_of_deltas r.kept) roles }
+        → pos (length ledger.opening) +ℤ total_made passes
+        ≡ total_of (λ r. pos (length r.opening) +ℤ sum_of_deltas r.kept) roles }
 {}
 
-/// Words of sums add modulo 2^64, and a signed number of 64 bits can be read back from its word. What at
-/// most 32 clients made changes the number of keys by at most 2^62.
+/// Words of sums add modulo 2^64, and a signed number of 64 bits can be read back from its word.
+/// What at most 32 clients made changes the number of keys by at most 2^62.
 pub fn words_of_sums<K: HashKey, V, F>()
     ensures add { (a b : ℤ) → word_of (a +ℤ b) ≡ (word_of a + word_of b) % 2 ^ 64 }
     ensures natural { (n : ℕ) → n < 2 ^ 64 → word_of (pos n) ≡ n }
     ensures signed { (z : ℤ) → FitsSigned w64 z → cast_signed w64 (word_of z) ≡ z }
     ensures bounds { (ledger : LedgerView K V) (passes : List (PassView K V F))
         → All (IsPassOf ledger) passes → length passes ≤ 32
-        → (neg_ℤ (pos 4611686018427387904) ≤ℤ total_made passes) × (total_made passes ≤ℤ pos 4611686018427387904) }
+        → (neg_ℤ (pos 4611686018427387904) ≤ℤ total_made passes)
+        × (total_made passes ≤ℤ pos 4611686018427387904) }
 {}

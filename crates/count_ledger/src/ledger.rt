@@ -21,18 +21,19 @@ use std::marker::{Brand, Model};
 /// How many words fill a cache line.
 pub(crate) const WORDS_PER_LINE: usize = 8;
 
-/// Client c counts in word 8(c + 1), on a cache line of its own. Word 0 is only read: joining a pass and a role loads it, and so does parting them.
+/// Client c counts in word 8(c + 1), on a cache line of its own. Word 0 is only read: joining a
+/// pass and a role loads it, and so does parting them.
 pub(crate) fn word_at(client: u32) -> usize
     ensures { result ≡ 8 * (client + 1) }
 {
     WORDS_PER_LINE * (client as usize + 1)
 }
 
-/// The books of one map: a pass for each client, a role for each class of keys, and a count word for each
-/// client. Its rule holds between any two atomic steps: there is one list of all calls, in the order of their
-/// posts, of which each pass made just those by its client, and each role kept just those on keys of its class;
-/// no two roles have a hash in common; and each client's word is the sum of the deltas of its calls. No call but
-/// `new` takes memory, and none waits.
+/// The books of one map: a pass for each client, a role for each class of keys, and a count word
+/// for each client. Its rule holds between any two atomic steps: there is one list of all calls, in
+/// the order of their posts, of which each pass made just those by its client, and each role kept
+/// just those on keys of its class; no two roles have a hash in common; and each client's word is
+/// the sum of the deltas of its calls. No call but `new` takes memory, and none waits.
 #[derive(Drop)]
 pub struct Ledger<K: HashKey, V, F, A: Allocator> {
     pub(crate) table: Table<(), View<K, V, F>, Terms<K, V, A>, LedgerRule, A>,
@@ -100,8 +101,9 @@ impl<K: HashKey, V, F, A: Allocator> Ledger<K, V, F, A> {
         self.post_trace(pass, role, &Trace::of(entry));
     }
 
-    /// Adds the record of a call to what the pass made and to what the role keeps, and its delta to the
-    /// client's word, by one atomic step, which only reads the word where the delta is 0. It tells what `meet` tells of the books just before that.
+    /// Adds the record of a call to what the pass made and to what the role keeps, and its delta to
+    /// the client's word, by one atomic step, which only reads the word where the delta is 0. It
+    /// tells what `meet` tells of the books just before that.
     pub fn post_trace(
         &self,
         pass: &mut Pass<K, V, F>,
@@ -128,8 +130,8 @@ impl<K: HashKey, V, F, A: Allocator> Ledger<K, V, F, A> {
         pass.made += 1;
     }
 
-    /// Tells that the role has kept, in order, just those of the pass's calls that are on keys of its class,
-    /// and that all that it kept are calls of this ledger's clients. It changes nothing.
+    /// Tells that the role has kept, in order, just those of the pass's calls that are on keys of
+    /// its class, and that all that it kept are calls of this ledger's clients. It changes nothing.
     pub fn meet(&self, pass: &mut Pass<K, V, F>, role: &mut BinRole<K, V, F>)
         requires pass { pass.old.ledger ≡ self.now.id }
         requires role { role.old.ledger ≡ self.now.id }
@@ -156,8 +158,8 @@ impl<K: HashKey, V, F, A: Allocator> Ledger<K, V, F, A> {
         look::<K, V, F, A, Brand>(&self.table.shared, &mut pass.seat, word)
     }
 
-    /// The roles of the low and the high half of the role's class, each with its part of the opening pairs
-    /// and of the kept records, in order.
+    /// The roles of the low and the high half of the role's class, each with its part of the
+    /// opening pairs and of the kept records, in order.
     pub fn divide(&self, role: BinRole<K, V, F>) -> (BinRole<K, V, F>, BinRole<K, V, F>)
         requires role { role.ledger ≡ self.now.id }
         requires size { role.class.n < most_bins }

@@ -1,5 +1,5 @@
-//! The books of a map: what each client made, what the role of each class of keys keeps, and a count
-//! word for each client. A rule ties them together, and holds between any two atomic steps.
+//! The books of a map: what each client made, what the role of each class of keys keeps, and a
+//! count word for each client. A rule ties them together, and holds between any two atomic steps.
 #![tactic(auto)]
 
 mod books;

@@ -4,8 +4,8 @@ use boxcar::tag::{Names, Tag};
 use hashkeys::HashKey;
 use std::marker::Model;
 
-/// Which ledger something is of, in contracts alone: it has no bytes, and a contract sees the ledger's
-/// identity. It can stand in the tag of a lock or, as numbers, in that of an arena.
+/// Which ledger something is of, in contracts alone: it has no bytes, and a contract sees the
+/// ledger's identity. It can stand in the tag of a lock or, as numbers, in that of an arena.
 #[derive(Drop)]
 pub struct LedgerName {
     tag: Tag,

@@ -1,5 +1,6 @@
 //! The steps of a ledger, on its seats.
-ghost use Rattle.std.specs.Prelude.{◌≡◌, ℕ, ◌+◌, ◌%◌, ◌^◌, ◌<◌, Some, List, [], ◌∷◌, ◌++◌, slice_index};
+ghost use Rattle.std.specs.Prelude.{◌≡◌, ℕ, ◌+◌, ◌%◌, ◌^◌, ◌<◌, Some, List, [], ◌∷◌, ◌++◌};
+ghost use Rattle.std.specs.Prelude.{slice_index};
 ghost use Rattle.count_ledger.specs.Rule.{Holds, Among, IsSound, AreTogether};
 ghost use Rattle.count_ledger.specs.Steps.{Keeps, books_with_record, first_of, rest_of, only_view};
 ghost use Rattle.count_ledger.specs.Words.{word_of};
@@ -23,17 +24,19 @@ pub(crate) fn look<K: HashKey, V, F, A: Allocator, T: Told<K, V, F>>(
     requires terms { T.terms ≡ Some shared.now.key }
     requires seat { seat.old.table_id ≡ shared.now.table_id }
     requires word { word < shared.now.table_id.words }
-    requires rule { Keeps (Holds K.code shared.now.key) seat.old.id seat.old.me.0 word (λ n. n) (T.change seat.old.me.0) }
+    requires rule { Keeps (Holds K.code shared.now.key) seat.old.id seat.old.me.0 word (λ n. n)
+        (T.change seat.old.me.0) }
     ensures seat { seat.new.table_id ≡ seat.old.table_id }
     ensures books { seat.new.me ≡ (T.change seat.old.me.0, seat.old.me.1) }
-    ensures told { (words : List ℕ) × (calls : List (RecordView K V F)) × (result ≡ slice_index words word)
+    ensures told { (words : List ℕ) × (calls : List (RecordView K V F))
+        × (result ≡ slice_index words word)
         × Among (IsSound K.code shared.now.key words calls) (AreTogether K.code) seat.old.me.0 }
 {
     shared.load::<Tells<T>>(seat, word)
 }
 
-/// Adds the delta of a call to a word, which is only read where the delta is 0, while the seat's books get its record, and tells what the rule said of
-/// them before.
+/// Adds the delta of a call to a word, which is only read where the delta is 0, while the seat's
+/// books get its record, and tells what the rule said of them before.
 pub(crate) fn add_delta<K: HashKey, V, F, A: Allocator, T: Told<K, V, F>>(
     shared: &Books<K, V, F, A>,
     seat: &mut Seat<(), View<K, V, F>>,
@@ -44,11 +47,13 @@ pub(crate) fn add_delta<K: HashKey, V, F, A: Allocator, T: Told<K, V, F>>(
     requires change { T.change ≡ books_with_record entry.now }
     requires seat { seat.old.table_id ≡ shared.now.table_id }
     requires word { word < shared.now.table_id.words }
-    requires rule { Keeps (Holds K.code shared.now.key) seat.old.id seat.old.me.0 word (λ n. (n + word_of (delta entry.now)) % 2 ^ 64)
+    requires rule { Keeps (Holds K.code shared.now.key) seat.old.id seat.old.me.0 word
+        (λ n. (n + word_of (delta entry.now)) % 2 ^ 64)
         (books_with_record entry.now seat.old.me.0) }
     ensures seat { seat.new.table_id ≡ seat.old.table_id }
     ensures books { seat.new.me ≡ (books_with_record entry.now seat.old.me.0, seat.old.me.1) }
-    ensures told { (words : List ℕ) × (calls : List (RecordView K V F)) × Among (IsSound K.code shared.now.key words calls) (AreTogether K.code) seat.old.me.0 }
+    ensures told { (words : List ℕ) × (calls : List (RecordView K V F))
+        × Among (IsSound K.code shared.now.key words calls) (AreTogether K.code) seat.old.me.0 }
 {
     let delta = entry.delta();
     if delta == 0 {

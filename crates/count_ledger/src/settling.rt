@@ -1,5 +1,6 @@
 //! The end of a ledger: all its books come together.
-ghost use Rattle.std.specs.Prelude.{◌≡◌, ◌*◌, ◌++◌, ◌∷◌, ◌<◌, ◌≤◌, ◌⊎◌, [], length, map, All, IfOk, IfErr, MatchBool};
+ghost use Rattle.std.specs.Prelude.{◌≡◌, ◌*◌, ◌++◌, ◌∷◌, ◌<◌, ◌≤◌, ◌⊎◌, [], length, map, All, IfOk};
+ghost use Rattle.std.specs.Prelude.{IfErr, MatchBool};
 ghost use Rattle.hashkeys.specs.Classes.{CoverAll};
 ghost use Rattle.count_ledger.specs.Books.{classes_of_roles};
 ghost use Rattle.count_ledger.specs.Rule.{ledger_of};
@@ -17,9 +18,11 @@ use hashkeys::{HashKey, MOST_BINS};
 use std::alloc::Allocator;
 use std::marker::Brand;
 
-/// Whether disjoint classes of these sizes cover every hash: of `MOST_BINS` hashes side by side they have as many together.
+/// Whether disjoint classes of these sizes cover every hash: of `MOST_BINS` hashes side by side
+/// they have as many together.
 fn are_wide<K, V, F>(roles: &[BinRole<K, V, F>]) -> bool
-    ensures { MatchBool result (AreWide (classes_of_roles roles.now)) (CoverAll (classes_of_roles roles.now) → ⊥) }
+    ensures { MatchBool result (AreWide (classes_of_roles roles.now))
+        (CoverAll (classes_of_roles roles.now) → ⊥) }
 {
     let mut left = MOST_BINS;
     for role in roles {
@@ -94,7 +97,8 @@ fn gather_all<K: HashKey, V, F, A: Allocator>(
     requires passes { All (λ p. p.ledger ≡ shared.now.table_id) passes.items }
     requires roles { All (λ r. r.ledger ≡ shared.now.table_id) roles.items }
     requires wide { AreWide (classes_of_roles roles.items) }
-    ensures { AreReconciled K.code (ledger_of shared.now.table_id shared.now.key) passes.items roles.items }
+    ensures { AreReconciled K.code (ledger_of shared.now.table_id shared.now.key)
+        passes.items roles.items }
 {
     let Some(last) = passes.pop() else {
         unreachable!()
@@ -115,8 +119,9 @@ pub struct Unsettled<K: HashKey, V, F, A: Allocator> {
 }
 
 impl<K: HashKey, V, F, A: Allocator> Ledger<K, V, F, A> {
-    /// Ends the ledger, and gives the sum of all deltas as a 64-bit two's complement number. Where there are
-    /// fewer passes than clients, or the classes of the roles leave a hash out, it hands everything back.
+    /// Ends the ledger, and gives the sum of all deltas as a 64-bit two's complement number. Where
+    /// there are fewer passes than clients, or the classes of the roles leave a hash out, it hands
+    /// everything back.
     pub fn settle(
         self,
         mut passes: Vec<Pass<K, V, F>, A>,
@@ -128,7 +133,8 @@ impl<K: HashKey, V, F, A: Allocator> Ledger<K, V, F, A> {
         ensures agree { IfOk result (λ _. AreReconciled K.code self passes.items roles.items) }
         ensures enough { IfOk result (λ _. self.clients ≤ length passes.items) }
         ensures cover { IfOk result (λ _. CoverAll (classes_of_roles roles.items)) }
-        ensures refused { IfErr result (λ _. (length passes.items < self.clients) ⊎ (CoverAll (classes_of_roles roles.items) → ⊥)) }
+        ensures refused { IfErr result (λ _. (length passes.items < self.clients)
+            ⊎ (CoverAll (classes_of_roles roles.items) → ⊥)) }
         ensures ledger { IfErr result (λ u. u.ledger ≡ self) }
         ensures passes { IfErr result (λ u. u.passes ≡ passes) }
         ensures roles { IfErr result (λ u. u.roles ≡ roles) }

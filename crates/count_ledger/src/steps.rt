@@ -4,8 +4,8 @@ use atomic_table::{Join, Play, Split};
 use hashkeys::HashKey;
 use std::marker::{Brand, PhantomData};
 
-/// What a step is told in contracts alone, since a `Play` reads neither the terms of the table nor the
-/// record of a call: the terms, and how the seat's books change. A call at `Brand` picks them.
+/// What a step is told in contracts alone, since a `Play` reads neither the terms of the table nor
+/// the record of a call: the terms, and how the seat's books change. A call at `Brand` picks them.
 pub(crate) trait Told<K, V, F> {
     ghost use Rattle.std.specs.Prelude.{Option, List};
     ghost use Rattle.count_ledger.specs.declared.books.Book.{Book};

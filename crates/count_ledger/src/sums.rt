@@ -9,8 +9,8 @@ use hashkeys::HashKey;
 use std::alloc::Allocator;
 
 impl<K: HashKey, V, F, A: Allocator> Ledger<K, V, F, A> {
-    /// The clients' words from client 0 upward, added modulo 2^64. While other threads post, it is the sum at
-    /// no one moment, so nothing is promised of it.
+    /// The clients' words from client 0 upward, added modulo 2^64. While other threads post, it is
+    /// the sum at no one moment, so nothing is promised of it.
     pub fn sum(&self) -> u64 {
         let mut total: u64 = 0;
         for client in 0..self.clients {
@@ -19,7 +19,8 @@ impl<K: HashKey, V, F, A: Allocator> Ledger<K, V, F, A> {
         total
     }
 
-    /// The sum of all deltas, as a 64-bit two's complement number. It takes the passes of all clients.
+    /// The sum of all deltas, as a 64-bit two's complement number. It takes the passes of all
+    /// clients.
     pub fn sum_all(&self, passes: &mut [Pass<K, V, F>]) -> u64
         requires own { All (λ p. p.ledger ≡ self.now.id) passes.old }
         requires all { length passes.old ≡ self.now.clients }

@@ -26,13 +26,18 @@ impl<K, V, F> Model for Pass<K, V, F> {
 
     ghost Value = { PassView K V F };
 
-    ghost view = { λ p. record { ledger = p.seat.table_id; client = p.client; made = made_of_pass p.seat.me.0 } };
+    ghost view = { λ p. record {
+      ledger = p.seat.table_id;
+      client = p.client;
+      made =
+          made_of_pass p.seat.me.0;
+    } };
 
     ghost invariant = { λ p. IsPass p.seat.table_id.words p.client p.made p.seat.me };
 }
 
-/// The right to keep the records of one class of keys, and what was kept. It cannot be copied, and a
-/// ledger without one of its roles is never settled.
+/// The right to keep the records of one class of keys, and what was kept. It cannot be copied, and
+/// a ledger without one of its roles is never settled.
 #[derive(Drop)]
 pub struct BinRole<K, V, F> {
     pub(crate) class: Class,
@@ -41,7 +46,8 @@ pub struct BinRole<K, V, F> {
 
 impl<K, V, F> Model for BinRole<K, V, F> {
     ghost use Rattle.count_ledger.specs.Views.{RoleView};
-    ghost use Rattle.count_ledger.specs.Tokens.{IsRole, salt_of_role, opening_of_role, kept_of_role};
+    ghost use Rattle.count_ledger.specs.Tokens.{IsRole, salt_of_role, opening_of_role};
+    ghost use Rattle.count_ledger.specs.Tokens.{kept_of_role};
 
     ghost Value = { RoleView K V F };
 

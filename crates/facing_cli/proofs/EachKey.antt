@@ -13,11 +13,13 @@ use Rattle.script.specs.Grammar.{ScriptCall}
 use Rattle.facing_cli.specs.Outcomes.{Outcome, same_key, value_after, call_and_reply, nothing, IsOrderOf, IsHistoryOf}
 use Rattle.facing_cli.specs.Played.{ScriptRecord}
 
-pub map-filter : {X Y : Type 0} (f : X → Y) (p : Y → Bool) (xs : List X) → map f (filter (λ x. p (f x)) xs) ≡ filter p (map f xs)
+pub map-filter : {X Y : Type 0} (f : X → Y) (p : Y → Bool) (xs : List X) → map f (filter (λ x. p (f x)) xs)
+    ≡ filter p (map f xs)
 map-filter f p [] = refl
 map-filter f p (x ∷ xs) = let ih = map-filter f p xs in grind (arith, common_steps)
 
-pub IsHistoryOf-order : (blocks : List (List ScriptCall)) (o : Outcome) (k : List ℕ) (calls : List ScriptRecord) → IsOrderOf blocks o calls
+pub IsHistoryOf-order : (blocks : List (List ScriptCall)) (o : Outcome) (k : List ℕ) (calls : List ScriptRecord) →
+    IsOrderOf blocks o calls
     → IsHistoryOf blocks o k (records_on same_key k calls)
 IsHistoryOf-order blocks o k calls order =
     let on : ScriptRecord → Bool = λ x. same_key (key_of x.call) k in

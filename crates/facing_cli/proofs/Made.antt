@@ -7,14 +7,17 @@ use Rattle.script.specs.Grammar.{ScriptCall}
 use Rattle.facing_cli.specs.Outcomes.{call_and_reply}
 use Rattle.facing_cli.specs.Played.{ScriptRecord, HasMade}
 
-zip-push : {X Y : Type 0} (xs : List X) (ys : List Y) (x : X) (y : Y) → length ys ≡ length xs → zip (xs ++ x ∷ []) (ys ++ y ∷ []) ≡ zip xs ys ++ (x, y) ∷ []
+zip-push : {X Y : Type 0} (xs : List X) (ys : List Y) (x : X) (y : Y) → length ys ≡ length xs →
+    zip (xs ++ x ∷ []) (ys ++ y ∷ []) ≡ zip xs ys ++ (x, y) ∷ []
 zip-push [] [] x y e = refl
 zip-push [] (z ∷ ys) x y e = absurd (omega arith)
 zip-push (w ∷ xs) [] x y e = absurd (omega arith)
 zip-push (w ∷ xs) (z ∷ ys) x y e = ap (λ (l : List (_ × _)). (w, z) ∷ l) (zip-push xs ys x y (omega arith))
 
-pub HasMade-push : (calls : List ScriptCall) (replies : List (Reply ℤ)) (made : List ScriptRecord) (call : ScriptCall) (reply : Reply ℤ) (r : ScriptRecord)
-    → HasMade calls replies made → call_and_reply r ≡ (call, reply) → HasMade (calls ++ call ∷ []) (replies ++ reply ∷ []) (made ++ r ∷ [])
+pub HasMade-push : (calls : List ScriptCall) (replies : List (Reply ℤ)) (made : List ScriptRecord) (call : ScriptCall)
+    (reply : Reply ℤ) (r : ScriptRecord)
+    → HasMade calls replies made → call_and_reply r ≡ (call, reply) →
+    HasMade (calls ++ call ∷ []) (replies ++ reply ∷ []) (made ++ r ∷ [])
 HasMade-push calls replies made call reply r (records, answered) tells = (
   map-append call_and_reply made (r ∷ [])
       ∙ ap (λ (l : List (ScriptCall × Reply ℤ)). l ++ call_and_reply r ∷ []) records

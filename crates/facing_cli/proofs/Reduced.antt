@@ -1,5 +1,6 @@
 -- What bulk operations on pairs answer, as queries ask it.
-use Rattle.std.proofs.Common.{◌≡◌, T, not, ℤ, pos, ◌+ℤ◌, ◌≤ℤ◌, ◌<ℤ◌, Bool, true, false, cond, Option, Some, None, List, [], ◌∷◌, ◌++◌, map, fold, All, Contains}
+use Rattle.std.proofs.Common.{◌≡◌, T, not, ℤ, pos, ◌+ℤ◌, ◌≤ℤ◌, ◌<ℤ◌, Bool, true, false, cond, Option, Some, None, List}
+use Rattle.std.proofs.Common.{[], ◌∷◌, ◌++◌, map, fold, All, Contains}
 use Rattle.std.proofs.Common.{refl, sym, ap, subst, ◌∙◌, arith, append_assoc}
 use Rattle.std.proofs.lemmas.Int.{ints, clamps}
 use Rattle.std.proofs.Math.ListN.{get_or-map}
@@ -21,18 +22,22 @@ abbrev greater_of : Option ℤ → ℤ → Option ℤ
 greater_of None v = Some v
 greater_of (Some x) v = Some (int_max x v)
 
-IsGreatest-push : (vs : List ℤ) (best : Option ℤ) (v : ℤ) → IsGreatest vs best → IsGreatest (vs ++ v ∷ []) (greater_of best v)
+IsGreatest-push : (vs : List ℤ) (best : Option ℤ) (v : ℤ) → IsGreatest vs best →
+    IsGreatest (vs ++ v ∷ []) (greater_of best v)
 IsGreatest-push vs None v h = (
   Contains-push vs v,
-  All-push (λ x. x ≤ℤ v) vs v (let P : List ℤ → Type 0 = λ xs. All (λ x. x ≤ℤ v) xs in subst P (sym h) (All-nil (λ x. x ≤ℤ v))) (omega (arith, ints)),
+  All-push (λ x. x ≤ℤ v) vs v (let P : List ℤ → Type 0 = λ xs. All (λ x. x ≤ℤ v) xs in
+      subst P (sym h) (All-nil (λ x. x ≤ℤ v))) (omega (arith, ints)),
 )
 IsGreatest-push vs (Some x) v h =
     let m : ℤ = int_max x v in
     let C : ℤ → Type 0 = λ y. Contains (vs ++ v ∷ []) y in
-    let there : (b : Bool) → C (cond b x v) = elim [ true ↦ Contains-append_left vs (v ∷ []) x h.0 | false ↦ Contains-push vs v ] in
+    let there : (b : Bool) → C (cond b x v) =
+    elim [ true ↦ Contains-append_left vs (v ∷ []) x h.0 | false ↦ Contains-push vs v ] in
     let over : x ≤ℤ m = omega (arith, clamps, ints) in (
       there (lt_z v x),
-      All-push (λ y. y ≤ℤ m) vs v (All-weaker (λ y. y ≤ℤ x) (λ y. y ≤ℤ m) (λ y l. omega (arith, ints)) vs h.1) (omega (arith, clamps, ints)),
+      All-push (λ y. y ≤ℤ m) vs v (All-weaker (λ y. y ≤ℤ x) (λ y. y ≤ℤ m) (λ y l. omega (arith, ints)) vs h.1)
+          (omega (arith, clamps, ints)),
     )
 
 contains_map : {X Y : Type 0} (f : X → Y) (xs : List X) (x : X) → Contains xs x → Contains (map f xs) (f x)
@@ -43,9 +48,11 @@ sum_onto : (vs : List ℤ) (a : ℤ) → fold (λ x y. x +ℤ y) a vs ≡ a +ℤ
 sum_onto [] a = omega (arith, ints)
 sum_onto (v ∷ vs) a = let rest = sum_onto vs (a +ℤ v) in omega (arith, ints)
 
-greatest_onto : (vs done : List ℤ) (b : ℤ) → IsGreatest done (Some b) → IsGreatest (done ++ vs) (Some (fold int_max b vs))
+greatest_onto : (vs done : List ℤ) (b : ℤ) → IsGreatest done (Some b) →
+    IsGreatest (done ++ vs) (Some (fold int_max b vs))
 greatest_onto [] done b is = subst (λ (l : List ℤ). IsGreatest l (Some b)) (sym (append-nil done)) is
-greatest_onto (v ∷ vs) done b is = subst (λ (l : List ℤ). IsGreatest l (Some (fold int_max (int_max b v) vs))) (append_assoc done (v ∷ []) vs)
+greatest_onto (v ∷ vs) done b is = subst (λ (l : List ℤ). IsGreatest l (Some (fold int_max (int_max b v) vs)))
+    (append_assoc done (v ∷ []) vs)
     (greatest_onto vs (done ++ v ∷ []) (int_max b v) (IsGreatest-push done (Some b) v is))
 
 found_above : (bound v u : ℤ) → above bound v ≡ Some u → (bound <ℤ v) × (v ≡ u)
@@ -75,10 +82,12 @@ module _ {K : Type 0} where
   greatest-folded (e ∷ es) = greatest_onto (map (λ x. x.1) es) (e.1 ∷ []) e.1 (IsGreatest-push [] None e.1 refl)
 
   -- what a search for values above a bound finds is one, and none where there is none
-  pub above-searched : (bound : ℤ) (es : List (K × ℤ)) (found : Option ℤ) → IsSearched (λ (k : K) v. above bound v) es found
+  pub above-searched : (bound : ℤ) (es : List (K × ℤ)) (found : Option ℤ) →
+      IsSearched (λ (k : K) v. above bound v) es found
       → IsAbove bound (map (λ e. e.1) es) found
   above-searched bound es None none = All-map (λ x. x ≤ℤ bound) (λ (e : K × ℤ). e.1) es
       (All-weaker (λ (e : K × ℤ). above bound e.1 ≡ None) (λ e. e.1 ≤ℤ bound) (λ e is. none_above bound e.1 is) es none)
   above-searched bound es (Some u) (e, there, is) =
       let (over, same) = found_above bound e.1 u is in
-      subst (λ (v : ℤ). Contains (map (λ (x : K × ℤ). x.1) es) v × (bound <ℤ v)) same (contains_map (λ (x : K × ℤ). x.1) es e there, over)
+      subst (λ (v : ℤ). Contains (map (λ (x : K × ℤ). x.1) es) v × (bound <ℤ v)) same
+      (contains_map (λ (x : K × ℤ). x.1) es e there, over)

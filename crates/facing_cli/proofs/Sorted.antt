@@ -1,5 +1,6 @@
 -- Two sorted lists of the same pairs, no key of which stands twice, are the same list.
-use Rattle.std.proofs.Common.{◌≡◌, ℕ, ℤ, suc, Bool, true, false, cond, ◌+◌, ◌<◌, ◌&&◌, List, [], ◌∷◌, refl, sym, ap, ◌∙◌, subst, arith, add-one, sum_by}
+use Rattle.std.proofs.Common.{◌≡◌, ℕ, ℤ, suc, Bool, true, false, cond, ◌+◌, ◌<◌, ◌&&◌, List, [], ◌∷◌, refl, sym, ap}
+use Rattle.std.proofs.Common.{◌∙◌, subst, arith, add-one, sum_by}
 use Rattle.std.proofs.Common.{Contains, IsSortedByKey, is_lt}
 use Rattle.std.proofs.lemmas.Grind.{common_steps}
 use Rattle.std.proofs.lemmas.Cmp.{nat_list_cmp_total}
@@ -21,7 +22,8 @@ abbrev same : Pair → Pair → Bool
 same x y = same_key x.0 y.0 && int_eq x.1 y.1
 
 same_self : (x : Pair) → same x x ≡ true
-same_self x = let a = (bytes_decides x.0 x.0).1 refl in let b = (signed_Decides x.1 x.1).1 refl in grind (arith, common_steps)
+same_self x = let a = (bytes_decides x.0 x.0).1 refl in let b = (signed_Decides x.1 x.1).1 refl in
+    grind (arith, common_steps)
 
 same_only : (x y : Pair) → same x y ≡ true → x ≡ y
 same_only x y h = go (same_key x.0 y.0) refl h where
@@ -36,7 +38,8 @@ weight_at x y = cond (same y x) 1 0
 there : (ys : List Pair) (x : Pair) → 0 < sum_by (weight_at x) ys → Contains ys x
 there [] x h = absurd (omega arith)
 there (y ∷ ys) x h = go (there ys x) (same y x) refl (rw (sum_by-cons (weight_at x) y ys) at h) where
-  go : (0 < sum_by (weight_at x) ys → Contains ys x) → (b : Bool) → same y x ≡ b → 0 < cond b 1 0 + sum_by (weight_at x) ys → Contains (y ∷ ys) x
+  go : (0 < sum_by (weight_at x) ys → Contains ys x) → (b : Bool) → same y x ≡ b →
+      0 < cond b 1 0 + sum_by (weight_at x) ys → Contains (y ∷ ys) x
   go rest true s h = (0, omega arith, same_only y x s)
   go rest false s h = Contains-append_right (y ∷ []) ys x (rest (omega arith))
 
@@ -64,9 +67,11 @@ abbrev pub Sorted : List Pair → Type 0
 Sorted xs = IsSortedByKey (λ e. e.0) (slice_cmp nat_cmp) xs
 
 -- no later key is less than the first
-first_least : (x : Pair) (xs : List Pair) (y : Pair) → Sorted (x ∷ xs) → Contains (x ∷ xs) y → is_lt (slice_cmp nat_cmp y.0 x.0) ≡ false
+first_least : (x : Pair) (xs : List Pair) (y : Pair) → Sorted (x ∷ xs) → Contains (x ∷ xs) y →
+    is_lt (slice_cmp nat_cmp y.0 x.0) ≡ false
 first_least x xs y up (k, l, is) =
-    let far = sorted_far (λ a b. is_lt (slice_cmp nat_cmp a.0 b.0)) (ranks_by nat_list_cmp_total (λ (e : Pair). e.0)) (x ∷ xs) up 0 k y (omega arith) l in
+    let far = sorted_far (λ a b. is_lt (slice_cmp nat_cmp a.0 b.0)) (ranks_by nat_list_cmp_total (λ (e : Pair). e.0))
+    (x ∷ xs) up 0 k y (omega arith) l in
     rw is at far
 
 Sorted-tail : (x : Pair) (xs : List Pair) → Sorted (x ∷ xs) → Sorted xs

@@ -32,7 +32,9 @@ file_rule = record (new_rule (codes "FILE")) { action = Some Set; required = tru
 
 -- the options workers, capacity and salt, with their ranges and defaults, and FILE
 abbrev pub program : App
-program = with_rule (with_rule (with_rule (with_rule (new_app (codes "mapcli")) workers_rule) capacity_rule) salt_rule) file_rule
+program =
+    with_rule (with_rule (with_rule (with_rule (new_app (codes "mapcli")) workers_rule) capacity_rule) salt_rule)
+    file_rule
 
 -- there is a text, decimal digits after a plus at most, of this number
 abbrev pub SaysNumber : Option Text → ℕ → Type 0

@@ -6,7 +6,8 @@ use Rattle.script.specs.declared.fault.ParseError.{ParseError}
 use Rattle.script.specs.declared.fault.ParseError.TheVariants as errors
 use Rattle.facing_cli.specs.Devices.{one_more}
 use Rattle.facing_cli.specs.declared.fault.Fault.{Fault}
-use Rattle.facing_cli.specs.declared.fault.Fault.TheVariants.{NoMemory, BadCapacity, BadWorkers, ScriptFault, Device, BinMissing, Usage, Help}
+use Rattle.facing_cli.specs.declared.fault.Fault.TheVariants.{NoMemory, BadCapacity, BadWorkers, ScriptFault, Device}
+use Rattle.facing_cli.specs.declared.fault.Fault.TheVariants.{BinMissing, Usage, Help}
 
 -- the count of the one device is one more where the fault is of a device, and else as it was
 abbrev pub count_after_fault : Fault → ℕ → ℕ
@@ -34,4 +35,5 @@ IsOfPlay fault = (fault ≡ of_map.NoMemory) ⊎ (fault ≡ of_map.BinMissing)
 
 -- such a refusal of the map, and the fault of the program that it is
 abbrev pub IsRefusedAs : map.Fault → Fault → Type 0
-IsRefusedAs refusal fault = ((refusal ≡ of_map.NoMemory) × (fault ≡ NoMemory)) ⊎ ((refusal ≡ of_map.BinMissing) × (fault ≡ BinMissing))
+IsRefusedAs refusal fault = ((refusal ≡ of_map.NoMemory) × (fault ≡ NoMemory))
+    ⊎ ((refusal ≡ of_map.BinMissing) × (fault ≡ BinMissing))

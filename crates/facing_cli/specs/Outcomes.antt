@@ -1,5 +1,6 @@
 -- What a run of a script may come to.
-use Rattle.std.specs.Prelude.{◌≡◌, ℕ, ℤ, ◌<◌, Bool, nat_eq, Option, None, List, [], length, All, map, filter, slice_index_or}
+use Rattle.std.specs.Prelude.{◌≡◌, ℕ, ℤ, ◌<◌, Bool, nat_eq, Option, None, List, [], length, All, map, filter}
+use Rattle.std.specs.Prelude.{slice_index_or}
 use Rattle.std.specs.List.{zip}
 use Rattle.std.specs.Ordering.{int_eq}
 use Rattle.std.specs.Cmp.Lexicographic.{pointwise}
@@ -43,7 +44,8 @@ module _ (blocks : List (List ScriptCall)) (o : Outcome) where
   -- replies; and they are those of a one-thread map that begins empty and ends with the pairs
   pub record IsOrderOf (calls : List (RecordView (List ℕ) ℤ Function)) : Type 0 where
     pub clients : All (λ r. r.client < length blocks) calls
-    pub made : (c : ℕ) → c < length blocks → map call_and_reply (by_client c calls) ≡ zip (slice_index_or blocks c []) (slice_index_or o.replies c [])
+    pub made : (c : ℕ) → c < length blocks → map call_and_reply (by_client c calls) ≡ zip (slice_index_or blocks c [])
+        (slice_index_or o.replies c [])
     pub legal : IsLegal same_key value_after nothing calls
     pub final : (k : List ℕ) → lookup same_key o.pairs k ≡ run same_key nothing calls k
 
@@ -53,9 +55,11 @@ module _ (blocks : List (List ScriptCall)) (o : Outcome) where
     pub distinct : HasDistinctKeys same_key o.pairs
     pub order : (calls : List (RecordView (List ℕ) ℤ Function)) × IsOrderOf calls
 
-  -- these records are a history of the key: of its calls of each client, in that client's order and with the replies, as those of one cell
+  -- these records are a history of the key: of its calls of each client, in that client's order and with the replies,
+  -- as those of one cell
   pub record IsHistoryOf (k : List ℕ) (rs : List (RecordView (List ℕ) ℤ Function)) : Type 0 where
     pub clients : All (λ r. r.client < length blocks) rs
-    pub made : (c : ℕ) → c < length blocks → map call_and_reply (by_client c rs) ≡ made_on k (slice_index_or blocks c []) (slice_index_or o.replies c [])
+    pub made : (c : ℕ) → c < length blocks → map call_and_reply (by_client c rs)
+        ≡ made_on k (slice_index_or blocks c []) (slice_index_or o.replies c [])
     pub legal : IsCellHistory value_after None rs
     pub final : cell_after None rs ≡ lookup same_key o.pairs k

@@ -1,10 +1,11 @@
 -- What the calls of the clients do to a map.
-use Rattle.std.specs.Prelude.{◌≡◌, ℕ, ℤ, ◌<◌, ◌≤◌, None, IfSome, IsSomeAnd, MatchResult, List, [], length, map, slice_index_or}
+use Rattle.std.specs.Prelude.{◌≡◌, ℕ, ℤ, ◌<◌, ◌≤◌, None, IfSome, IsSomeAnd, MatchResult, List, [], length, map}
+use Rattle.std.specs.Prelude.{slice_index_or}
 use Rattle.std.specs.List.{zip}
 use Rattle.std.specs.declared.vec.Vec.{Vec}
 use Rattle.bin_history.specs.Records.{RecordView}
 use Rattle.bin_history.specs.declared.call.Reply.{Reply}
-use Rattle.chm.specs.Quiets.{QuietView, entries_of}
+use Rattle.chm.specs.Headline.{QuietView, entries_of}
 use Rattle.bin_history.specs.Limits.{most_calls}
 use Rattle.bin_history.specs.declared.form.Form.TheVariants.{Recorded}
 use Rattle.chm.specs.declared.fault.Fault.TheVariants.{NoMemory}
@@ -43,18 +44,21 @@ HasAnswer P c = IsSomeAnd c.replies (λ r. MatchResult r P (λ fault. fault ≡ 
 pub record HasEnded {A : Type 0} (before after : Client A) : Type 0 where
   pub ledger : after.pass.ledger ≡ before.pass.ledger
   pub client : after.pass.client ≡ before.pass.client
-  pub made : IfSome before.calls (λ calls. HasAnswer (λ replies. HasMade calls.items replies.items after.pass.made) after)
+  pub made : IfSome before.calls
+      (λ calls. HasAnswer (λ replies. HasMade calls.items replies.items after.pass.made) after)
 
 -- the passes of clients, in their order
 abbrev pub passes_of : {A : Type 0} → List (Client A) → List ScriptPass
 passes_of clients = map (λ c. c.pass) clients
 
 -- client after client, the passes made the calls of the blocks, with these replies
-pub record ArePlayed (blocks : List (List ScriptCall)) (replies : List (List (Reply ℤ))) (passes : List ScriptPass) : Type 0 where
+pub record ArePlayed (blocks : List (List ScriptCall)) (replies : List (List (Reply ℤ)))
+    (passes : List ScriptPass) : Type 0 where
   pub as_many : length passes ≡ length blocks
   pub answered : map length replies ≡ map length blocks
   pub clients : (c : ℕ) (p : ScriptPass) → c < length blocks → (slice_index_or passes c p).client ≡ c
-  pub made : (c : ℕ) (p : ScriptPass) → c < length blocks → HasMade (slice_index_or blocks c []) (slice_index_or replies c []) (slice_index_or passes c p).made
+  pub made : (c : ℕ) (p : ScriptPass) → c < length blocks →
+      HasMade (slice_index_or blocks c []) (slice_index_or replies c []) (slice_index_or passes c p).made
 
 -- the outcome of replies and a closed map
 abbrev pub outcome_of : {X Y : Type 0} → Vec (Vec (Reply ℤ) X) Y → ScriptQuiet → Outcome

@@ -9,7 +9,8 @@ use Rattle.facing_cli.specs.Failures.{count_after}
 use Rattle.facing_cli.specs.Outcomes.{Outcome, IsAllowed}
 use Rattle.facing_cli.specs.Texts.{IsOutput}
 use Rattle.facing_cli.specs.declared.fault.Fault.{Fault}
-use Rattle.facing_cli.specs.declared.fault.Fault.TheVariants.{NoMemory, BadCapacity, BadWorkers, ScriptFault, Device, BinMissing, Usage, Help}
+use Rattle.facing_cli.specs.declared.fault.Fault.TheVariants.{NoMemory, BadCapacity, BadWorkers, ScriptFault, Device}
+use Rattle.facing_cli.specs.declared.fault.Fault.TheVariants.{BinMissing, Usage, Help}
 
 -- the text is a script of these blocks and queries, and of no others
 abbrev pub IsScript : List ℕ → List (List ScriptCall) → List Query → Type 0
@@ -17,7 +18,8 @@ IsScript text blocks queries = IsJust text (whole blocks queries)
 
 -- the bytes are an output text of an allowed outcome of the script that the text is
 abbrev pub IsOutputOf : List ℕ → List ℕ → Type 0
-IsOutputOf text bytes = (blocks : List (List ScriptCall)) × (queries : List Query) × (o : Outcome) × IsScript text blocks queries × IsAllowed blocks o
+IsOutputOf text bytes = (blocks : List (List ScriptCall)) × (queries : List Query) × (o : Outcome)
+    × IsScript text blocks queries × IsAllowed blocks o
     × IsOutput queries o bytes
 
 -- why a text gave no script: memory ran out, or its first bad line
@@ -47,8 +49,10 @@ OfOutput remaining P = OfInput remaining (λ text. (bytes : List ℕ) × IsOutpu
 -- of the counts of failed reads and failed writes one at most has changed: it is one more where the fault is a device's
 abbrev pub OneCounts : Result Unit Fault → ℕ → ℕ → ℕ → ℕ → Type 0
 OneCounts r reads reads_after writes writes_after =
-    ((reads_after ≡ count_after r reads) × (writes_after ≡ writes)) ⊎ ((reads_after ≡ reads) × (writes_after ≡ count_after r writes))
+    ((reads_after ≡ count_after r reads) × (writes_after ≡ writes))
+    ⊎ ((reads_after ≡ reads) × (writes_after ≡ count_after r writes))
 
 -- the text is a script with one client and without a query that leaves a choice
 abbrev pub IsDetermined : List ℕ → Type 0
-IsDetermined text = (calls : List ScriptCall) × (queries : List Query) × IsScript text (calls ∷ []) queries × HasNoSearch queries
+IsDetermined text = (calls : List ScriptCall) × (queries : List Query) × IsScript text (calls ∷ []) queries
+    × HasNoSearch queries

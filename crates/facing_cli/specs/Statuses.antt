@@ -3,7 +3,8 @@ use Rattle.std.specs.Prelude.{ℕ, Bool, true, false, List, ◌++◌, codes, str
 use Rattle.script.specs.Kinds.{fault_text}
 use Rattle.facing_cli.specs.Texts.{output_line}
 use Rattle.facing_cli.specs.declared.fault.Fault.{Fault}
-use Rattle.facing_cli.specs.declared.fault.Fault.TheVariants.{NoMemory, BadCapacity, BadWorkers, ScriptFault, Device, BinMissing, Usage, Help}
+use Rattle.facing_cli.specs.declared.fault.Fault.TheVariants.{NoMemory, BadCapacity, BadWorkers, ScriptFault, Device}
+use Rattle.facing_cli.specs.declared.fault.Fault.TheVariants.{BinMissing, Usage, Help}
 
 -- 0 where help was asked, 1 for a script's fault, 2 for a wrong command line, 3 for what went wrong outside
 abbrev pub status_of : Fault → ℕ
@@ -42,3 +43,8 @@ line_of BadWorkers = output_line (codes "mapcli: the workers are not 1 to 16")
 abbrev pub is_help : Fault → Bool
 is_help (Help text) = true
 is_help _ = false
+
+-- a line of the script is bad
+abbrev pub is_of_script : Fault → Bool
+is_of_script (ScriptFault line kind) = true
+is_of_script _ = false

@@ -1,5 +1,6 @@
 -- The output text of a script and an outcome.
-use Rattle.std.specs.Prelude.{◌≡◌, ℕ, ℤ, pos, ◌+◌, ◌+ℤ◌, ◌≤ℤ◌, ◌<ℤ◌, true, false, Option, Some, None, MatchOption, List, [], ◌∷◌, ◌++◌, length, All, Contains}
+use Rattle.std.specs.Prelude.{◌≡◌, ℕ, ℤ, pos, ◌+◌, ◌+ℤ◌, ◌≤ℤ◌, ◌<ℤ◌, true, false, Option, Some, None, MatchOption, List}
+use Rattle.std.specs.Prelude.{[], ◌∷◌, ◌++◌, length, All, Contains}
 use Rattle.std.specs.Prelude.{IsPermutation, IsSortedByKey, map, codes, decimal}
 use Rattle.std.specs.List.{flat_map}
 use Rattle.std.specs.Ordering.{nat_cmp}
@@ -52,16 +53,21 @@ pair_text e = e.0 ++ codes " " ++ signed_decimal e.1
 abbrev pub Answers : List (List ℕ × ℤ) → Query → List ℕ → Type 0
 Answers pairs Count text = text ≡ output_line (decimal (length pairs))
 Answers pairs (ReduceSum t) text = text ≡ output_line (signed_decimal (sum_of (map (λ e. e.1) pairs)))
-Answers pairs (ReduceMax t) text = (best : Option ℤ) × IsGreatest (map (λ e. e.1) pairs) best × (text ≡ output_line (option_text best))
-Answers pairs (SearchAbove v t) text = (found : Option ℤ) × IsAbove v (map (λ e. e.1) pairs) found × (text ≡ output_line (option_text found))
-Answers pairs (Listing t) text = (sorted : List (List ℕ × ℤ)) × IsPermutation pairs sorted × IsSortedByKey (λ e. e.0) (slice_cmp nat_cmp) sorted
+Answers pairs (ReduceMax t) text = (best : Option ℤ) × IsGreatest (map (λ e. e.1) pairs) best
+    × (text ≡ output_line (option_text best))
+Answers pairs (SearchAbove v t) text = (found : Option ℤ) × IsAbove v (map (λ e. e.1) pairs) found
+    × (text ≡ output_line (option_text found))
+Answers pairs (Listing t) text = (sorted : List (List ℕ × ℤ)) × IsPermutation pairs sorted
+    × IsSortedByKey (λ e. e.0) (slice_cmp nat_cmp) sorted
     × (text ≡ flat_map (λ e. output_line (pair_text e)) sorted)
 
 -- the lines that answer the queries, in their order
 abbrev pub AnswersAll : List (List ℕ × ℤ) → List Query → List ℕ → Type 0
 AnswersAll pairs [] text = text ≡ []
-AnswersAll pairs (q ∷ qs) text = (first rest : List ℕ) × Answers pairs q first × AnswersAll pairs qs rest × (text ≡ first ++ rest)
+AnswersAll pairs (q ∷ qs) text = (first rest : List ℕ) × Answers pairs q first × AnswersAll pairs qs rest
+    × (text ≡ first ++ rest)
 
 -- the output text: the clients with their replies, and then the answers
 abbrev pub IsOutput : List Query → Outcome → List ℕ → Type 0
-IsOutput queries o text = (answers : List ℕ) × AnswersAll o.pairs queries answers × (text ≡ clients_text 0 o.replies ++ answers)
+IsOutput queries o text = (answers : List ℕ) × AnswersAll o.pairs queries answers
+    × (text ≡ clients_text 0 o.replies ++ answers)

@@ -1,8 +1,9 @@
 //! What queries answer, by bulk operations on the closed map.
-ghost use Rattle.std.specs.Prelude.{◌≡◌, ℤ, List, ◌++◌, IfOk, OnOk, IsPermutation, IsSortedByKey, map};
+ghost use Rattle.std.specs.Prelude.{◌≡◌, ℤ, List, ◌++◌, IfOk, OnOk, IsPermutation, IsSortedByKey};
+ghost use Rattle.std.specs.Prelude.{map};
 ghost use Rattle.std.specs.Ordering.{nat_cmp};
 ghost use Rattle.std.specs.Cmp.Lexicographic.{slice_cmp};
-ghost use Rattle.chm.specs.Quiets.{entries_of};
+ghost use Rattle.chm.specs.Headline.{entries_of};
 ghost use Rattle.bulk_tasks.specs.Plans.{AreWorkers};
 ghost use Rattle.facing_cli.specs.Texts.{sum_of, IsGreatest, IsAbove, Answers, AnswersAll};
 
@@ -114,7 +115,8 @@ fn push_answer<R: Threads + Wait + Sync, G: ClientGate + Sync, A: Allocator + Cl
     query: &Query,
 ) -> Result<(), AllocError>
     requires { AreWorkers crew.now.workers }
-    ensures { OnOk result ((answer : List _) × Answers (entries_of quiet.now.bins) query.now answer × (text.new.items ≡ text.old.items ++ answer)) }
+    ensures { OnOk result ((answer : List _) × Answers (entries_of quiet.now.bins) query.now answer
+        × (text.new.items ≡ text.old.items ++ answer)) }
 {
     match query {
         Query::Count => push_number_line(text, quiet.mapping_count()),
@@ -151,7 +153,9 @@ pub(crate) fn push_answers<
     queries: &[Query],
 ) -> Result<(), AllocError>
     requires { AreWorkers crew.now.workers }
-    ensures { OnOk result ((answers : List _) × AnswersAll (entries_of quiet.now.bins) queries.now answers × (text.new.items ≡ text.old.items ++ answers)) }
+    ensures { OnOk result
+        ((answers : List _) × AnswersAll (entries_of quiet.now.bins) queries.now answers
+        × (text.new.items ≡ text.old.items ++ answers)) }
 {
     for query in queries {
         push_answer(rt, alloc, text, quiet, crew, query)?;

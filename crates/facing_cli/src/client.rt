@@ -30,7 +30,8 @@ pub(crate) struct Client<A: Allocator> {
     pub(crate) replies: Option<Result<Vec<Reply<i64>, A>, Fault>>,
 }
 
-/// Makes the calls of one client, and answers their replies. It is refused for want of memory alone.
+/// Makes the calls of one client, and answers their replies. It is refused for want of memory
+/// alone.
 fn make_calls<R: Wait, G: ClientGate, A: Allocator + Clone>(
     rt: &R,
     map: &ScriptMap<A>,

@@ -1,7 +1,8 @@
 //! The words of the command line.
 ghost use Rattle.std.specs.Prelude.{◌≡◌, ◌∷◌, false, map, codes, string_bytes, IfOk, IfErr, IfSome};
 ghost use Rattle.clap.specs.Words.{app_of, found_of, matches_of, one_of, rows_of, rule_of};
-ghost use Rattle.facing_cli.specs.CommandLine.{workers_rule, capacity_rule, salt_rule, file_rule, program, SaysNumber, AreRead, AreSaid};
+ghost use Rattle.facing_cli.specs.CommandLine.{workers_rule, capacity_rule, salt_rule, file_rule};
+ghost use Rattle.facing_cli.specs.CommandLine.{program, SaysNumber, AreRead, AreSaid};
 ghost use Rattle.facing_cli.specs.Statuses.{EndsWords};
 
 use crate::fault::Fault;
@@ -12,11 +13,13 @@ use clap::{Arg, ArgAction, ArgMatches, Command};
 use hashkeys::Salt;
 use std::alloc::{AllocError, Global};
 
-/// What is told where an option has no number or FILE no text, which the command's defaults and its required FILE rule out.
+/// What is told where an option has no number or FILE no text, which the command's defaults and its
+/// required FILE rule out.
 const NOT_SAID: &str = "mapcli: an option or FILE is not given\n";
 
-/// The options and FILE that the words after the program's name say: of each option the number on the line, and where
-/// the line has none its default. Wrong words, and words that ask for help, end with the text that tells so.
+/// The options and FILE that the words after the program's name say: of each option the number on
+/// the line, and where the line has none its default. Wrong words, and words that ask for help, end
+/// with the text that tells so.
 pub fn words(alloc: Global, words: &[String]) -> Result<(Options, String), Fault>
     ensures said { IfOk result (λ r. AreSaid (map string_bytes words.now) r.0 (string_bytes r.1)) }
     ensures ended { IfErr result EndsWords }
@@ -27,7 +30,8 @@ pub fn words(alloc: Global, words: &[String]) -> Result<(Options, String), Fault
 
 /// The words with the program's name before them.
 fn whole_line<'a>(alloc: Global, words: &'a [String]) -> Result<Vec<&'a str>, AllocError>
-    ensures { IfOk result (λ line. map (λ s. s.now) line.items ≡ codes "mapcli" ∷ map string_bytes words.now) }
+    ensures { IfOk result
+        (λ line. map (λ s. s.now) line.items ≡ codes "mapcli" ∷ map string_bytes words.now) }
 {
     let mut line: Vec<&str> = Vec::with_capacity(alloc, words.len().saturating_add(1))?;
     line.push("mapcli")?;
@@ -38,7 +42,8 @@ fn whole_line<'a>(alloc: Global, words: &'a [String]) -> Result<Vec<&'a str>, Al
 }
 
 fn read_words<'a>(alloc: Global, line: &'a [&'a str]) -> Result<(Options, String), Fault>
-    ensures said { IfOk result (λ r. AreRead (matches_of program (map (λ s. s.now) line.now)) r.0 (string_bytes r.1)) }
+    ensures said { IfOk result (λ r. AreRead (matches_of program (map (λ s. s.now) line.now)) r.0
+        (string_bytes r.1)) }
     ensures ended { IfErr result EndsWords }
 {
     match command(alloc)?.try_get_matches_from(line) {
@@ -49,7 +54,8 @@ fn read_words<'a>(alloc: Global, line: &'a [&'a str]) -> Result<(Options, String
 
 /// The options and FILE of a command line that was taken.
 fn read_matches(alloc: Global, matches: &ArgMatches<'_>) -> Result<(Options, String), Fault>
-    ensures said { IfOk result (λ r. AreRead (rows_of (found_of matches.now)) r.0 (string_bytes r.1)) }
+    ensures said { IfOk result
+        (λ r. AreRead (rows_of (found_of matches.now)) r.0 (string_bytes r.1)) }
     ensures ended { IfErr result EndsWords }
 {
     let Some(workers) = number(matches, "workers") else {

@@ -1,5 +1,6 @@
 //! What bytes are read from and written to.
-ghost use Rattle.std.specs.Prelude.{◌≡◌, ℕ, ◌<◌, ◌+◌, ◌^◌, ◌%◌, List, Option, IfOk, is_ok, length, if◌then◌else◌};
+ghost use Rattle.std.specs.Prelude.{◌≡◌, ℕ, ◌<◌, ◌+◌, ◌^◌, ◌%◌, List, Option, IfOk, is_ok, length};
+ghost use Rattle.std.specs.Prelude.{if◌then◌else◌};
 ghost use Rattle.std.specs.Io.{ReadsAtMost, WritesAtMost};
 ghost use Rattle.std.specs.Io.KnownBytes.{ReadConsumes, WriteAppends};
 ghost use Rattle.facing_cli.specs.Devices.{failures_after};
@@ -17,16 +18,16 @@ pub trait Input {
 
     ghost failures: { Self → ℕ };
 
-    /// Reads some bytes into the front of the buffer and answers how many; 0 at the end of the input alone,
-    /// where the buffer has room.
+    /// Reads some bytes into the front of the buffer and answers how many; 0 at the end of the
+    /// input alone, where the buffer has room.
     fn read(&mut self, buffer: &mut [u8]) -> Result<usize, DeviceError>
         ensures bound { ReadsAtMost result buffer.new }
         ensures bytes { ReadConsumes (remaining self.old) (remaining self.new) result buffer.new }
         ensures failures { failures self.new ≡ failures_after result (failures self.old) };
 }
 
-/// What bytes are written to. It counts the writes that failed, modulo 2^64. A write that takes no byte of a piece
-/// that has some is one that failed.
+/// What bytes are written to. It counts the writes that failed, modulo 2^64. A write that takes no
+/// byte of a piece that has some is one that failed.
 pub trait Output {
     // The bytes that were written, where they are known.
     ghost contents: { Self → Option (List ℕ) };

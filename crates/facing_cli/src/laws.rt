@@ -13,20 +13,24 @@ ghost use Rattle.facing_cli.specs.Texts.{IsOutput};
 
 /// With one client and no `search` line the output text is a function of the script's text.
 pub fn one_output()
-    ensures text { (text one other : List ℕ) → IsDetermined text → IsOutputOf text one → IsOutputOf text other → one ≡ other }
-    ensures script { (calls : List ScriptCall) (queries : List Query) (o p : Outcome) (one other : List ℕ)
+    ensures text { (text one other : List ℕ) → IsDetermined text → IsOutputOf text one →
+        IsOutputOf text other → one ≡ other }
+    ensures script { (calls : List ScriptCall) (queries : List Query) (o p : Outcome)
+        (one other : List ℕ)
         → HasNoSearch queries → IsAllowed (calls ∷ []) o → IsAllowed (calls ∷ []) p
         → IsOutput queries o one → IsOutput queries p other → one ≡ other }
 {}
 
-/// In an allowed outcome each key by itself has a history: the calls on it of each client, in that client's order and with the replies, as those of one cell.
+/// In an allowed outcome each key by itself has a history: the calls on it of each client, in that
+/// client's order and with the replies, as those of one cell.
 pub fn each_key()
     ensures { (blocks : List (List ScriptCall)) (o : Outcome) (k : List ℕ)
         → IsAllowed blocks o
         → (rs : List (RecordView (List ℕ) ℤ Function)) × IsHistoryOf blocks o k rs }
 {}
 
-/// Two clients that each put a key and then miss the other's put have no allowed outcome: in one order of all calls, one of the two puts comes first.
+/// Two clients that each put a key and then miss the other's put have no allowed outcome: in one
+/// order of all calls, one of the two puts comes first.
 pub fn no_crossed_misses()
     ensures { (x y : List ℕ) (a b : ℤ) (o : Outcome) → x ≢ y
         → o.replies ≡ (Value None ∷ Value None ∷ []) ∷ (Value None ∷ Value None ∷ []) ∷ []

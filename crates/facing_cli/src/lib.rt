@@ -1,6 +1,6 @@
-//! What the program `mapcli` does, for any input and output: `words` reads a command line, `run` runs a script of client
-//! blocks over a concurrent hash map, all clients at the same time, and answers queries of it, and `status`, `line` and
-//! `tell` say how a run ended.
+//! What the program `mapcli` does, for any input and output: `words` reads a command line, `run`
+//! runs a script of client blocks over a concurrent hash map, all clients at the same time, and
+//! answers queries of it, and `status`, `line` and `tell` say how a run ended.
 #![tactic(auto)]
 
 mod answers;

@@ -8,8 +8,9 @@ use bulk_tasks::MOST_WORKERS;
 use hashkeys::Salt;
 use std::marker::Model;
 
-/// How many workers answer queries, 1 to 16; how many bins the map opens with at least, 1 to 4,096; and the
-/// salt of its hashes. They change no reply and no answer of a script with one client and no `search` line.
+/// How many workers answer queries, 1 to 16; how many bins the map opens with at least, 1 to 4,096;
+/// and the salt of its hashes. They change no reply and no answer of a script with one client and
+/// no `search` line.
 #[derive(Clone, Copy, Debug, PartialEq, Eq)]
 pub struct Options {
     workers: usize,
@@ -35,9 +36,11 @@ impl Options {
     /// These options with salt 0.
     pub fn new(workers: usize, capacity: usize) -> Result<Options, Fault>
         ensures ok { IsOk result ↔ (IsCapacity capacity × AreWorkers workers) }
-        ensures options { IfOk result (λ o. o ≡ record { workers = workers; capacity = capacity; salt = record { 0 = 0 } }) }
+        ensures options { IfOk result
+            (λ o. o ≡ record { workers = workers; capacity = capacity; salt = record { 0 = 0 } }) }
         ensures capacity { IsErrOf result Fault.BadCapacity ↔ (¬ IsCapacity capacity) }
-        ensures workers { IsErrOf result Fault.BadWorkers ↔ (IsCapacity capacity × (¬ AreWorkers workers)) }
+        ensures workers { IsErrOf result Fault.BadWorkers
+            ↔ (IsCapacity capacity × (¬ AreWorkers workers)) }
     {
         Options::with_salt(workers, capacity, Salt(0))
     }
@@ -45,9 +48,11 @@ impl Options {
     /// These options: the capacity is tested first.
     pub fn with_salt(workers: usize, capacity: usize, salt: Salt) -> Result<Options, Fault>
         ensures ok { IsOk result ↔ (IsCapacity capacity × AreWorkers workers) }
-        ensures options { IfOk result (λ o. o ≡ record { workers = workers; capacity = capacity; salt = salt }) }
+        ensures options { IfOk result
+            (λ o. o ≡ record { workers = workers; capacity = capacity; salt = salt }) }
         ensures capacity { IsErrOf result Fault.BadCapacity ↔ (¬ IsCapacity capacity) }
-        ensures workers { IsErrOf result Fault.BadWorkers ↔ (IsCapacity capacity × (¬ AreWorkers workers)) }
+        ensures workers { IsErrOf result Fault.BadWorkers
+            ↔ (IsCapacity capacity × (¬ AreWorkers workers)) }
     {
         if capacity < 1 || capacity > 4096 {
             return Err(Fault::BadCapacity);

@@ -1,13 +1,15 @@
 //! The client blocks of a script, each played by a thread of its own on one map.
-ghost use Rattle.std.specs.Prelude.{◌≡◌, ◌≤◌, ◌<◌, ℕ, [], length, map, All, Some, None, Ok, IfOk, IfErr, vec_len, vec_capacity, slice_index_or};
-ghost use Rattle.chm.specs.Quiets.{entries_of};
+ghost use Rattle.std.specs.Prelude.{◌≡◌, ◌≤◌, ◌<◌, ℕ, [], length, map, All, Some, None, Ok, IfOk};
+ghost use Rattle.std.specs.Prelude.{IfErr, vec_len, vec_capacity, slice_index_or};
+ghost use Rattle.chm.specs.Headline.{entries_of};
 ghost use Rattle.chm.specs.declared.fault.Fault.TheVariants.{NoMemory};
 ghost use Rattle.count_ledger.specs.Opening.{new_passes};
 ghost use Rattle.script.specs.Verdicts.{IsWithinLimits};
 ghost use Rattle.facing_cli.specs.Failures.{IsOfPlay};
 ghost use Rattle.facing_cli.specs.Outcomes.{IsAllowed};
 ghost use Rattle.count_ledger.specs.Opening.{lists_of};
-ghost use Rattle.facing_cli.specs.Played.{passes_of, outcome_of, ArePlayed, HasAnswer, HasEnded, IsSeated};
+ghost use Rattle.facing_cli.specs.Played.{passes_of, outcome_of, ArePlayed, HasAnswer, HasEnded};
+ghost use Rattle.facing_cli.specs.Played.{IsSeated};
 
 use crate::client::{Client, ScriptMap, ScriptPass};
 use crate::gate::ClientGate;
@@ -29,8 +31,10 @@ type Replies<A> = Vec<Vec<Reply<i64>, A>, A>;
 fn room_for<A: Allocator + Clone>(
     blocks: &Vec<Vec<ScriptCall, A>, A>,
 ) -> Result<(Vec<Client<A>, A>, Replies<A>), AllocError>
-    ensures clients { IfOk result (λ room. (room.0.items ≡ []) × (vec_capacity room.0 ≡ vec_len blocks.now)) }
-    ensures replies { IfOk result (λ room. (room.1.items ≡ []) × (vec_capacity room.1 ≡ vec_len blocks.now)) }
+    ensures clients { IfOk result
+        (λ room. (room.0.items ≡ []) × (vec_capacity room.0 ≡ vec_len blocks.now)) }
+    ensures replies { IfOk result
+        (λ room. (room.1.items ≡ []) × (vec_capacity room.1 ≡ vec_len blocks.now)) }
 {
     let replies = Vec::with_capacity(blocks.allocator().clone()?, blocks.len())?;
     let clients = Vec::with_capacity(blocks.allocator().clone()?, blocks.len())?;
@@ -61,8 +65,8 @@ fn seat<A: Allocator>(
     }
 }
 
-/// All clients make their calls at the same time, each in a thread of its own; one whose thread can't be started
-/// makes them in a thread that there is. All have ended when this returns.
+/// All clients make their calls at the same time, each in a thread of its own; one whose thread
+/// can't be started makes them in a thread that there is. All have ended when this returns.
 fn play_clients<R: Threads + Wait + Sync, G: ClientGate + Sync, A: Allocator + Clone + Send + Sync>(
     rt: &R,
     map: &ScriptMap<A>,
@@ -71,7 +75,8 @@ fn play_clients<R: Threads + Wait + Sync, G: ClientGate + Sync, A: Allocator + C
 )
     requires { All (IsSeated map.now.ledger.id) clients.old }
     ensures len { length clients.new ≡ length clients.old }
-    ensures ended { (i : ℕ) (d : _) → i < length clients.old → HasEnded (slice_index_or clients.old i d) (slice_index_or clients.new i d) }
+    ensures ended { (i : ℕ) (d : _) → i < length clients.old →
+        HasEnded (slice_index_or clients.old i d) (slice_index_or clients.new i d) }
 {
     let play = |_place: usize, client: &mut Client<A>|
         requires { IsSeated map.now.ledger.id client.now }
@@ -88,9 +93,11 @@ fn gather<A: Allocator>(
 ) -> Result<Replies<A>, Fault>
     requires ended { All (HasAnswer (λ r. Unit {0})) clients.items }
     requires none { (passes.old.items ≡ []) × (replies.items ≡ []) }
-    requires room { (vec_len clients ≤ vec_capacity passes.old) × (vec_len clients ≤ vec_capacity replies) }
+    requires room { (vec_len clients ≤ vec_capacity passes.old)
+        × (vec_len clients ≤ vec_capacity replies) }
     ensures passes { passes.new.items ≡ passes_of clients.items }
-    ensures replies { IfOk result (λ r. map (λ c. c.replies) clients.items ≡ map (λ own. Some (Ok own)) r.items) }
+    ensures replies { IfOk result
+        (λ r. map (λ c. c.replies) clients.items ≡ map (λ own. Some (Ok own)) r.items) }
     ensures fault { IfErr result (λ fault. fault ≡ NoMemory) }
 {
     let mut refused = None;
@@ -125,7 +132,8 @@ fn play_blocks<R: Threads + Wait + Sync, G: ClientGate + Sync, A: Allocator + Cl
     requires limits { IsWithinLimits (lists_of blocks) }
     requires fresh { passes.old.items ≡ new_passes map.now.ledger.id (length blocks.items) }
     ensures ledger { All (λ p. p.ledger ≡ map.now.ledger.id) passes.new.items }
-    ensures played { IfOk result (λ replies. ArePlayed (lists_of blocks) (lists_of replies) passes.new.items) }
+    ensures played { IfOk result
+        (λ replies. ArePlayed (lists_of blocks) (lists_of replies) passes.new.items) }
     ensures fault { IfErr result (λ fault. fault ≡ NoMemory) }
 {
     let (mut clients, replies) = room_for(&blocks)?;

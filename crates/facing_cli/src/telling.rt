@@ -1,7 +1,10 @@
 //! How a run's end is told.
-ghost use Rattle.std.specs.Prelude.{◌≡◌, ◌⊎◌, true, false, IfOk, OnOk, string_bytes};
+ghost use Rattle.std.specs.Prelude.{◌≡◌, ◌⊎◌, true, false, IfOk, IsErrOf, OnOk, OnErr};
+ghost use Rattle.std.specs.Prelude.{string_bytes};
 ghost use Rattle.std.specs.Io.KnownBytes.{Appends};
-ghost use Rattle.facing_cli.specs.Statuses.{status_of, line_of, is_help};
+ghost use Rattle.facing_cli.specs.Devices.{AppendsFront};
+ghost use Rattle.facing_cli.specs.Failures.{count_after};
+ghost use Rattle.facing_cli.specs.Statuses.{status_of, line_of, is_help, is_of_script};
 
 use crate::device::Output;
 use crate::fault::Fault;
@@ -49,8 +52,10 @@ pub fn line(alloc: Global, fault: &Fault) -> Result<String, AllocError>
     }
 }
 
-/// Tells how a run ended: help to the output, any other end to where errors are told. What the machine did not give
-/// is told by a constant text, which needs no memory; where a line cannot be made for want of it, that is told.
+/// Tells how a run ended: help to the output, any other end to where errors are told. What the
+/// machine did not give is told by a constant text, which needs no memory; where the line of a
+/// script's fault cannot be made for want of it, that is told. Where a write fails the text was
+/// written in part, and the fault is `Device`.
 pub fn tell<O: Output, E: Output>(
     alloc: Global,
     output: &mut O,
@@ -59,9 +64,25 @@ pub fn tell<O: Output, E: Output>(
 ) -> Result<(), Fault>
     ensures help { is_help fault.now ≡ true → errors.new ≡ errors.old }
     ensures other { is_help fault.now ≡ false → output.new ≡ output.old }
-    ensures asked { OnOk result (is_help fault.now ≡ true → Appends (O.contents output.old) (O.contents output.new) (line_of fault.now)) }
-    ensures told { OnOk result (is_help fault.now ≡ false → (Appends (E.contents errors.old) (E.contents errors.new) (line_of fault.now))
+    ensures help_text { OnOk result (is_help fault.now ≡ true
+        → Appends (O.contents output.old) (O.contents output.new) (line_of fault.now)) }
+    ensures help_in_part { OnErr result (is_help fault.now ≡ true
+        → AppendsFront (O.contents output.old) (O.contents output.new) (line_of fault.now)) }
+    ensures error_text { OnOk result (is_help fault.now ≡ false → is_of_script fault.now ≡ false
+        → Appends (E.contents errors.old) (E.contents errors.new) (line_of fault.now)) }
+    ensures error_in_part { OnErr result (is_help fault.now ≡ false → is_of_script fault.now ≡ false
+        → AppendsFront (E.contents errors.old) (E.contents errors.new) (line_of fault.now)) }
+    ensures script_text { OnOk result (is_of_script fault.now ≡ true
+        → (Appends (E.contents errors.old) (E.contents errors.new) (line_of fault.now))
         ⊎ (Appends (E.contents errors.old) (E.contents errors.new) (line_of Fault.NoMemory))) }
+    ensures script_in_part { OnErr result (is_of_script fault.now ≡ true
+        → (AppendsFront (E.contents errors.old) (E.contents errors.new) (line_of fault.now))
+        ⊎ (AppendsFront (E.contents errors.old) (E.contents errors.new) (line_of Fault.NoMemory))) }
+    ensures faults { OnErr result (IsErrOf result Fault.Device) }
+    ensures help_failures { is_help fault.now ≡ true
+        → O.failures output.new ≡ count_after result (O.failures output.old) }
+    ensures error_failures { is_help fault.now ≡ false
+        → E.failures errors.new ≡ count_after result (E.failures errors.old) }
 {
     match fault {
         Fault::Help(text) => write_all(output, text.as_bytes()),

@@ -1,7 +1,8 @@
 //! The lines of the output.
 ghost use Rattle.std.specs.Prelude.{◌≡◌, ◌++◌, codes, IfOk, OnOk, map};
 ghost use Rattle.std.specs.List.{flat_map};
-ghost use Rattle.facing_cli.specs.Texts.{output_line, option_text, reply_text, clients_text, client_text, pair_text};
+ghost use Rattle.facing_cli.specs.Texts.{output_line, option_text, reply_text, clients_text};
+ghost use Rattle.facing_cli.specs.Texts.{client_text, pair_text};
 
 use bin_history::Reply;
 use hashkeys::Key;
@@ -88,7 +89,8 @@ pub(crate) fn push_clients<A: Allocator, B: Allocator>(
     text: &mut Vec<u8, A>,
     replies: &[Vec<Reply<i64>, B>],
 ) -> Result<(), AllocError>
-    ensures { OnOk result (text.new.items ≡ text.old.items ++ clients_text 0 (map (λ r. r.items) replies.now)) }
+    ensures { OnOk result
+        (text.new.items ≡ text.old.items ++ clients_text 0 (map (λ r. r.items) replies.now)) }
 {
     for (client, own) in replies.iter().enumerate() {
         push_client(text, client, own)?;
@@ -101,7 +103,8 @@ pub(crate) fn push_pairs<A: Allocator>(
     text: &mut Vec<u8, A>,
     pairs: &[(Key, i64)],
 ) -> Result<(), AllocError>
-    ensures { OnOk result (text.new.items ≡ text.old.items ++ flat_map (λ e. output_line (pair_text e)) pairs.now) }
+    ensures { OnOk result
+        (text.new.items ≡ text.old.items ++ flat_map (λ e. output_line (pair_text e)) pairs.now) }
 {
     for (key, value) in pairs {
         push(text, key.bytes())?;

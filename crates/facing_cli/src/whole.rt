@@ -22,7 +22,8 @@ pub(crate) fn read_all<I: Input, A: Allocator + Clone>(
     alloc: A,
     input: &mut I,
 ) -> Result<Vec<u8, A>, Fault>
-    ensures text { IfOk result (λ text. IfSome (I.remaining input.old) (λ bytes. text.items ≡ bytes)) }
+    ensures text { IfOk result
+        (λ text. IfSome (I.remaining input.old) (λ bytes. text.items ≡ bytes)) }
     ensures failures { I.failures input.new ≡ count_after result (I.failures input.old) }
     ensures faults { OnErr result (IsErrOf result Fault.Device ⊎ IsErrOf result Fault.NoMemory) }
 {
@@ -41,7 +42,8 @@ pub(crate) fn read_all<I: Input, A: Allocator + Clone>(
 /// Writes all bytes. Where a write fails, a beginning of them was written.
 pub(crate) fn write_all<O: Output>(output: &mut O, bytes: &[u8]) -> Result<(), Fault>
     ensures ok { OnOk result (Appends (O.contents output.old) (O.contents output.new) bytes.now) }
-    ensures err { OnErr result (AppendsFront (O.contents output.old) (O.contents output.new) bytes.now) }
+    ensures err { OnErr result
+        (AppendsFront (O.contents output.old) (O.contents output.new) bytes.now) }
     ensures failures { O.failures output.new ≡ count_after result (O.failures output.old) }
     ensures faults { OnErr result (IsErrOf result Fault.Device) }
 {

@@ -1,5 +1,6 @@
 -- Whether a call asked its function, by its answer and by whether the number of keys changed.
-use Rattle.std.proofs.Common.{◌≡◌, ℕ, ◌+◌, ◌%◌, ◌^◌, ◌<◌, Bool, true, false, not, ◌||◌, ◌==◌, Option, Some, None, is_some, List, [], ◌∷◌, ◌++◌, refl, sym, ap}
+use Rattle.std.proofs.Common.{◌≡◌, ℕ, ◌+◌, ◌%◌, ◌^◌, ◌<◌, Bool, true, false, not, ◌||◌, ◌==◌, Option, Some, None}
+use Rattle.std.proofs.Common.{is_some, List, [], ◌∷◌, ◌++◌, refl, sym, ap}
 use Rattle.std.proofs.Common.{◌∙◌, arith}
 use Rattle.std.proofs.lemmas.Bool.{eq-eqb, ne_eqb}
 use Rattle.bin_history.specs.Calls.{after}
@@ -9,7 +10,7 @@ use Rattle.bin_history.specs.declared.call.Call.{Call}
 use Rattle.bin_history.specs.declared.call.Call.TheVariants.{ComputeIfAbsent, ComputeIfPresent, Merge}
 use Rattle.bin_history.specs.declared.call.Reply.{Reply}
 use Rattle.bin_history.specs.declared.call.Reply.TheVariants.{Value, Truth}
-use Rattle.chm.specs.Called.{IsMade}
+use Rattle.chm.specs.Headline.{IsMade}
 use Rattle.facingberyl.specs.Computed.{asks, IsTold}
 use Rattle.count_ledger.specs.Views.{PassView}
 use Rattle.count_ledger.specs.Words.{word_of}
@@ -31,7 +32,8 @@ word_up a b small is = ap not (ne_eqb b a (λ e. omega (arith, e, is)))
 word_down : (a b : ℕ) → a < 2 ^ 64 → b ≡ (a + 18446744073709551615) % 2 ^ 64 → not (b == a) ≡ true
 word_down a b small is = ap not (ne_eqb b a (λ e. omega (arith, e, is)))
 
-changed_word : {V : Type 0} (before after : Option V) (a b : ℕ) → a < 2 ^ 64 → b ≡ (a + word_of (change_of_count before after)) % 2 ^ 64
+changed_word : {V : Type 0} (before after : Option V) (a b : ℕ) → a < 2 ^ 64 →
+    b ≡ (a + word_of (change_of_count before after)) % 2 ^ 64
     → not (b == a) ≡ changes before after
 changed_word None None = same_word
 changed_word None (Some y) = word_up
@@ -39,11 +41,13 @@ changed_word (Some x) None = word_down
 changed_word (Some x) (Some y) = same_word
 
 module _ {K V F : Type 0} (made : List (RecordView K V F)) (r : RecordView K V F) where
-  changed_balance : (a b : ℕ) → a < 2 ^ 64 → a ≡ word_of (sum_of_deltas made) → b ≡ word_of (sum_of_deltas (made ++ r ∷ []))
+  changed_balance : (a b : ℕ) → a < 2 ^ 64 → a ≡ word_of (sum_of_deltas made) →
+      b ≡ word_of (sum_of_deltas (made ++ r ∷ []))
       → not (b == a) ≡ changes r.before r.after
   changed_balance a b small a_is b_is =
       changed_word r.before r.after a b small
-      (b_is ∙ ap word_of (sum_of_deltas-push made r) ∙ word_of-add (sum_of_deltas made) (delta r) ∙ ap (λ (n : ℕ). (n + word_of (delta r)) % 2 ^ 64) (sym a_is))
+      (b_is ∙ ap word_of (sum_of_deltas-push made r) ∙ word_of-add (sum_of_deltas made) (delta r)
+      ∙ ap (λ (n : ℕ). (n + word_of (delta r)) % 2 ^ 64) (sym a_is))
 
 -- the answers
 module _ {V : Type 0} where
@@ -54,7 +58,8 @@ module _ {V : Type 0} where
   asked_on_absent (Some x) None keeps = (let kept = keeps x refl in absurd cc)
   asked_on_absent (Some x) (Some y) keeps = refl
 
-  asked_on_present : (before after : Option V) → (before ≡ None → after ≡ None) → is_some after || changes before after ≡ is_some before
+  asked_on_present : (before after : Option V) → (before ≡ None → after ≡ None) → is_some after || changes before after
+      ≡ is_some before
   asked_on_present None None keeps = refl
   asked_on_present None (Some y) keeps = (let kept = keeps refl in absurd cc)
   asked_on_present (Some x) None keeps = refl
@@ -75,43 +80,54 @@ other : (b n : Bool) → b ≡ not n → n ≡ not b
 other b true e = ap not (sym e)
 other b false e = ap not (sym e)
 
-module _ {K V F : Type 0} (same_value : V → V → Bool) (remapped : F → K → Option V → Option V) (merged : F → V → V → Option V)
+module _ {K V F : Type 0} (same_value : V → V → Bool) (remapped : F → K → Option V → Option V)
+    (merged : F → V → V → Option V)
     (old mid made new : PassView K V F) (a b : ℕ) (value : Option V)
     (mid_is : mid ≡ old) (new_is : new ≡ made) (small : a < 2 ^ 64) (a_is : a ≡ word_of (sum_of_deltas old.made))
     (b_is : b ≡ word_of (sum_of_deltas made.made)) where
-  told : (call : Call K V F) (answer : Reply V) (r : RecordView K V F) (test : Bool → Bool) → IsMade same_value remapped merged call mid made answer r
+  told : (call : Call K V F) (answer : Reply V) (r : RecordView K V F) (test : Bool → Bool) →
+      IsMade same_value remapped merged call mid made answer r
       → test (changes r.before r.after) ≡ asks call r.before → IsTold call old new (test (not (b == a)))
   told call answer r test is asked =
-      let made_is : made.made ≡ old.made ++ r ∷ [] = ap (λ (p : PassView K V F). p.made) is.pass ∙ ap (λ (p : PassView K V F). p.made ++ r ∷ []) mid_is in (
+      let made_is : made.made ≡ old.made ++ r ∷ [] = ap (λ (p : PassView K V F). p.made) is.pass
+      ∙ ap (λ (p : PassView K V F). p.made ++ r ∷ []) mid_is in (
         r,
         ap (λ (p : PassView K V F). p.made) new_is ∙ made_is,
         is.call_is,
-        ap test (changed_balance old.made r a b small a_is (b_is ∙ ap (λ (rs : List (RecordView K V F)). word_of (sum_of_deltas rs)) made_is)) ∙ asked,
+        ap test (changed_balance old.made r a b small a_is
+            (b_is ∙ ap (λ (rs : List (RecordView K V F)). word_of (sum_of_deltas rs)) made_is)) ∙ asked,
       )
 
-  pub told-absent : (k : K) (f : F) (answer : Reply V) (r : RecordView K V F) (none : Bool) → answer ≡ Value value → is_some value ≡ not none
+  pub told-absent : (k : K) (f : F) (answer : Reply V) (r : RecordView K V F) (none : Bool) → answer ≡ Value value →
+      is_some value ≡ not none
       → IsMade same_value remapped merged (ComputeIfAbsent k f) mid made answer r
       → IsTold (ComputeIfAbsent k f) old new (none || not (b == a))
   told-absent k f answer r none value_is none_is is =
       let same : value ≡ r.after = ap value_of (sym value_is ∙ is.reply_is) in
       told (ComputeIfAbsent k f) answer r (λ c. none || c) is
-      (ap (λ (n : Bool). n || changes r.before r.after) (other (is_some value) none none_is ∙ ap (λ (v : Option V). not (is_some v)) same)
-      ∙ asked_on_absent r.before r.after (λ x e. is.left ∙ ap (after same_value remapped merged (ComputeIfAbsent k f)) e))
+      (ap (λ (n : Bool). n || changes r.before r.after)
+      (other (is_some value) none none_is ∙ ap (λ (v : Option V). not (is_some v)) same)
+      ∙ asked_on_absent r.before r.after
+      (λ x e. is.left ∙ ap (after same_value remapped merged (ComputeIfAbsent k f)) e))
 
-  pub told-present : (k : K) (f : F) (answer : Reply V) (r : RecordView K V F) (some : Bool) → answer ≡ Value value → some ≡ is_some value
+  pub told-present : (k : K) (f : F) (answer : Reply V) (r : RecordView K V F) (some : Bool) → answer ≡ Value value →
+      some ≡ is_some value
       → IsMade same_value remapped merged (ComputeIfPresent k f) mid made answer r
       → IsTold (ComputeIfPresent k f) old new (some || not (b == a))
   told-present k f answer r some value_is some_is is =
       let same : value ≡ r.after = ap value_of (sym value_is ∙ is.reply_is) in
       told (ComputeIfPresent k f) answer r (λ c. some || c) is
       (ap (λ (n : Bool). n || changes r.before r.after) (some_is ∙ ap (λ (v : Option V). is_some v) same)
-      ∙ asked_on_present r.before r.after (λ e. is.left ∙ ap (after same_value remapped merged (ComputeIfPresent k f)) e))
+      ∙ asked_on_present r.before r.after
+      (λ e. is.left ∙ ap (after same_value remapped merged (ComputeIfPresent k f)) e))
 
-  pub told-merge : (k : K) (v : V) (f : F) (answer : Reply V) (r : RecordView K V F) (none : Bool) → answer ≡ Value value → is_some value ≡ not none
+  pub told-merge : (k : K) (v : V) (f : F) (answer : Reply V) (r : RecordView K V F) (none : Bool) →
+      answer ≡ Value value → is_some value ≡ not none
       → IsMade same_value remapped merged (Merge k v f) mid made answer r
       → IsTold (Merge k v f) old new (none || not (not (b == a)))
   told-merge k v f answer r none value_is none_is is =
       let same : value ≡ r.after = ap value_of (sym value_is ∙ is.reply_is) in
       told (Merge k v f) answer r (λ c. none || not c) is
-      (ap (λ (n : Bool). n || not (changes r.before r.after)) (other (is_some value) none none_is ∙ ap (λ (w : Option V). not (is_some w)) same)
+      (ap (λ (n : Bool). n || not (changes r.before r.after))
+      (other (is_some value) none none_is ∙ ap (λ (w : Option V). not (is_some w)) same)
       ∙ asked_on_merge v r.before r.after (λ e. is.left ∙ ap (after same_value remapped merged (Merge k v f)) e))

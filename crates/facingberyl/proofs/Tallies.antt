@@ -1,6 +1,8 @@
 -- A key to which clients only added 1 has as its value how often they did.
-use Rattle.std.proofs.Common.{◌≡◌, ℕ, zero, suc, ◌+◌, ◌*◌, ◌^◌, ◌<◌, ◌≤◌, Bool, true, false, cond, ◌⊎◌, inl, inr, ◌==◌, Option, Some, None, List, [], ◌∷◌, Vec}
-use Rattle.std.proofs.Common.{length, map, take, count_by, sum_by, All, slice_index_or, refl, sym, ap, ◌∙◌, subst, arith}
+use Rattle.std.proofs.Common.{◌≡◌, ℕ, zero, suc, ◌+◌, ◌*◌, ◌^◌, ◌<◌, ◌≤◌, Bool, true, false, cond, ◌⊎◌, inl, inr, ◌==◌}
+use Rattle.std.proofs.Common.{Option, Some, None, List, [], ◌∷◌, Vec}
+use Rattle.std.proofs.Common.{length, map, take, count_by, sum_by, All, slice_index_or, refl, sym, ap, ◌∙◌, subst}
+use Rattle.std.proofs.Common.{arith}
 use Rattle.std.proofs.lemmas.List.{take_all}
 use Rattle.std.proofs.lemmas.List.Elements.{All-nil, All-cons, All-head, All-tail, All-filter}
 use Rattle.std.proofs.lemmas.Bool.{cases_eq, eq-eqb, ne_eqb}
@@ -11,8 +13,7 @@ use Rattle.bin_history.specs.Clients.{by_client}
 use Rattle.bin_history.specs.Entries.{lookup}
 use Rattle.bin_history.specs.declared.call.Call.{Call}
 use Rattle.bin_history.specs.declared.call.Call.TheVariants.{Merge}
-use Rattle.chm.specs.Orders.{IsHistoryOfKey}
-use Rattle.chm.specs.Quiets.{QuietView, entries_of}
+use Rattle.chm.specs.Headline.{IsHistoryOfKey, QuietView, entries_of}
 use Rattle.functions.specs.declared.numbers.Add.{Add}
 use Rattle.bin_history.specs.Records.{RecordView}
 use Rattle.count_ledger.specs.Views.{PassView}
@@ -36,19 +37,23 @@ added-none zero = refl
 added-none (suc n) = refl
 
 -- a cell that is only added 1 to
-module _ {K : Type 0} (after : Call K ℕ Add → Option ℕ → Option ℕ) (none : (k : K) (f : Add) → after (Merge k 1 f) None ≡ Some 1)
+module _ {K : Type 0} (after : Call K ℕ Add → Option ℕ → Option ℕ) (none : (k : K) (f : Add) →
+    after (Merge k 1 f) None ≡ Some 1)
     (some : (k : K) (f : Add) (n : ℕ) → n + 1 < 2 ^ 64 → after (Merge k 1 f) (Some n) ≡ Some (n + 1)) where
-  step : (r : RecordView K ℕ Add) (cell : Option ℕ) → amount cell + 1 < 2 ^ 64 → AddsOne r → r.before ≡ cell → r.after ≡ after r.call r.before
+  step : (r : RecordView K ℕ Add) (cell : Option ℕ) → amount cell + 1 < 2 ^ 64 → AddsOne r → r.before ≡ cell →
+      r.after ≡ after r.call r.before
       → r.after ≡ added cell 1
   step r None room (f, is) before left = left ∙ (λ i. after (is i) (before i)) ∙ none (key_of r.call) f
   step r (Some n) room (f, is) before left = left ∙ (λ i. after (is i) (before i)) ∙ some (key_of r.call) f n room
 
-  counts-up : (cell : Option ℕ) (rs : List (RecordView K ℕ Add)) → amount cell + length rs < 2 ^ 64 → All AddsOne rs → IsCellHistory after cell rs
+  counts-up : (cell : Option ℕ) (rs : List (RecordView K ℕ Add)) → amount cell + length rs < 2 ^ 64 → All AddsOne rs →
+      IsCellHistory after cell rs
       → cell_after cell rs ≡ added cell (length rs)
   counts-up cell [] room ones legal = refl
   counts-up cell (r ∷ rs) room ones (before, left, rest) =
       let next = step r cell (omega arith) (All-head AddsOne r rs ones) before left in
-      counts-up r.after rs (let more = ap amount next ∙ amount_added cell in omega arith) (All-tail AddsOne r rs ones) rest
+      counts-up r.after rs (let more = ap amount next ∙ amount_added cell in
+      omega arith) (All-tail AddsOne r rs ones) rest
       ∙ ap (λ (c : Option ℕ). added c (length rs)) next
       ∙ more cell
     where
@@ -71,7 +76,8 @@ total-zero (suc n) = let ih = total-zero n in omega arith
 
 total-same : (f g : ℕ → ℕ) (n : ℕ) → ((c : ℕ) → c < n → f c ≡ g c) → total f n ≡ total g n
 total-same f g zero same = refl
-total-same f g (suc n) same = let ih = total-same f g n (λ c lt. same c (omega arith)) in let here = same n (omega arith) in omega arith
+total-same f g (suc n) same = let ih = total-same f g n (λ c lt. same c (omega arith)) in
+    let here = same n (omega arith) in omega arith
 
 abbrev weight : Bool → ℕ
 weight b = cond b 1 0
@@ -106,11 +112,13 @@ length-cond false x xs = omega arith
 
 module _ {K : Type 0} where
   -- each record is some client's
-  length-clients : (n : ℕ) (rs : List (RecordView K ℕ Add)) → All (λ r. r.client < n) rs → total (λ c. length (by_client c rs)) n ≡ length rs
+  length-clients : (n : ℕ) (rs : List (RecordView K ℕ Add)) → All (λ r. r.client < n) rs →
+      total (λ c. length (by_client c rs)) n ≡ length rs
   length-clients n [] known = total-zero n
   length-clients n (r ∷ rs) known =
       let rest = length-clients n rs (All-tail (λ (x : RecordView K ℕ Add). x.client < n) r rs known) in
-      let bump = total-bump (λ c. length (by_client c rs)) (λ c. length (by_client c (r ∷ rs))) r.client n (λ c. length-cond (r.client == c) r (by_client c rs))
+      let bump = total-bump (λ c. length (by_client c rs)) (λ c. length (by_client c (r ∷ rs))) r.client n
+      (λ c. length-cond (r.client == c) r (by_client c rs))
       (All-head (λ (x : RecordView K ℕ Add). x.client < n) r rs known) in
       omega arith
 
@@ -120,16 +128,19 @@ module _ {K : Type 0} where
   all-clients P n [] known each = All-nil P
   all-clients P n (r ∷ rs) known each =
       All-cons P r rs
-      (All-head P r (by_client r.client rs) (subst (λ (b : Bool). All P (cond b (r ∷ by_client r.client rs) (by_client r.client rs)))
+      (All-head P r (by_client r.client rs)
+      (subst (λ (b : Bool). All P (cond b (r ∷ by_client r.client rs) (by_client r.client rs)))
       (eq-eqb r.client r.client refl) (each r.client (All-head (λ (x : RecordView K ℕ Add). x.client < n) r rs known))))
-      (all-clients P n rs (All-tail (λ (x : RecordView K ℕ Add). x.client < n) r rs known) (λ c lt. go c (r.client == c) (each c lt)))
+      (all-clients P n rs (All-tail (λ (x : RecordView K ℕ Add). x.client < n) r rs known)
+      (λ c lt. go c (r.client == c) (each c lt)))
     where
       go : (c : ℕ) (b : Bool) → All P (cond b (r ∷ by_client c rs) (by_client c rs)) → All P (by_client c rs)
       go c true all = All-tail P r (by_client c rs) all
       go c false all = all
 
 -- a sum over a list, by places
-total-list : {X : Type 0} (f : X → ℕ) (d : X) (xs : List X) (n : ℕ) → n ≤ length xs → total (λ c. f (slice_index_or xs c d)) n ≡ sum_by f (take n xs)
+total-list : {X : Type 0} (f : X → ℕ) (d : X) (xs : List X) (n : ℕ) → n ≤ length xs →
+    total (λ c. f (slice_index_or xs c d)) n ≡ sum_by f (take n xs)
 total-list f d xs zero le = refl
 total-list f d xs (suc n) le =
     let rest = total-list f d xs n (omega arith) in
@@ -150,15 +161,18 @@ module _ {K : Type 0} (same : K → K → Bool) where
   times-le : (w : K) (ws : List K) → times same w ws ≤ length ws
   times-le w [] = omega arith
   times-le w (x ∷ ws) = go (same x w) (times-le w ws) (sum_by-cons (λ y. cond (same y w) 1 0) x ws) where
-    go : (b : Bool) → times same w ws ≤ length ws → times same w (x ∷ ws) ≡ cond b 1 0 + times same w ws → times same w (x ∷ ws) ≤ length (x ∷ ws)
+    go : (b : Bool) → times same w ws ≤ length ws → times same w (x ∷ ws) ≡ cond b 1 0 + times same w ws →
+        times same w (x ∷ ws) ≤ length (x ∷ ws)
     go true ih e = omega arith
     go false ih e = omega arith
 
   module _ (after : Call K ℕ Add → Option ℕ → Option ℕ) (none : (k : K) (f : Add) → after (Merge k 1 f) None ≡ Some 1)
       (some : (k : K) (f : Add) (n : ℕ) → n + 1 < 2 ^ 64 → after (Merge k 1 f) (Some n) ≡ Some (n + 1))
-      (q : QuietView K ℕ Add) (lists : List (List K)) (clients : q.ledger.clients ≡ length lists) (as_many : length q.passes ≡ length lists)
+      (q : QuietView K ℕ Add) (lists : List (List K)) (clients : q.ledger.clients ≡ length lists)
+      (as_many : length q.passes ≡ length lists)
       (opening : q.ledger.opening ≡ []) (counted : AllCounted lists q.passes) where
-    module _ (w : K) (rs : List (RecordView K ℕ Add)) (room : times_in_all same w lists < 2 ^ 64) (h : IsHistoryOfKey same after q w rs) where
+    module _ (w : K) (rs : List (RecordView K ℕ Add)) (room : times_in_all same w lists < 2 ^ 64)
+        (h : IsHistoryOfKey same after q w rs) where
       some_pass : PassView K ℕ Add
       some_pass = record { ledger = q.ledger.id; client = 0; made = [] }
 
@@ -174,7 +188,8 @@ module _ {K : Type 0} (same : K → K → Bool) where
       ones : All AddsOne rs
       ones = all-clients AddsOne (length lists) rs known
           (λ c lt. subst (All AddsOne) (sym (own c lt))
-          (All-filter (λ (r : RecordView K ℕ Add). same (key_of r.call) w) AddsOne (pass c).made (counted c some_pass lt).2))
+          (All-filter (λ (r : RecordView K ℕ Add). same (key_of r.call) w) AddsOne (pass c).made
+          (counted c some_pass lt).2))
 
       each_list : (c : ℕ) → c < length lists → length (by_client c rs) ≡ times same w (slice_index_or lists c [])
       each_list c lt =
@@ -186,7 +201,8 @@ module _ {K : Type 0} (same : K → K → Bool) where
       as_often : length rs ≡ times_in_all same w lists
       as_often =
           sym (length-clients (length lists) rs known)
-          ∙ total-same (λ c. length (by_client c rs)) (λ c. times same w (slice_index_or lists c [])) (length lists) each_list
+          ∙ total-same (λ c. length (by_client c rs)) (λ c. times same w (slice_index_or lists c []))
+          (length lists) each_list
           ∙ total-list (times same w) [] lists (length lists) (omega arith)
           ∙ ap (sum_by (times same w)) (take_all (length lists) lists (omega arith))
 
@@ -194,10 +210,13 @@ module _ {K : Type 0} (same : K → K → Bool) where
       empty = ap (λ (es : List (K × ℕ)). lookup same es w) opening
 
       stored_count-as-often : lookup same (entries_of q.bins) w ≡ stored_count (times_in_all same w lists)
-      stored_count-as-often = h.final ∙ ap (λ (cell : Option ℕ). cell_after cell rs) empty ∙ counts-up after none some None rs (let n = as_often in omega arith)
-          ones (subst (λ (cell : Option ℕ). IsCellHistory after cell rs) empty h.legal) ∙ added-none (length rs) ∙ ap stored_count as_often
+      stored_count-as-often = h.final ∙ ap (λ (cell : Option ℕ). cell_after cell rs) empty
+          ∙ counts-up after none some None rs (let n = as_often in omega arith)
+          ones (subst (λ (cell : Option ℕ). IsCellHistory after cell rs) empty h.legal) ∙ added-none (length rs)
+          ∙ ap stored_count as_often
 
-    pub stored_count-of-key : ((k : K) → (rs : List (RecordView K ℕ Add)) × IsHistoryOfKey same after q k rs) → (w : K) → times_in_all same w lists < 2 ^ 64
+    pub stored_count-of-key : ((k : K) → (rs : List (RecordView K ℕ Add)) × IsHistoryOfKey same after q k rs) →
+        (w : K) → times_in_all same w lists < 2 ^ 64
         → lookup same (entries_of q.bins) w ≡ stored_count (times_in_all same w lists)
     stored_count-of-key histories w room = let (rs, h) = histories w in stored_count-as-often w rs room h
 

@@ -1,7 +1,8 @@
 -- Whether a call asked its function.
 use Rattle.std.specs.Prelude.{◌≡◌, Bool, true, false, not, is_some, Option, [], ◌∷◌, ◌++◌}
 use Rattle.bin_history.specs.declared.call.Call.{Call}
-use Rattle.bin_history.specs.declared.call.Call.TheVariants.{Get, Contains, Put, PutIfAbsent, Remove, RemoveIf, Replace, ReplaceIf, ComputeIfAbsent}
+use Rattle.bin_history.specs.declared.call.Call.TheVariants.{Get, Contains, Put, PutIfAbsent, Remove, RemoveIf, Replace}
+use Rattle.bin_history.specs.declared.call.Call.TheVariants.{ReplaceIf, ComputeIfAbsent}
 use Rattle.bin_history.specs.declared.call.Call.TheVariants.{ComputeIfPresent, Compute, Merge}
 use Rattle.bin_history.specs.Records.{RecordView}
 use Rattle.count_ledger.specs.Views.{PassView}
@@ -24,4 +25,5 @@ module _ {K V F : Type 0} where
 
   -- the pass made the call, and it is told whether the function was asked
   abbrev pub IsTold : Call K V F → PassView K V F → PassView K V F → Bool → Type 0
-  IsTold call old new used = (r : RecordView K V F) × (new.made ≡ old.made ++ r ∷ []) × (r.call ≡ call) × (used ≡ asks call r.before)
+  IsTold call old new used = (r : RecordView K V F) × (new.made ≡ old.made ++ r ∷ []) × (r.call ≡ call)
+      × (used ≡ asks call r.before)

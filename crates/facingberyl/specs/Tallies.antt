@@ -1,5 +1,6 @@
 -- Counting how often keys are given, by merges of 1.
-use Rattle.std.specs.Prelude.{◌≡◌, ℕ, zero, suc, ◌<◌, Bool, Option, Some, None, List, [], map, count_by, sum_by, length, All, slice_index_or}
+use Rattle.std.specs.Prelude.{◌≡◌, ℕ, zero, suc, ◌<◌, Bool, Option, Some, None, List, [], map, count_by, sum_by, length}
+use Rattle.std.specs.Prelude.{All, slice_index_or}
 use Rattle.bin_history.specs.Calls.{key_of}
 use Rattle.bin_history.specs.Records.{RecordView}
 use Rattle.bin_history.specs.declared.call.Call.TheVariants.{Merge}
@@ -15,7 +16,8 @@ module _ {K : Type 0} where
   abbrev pub AllCounted : List (List K) → List (PassView K ℕ Add) → Type 0
   AllCounted lists passes =
       (c : ℕ) (p : PassView K ℕ Add) → c < length lists
-      → ((slice_index_or passes c p).client ≡ c) × (map (λ r. key_of r.call) (slice_index_or passes c p).made ≡ slice_index_or lists c [])
+      → ((slice_index_or passes c p).client ≡ c)
+      × (map (λ r. key_of r.call) (slice_index_or passes c p).made ≡ slice_index_or lists c [])
       × All AddsOne (slice_index_or passes c p).made
 
 module _ {K : Type 0} (same_key : K → K → Bool) where

@@ -21,13 +21,22 @@ pub trait Seat {
 impl Seat for Brand {
     ghost use Rattle.std.specs.Prelude.{[]};
 
-    ghost ledger = { record { words = 0; slots = 0; views_name = 0; atom = 0; block = 0; offset = 0; slot_names = [] } };
+    ghost ledger = { record {
+      words = 0;
+      slots = 0;
+      views_name = 0;
+      atom = 0;
+      block = 0;
+      offset =
+          0;
+      slot_names = [];
+    } };
 
     ghost lent = { 0 };
 }
 
-/// A map and a pass of it that its holder was lent, by which it makes calls. That they belong together is known of each
-/// `Client`, so no call needs to be told.
+/// A map and a pass of it that its holder was lent, by which it makes calls. That they belong
+/// together is known of each `Client`, so no call needs to be told.
 #[derive(Drop)]
 pub struct Client<'a, S: Seat, K: HashKey, V: Clone + Eq, F: Remap<K, V> + Clone, A: Allocator> {
     pub map: &'a Map<K, V, F, A>,

@@ -1,8 +1,9 @@
 //! The calls that may use a function, or not.
 ghost use Rattle.std.specs.Prelude.{◌≡◌, IfOk};
-ghost use Rattle.chm.specs.Answered.{AreExact, IsAnsweredAs};
+ghost use Rattle.chm.specs.Headline.{AreExact, IsAnsweredAs};
 ghost use Rattle.bin_history.specs.Deltas.{sum_of_deltas};
-ghost use Rattle.bin_history.specs.declared.call.Call.TheVariants.{ComputeIfAbsent, ComputeIfPresent, Merge};
+ghost use Rattle.bin_history.specs.declared.call.Call.TheVariants.{ComputeIfAbsent};
+ghost use Rattle.bin_history.specs.declared.call.Call.TheVariants.{ComputeIfPresent, Merge};
 ghost use Rattle.bin_history.specs.declared.call.Reply.TheVariants.{Value};
 ghost use Rattle.count_ledger.specs.Words.{word_of};
 ghost use Rattle.facingberyl.specs.Computed.{IsTold};
@@ -32,7 +33,8 @@ impl<S: Seat, K: HashKey, V: Clone + Eq, F: Remap<K, V> + Clone, A: Allocator> C
     F,
     A,
 > {
-    /// How many keys the client's calls added, less how many they took away, as a 64-bit two's complement number.
+    /// How many keys the client's calls added, less how many they took away, as a 64-bit two's
+    /// complement number.
     ///
     ///     client.remove(rt, 1)?;
     ///     let before = client.balance();
@@ -54,8 +56,8 @@ impl<
     F: Remap<K, V> + Clone + Drop,
     A: Allocator + Clone,
 > Client<'_, S, K, V, F, A> {
-    /// Gives a key without a value what the function makes of none. It answers the value after, and whether the
-    /// function was used.
+    /// Gives a key without a value what the function makes of none. It answers the value after, and
+    /// whether the function was used.
     ///
     ///     client.put(rt, 1, 5)?;
     ///     client.compute_if_absent(rt, 1, Add)? == Computed { value: Some(5), used: false }
@@ -66,9 +68,12 @@ impl<
         function: F,
     ) -> Result<Computed<V>, Fault>
         requires exact { AreExact K.is_clone V.is_clone F.is_clone }
-        ensures answered { IsAnsweredAs K.eq K.code V.eq F.remapped F.merged (λ answer. Value answer.value) self.old.map.now.ledger
+        ensures answered { IsAnsweredAs K.eq K.code V.eq F.remapped F.merged
+            (λ answer. Value answer.value) self.old.map.now.ledger
             (ComputeIfAbsent key function) self.old.pass.now self.new.pass.now result }
-        ensures used { IfOk result (λ answer. IsTold (ComputeIfAbsent key function) self.old.pass.now self.new.pass.now answer.used) }
+        ensures used { IfOk result
+            (λ answer. IsTold (ComputeIfAbsent key function) self.old.pass.now
+            self.new.pass.now answer.used) }
         ensures map { self.new.map.now ≡ self.old.map.now }
     {
         let before = self.map.balance(self.pass);
@@ -79,8 +84,8 @@ impl<
         Ok(Computed { value, used })
     }
 
-    /// Gives a key with a value what the function makes of it. It answers the value after, and whether the
-    /// function was used.
+    /// Gives a key with a value what the function makes of it. It answers the value after, and
+    /// whether the function was used.
     ///
     ///     client.put(rt, 1, 5)?;
     ///     client.compute_if_present(rt, 1, Add)? == Computed { value: Some(5), used: true }
@@ -91,9 +96,12 @@ impl<
         function: F,
     ) -> Result<Computed<V>, Fault>
         requires exact { AreExact K.is_clone V.is_clone F.is_clone }
-        ensures answered { IsAnsweredAs K.eq K.code V.eq F.remapped F.merged (λ answer. Value answer.value) self.old.map.now.ledger
+        ensures answered { IsAnsweredAs K.eq K.code V.eq F.remapped F.merged
+            (λ answer. Value answer.value) self.old.map.now.ledger
             (ComputeIfPresent key function) self.old.pass.now self.new.pass.now result }
-        ensures used { IfOk result (λ answer. IsTold (ComputeIfPresent key function) self.old.pass.now self.new.pass.now answer.used) }
+        ensures used { IfOk result
+            (λ answer. IsTold (ComputeIfPresent key function) self.old.pass.now
+            self.new.pass.now answer.used) }
         ensures map { self.new.map.now ≡ self.old.map.now }
     {
         let before = self.map.balance(self.pass);
@@ -104,8 +112,8 @@ impl<
         Ok(Computed { value, used })
     }
 
-    /// Gives a key without a value this one, and a key with a value what the function makes of both. It answers the value
-    /// after, and whether the function was used.
+    /// Gives a key without a value this one, and a key with a value what the function makes of
+    /// both. It answers the value after, and whether the function was used.
     ///
     ///     client.put(rt, 1, 5)?;
     ///     client.merge(rt, 1, 2, Add)? == Computed { value: Some(7), used: true }
@@ -117,9 +125,12 @@ impl<
         function: F,
     ) -> Result<Computed<V>, Fault>
         requires exact { AreExact K.is_clone V.is_clone F.is_clone }
-        ensures answered { IsAnsweredAs K.eq K.code V.eq F.remapped F.merged (λ answer. Value answer.value) self.old.map.now.ledger
+        ensures answered { IsAnsweredAs K.eq K.code V.eq F.remapped F.merged
+            (λ answer. Value answer.value) self.old.map.now.ledger
             (Merge key value function) self.old.pass.now self.new.pass.now result }
-        ensures used { IfOk result (λ answer. IsTold (Merge key value function) self.old.pass.now self.new.pass.now answer.used) }
+        ensures used { IfOk result
+            (λ answer. IsTold (Merge key value function) self.old.pass.now
+            self.new.pass.now answer.used) }
         ensures map { self.new.map.now ≡ self.old.map.now }
     {
         let before = self.map.balance(self.pass);

@@ -1,5 +1,5 @@
-//! A concurrent hash map, in one import: the map and what its calls name, keys and functions ready to use, a team of
-//! clients that work on one map in threads, and bulk operations on a closed one.
+//! A concurrent hash map, in one import: the map and what its calls name, keys and functions ready
+//! to use, a team of clients that work on one map in threads, and bulk operations on a closed one.
 #![tactic(auto)]
 
 mod client;

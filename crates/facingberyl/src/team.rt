@@ -1,10 +1,11 @@
 //! A map with the passes of all its clients.
-ghost use Rattle.std.specs.Prelude.{◌≡◌, ◌≤◌, ◌<◌, ◌⊎◌, ℕ, length, All, IfOk, IfErr, slice_index_or};
+ghost use Rattle.std.specs.Prelude.{◌≡◌, ◌≤◌, ◌<◌, ◌⊎◌, ℕ, length, All, IfOk, IfErr};
+ghost use Rattle.std.specs.Prelude.{slice_index_or};
 ghost use Rattle.bin_history.specs.Copies.{IsExact};
 ghost use Rattle.count_ledger.specs.Views.{PassView};
 ghost use Rattle.bin_history.specs.declared.form.Form.TheVariants.{Lean};
 ghost use Rattle.chm.specs.Opened.{IsLimited, IsNew};
-ghost use Rattle.chm.specs.Quiets.{entries_of};
+ghost use Rattle.chm.specs.Headline.{entries_of};
 ghost use Rattle.chm.specs.Refusals.{IsCapacity};
 ghost use Rattle.chm.specs.Reopened.{IsReopened};
 
@@ -18,7 +19,8 @@ use std::marker::Model;
 use std::sync::Wait;
 use std::thread::Threads;
 
-/// A map with the passes of all its clients, which it lends to threads. Dropped, it ends the passes with the map.
+/// A map with the passes of all its clients, which it lends to threads. Dropped, it ends the passes
+/// with the map.
 pub struct Team<K: HashKey, V: Clone + Eq, F: Remap<K, V> + Clone, A: Allocator> {
     map: Map<K, V, F, A>,
     passes: Vec<Pass<K, V, F>, A>,
@@ -47,13 +49,15 @@ impl<
     F: Remap<K, V> + Clone + Drop,
     A: Allocator + Clone,
 > Team<K, V, F, A> {
-    /// A map without entries and its team of 1 to 32 clients. The map's table begins with the least power of two of bins
-    /// that is at least the capacity, which is 1 to 4,096. The salt of its hashes is 0. The map is lean: it stores no records
-    /// of calls, and a client makes 2^57 of them. `Team::of` takes a map of the other form.
+    /// A map without entries and its team of 1 to 32 clients. The map's table begins with the least
+    /// power of two of bins that is at least the capacity, which is 1 to 4,096. The salt of its
+    /// hashes is 0. The map is lean: it stores no records of calls, and a client makes 2^57 of
+    /// them. `Team::of` takes a map of the other form.
     pub fn new(alloc: A, capacity: usize, clients: u32) -> Result<Team<K, V, F, A>, Fault>
         requires keys { IsExact K.is_clone }
         requires values { IsExact V.is_clone }
-        ensures new { IfOk result (λ t. IsNew Lean (record { 0 = 0 }) capacity clients t.map t.passes) }
+        ensures new { IfOk result
+            (λ t. IsNew Lean (record { 0 = 0 }) capacity clients t.map t.passes) }
         ensures limits { IsLimited (IsCapacity capacity) clients result }
     {
         Team::with_salt(alloc, capacity, clients, Salt(0))
@@ -75,20 +79,22 @@ impl<
         Ok(Team { map, passes })
     }
 
-    /// A closed map's pairs in a new map, and its team of 1 to 32 clients, as `Quiet::reopen` opens it. The closed map
-    /// stays as it is.
+    /// A closed map's pairs in a new map, and its team of 1 to 32 clients, as `Quiet::reopen` opens
+    /// it. The closed map stays as it is.
     pub fn reopen(closed: &Quiet<K, V, F, A>, clients: u32) -> Result<Team<K, V, F, A>, Fault>
         requires keys { IsExact K.is_clone }
         requires values { IsExact V.is_clone }
-        ensures new { IfOk result (λ t. IsReopened K.eq K.code closed.now closed.now.ledger.salt clients t.map t.passes) }
-        ensures limits { IsLimited (length (entries_of closed.now.bins) ≤ 4294967295) clients result }
+        ensures new { IfOk result
+            (λ t. IsReopened K.eq K.code closed.now closed.now.ledger.salt clients t.map t.passes) }
+        ensures limits { IsLimited (length (entries_of closed.now.bins) ≤ 4294967295)
+            clients result }
     {
         let (map, passes) = closed.reopen(clients)?;
         Ok(Team { map, passes })
     }
 
-    /// All clients work at the same time, each in a thread of its own; one whose thread cannot be started works in a
-    /// thread that there is, after others. All have ended when this returns.
+    /// All clients work at the same time, each in a thread of its own; one whose thread cannot be
+    /// started works in a thread that there is, after others. All have ended when this returns.
     pub fn work<R: Threads + Wait + Sync, W: Work<K, V, F, A> + Sync>(&mut self, rt: &R, work: &W)
     where
         K: Send + Sync,
@@ -98,18 +104,20 @@ impl<
         ensures map { self.new.map ≡ self.old.map }
         ensures len { length self.new.passes ≡ length self.old.passes }
         ensures done { (i : ℕ) (d : PassView K V F) → i < length self.old.passes
-            → W.does work.now (slice_index_or self.old.passes i d) (slice_index_or self.new.passes i d) }
+            → W.does work.now (slice_index_or self.old.passes i d)
+            (slice_index_or self.new.passes i d) }
     {
         self.map.share(rt, &mut self.passes, &Lent { work });
     }
 
-    /// Closes the map, as `Map::close` does. Where it is refused the passes end, and the map with them: to try again
-    /// take the team apart and close the map itself.
+    /// Closes the map, as `Map::close` does. Where it is refused the passes end, and the map with
+    /// them: to try again take the team apart and close the map itself.
     pub fn close<R: Wait>(self, rt: &R) -> Result<Quiet<K, V, F, A>, Fault>
         ensures ledger { IfOk result (λ q. q.ledger ≡ self.map.ledger) }
         ensures n { IfOk result (λ q. q.n ≡ self.map.n) }
         ensures passes { IfOk result (λ q. q.passes ≡ self.passes) }
-        ensures faults { IfErr result (λ fault. (fault ≡ Fault.NoMemory) ⊎ (fault ≡ Fault.BinMissing)) }
+        ensures faults { IfErr result
+            (λ fault. (fault ≡ Fault.NoMemory) ⊎ (fault ≡ Fault.BinMissing)) }
     {
         let Team { map, passes } = self;
         match map.close(rt, passes) {

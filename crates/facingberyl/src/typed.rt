@@ -2,10 +2,11 @@
 ghost use Rattle.std.specs.Prelude.{◌≡◌, Bool, Option, IfOk, IfErr};
 ghost use Rattle.bin_history.specs.Calls.{after};
 ghost use Rattle.bin_history.specs.Copies.{IsExact};
-ghost use Rattle.chm.specs.Answered.{AreExact, IsAnsweredAs};
-ghost use Rattle.bin_history.specs.declared.call.Call.TheVariants.{Get, Contains, Put, PutIfAbsent, Remove, RemoveIf, Replace, ReplaceIf, Compute};
+ghost use Rattle.chm.specs.Headline.{AreExact, IsAnsweredAs, IsFound};
+ghost use Rattle.bin_history.specs.declared.call.Call.TheVariants.{Get, Contains, Put, PutIfAbsent};
+ghost use Rattle.bin_history.specs.declared.call.Call.TheVariants.{Remove, RemoveIf, Replace};
+ghost use Rattle.bin_history.specs.declared.call.Call.TheVariants.{ReplaceIf, Compute};
 ghost use Rattle.bin_history.specs.declared.call.Reply.TheVariants.{Value, Truth};
-ghost use Rattle.chm.specs.Called.{IsFound};
 
 use crate::client::{Client, Seat};
 use bin_history::{Remap, Reply};
@@ -49,7 +50,8 @@ impl<
     ///     client.get(rt, 1)? == Some(5)
     pub fn get<R: Wait>(&mut self, rt: &R, key: K) -> Result<Option<V>, Fault>
         requires exact { AreExact K.is_clone V.is_clone F.is_clone }
-        ensures answered { IsAnsweredAs K.eq K.code V.eq F.remapped F.merged Value self.old.map.now.ledger
+        ensures answered { IsAnsweredAs K.eq K.code V.eq F.remapped F.merged Value
+            self.old.map.now.ledger
             (Get key) self.old.pass.now self.new.pass.now result }
         ensures map { self.new.map.now ≡ self.old.map.now }
     {
@@ -57,14 +59,16 @@ impl<
         Ok(value_in(reply))
     }
 
-    /// A copy of the value at the key, which a `get` would answer now. It is no call: it borrows the key, nothing is
-    /// posted, and a full pass may look too.
+    /// A copy of the value at the key, which a `get` would answer now. It is no call: it borrows
+    /// the key, nothing is posted, and a full pass may look too.
     ///
     ///     client.put(rt, 1, 5)?;
     ///     client.look_up(rt, &1)? == Some(5)
     pub fn look_up<R: Wait>(&mut self, rt: &R, key: &K) -> Result<Option<V>, Fault>
         requires values { IsExact V.is_clone }
-        ensures found { IfOk result (IsFound K.eq K.code (after V.eq F.remapped F.merged) self.old.map.now.ledger self.old.pass.now key.now) }
+        ensures found { IfOk result
+            (IsFound K.eq K.code (after V.eq F.remapped F.merged) self.old.map.now.ledger
+            self.old.pass.now key.now) }
         ensures same { self.new.pass.now ≡ self.old.pass.now }
         ensures faults { IfErr result (λ fault. fault ≡ Fault.NoMemory) }
         ensures map { self.new.map.now ≡ self.old.map.now }
@@ -78,7 +82,8 @@ impl<
     ///     client.contains_key(rt, 1)?
     pub fn contains_key<R: Wait>(&mut self, rt: &R, key: K) -> Result<bool, Fault>
         requires exact { AreExact K.is_clone V.is_clone F.is_clone }
-        ensures answered { IsAnsweredAs K.eq K.code V.eq F.remapped F.merged Truth self.old.map.now.ledger
+        ensures answered { IsAnsweredAs K.eq K.code V.eq F.remapped F.merged Truth
+            self.old.map.now.ledger
             (Contains key) self.old.pass.now self.new.pass.now result }
         ensures map { self.new.map.now ≡ self.old.map.now }
     {
@@ -92,7 +97,8 @@ impl<
     ///     client.put(rt, 1, 6)? == Some(5)
     pub fn put<R: Wait>(&mut self, rt: &R, key: K, value: V) -> Result<Option<V>, Fault>
         requires exact { AreExact K.is_clone V.is_clone F.is_clone }
-        ensures answered { IsAnsweredAs K.eq K.code V.eq F.remapped F.merged Value self.old.map.now.ledger
+        ensures answered { IsAnsweredAs K.eq K.code V.eq F.remapped F.merged Value
+            self.old.map.now.ledger
             (Put key value) self.old.pass.now self.new.pass.now result }
         ensures map { self.new.map.now ≡ self.old.map.now }
     {
@@ -106,7 +112,8 @@ impl<
     ///     client.put_if_absent(rt, 1, 6)? == Some(5)
     pub fn put_if_absent<R: Wait>(&mut self, rt: &R, key: K, value: V) -> Result<Option<V>, Fault>
         requires exact { AreExact K.is_clone V.is_clone F.is_clone }
-        ensures answered { IsAnsweredAs K.eq K.code V.eq F.remapped F.merged Value self.old.map.now.ledger
+        ensures answered { IsAnsweredAs K.eq K.code V.eq F.remapped F.merged Value
+            self.old.map.now.ledger
             (PutIfAbsent key value) self.old.pass.now self.new.pass.now result }
         ensures map { self.new.map.now ≡ self.old.map.now }
     {
@@ -120,7 +127,8 @@ impl<
     ///     client.remove(rt, 1)? == Some(5)
     pub fn remove<R: Wait>(&mut self, rt: &R, key: K) -> Result<Option<V>, Fault>
         requires exact { AreExact K.is_clone V.is_clone F.is_clone }
-        ensures answered { IsAnsweredAs K.eq K.code V.eq F.remapped F.merged Value self.old.map.now.ledger
+        ensures answered { IsAnsweredAs K.eq K.code V.eq F.remapped F.merged Value
+            self.old.map.now.ledger
             (Remove key) self.old.pass.now self.new.pass.now result }
         ensures map { self.new.map.now ≡ self.old.map.now }
     {
@@ -134,7 +142,8 @@ impl<
     ///     !client.remove_if(rt, 1, 6)?
     pub fn remove_if<R: Wait>(&mut self, rt: &R, key: K, value: V) -> Result<bool, Fault>
         requires exact { AreExact K.is_clone V.is_clone F.is_clone }
-        ensures answered { IsAnsweredAs K.eq K.code V.eq F.remapped F.merged Truth self.old.map.now.ledger
+        ensures answered { IsAnsweredAs K.eq K.code V.eq F.remapped F.merged Truth
+            self.old.map.now.ledger
             (RemoveIf key value) self.old.pass.now self.new.pass.now result }
         ensures map { self.new.map.now ≡ self.old.map.now }
     {
@@ -148,7 +157,8 @@ impl<
     ///     client.replace(rt, 1, 6)? == None
     pub fn replace<R: Wait>(&mut self, rt: &R, key: K, value: V) -> Result<Option<V>, Fault>
         requires exact { AreExact K.is_clone V.is_clone F.is_clone }
-        ensures answered { IsAnsweredAs K.eq K.code V.eq F.remapped F.merged Value self.old.map.now.ledger
+        ensures answered { IsAnsweredAs K.eq K.code V.eq F.remapped F.merged Value
+            self.old.map.now.ledger
             (Replace key value) self.old.pass.now self.new.pass.now result }
         ensures map { self.new.map.now ≡ self.old.map.now }
     {
@@ -162,7 +172,8 @@ impl<
     ///     client.replace_if(rt, 1, 5, 6)?
     pub fn replace_if<R: Wait>(&mut self, rt: &R, key: K, old: V, new: V) -> Result<bool, Fault>
         requires exact { AreExact K.is_clone V.is_clone F.is_clone }
-        ensures answered { IsAnsweredAs K.eq K.code V.eq F.remapped F.merged Truth self.old.map.now.ledger
+        ensures answered { IsAnsweredAs K.eq K.code V.eq F.remapped F.merged Truth
+            self.old.map.now.ledger
             (ReplaceIf key old new) self.old.pass.now self.new.pass.now result }
         ensures map { self.new.map.now ≡ self.old.map.now }
     {
@@ -170,14 +181,15 @@ impl<
         Ok(truth_in(reply))
     }
 
-    /// Gives the key what the function makes of its value, or of none. It answers the value after. The function is used at
-    /// each such call.
+    /// Gives the key what the function makes of its value, or of none. It answers the value after.
+    /// The function is used at each such call.
     ///
     ///     client.put(rt, 1, 5)?;
     ///     client.compute(rt, 1, Add)? == Some(5)
     pub fn compute<R: Wait>(&mut self, rt: &R, key: K, function: F) -> Result<Option<V>, Fault>
         requires exact { AreExact K.is_clone V.is_clone F.is_clone }
-        ensures answered { IsAnsweredAs K.eq K.code V.eq F.remapped F.merged Value self.old.map.now.ledger
+        ensures answered { IsAnsweredAs K.eq K.code V.eq F.remapped F.merged Value
+            self.old.map.now.ledger
             (Compute key function) self.old.pass.now self.new.pass.now result }
         ensures map { self.new.map.now ≡ self.old.map.now }
     {

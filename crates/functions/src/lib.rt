@@ -1,4 +1,5 @@
-//! Functions of values, ready to be those of a map: none, and for merges the sum, the greatest, and the one given.
+//! Functions of values, ready to be those of a map: none, and for merges the sum, the greatest, and
+//! the one given.
 #![tactic(auto)]
 
 mod nothing;

@@ -2,8 +2,9 @@
 use bin_history::Remap;
 use std::alloc::AllocError;
 
-/// No function, for maps whose calls compute and merge nothing. A compute call that is made with it all the same
-/// answers that the key is to have no value, and so does a merge on a key that is there.
+/// No function, for maps whose calls compute and merge nothing. A compute call that is made with it
+/// all the same answers that the key is to have no value, and so does a merge on a key that is
+/// there.
 #[derive(Clone, Copy, PartialEq, Eq, Debug)]
 pub struct NoFunction;
 

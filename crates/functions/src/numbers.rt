@@ -1,16 +1,17 @@
 //! Functions of two numbers.
 
-/// Adds: a merge gives the sum of the value and the one given, or the nearest end of the range of 64 bits where the sum
-/// is outside. A compute call leaves the value. It has no bytes and is never refused.
+/// Adds: a merge gives the sum of the value and the one given, or the nearest end of the range of
+/// 64 bits where the sum is outside. A compute call leaves the value. It has no bytes and is never
+/// refused.
 #[derive(Clone, Copy, Debug)]
 pub struct Add;
 
-/// Keeps the greatest: a merge gives the greater of the value and the one given. A compute call leaves the value. It
-/// has no bytes and is never refused.
+/// Keeps the greatest: a merge gives the greater of the value and the one given. A compute call
+/// leaves the value. It has no bytes and is never refused.
 #[derive(Clone, Copy, Debug)]
 pub struct Greatest;
 
-/// Sets: a merge gives the value given, to a present key as to an absent one. A compute call leaves the value. It has
-/// no bytes and is never refused.
+/// Sets: a merge gives the value given, to a present key as to an absent one. A compute call leaves
+/// the value. It has no bytes and is never refused.
 #[derive(Clone, Copy, Debug)]
 pub struct Set;

@@ -1,5 +1,6 @@
 -- Places in a table by their index, and tables by their exponent.
-use Rattle.std.proofs.Common.{◌≡◌, inl, inr, ℕ, zero, suc, ◌+◌, ◌-◌, ◌<◌, ◌≤◌, ◌%◌, ◌^◌, true, List, [], ◌∷◌, ◌++◌, length, get_or, map, sym, ap, subst, refl}
+use Rattle.std.proofs.Common.{◌≡◌, inl, inr, ℕ, zero, suc, ◌+◌, ◌-◌, ◌<◌, ◌≤◌, ◌%◌, ◌^◌, true, List, [], ◌∷◌, ◌++◌}
+use Rattle.std.proofs.Common.{length, get_or, map, sym, ap, subst, refl}
 use Rattle.std.proofs.Common.{◌∙◌, arith}
 use Rattle.std.specs.Int.Bits.{bit_and}
 use Rattle.std.specs.Int.Count.{count_trailing_zeros}
@@ -26,7 +27,8 @@ IsTable-all m n places size least count is = record {
   size = size;
   least = least;
   count = count;
-  by_index = λ i d lt. ap (λ (l : List PlaceTag). get_or l i d) is ∙ get_or-map-range_with_len (tag_at m n) 0 n i i d lt (omega arith);
+  by_index = λ i d lt. ap (λ (l : List PlaceTag). get_or l i d) is ∙ get_or-map-range_with_len
+      (tag_at m n) 0 n i i d lt (omega arith);
 }
 
 -- the remainder by a table's size, as a mask
@@ -37,7 +39,8 @@ pub size_pos : (n : ℕ) → IsTableSize n → 0 < n
 size_pos n (e, le, is) = omega (arith, is, pow_pos e)
 
 -- the place of a table at a hash's remainder is of the map, and covers the hash
-module _ (m : GenerationsView) (n : ℕ) (places : List PlaceTag) (table : IsTable m n places) (hash index : ℕ) (at : index ≡ bit_and hash (length places - 1))
+module _ (m : GenerationsView) (n : ℕ) (places : List PlaceTag) (table : IsTable m n places) (hash index : ℕ)
+    (at : index ≡ bit_and hash (length places - 1))
     (p : PlaceTag) (is : p ≡ get_or places index p) where
   index_is : index ≡ hash % n
   index_is = at ∙ ap (λ (x : ℕ). bit_and hash (x - 1)) table.count ∙ mask_is hash n table.size
@@ -70,18 +73,24 @@ exponent_below (suc (suc (suc (suc (suc (suc (suc (suc (suc (suc (suc (suc zero)
 exponent_below (suc (suc (suc (suc (suc (suc (suc (suc (suc (suc (suc (suc (suc zero))))))))))))) lt = refl
 exponent_below (suc (suc (suc (suc (suc (suc (suc (suc (suc (suc (suc (suc (suc (suc zero)))))))))))))) lt = refl
 exponent_below (suc (suc (suc (suc (suc (suc (suc (suc (suc (suc (suc (suc (suc (suc (suc zero))))))))))))))) lt = refl
-exponent_below (suc (suc (suc (suc (suc (suc (suc (suc (suc (suc (suc (suc (suc (suc (suc (suc zero)))))))))))))))) lt = refl
-exponent_below (suc (suc (suc (suc (suc (suc (suc (suc (suc (suc (suc (suc (suc (suc (suc (suc (suc e))))))))))))))))) lt = absurd (omega arith)
+exponent_below (suc (suc (suc (suc (suc (suc (suc (suc (suc (suc (suc (suc (suc (suc (suc (suc zero)))))))))))))))) lt =
+    refl
+exponent_below (suc (suc (suc (suc (suc (suc (suc (suc (suc (suc (suc (suc (suc (suc (suc (suc (suc e)))))))))))))))))
+    lt = absurd (omega arith)
 
 pub exponent_is : (size : ℕ) → IsTableSize size → 2 ^ count_trailing_zeros 32 size ≡ size
-exponent_is size (e, le, is) = ap (λ (x : ℕ). 2 ^ count_trailing_zeros 32 x) is ∙ ap (λ (x : ℕ). 2 ^ x) (exponent_below e (omega arith)) ∙ sym is
+exponent_is size (e, le, is) = ap (λ (x : ℕ). 2 ^ count_trailing_zeros 32 x) is ∙ ap (λ (x : ℕ). 2 ^ x)
+    (exponent_below e (omega arith)) ∙ sym is
 
 -- one more slot
-pub slots_push : (m : GenerationsView) (slots more : List Named) (slot : Named) → more ≡ slots ++ slot ∷ [] → IsSlotOf m (length slots) slot
-    → ((e : ℕ) (d : Named) → e < length slots → IsSlotOf m e (get_or slots e d)) → (e : ℕ) (d : Named) → e < length slots + 1 → IsSlotOf m e (get_or more e d)
+pub slots_push : (m : GenerationsView) (slots more : List Named) (slot : Named) → more ≡ slots ++ slot ∷ [] →
+    IsSlotOf m (length slots) slot
+    → ((e : ℕ) (d : Named) → e < length slots → IsSlotOf m e (get_or slots e d)) → (e : ℕ) (d : Named) →
+    e < length slots + 1 → IsSlotOf m e (get_or more e d)
 slots_push m slots more slot is of all e d lt = subst (λ (l : List Named). IsSlotOf m e (get_or l e d)) (sym is)
     (elim (cases_lt e (length slots)) [
       | inl l ↦ subst (IsSlotOf m e) (sym (get_or_append_left slots (slot ∷ []) d e l)) (all e d l)
-      | inr ge ↦ (let same : e ≡ length slots = omega arith in subst (λ (x : ℕ). IsSlotOf m x (get_or (slots ++ slot ∷ []) x d)) (sym same)
+      | inr ge ↦ (let same : e ≡ length slots = omega arith in
+          subst (λ (x : ℕ). IsSlotOf m x (get_or (slots ++ slot ∷ []) x d)) (sym same)
           (subst (IsSlotOf m (length slots)) (sym (get_or-append_seam slots slot [] d)) of))
     ])

@@ -14,12 +14,14 @@ use Rattle.generations.specs.declared.state.PlaceTag.{PlaceTag}
 
 module _ {K V F : Type 0} (same : K → K → Bool) (after : Call K V F → Option V → Option V) where
   -- what is at a place covers the hashes of the place
-  pub AreAt-covers : (o : Option (BinView K V F × RoleView K V F)) (p : PlaceTag) (hash : ℕ) → IsSomeAnd o (λ x. AreAt same after p x.0 x.1)
+  pub AreAt-covers : (o : Option (BinView K V F × RoleView K V F)) (p : PlaceTag) (hash : ℕ) →
+      IsSomeAnd o (λ x. AreAt same after p x.0 x.1)
       → covers p.class hash ≡ true → IsSomeAnd o (λ x. covers x.0.class hash ≡ true)
   AreAt-covers (Some x) p hash at place_covers = ap (λ (class : ClassView). covers class hash) at.class ∙ place_covers
   AreAt-covers None p hash at place_covers = elim at [ ]
 
-  pub IsBinWithRole-at : (code : K → ℕ) (map : GenerationsView) (p : PlaceTag) (b : BinView K V F) (r : RoleView K V F) → AreAt same after p b r
+  pub IsBinWithRole-at : (code : K → ℕ) (map : GenerationsView) (p : PlaceTag) (b : BinView K V F) (r : RoleView K V F)
+      → AreAt same after p b r
       → IsPlaceOf map p → IsLawful same code after b → IsBinWithRole same code after map b r
   IsBinWithRole-at code map p b r at of_map lawful = record {
     form = at.form ∙ of_map.form;
@@ -30,14 +32,17 @@ module _ {K V F : Type 0} (same : K → K → Bool) (after : Call K V F → Opti
   }
 
   -- a half of a bin and the half of its role are at the map's place for the half
-  pub AreAt-half : (tells : (x y : K) → Decides (same x y) (x ≡ y)) (code : K → ℕ) (map : GenerationsView) (p q : PlaceTag) (b c : BinView K V F)
+  pub AreAt-half : (tells : (x y : K) → Decides (same x y) (x ≡ y)) (code : K → ℕ) (map : GenerationsView)
+      (p q : PlaceTag) (b c : BinView K V F)
       (r s : RoleView K V F) (half : ClassView → ClassView)
-      → AreAt same after p b r → IsPlaceOf map p → c.class ≡ half b.class → IsPartOf code b c → s ≡ part_of_role code (half r.class) r
+      → AreAt same after p b r → IsPlaceOf map p → c.class ≡ half b.class → IsPartOf code b c →
+      s ≡ part_of_role code (half r.class) r
       → q ≡ place_of map (half b.class) → AreAt same after q c s
   AreAt-half tells code map p q b c r s half at of_map class part is place = record {
     class = class ∙ sym (ap (λ (x : PlaceTag). x.class) place);
     form = part.form ∙ at.form ∙ of_map.form ∙ sym (ap (λ (x : PlaceTag). x.form) place);
     salt = part.salt ∙ at.salt ∙ of_map.salt ∙ sym (ap (λ (x : PlaceTag). x.salt) place);
-    ledger = ap (λ (x : RoleView K V F). x.ledger) is ∙ at.ledger ∙ of_map.ledger ∙ sym (ap (λ (x : PlaceTag). x.ledger) place);
+    ledger = ap (λ (x : RoleView K V F). x.ledger) is ∙ at.ledger ∙ of_map.ledger
+        ∙ sym (ap (λ (x : PlaceTag). x.ledger) place);
     agree = BinAgrees-divided same tells code after b c r s half at.agree class part is;
   }

@@ -31,10 +31,14 @@ use Rattle.generations.specs.contracts.generations.Generations.TheInside as Gens
 badge_sync : (V : RattleType) → IsSync (badge.the_row V)
 badge_sync V = record { shared = λ d b o κ q. part_keyless (badge.the_row V) (the_badge.the_send V) q d b o }
 
-module _ (K V F A : RattleType) (hash : HashKey.Ghosts K.Denot) (key_eq : Eq.Ghosts K.Denot) (key_same : PartialEq.Ghosts K.Denot)
-    (key_clone : Clone.Ghosts K.Denot) (value_clone : Clone.Ghosts V.Denot) (value_eq : Eq.Ghosts V.Denot) (value_same : PartialEq.Ghosts V.Denot)
-    (remap : Remap.Ghosts F.Denot K.Denot V.Denot) (function_clone : Clone.Ghosts F.Denot) (alloc : Allocator.Ghosts A.Denot)
-    (sk : IsSend K) (sv : IsSend V) (sf : IsSend F) (sa : IsSend A) (yk : IsSync K) (yv : IsSync V) (yf : IsSync F) (ya : IsSync A)
+module _ (K V F A : RattleType) (hash : HashKey.Ghosts K.Denot) (key_eq : Eq.Ghosts K.Denot)
+    (key_same : PartialEq.Ghosts K.Denot)
+    (key_clone : Clone.Ghosts K.Denot) (value_clone : Clone.Ghosts V.Denot) (value_eq : Eq.Ghosts V.Denot)
+    (value_same : PartialEq.Ghosts V.Denot)
+    (remap : Remap.Ghosts F.Denot K.Denot V.Denot) (function_clone : Clone.Ghosts F.Denot)
+    (alloc : Allocator.Ghosts A.Denot)
+    (sk : IsSend K) (sv : IsSend V) (sf : IsSend F) (sa : IsSend A) (yk : IsSync K) (yv : IsSync V) (yf : IsSync F)
+    (ya : IsSync A)
     (frees : Frees alloc alloc.dealloc_token) where
   pub role_send : IsSend (Role.the_row K V F)
   role_send = search (sendable, the_badge.the_send) depth 30
@@ -66,13 +70,17 @@ module _ (K V F A : RattleType) (hash : HashKey.Ghosts K.Denot) (key_eq : Eq.Gho
   log_sync : IsSync (Log.the_row K V F A alloc)
   log_sync = search (sendable, log_fields_sync) depth 20
 
-  bin_fields_send : AllSend (shape (BinInside.the_type K V F A hash key_same key_clone value_clone value_same remap function_clone alloc)).fields
+  bin_fields_send : AllSend
+      (shape (BinInside.the_type K V F A hash key_same key_clone value_clone value_same remap
+      function_clone alloc)).fields
   bin_fields_send = (
     search (sendable, crosses) depth 20,
     (search sendable depth 20, (search sendable depth 20, (search (sendable, crosses, log_send) depth 20, tt))),
   )
 
-  bin_fields_sync : AllSync (shape (BinInside.the_type K V F A hash key_same key_clone value_clone value_same remap function_clone alloc)).fields
+  bin_fields_sync : AllSync
+      (shape (BinInside.the_type K V F A hash key_same key_clone value_clone value_same remap
+      function_clone alloc)).fields
   bin_fields_sync = (
     search (sendable, crosses) depth 20,
     (search sendable depth 20, (search sendable depth 20, (search (sendable, crosses, log_sync) depth 20, tt))),
@@ -84,49 +92,69 @@ module _ (K V F A : RattleType) (hash : HashKey.Ghosts K.Denot) (key_eq : Eq.Gho
   pub bin_sync : IsSync (Bin.the_row K V F A hash key_same key_clone value_clone value_same remap function_clone alloc)
   bin_sync = search (sendable, bin_fields_sync) depth 30
 
-  pub state_send : IsSend (State.the_row K V F A hash key_same key_clone value_clone value_same remap function_clone alloc)
+  pub state_send : IsSend
+      (State.the_row K V F A hash key_same key_clone value_clone value_same remap function_clone alloc)
   state_send = search (sendable, crosses, bin_send, role_send) depth 30
 
-  pub state_sync : IsSync (State.the_row K V F A hash key_same key_clone value_clone value_same remap function_clone alloc)
+  pub state_sync : IsSync
+      (State.the_row K V F A hash key_same key_clone value_clone value_same remap function_clone alloc)
   state_sync = search (sendable, crosses, bin_sync, role_sync) depth 30
 
-  place_fields_send : AllSend (shape (PlaceInside.the_type K V F A hash key_eq key_same key_clone value_clone value_eq value_same remap function_clone
+  place_fields_send : AllSend
+      (shape (PlaceInside.the_type K V F A hash key_eq key_same key_clone value_clone value_eq value_same
+      remap function_clone
       alloc)).fields
   place_fields_send = (search (sendable, counted.the_send, state_send) depth 20, tt)
 
-  place_fields_sync : AllSync (shape (PlaceInside.the_type K V F A hash key_eq key_same key_clone value_clone value_eq value_same remap function_clone
+  place_fields_sync : AllSync
+      (shape (PlaceInside.the_type K V F A hash key_eq key_same key_clone value_clone value_eq value_same
+      remap function_clone
       alloc)).fields
   place_fields_sync = (search (sendable, counted.the_sync, state_send, state_sync) depth 20, tt)
 
-  pub place_send : IsSend (Place.the_row K V F A hash key_eq key_same key_clone value_clone value_eq value_same remap function_clone alloc)
+  pub place_send : IsSend
+      (Place.the_row K V F A hash key_eq key_same key_clone value_clone value_eq value_same remap function_clone alloc)
   place_send = search (sendable, place_fields_send) depth 30
 
-  pub place_sync : IsSync (Place.the_row K V F A hash key_eq key_same key_clone value_clone value_eq value_same remap function_clone alloc)
+  pub place_sync : IsSync
+      (Place.the_row K V F A hash key_eq key_same key_clone value_clone value_eq value_same remap function_clone alloc)
   place_sync = search (sendable, place_fields_sync) depth 30
 
-  map_fields_send : AllSend (shape (GensInside.the_type K V F A hash key_eq key_same key_clone value_clone value_eq value_same remap function_clone
+  map_fields_send : AllSend
+      (shape (GensInside.the_type K V F A hash key_eq key_same key_clone value_clone value_eq value_same
+      remap function_clone
       alloc)).fields
   map_fields_send = (
     search (sendable, crosses, place_send) depth 20,
     (
       search (sendable, crosses, slot.the_send, place_send) depth 30,
-      (search (sendable, atomic.the_send) depth 20, (search sendable depth 20, (search sendable depth 20, (search (sendable, tag.the_send) depth 20, tt)))),
+      (
+        search (sendable, atomic.the_send) depth 20,
+        (search sendable depth 20, (search sendable depth 20, (search (sendable, tag.the_send) depth 20, tt))),
+      ),
     ),
   )
 
-  map_fields_sync : AllSync (shape (GensInside.the_type K V F A hash key_eq key_same key_clone value_clone value_eq value_same remap function_clone
+  map_fields_sync : AllSync
+      (shape (GensInside.the_type K V F A hash key_eq key_same key_clone value_clone value_eq value_same
+      remap function_clone
       alloc)).fields
   map_fields_sync = (
     search (sendable, crosses, place_sync) depth 20,
     (
       search
           (sendable, crosses, slot.the_send, slot.the_sync, place_send, place_sync) depth 30,
-      (search (sendable, atomic.the_sync) depth 20, (search sendable depth 20, (search sendable depth 20, (search (sendable, tag.the_sync) depth 20, tt)))),
+      (
+        search (sendable, atomic.the_sync) depth 20,
+        (search sendable depth 20, (search sendable depth 20, (search (sendable, tag.the_sync) depth 20, tt))),
+      ),
     ),
   )
 
-  pub map_send : IsSend (Gens.the_row K V F A hash key_eq key_same key_clone value_clone value_eq value_same remap function_clone alloc)
+  pub map_send : IsSend
+      (Gens.the_row K V F A hash key_eq key_same key_clone value_clone value_eq value_same remap function_clone alloc)
   map_send = search (sendable, map_fields_send) depth 30
 
-  pub map_sync : IsSync (Gens.the_row K V F A hash key_eq key_same key_clone value_clone value_eq value_same remap function_clone alloc)
+  pub map_sync : IsSync
+      (Gens.the_row K V F A hash key_eq key_same key_clone value_clone value_eq value_same remap function_clone alloc)
   map_sync = search (sendable, map_fields_sync) depth 30

@@ -11,7 +11,8 @@ use Rattle.generations.specs.Views.{GenerationsView}
 abbrev pub classes_of_bins : {K V F : Type 0} → List (BinView K V F) → List ClassView
 classes_of_bins bins = map (λ b. b.class) bins
 
-module _ {K V F : Type 0} (same_key : K → K → Bool) (code : K → ℕ) (after : Call K V F → Option V → Option V) (g : GenerationsView) where
+module _ {K V F : Type 0} (same_key : K → K → Bool) (code : K → ℕ) (after : Call K V F → Option V → Option V)
+    (g : GenerationsView) where
   -- a lawful bin of the map's form and salt, and a role of its ledger that agrees with it
   pub record IsBinWithRole (b : BinView K V F) (r : RoleView K V F) : Type 0 where
     pub form : b.form ≡ g.form

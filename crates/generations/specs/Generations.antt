@@ -13,12 +13,14 @@ use Rattle.generations.specs.declared.state.PlaceTag.{PlaceTag}
 abbrev pub generations_view : LedgerId → Form → Salt → List PlaceTag → GenerationsView
 generations_view ledger form salt opening = record { ledger = ledger; form = form; salt = salt; n = length opening }
 
--- a table of n places of the map, no smaller than its opening one: the place at each index is for the class of that index among n
+-- a table of n places of the map, no smaller than its opening one: the place at each index is for the class of that
+-- index among n
 pub record IsTable (home : GenerationsView) (n : ℕ) (places : List PlaceTag) : Type 0 where
   pub size : IsTableSize n
   pub least : home.n ≤ n
   pub count : length places ≡ n
-  pub by_index : (i : ℕ) (d : PlaceTag) → i < n → slice_index_or places i d ≡ place_of home (record { n = n; index = i })
+  pub by_index : (i : ℕ) (d : PlaceTag) → i < n →
+      slice_index_or places i d ≡ place_of home (record { n = n; index = i })
 
 -- a form as a number
 abbrev pub form_number : Form → ℕ
@@ -32,7 +34,8 @@ form_numbered (suc n) = Lean
 
 -- the map that the tag of a slot for a table names: its n, its form, its salt and its ledger
 abbrev pub generations_named : List ℕ → GenerationsView
-generations_named (exponent ∷ n ∷ form ∷ salt ∷ ledger) = record { ledger = id_of ledger; form = form_numbered form; salt = record { 0 = salt }; n = n }
+generations_named (exponent ∷ n ∷ form ∷ salt ∷ ledger) =
+    record { ledger = id_of ledger; form = form_numbered form; salt = record { 0 = salt }; n = n }
 generations_named _ = record { ledger = id_of []; form = Recorded; salt = record { 0 = 0 }; n = 0 }
 
 -- the size of the table that it names
@@ -51,6 +54,7 @@ pub record AreSlots (home : GenerationsView) (slots : List Named) : Type 0 where
   pub by_exponent : (e : ℕ) (d : Named) → e < 17 → IsSlotOf home e (slice_index_or slots e d)
 
 -- what a map keeps
-pub record IsGenerations (ledger : LedgerId) (form : Form) (salt : Salt) (opening : List PlaceTag) (slots : List Named) : Type 0 where
+pub record IsGenerations (ledger : LedgerId) (form : Form) (salt : Salt) (opening : List PlaceTag)
+    (slots : List Named) : Type 0 where
   pub opening_is : IsTable (generations_view ledger form salt opening) (length opening) opening
   pub slots_are : AreSlots (generations_view ledger form salt opening) slots

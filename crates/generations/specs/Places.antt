@@ -7,7 +7,8 @@ use Rattle.count_ledger.specs.Views.{RoleView}
 use Rattle.generations.specs.declared.state.PlaceTag.{PlaceTag}
 
 -- they agree, and are of the place's class, form, salt and ledger
-pub record AreAt {K V F : Type 0} (same_key : K → K → Bool) (after : Call K V F → Option V → Option V) (p : PlaceTag) (b : BinView K V F) (r : RoleView K V F) :
+pub record AreAt {K V F : Type 0} (same_key : K → K → Bool) (after : Call K V F → Option V → Option V) (p : PlaceTag)
+    (b : BinView K V F) (r : RoleView K V F) :
     Type 0 where
   pub class : b.class ≡ p.class
   pub form : b.form ≡ p.form

@@ -6,7 +6,8 @@ use Rattle.bin_history.specs.declared.form.Form.{Form}
 use Rattle.count_ledger.specs.Views.{LedgerId}
 use Rattle.generations.specs.declared.state.PlaceTag.{PlaceTag}
 
--- the locked bins of a map: the ledger of their roles, their form, the salt of their hashes, and how many there were at first
+-- the locked bins of a map: the ledger of their roles, their form, the salt of their hashes, and how many there were at
+-- first
 pub record GenerationsView : Type 0 where
   pub ledger : LedgerId
   pub form : Form

@@ -1,9 +1,10 @@
 -- Walk order, by the number of opening bins.
 use Rattle.std.specs.Prelude.{◌≡◌, ℕ, ◌*◌, ◌%◌, ◌^◌, ◌<◌, ◌≤◌, ◌↔◌, ◌⊎◌, true, List, [], ◌∷◌, All}
-use Rattle.hashkeys.specs.Classes.{ClassView, covers, covering, CoverOnce}
+use Rattle.hashkeys.specs.Classes.{ClassView, IsClass, covers, covering, CoverOnce}
 
 module _ (n : ℕ) where
-  -- a hash stands before another: at the least of n, 2n, 4n, .. by which their remainders differ, its own is the smaller
+  -- a hash stands before another: at the least of n, 2n, 4n, .. by which their remainders differ, its own is the
+  -- smaller
   abbrev pub Precedes : ℕ → ℕ → Type 0
   Precedes h g = (e : ℕ) × ((j : ℕ) → j < e → h % (n * 2 ^ j) ≡ g % (n * 2 ^ j)) × (h % (n * 2 ^ e) < g % (n * 2 ^ e))
 
@@ -29,13 +30,16 @@ module _ (n : ℕ) where
 
   -- the classes stand in walk order, have every hash, each once, and are no wider than the opening ones
   pub record IsWalk (classes : List ClassView) : Type 0 where
+    pub each_class : All IsClass classes
     pub each_hash : CoverOnce classes
     pub in_order : AreInOrder classes
     pub least : All (λ c. n ≤ c.n) classes
 
   -- the same of the hashes that stand before a class that is next
   pub record IsWalkTo (classes : List ClassView) (next : ClassView) : Type 0 where
-    pub each_hash : (hash : ℕ) → (Precedes hash next.index × (covering classes hash ≡ 1)) ⊎ ((Precedes hash next.index → ⊥) × (covering classes hash ≡ 0))
+    pub each_class : All IsClass classes
+    pub each_hash : (hash : ℕ) → (Precedes hash next.index × (covering classes hash ≡ 1))
+        ⊎ ((Precedes hash next.index → ⊥) × (covering classes hash ≡ 0))
     pub in_order : AreInOrder classes
     pub before : All (λ c. Before c next) classes
     pub least : All (λ c. n ≤ c.n) classes

@@ -28,7 +28,8 @@ impl<
     F: Remap<K, V> + Clone + Drop,
     A: Allocator + Clone,
 > Generations<K, V, F, A> {
-    /// Replaces the bin of the class by its halves, once nobody holds or reads it. For want of memory the bin stays.
+    /// Replaces the bin of the class by its halves, once nobody holds or reads it. For want of
+    /// memory the bin stays.
     pub fn forward<R: Wait>(
         &self,
         rt: &R,

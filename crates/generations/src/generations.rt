@@ -17,7 +17,8 @@ use std::sync::Wait;
 use std::sync::atomic::AtomicU64;
 use std::sync::atomic::Ordering::SeqCst;
 
-/// The locked bins of one map. Contracts see the map's ledger, its form, its salt and the number of its opening bins.
+/// The locked bins of one map. Contracts see the map's ledger, its form, its salt and the number of
+/// its opening bins.
 #[derive(Drop)]
 pub struct Generations<K: HashKey, V: Clone + Eq, F: Remap<K, V> + Clone, A: Allocator> {
     opening: Vec<Place<K, V, F, A>, A>,
@@ -48,7 +49,8 @@ fn place_in<'a, K: HashKey, V: Clone + Eq, F: Remap<K, V> + Clone, A: Allocator>
     hash: u32,
 ) -> (&'a Place<K, V, F, A>, Class)
     requires { (map : GenerationsView) × (n : ℕ) × IsTable map n places.now.items }
-    ensures of_map { (map : GenerationsView) (n : ℕ) → IsTable map n places.now.items → IsPlaceOf map result.0.now }
+    ensures of_map { (map : GenerationsView) (n : ℕ) → IsTable map n places.now.items →
+        IsPlaceOf map result.0.now }
     ensures covers { covers result.0.now.class hash ≡ true }
     ensures class { result.1 ≡ result.0.now.class }
 {
@@ -108,7 +110,8 @@ impl<K: HashKey, V: Clone + Eq, F: Remap<K, V> + Clone, A: Allocator> Generation
         }
     }
 
-    /// The place of the hash in the widest table where it was begun, and else its opening place, with its class.
+    /// The place of the hash in the widest table where it was begun, and else its opening place,
+    /// with its class.
     pub(crate) fn find(&self, hash: u32) -> (&Place<K, V, F, A>, Class)
         ensures of_map { IsPlaceOf self.now result.0.now }
         ensures covers { covers result.0.now.class hash ≡ true }
@@ -141,8 +144,17 @@ impl<
         ledger: LedgerName,
         opening: Vec<Place<K, V, F, A>, A>,
     ) -> Result<Generations<K, V, F, A>, AllocError>
-        requires opening { IsTable (record { ledger = ledger; form = form; salt = salt; n = length opening.items }) (length opening.items) opening.items }
-        ensures { IfOk result (λ g. g ≡ record { ledger = ledger; form = form; salt = salt; n = length opening.items }) }
+        requires opening { IsTable
+            (record { ledger = ledger; form = form; salt = salt; n = length opening.items })
+            (length opening.items) opening.items }
+        ensures { IfOk result
+            (λ g. g ≡ record {
+              ledger = ledger;
+              form = form;
+              salt = salt;
+              n =
+                  length opening.items;
+            }) }
     {
         let tables = no_tables(alloc, opening.len() as u32, form, salt, &ledger)?;
         Ok(Generations {

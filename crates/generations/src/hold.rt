@@ -19,7 +19,8 @@ use hashkeys::HashKey;
 use std::alloc::{AllocError, Allocator};
 use std::sync::Wait;
 
-/// A bin that is held, with its role. Nobody else has either until it is released or halved, which must happen.
+/// A bin that is held, with its role. Nobody else has either until it is released or halved, which
+/// must happen.
 pub struct Held<'a, K: HashKey, V: Clone + Eq, F: Remap<K, V> + Clone, A: Allocator> {
     pub bin: Box<Bin<K, V, F, A>, A>,
     pub role: BinRole<K, V, F>,
@@ -42,7 +43,8 @@ impl<
     /// Waits for the bin of the hash, and holds it.
     #[inline(always)]
     pub fn hold<R: Wait>(&self, rt: &R, hash: u32) -> Held<'_, K, V, F, A>
-        ensures at { AreAt K.eq (after V.eq F.remapped F.merged) result.place.now result.bin.value result.role }
+        ensures at { AreAt K.eq (after V.eq F.remapped F.merged) result.place.now
+            result.bin.value result.role }
         ensures covers { covers result.bin.value.class hash ≡ true }
         ensures lawful { IsLawful K.eq K.code (after V.eq F.remapped F.merged) result.bin.value }
         ensures of_map { IsPlaceOf self.now result.place.now }
@@ -61,7 +63,8 @@ impl<
     #[cold]
     #[inline(never)]
     fn wait_to_hold<R: Wait>(&self, rt: &R, hash: u32) -> Held<'_, K, V, F, A>
-        ensures at { AreAt K.eq (after V.eq F.remapped F.merged) result.place.now result.bin.value result.role }
+        ensures at { AreAt K.eq (after V.eq F.remapped F.merged) result.place.now
+            result.bin.value result.role }
         ensures covers { covers result.bin.value.class hash ≡ true }
         ensures lawful { IsLawful K.eq K.code (after V.eq F.remapped F.merged) result.bin.value }
         ensures of_map { IsPlaceOf self.now result.place.now }
@@ -85,8 +88,10 @@ impl<
         place: &'a Place<K, V, F, A>,
     ) -> Option<Held<'a, K, V, F, A>>
         requires { IsPlaceOf self.now place.now }
-        ensures at { IfSome result (λ h. AreAt K.eq (after V.eq F.remapped F.merged) place.now h.bin.value h.role) }
-        ensures lawful { IfSome result (λ h. IsLawful K.eq K.code (after V.eq F.remapped F.merged) h.bin.value) }
+        ensures at { IfSome result
+            (λ h. AreAt K.eq (after V.eq F.remapped F.merged) place.now h.bin.value h.role) }
+        ensures lawful { IfSome result
+            (λ h. IsLawful K.eq K.code (after V.eq F.remapped F.merged) h.bin.value) }
         ensures place { IfSome result (λ h. h.place.now ≡ place.now) }
         ensures home { IfSome result (λ h. h.home.now ≡ self.now) }
     {
@@ -94,7 +99,8 @@ impl<
         self.take_out(rt, place, claim)
     }
 
-    /// The bin and the role of a place, taken out by a claim to write. There is none where they are away.
+    /// The bin and the role of a place, taken out by a claim to write. There is none where they are
+    /// away.
     #[inline(always)]
     fn take_out<'a, R: Wait>(
         &'a self,
@@ -104,8 +110,10 @@ impl<
     ) -> Option<Held<'a, K, V, F, A>>
         requires of_map { IsPlaceOf self.now place.now }
         requires claim { (claim.right ≡ 2) × (claim.tag ≡ place.now) }
-        ensures at { IfSome result (λ h. AreAt K.eq (after V.eq F.remapped F.merged) place.now h.bin.value h.role) }
-        ensures lawful { IfSome result (λ h. IsLawful K.eq K.code (after V.eq F.remapped F.merged) h.bin.value) }
+        ensures at { IfSome result
+            (λ h. AreAt K.eq (after V.eq F.remapped F.merged) place.now h.bin.value h.role) }
+        ensures lawful { IfSome result
+            (λ h. IsLawful K.eq K.code (after V.eq F.remapped F.merged) h.bin.value) }
         ensures place { IfSome result (λ h. h.place.now ≡ place.now) }
         ensures home { IfSome result (λ h. h.home.now ≡ self.now) }
     {
@@ -130,9 +138,11 @@ impl<
     F: Remap<K, V> + Clone + Drop,
     A: Allocator + Clone,
 > Held<'a, K, V, F, A> {
-    /// Gives the bin and its role back. They agree, and are of the class and the ledger that were held. It waits for nobody.
+    /// Gives the bin and its role back. They agree, and are of the class and the ledger that were
+    /// held. It waits for nobody.
     pub fn release(self)
-        requires { AreAt K.eq (after V.eq F.remapped F.merged) self.place.now self.bin.value self.role }
+        requires { AreAt K.eq (after V.eq F.remapped F.merged) self.place.now
+            self.bin.value self.role }
     {
         let Held {
             bin,
@@ -160,7 +170,8 @@ impl<
         (bin, role)
     }
 
-    /// Puts the two halves of the bin, each with its part of the role, in its place. For want of memory it hands everything back as it was.
+    /// Puts the two halves of the bin, each with its part of the role, in its place. For want of
+    /// memory it hands everything back as it was.
     pub fn halve<R: Wait>(
         self,
         rt: &R,
@@ -169,7 +180,8 @@ impl<
         requires keys { IsExact K.is_clone }
         requires values { IsExact V.is_clone }
         requires functions { IsExact F.is_clone }
-        requires at { AreAt K.eq (after V.eq F.remapped F.merged) self.place.now self.bin.value self.role }
+        requires at { AreAt K.eq (after V.eq F.remapped F.merged) self.place.now
+            self.bin.value self.role }
         requires ledger { self.role.ledger ≡ ledger.now.id }
         requires size { self.bin.value.class.n < most_bins }
         ensures bin { IfErr result (λ e. e.0.bin ≡ self.entry.bin) }

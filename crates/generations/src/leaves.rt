@@ -53,7 +53,8 @@ impl<
     ) -> Option<(Bin<K, V, F, A>, BinRole<K, V, F>)>
         requires { IsPlaceOf self.now place.now }
         ensures class { IfSome result (λ p. p.0.class ≡ place.now.class) }
-        ensures with_role { IfSome result (λ p. IsBinWithRole K.eq K.code (after V.eq F.remapped F.merged) self.now p.0 p.1) }
+        ensures with_role { IfSome result
+            (λ p. IsBinWithRole K.eq K.code (after V.eq F.remapped F.merged) self.now p.0 p.1) }
     {
         let (bin, role) = self.try_hold(rt, place)?.take();
         Some((Box::into_inner(bin), role))
@@ -69,7 +70,9 @@ impl<
         requires bins { bins.old.items ≡ [] }
         requires roles { roles.old.items ≡ [] }
         ensures walk { IsTrue result → IsWalk self.now.n (classes_of_bins bins.new.items) }
-        ensures with_roles { IsTrue result → AreBinsWithRoles K.eq K.code (after V.eq F.remapped F.merged) self.now bins.new.items roles.new.items }
+        ensures with_roles { IsTrue result →
+            AreBinsWithRoles K.eq K.code (after V.eq F.remapped F.merged) self.now bins.new.items
+            roles.new.items }
     {
         let n = self.n();
         let mut next = Class::new(n, 0);
@@ -91,14 +94,18 @@ impl<
         false
     }
 
-    /// Takes out the bins in walk order and, place by place, their roles. For want of memory the map comes back as it was.
+    /// Takes out the bins in walk order and, place by place, their roles. For want of memory the
+    /// map comes back as it was.
     pub fn into_leaves<R: Wait>(
         self,
         rt: &R,
     ) -> Result<(Vec<Bin<K, V, F, A>, A>, Vec<BinRole<K, V, F>, A>), NotLeft<K, V, F, A>>
         ensures walk { IfOk result (λ p. IsWalk self.n (classes_of_bins p.0.items)) }
-        ensures with_roles { IfOk result (λ p. AreBinsWithRoles K.eq K.code (after V.eq F.remapped F.merged) self p.0.items p.1.items) }
-        ensures classes { IfOk result (λ p. classes_of_roles p.1.items ≡ classes_of_bins p.0.items) }
+        ensures with_roles { IfOk result
+            (λ p. AreBinsWithRoles K.eq K.code (after V.eq F.remapped F.merged) self
+            p.0.items p.1.items) }
+        ensures classes { IfOk result
+            (λ p. classes_of_roles p.1.items ≡ classes_of_bins p.0.items) }
         ensures refused { IfErr result (λ e. IfKept e (λ g. g ≡ self)) }
     {
         let count = self.count_bins() as usize;

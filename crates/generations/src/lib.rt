@@ -1,8 +1,8 @@
-//! The locked bins of a map, each in a place of its own with a lock. Places stand
-//! in tables, one for each size: the opening table has a place for each class among
-//! n, and the table of 2n places, made when the map is to grow, one for each half
-//! of those. Where a bin is replaced by its halves these are put into their places
-//! of the wider table. Whoever looks for a hash begins at the widest table and takes the first place that was begun.
+//! The locked bins of a map, each in a place of its own with a lock. Places stand in tables, one
+//! for each size: the opening table has a place for each class among n, and the table of 2n places,
+//! made when the map is to grow, one for each half of those. Where a bin is replaced by its halves
+//! these are put into their places of the wider table. Whoever looks for a hash begins at the
+//! widest table and takes the first place that was begun.
 //!
 //! Whoever gets the lock of a place finds a lawful bin of the place's class, and a role
 //! of this map's ledger that agrees with it. No call but `new`, `widen`, `halve`,

@@ -34,8 +34,16 @@ fn opening_place<
     requires values { IsExact V.is_clone }
     requires distinct { HasDistinctKeys K.eq base.items }
     requires of_class { All (λ e. is_of K.code salt class e.0 ≡ true) base.items }
-    requires role { role ≡ record { ledger = role.ledger; salt = salt; class = class; opening = base.items; kept = [] } }
-    ensures { IfOk result (λ p. p ≡ record { class = class; form = form; salt = salt; ledger = role.ledger }) }
+    requires role { role ≡ record {
+      ledger = role.ledger;
+      salt = salt;
+      class = class;
+      opening =
+          base.items;
+      kept = [];
+    } }
+    ensures { IfOk result
+        (λ p. p ≡ record { class = class; form = form; salt = salt; ledger = role.ledger }) }
 {
     let tag = PlaceTag {
         class,
@@ -69,7 +77,8 @@ fn opening_places<
     requires of_class { AreOfTheirClasses K.code salt (lists_of bases) }
     requires roles { (ledger : LedgerId) × (roles.items ≡ new_roles ledger salt (lists_of bases)) }
     ensures count { IfOk result (λ places. length places.items ≡ n) }
-    ensures places { IfOk result (λ places. (ledger : LedgerId) → roles.items ≡ new_roles ledger salt (lists_of bases)
+    ensures places { IfOk result (λ places. (ledger : LedgerId) →
+        roles.items ≡ new_roles ledger salt (lists_of bases)
         → IsTable (record { ledger = ledger; form = form; salt = salt; n = n }) n places.items) }
 {
     let mut places = Vec::with_capacity(alloc.clone()?, n as usize)?;
@@ -111,11 +120,13 @@ impl<
         requires count { length bases.items ≡ n }
         requires distinct { All (λ base. HasDistinctKeys K.eq base.items) bases.items }
         requires of_class { AreOfTheirClasses K.code salt (lists_of bases) }
-        requires roles { (ledger : LedgerId) × (roles.items ≡ new_roles ledger salt (lists_of bases)) }
+        requires roles { (ledger : LedgerId)
+            × (roles.items ≡ new_roles ledger salt (lists_of bases)) }
         ensures n { IfOk result (λ g. g.n ≡ n) }
         ensures form { IfOk result (λ g. g.form ≡ form) }
         ensures salt { IfOk result (λ g. g.salt ≡ salt) }
-        ensures ledger { IfOk result (λ g. (ledger : LedgerId) → roles.items ≡ new_roles ledger salt (lists_of bases) → g.ledger ≡ ledger) }
+        ensures ledger { IfOk result (λ g. (ledger : LedgerId) →
+            roles.items ≡ new_roles ledger salt (lists_of bases) → g.ledger ≡ ledger) }
     {
         let ledger = LedgerName::of(&roles[0]);
         let places = opening_places(alloc.clone()?, form, salt, n, bases, roles)?;

@@ -15,12 +15,13 @@ use std::alloc::Allocator;
 use std::marker::Model;
 use std::sync::Wait;
 
-/// The word of a place whose bin is being taken out, was halved, or was taken for good. A place is made under `FREE`, and nobody reads there yet; once it was
-/// held or filled it is `PRESENT`, where readers may come. While its bin is held the word is `TAKEN`.
+/// The word of a place whose bin is being taken out, was halved, or was taken for good. A place is
+/// made under `FREE`, and nobody reads there yet; once it was held or filled it is `PRESENT`, where
+/// readers may come. While its bin is held the word is `TAKEN`.
 pub(crate) const AWAY: u64 = MARKED;
 
-/// A place for one bin: its lock with the bin. Contracts see what was fixed when it was made; the bin's class is told by
-/// where the place stands in its table.
+/// A place for one bin: its lock with the bin. Contracts see what was fixed when it was made; the
+/// bin's class is told by where the place stands in its table.
 #[derive(Drop)]
 pub struct Place<K: HashKey, V: Clone + Eq, F: Remap<K, V> + Clone, A: Allocator> {
     lock: Counted<State<K, V, F, A>>,
@@ -81,8 +82,8 @@ impl<K: HashKey, V: Clone + Eq, F: Remap<K, V> + Clone, A: Allocator> Place<K, V
         Some(claim)
     }
 
-    /// One try for the right to write where the bin was held before, without a look at the word first: a look would fetch
-    /// the word's line once to read it, and once more to write it.
+    /// One try for the right to write where the bin was held before, without a look at the word
+    /// first: a look would fetch the word's line once to read it, and once more to write it.
     #[inline(always)]
     pub(crate) fn claim_at_once(&self) -> Option<Claim<'_, State<K, V, F, A>>>
         ensures { IfSome result (λ c. (c.right ≡ 2) × (c.tag ≡ self.now)) }

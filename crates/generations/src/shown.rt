@@ -18,7 +18,8 @@ use std::alloc::Allocator;
 use std::marker::Model;
 use std::sync::Wait;
 
-/// A bin that may be read. Several may be shown one bin at once, and nobody holds it meanwhile. It has to be released. Contracts see the bin and its role.
+/// A bin that may be read. Several may be shown one bin at once, and nobody holds it meanwhile. It
+/// has to be released. Contracts see the bin and its role.
 pub struct Shown<'a, K: HashKey, V: Clone + Eq, F: Remap<K, V> + Clone, A: Allocator> {
     claim: Claim<'a, State<K, V, F, A>>,
 }
@@ -51,8 +52,10 @@ impl<'a, K: HashKey, V: Clone + Eq, F: Remap<K, V> + Clone, A: Allocator + Clone
         claim: Claim<'a, State<K, V, F, A>>,
     ) -> Option<Shown<'a, K, V, F, A>>
         requires { (claim.right ≡ 1) × (claim.tag ≡ place.now) }
-        ensures at { IfSome result (λ s. IsSomeAnd s (λ p. AreAt K.eq (after V.eq F.remapped F.merged) place.now p.0 p.1)) }
-        ensures lawful { IfSome result (λ s. IsSomeAnd s (λ p. IsLawful K.eq K.code (after V.eq F.remapped F.merged) p.0)) }
+        ensures at { IfSome result
+            (λ s. IsSomeAnd s (λ p. AreAt K.eq (after V.eq F.remapped F.merged) place.now p.0 p.1)) }
+        ensures lawful { IfSome result
+            (λ s. IsSomeAnd s (λ p. IsLawful K.eq K.code (after V.eq F.remapped F.merged) p.0)) }
     {
         let _ = place;
         let live = match claim.get() {
@@ -108,7 +111,8 @@ impl<
     /// Waits for the bin of the hash, to read it beside others.
     pub fn read<R: Wait>(&self, rt: &R, hash: u32) -> Shown<'_, K, V, F, A>
         ensures covers { IsSomeAnd result (λ p. covers p.0.class hash ≡ true) }
-        ensures with_role { IsSomeAnd result (λ p. IsBinWithRole K.eq K.code (after V.eq F.remapped F.merged) self.now p.0 p.1) }
+        ensures with_role { IsSomeAnd result
+            (λ p. IsBinWithRole K.eq K.code (after V.eq F.remapped F.merged) self.now p.0 p.1) }
     {
         let backoff = Backoff::new();
         for _ in rt.forever() {

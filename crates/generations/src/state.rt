@@ -7,16 +7,17 @@ use counted_slot::Fits;
 use hashkeys::{Class, HashKey, Salt};
 use std::alloc::{AllocError, Allocator};
 
-/// A bin with its role, or neither: they were not put there yet, are held, were halved, or were taken for good. The bin
-/// lies in room of its own, so that whoever takes it out of the lock and puts it back moves two words: the role comes
-/// first, beside the state's tag.
+/// A bin with its role, or neither: they were not put there yet, are held, were halved, or were
+/// taken for good. The bin lies in room of its own, so that whoever takes it out of the lock and
+/// puts it back moves two words: the role comes first, beside the state's tag.
 #[derive(Drop)]
 pub(crate) enum State<K: HashKey, V: Clone + Eq, F: Remap<K, V> + Clone, A: Allocator> {
     Live(BinRole<K, V, F>, Box<Bin<K, V, F, A>, A>),
     Away,
 }
 
-/// What is fixed when a place is made: the class of its bin, the map's form and salt, and the map's ledger in contracts alone.
+/// What is fixed when a place is made: the class of its bin, the map's form and salt, and the map's
+/// ledger in contracts alone.
 #[derive(Drop)]
 pub struct PlaceTag {
     pub class: Class,

@@ -1,4 +1,5 @@
-//! The tables of a map's later places, one for each size: in the table of n places the place at an index is for the class of that index among n.
+//! The tables of a map's later places, one for each size: in the table of n places the place at an
+//! index is for the class of that index among n.
 ghost use Rattle.std.specs.Prelude.{◌≡◌, ◌^◌, IfOk};
 ghost use Rattle.generations.specs.Generations.{AreSlots, generations_named, size_named};
 
@@ -16,7 +17,8 @@ pub(crate) const SIZES: u32 = 17;
 /// The places of one table.
 pub(crate) type Places<K, V, F, A> = Vec<Place<K, V, F, A>, A>;
 
-/// The rule of a slot for a table, whose tag names the map and the table's size: the table is the map's, of that size.
+/// The rule of a slot for a table, whose tag names the map and the table's size: the table is the
+/// map's, of that size.
 pub struct OfSize;
 
 impl<K: HashKey, V: Clone + Eq, F: Remap<K, V> + Clone, A: Allocator> SlotRule<
@@ -49,7 +51,13 @@ impl Names<SlotName> for OfSlotName {
 }
 
 fn tag_of(exponent: u32, n: u32, form: Form, salt: Salt, ledger: &LedgerName) -> Tag
-    ensures map { generations_named result.numbers ≡ record { ledger = ledger.now; form = form; salt = salt; n = n } }
+    ensures map { generations_named result.numbers ≡ record {
+      ledger = ledger.now;
+      form =
+          form;
+      salt = salt;
+      n = n;
+    } }
     ensures size { size_named result.numbers ≡ 2 ^ exponent }
 {
     let name = SlotName {
@@ -84,7 +92,9 @@ pub(crate) fn no_tables<
     salt: Salt,
     ledger: &LedgerName,
 ) -> Result<Slots<K, V, F, A>, AllocError>
-    ensures { IfOk result (λ slots. AreSlots (record { ledger = ledger.now; form = form; salt = salt; n = n }) slots.items) }
+    ensures { IfOk result
+        (λ slots. AreSlots
+        (record { ledger = ledger.now; form = form; salt = salt; n = n }) slots.items) }
 {
     let mut slots = Vec::with_capacity(alloc, SIZES as usize)?;
     for exponent in 0..SIZES {

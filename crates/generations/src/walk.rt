@@ -1,11 +1,13 @@
-//! Walk order: opening bins by their index, and in place of a forwarded bin its low half and then its high half.
+//! Walk order: opening bins by their index, and in place of a forwarded bin its low half and then
+//! its high half.
 ghost use Rattle.std.specs.Prelude.{◌≡◌, ◌≤◌, ℕ, true, IfSome, IfNone, List, [], ◌∷◌, ◌++◌};
 ghost use Rattle.hashkeys.specs.Classes.{ClassView, IsClass, IsTableSize, covers};
 ghost use Rattle.generations.specs.Walks.{IsFirstAfter, IsLastInWalk, IsWalk, IsWalkTo};
 
 use hashkeys::Class;
 
-/// The widest class that begins where this one ends in walk order; none after the last. `n` is the number of opening bins.
+/// The widest class that begins where this one ends in walk order; none after the last. `n` is the
+/// number of opening bins.
 ///
 /// A walk begins at the class `(n, 0)`. At each class it goes to the bin of the
 /// class's index: where that bin is no wider than the class, it is the first of the
@@ -33,7 +35,8 @@ pub fn next_in_walk(n: u32, class: Class) -> Option<Class>
     }
 }
 
-/// A walk that goes on by `next_in_walk` until it says none has met, in walk order, classes that have every hash, each once. It does nothing when it runs.
+/// A walk that goes on by `next_in_walk` until it says none has met, in walk order, classes that
+/// have every hash, each once. It does nothing when it runs.
 pub fn walk_laws()
     ensures first { (n : ℕ) → IsTableSize n → IsWalkTo n [] (record { n = n; index = 0 }) }
     ensures next { (n : ℕ) (classes : List ClassView) (next class then : ClassView)

@@ -15,7 +15,8 @@ IsTableSize-double n l (e, h, is) =
     (e + 1, omega arith, omega arith)
 
 -- the remainder modulo n, of one modulo 2 * n
-in_half : (n h : ℕ) → 0 < n → ((h % (2 * n) < n) × (h % n ≡ h % (2 * n))) ⊎ ((n ≤ h % (2 * n)) × (h % n + n ≡ h % (2 * n)) × (h % n < n))
+in_half : (n h : ℕ) → 0 < n → ((h % (2 * n) < n) × (h % n ≡ h % (2 * n)))
+    ⊎ ((n ≤ h % (2 * n)) × (h % n + n ≡ h % (2 * n)) × (h % n < n))
 in_half n h p =
     let r = h % (2 * n) in
     let same : r % n ≡ h % n = mod-mod_of_dvd n h (dvd-mul_left n 2) in

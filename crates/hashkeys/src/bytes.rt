@@ -17,8 +17,8 @@ pub(crate) fn bytes_code(bytes: &[u8]) -> u32
     code
 }
 
-/// Bytes that lie elsewhere, as a key of any length. It is one reference, so a clone takes no memory. Contracts see
-/// the bytes.
+/// Bytes that lie elsewhere, as a key of any length. It is one reference, so a clone takes no
+/// memory. Contracts see the bytes.
 #[derive(Drop)]
 pub struct Bytes<'a>(pub &'a [u8]);
 
@@ -74,8 +74,8 @@ impl<'a> HashKey for Bytes<'a> {
     ghost equal_is_same = { λ x y e. (bytes_decides x y).0 e };
 }
 
-/// Bytes of its own, as a key of any length. A clone takes memory for them, and may be refused it. Contracts see the
-/// bytes.
+/// Bytes of its own, as a key of any length. A clone takes memory for them, and may be refused it.
+/// Contracts see the bytes.
 #[derive(Drop)]
 pub struct ByteString<A: Allocator> {
     bytes: Vec<u8, A>,

@@ -67,12 +67,14 @@ impl Class {
         hash & u32::from(self.mask) == u32::from(self.index)
     }
 
-    /// The low and the high half: a hash of the class is in exactly one of them, and no other hash is.
+    /// The low and the high half: a hash of the class is in exactly one of them, and no other hash
+    /// is.
     pub fn halves(&self) -> (Class, Class)
         requires { self.now.n < most_bins }
         ensures low { result.0 ≡ low_half self.now }
         ensures high { result.1 ≡ high_half self.now }
-        ensures one { (hash : ℕ) → covers self.now hash ≡ (covers result.0 hash || covers result.1 hash) }
+        ensures one { (hash : ℕ) →
+            covers self.now hash ≡ (covers result.0 hash || covers result.1 hash) }
         ensures apart { (hash : ℕ) → (covers result.0 hash && covers result.1 hash) ≡ false }
     {
         let mask = 2 * self.mask + 1;

@@ -13,7 +13,8 @@ pub trait HashKey: Eq + Clone {
     ghost equal_is_same: { (x y : Self) → Self.eq x y ≡ true → x ≡ y };
 }
 
-/// The upper half of a code mixed into its lower half, with the top bit cleared: a number below 2^31.
+/// The upper half of a code mixed into its lower half, with the top bit cleared: a number below
+/// 2^31.
 pub fn spread(code: u32) -> u32
     ensures value { result ≡ spread code }
     ensures bound { result < 2 ^ 31 }
@@ -21,8 +22,9 @@ pub fn spread(code: u32) -> u32
     (code ^ (code >> 16)) & 0x7fff_ffff
 }
 
-/// What a map's codes are mixed with, by exclusive-or. The hash of a key is that of its code exclusive-or that of the
-/// salt: so a salt gives bins other numbers, and never parts two keys that share a hash.
+/// What a map's codes are mixed with, by exclusive-or. The hash of a key is that of its code
+/// exclusive-or that of the salt: so a salt gives bins other numbers, and never parts two keys that
+/// share a hash.
 #[derive(Clone, Copy, PartialEq, Eq, Debug)]
 pub struct Salt(pub u32);
 

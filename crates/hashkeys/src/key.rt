@@ -1,5 +1,6 @@
 //! The program's keys: short words of ASCII letters, digits and `_`.
-ghost use Rattle.std.specs.Prelude.{◌≡◌, ◌≤◌, ◌++◌, true, false, MatchOption, length, take, drop, replicate};
+ghost use Rattle.std.specs.Prelude.{◌≡◌, ◌≤◌, ◌++◌, true, false, MatchOption, length, take, drop};
+ghost use Rattle.std.specs.Prelude.{replicate};
 ghost use Rattle.hashkeys.specs.Text.{is_key, are_word_bytes, code_of};
 
 use crate::bytes::bytes_code;
@@ -49,7 +50,8 @@ const PLACES: [u8; 32] = [
     26, 27, 28, 29, 30, 31,
 ];
 
-/// So many bytes from the front of a text, and `_` after them: 32 in all. Where the text has 32, they are moved together.
+/// So many bytes from the front of a text, and `_` after them: 32 in all. Where the text has 32,
+/// they are moved together.
 #[inline(always)]
 fn filled(text: &[u8], len: usize) -> [u8; 32]
     requires within { len ≤ length text.now }
@@ -70,17 +72,19 @@ fn filled(text: &[u8], len: usize) -> [u8; 32]
 impl Key {
     /// The key of these bytes, or none where they are no key.
     pub fn read(bytes: &[u8]) -> Option<Key>
-        ensures { MatchOption result (is_key bytes.now ≡ false) (λ key. (key ≡ bytes.now) × (is_key bytes.now ≡ true)) }
+        ensures { MatchOption result (is_key bytes.now ≡ false)
+            (λ key. (key ≡ bytes.now) × (is_key bytes.now ≡ true)) }
     {
         Key::read_front(bytes, bytes.len())
     }
 
-    /// The key of so many bytes from the front of a text, or none where they are no key. What follows them in the text
-    /// changes nothing, but lets them be read together.
+    /// The key of so many bytes from the front of a text, or none where they are no key. What
+    /// follows them in the text changes nothing, but lets them be read together.
     #[inline(always)]
     pub fn read_front(text: &[u8], len: usize) -> Option<Key>
         requires { len ≤ length text.now }
-        ensures { MatchOption result (is_key (take len text.now) ≡ false) (λ key. (key ≡ take len text.now) × (is_key (take len text.now) ≡ true)) }
+        ensures { MatchOption result (is_key (take len text.now) ≡ false)
+            (λ key. (key ≡ take len text.now) × (is_key (take len text.now) ≡ true)) }
     {
         if len < 1 || len > 32 {
             return None;
@@ -161,7 +165,8 @@ impl PartialOrd for Key {
 
     ghost partial_cmp = { as_partial_cmp (slice_cmp nat_cmp) };
 
-    ghost laws = { partial_order_from_own_ties (Prim.search (comparing, rules)) (Prim.search (comparing, rules)) };
+    ghost laws = { partial_order_from_own_ties (Prim.search (comparing, rules))
+        (Prim.search (comparing, rules)) };
 
     fn partial_cmp(&self, other: &Key) -> Option<Ordering> {
         Some(self.cmp(other))

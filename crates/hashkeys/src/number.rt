@@ -7,8 +7,9 @@ use crate::hashing::HashKey;
 /// 2^64 divided by the golden ratio: an odd number whose multiples lie far apart.
 const GOLDEN: u64 = 0x9e37_79b9_7f4a_7c15;
 
-/// The upper half of the number times `GOLDEN`, in which each bit of the number has a say: numbers that differ in
-/// their upper bits alone, or by a power of two, have different codes as well as others do.
+/// The upper half of the number times `GOLDEN`, in which each bit of the number has a say: numbers
+/// that differ in their upper bits alone, or by a power of two, have different codes as well as
+/// others do.
 fn number_code(number: u64) -> u32
     ensures { result ≡ number_code number }
 {

@@ -1,5 +1,6 @@
-//! `hit_counter` shares a cache of squares among four clients, who look numbers up, work out what is missing and count
-//! hits and misses. The cache is then closed, read, opened again for one client, and emptied.
+//! `hit_counter` shares a cache of squares among four clients, who look numbers up, work out what
+//! is missing and count hits and misses. The cache is then closed, read, opened again for one
+//! client, and emptied.
 #![tactic(auto)]
 
 use anyhow::Result;
@@ -11,7 +12,8 @@ use std::sync::atomic::AtomicU64;
 use std::sync::atomic::Ordering::SeqCst;
 use std::thread::Threads;
 
-/// The square of a key, modulo 2^64, where it has no value. A value is left as it is, and a merge gives the one given.
+/// The square of a key, modulo 2^64, where it has no value. A value is left as it is, and a merge
+/// gives the one given.
 #[derive(Clone, Copy)]
 struct Square;
 
@@ -34,7 +36,8 @@ impl Remap<u64, u64> for Square {
     }
 }
 
-/// Looks up the numbers below 100: all of them, or else those that are the client's number modulo 4.
+/// Looks up the numbers below 100: all of them, or else those that are the client's number modulo
+/// 4.
 #[derive(Clone, Copy)]
 struct LookUp<'a> {
     all: bool,
@@ -90,7 +93,8 @@ impl Work<u64, u64, Square, Global> for Empty<'_> {
 
 type Cache = Quiet<u64, u64, Square, Global>;
 
-/// Shares the cache among four clients: each works its own numbers out, and then looks all of them up.
+/// Shares the cache among four clients: each works its own numbers out, and then looks all of them
+/// up.
 fn share<R: Threads + Wait + Sync>(
     rt: &R,
     alloc: Global,

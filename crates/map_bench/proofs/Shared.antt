@@ -34,10 +34,15 @@ sum_sync = search (sendable, crosses) depth 20
 pub settings_sync : IsSync Settings.the_row
 settings_sync = search sendable depth 20
 
-module _ (V A : RattleType) (hash : HashKey.Ghosts Name.the_row.Denot) (key_eq : Eq.Ghosts Name.the_row.Denot) (key_same : PartialEq.Ghosts Name.the_row.Denot)
-    (key_clone : Clone.Ghosts Name.the_row.Denot) (value_clone : Clone.Ghosts V.Denot) (value_eq : Eq.Ghosts V.Denot) (value_same : PartialEq.Ghosts V.Denot)
-    (remap : Remap.Ghosts Sum.the_row.Denot Name.the_row.Denot V.Denot) (function_clone : Clone.Ghosts Sum.the_row.Denot) (alloc : Allocator.Ghosts A.Denot)
+module _ (V A : RattleType) (hash : HashKey.Ghosts Name.the_row.Denot) (key_eq : Eq.Ghosts Name.the_row.Denot)
+    (key_same : PartialEq.Ghosts Name.the_row.Denot)
+    (key_clone : Clone.Ghosts Name.the_row.Denot) (value_clone : Clone.Ghosts V.Denot) (value_eq : Eq.Ghosts V.Denot)
+    (value_same : PartialEq.Ghosts V.Denot)
+    (remap : Remap.Ghosts Sum.the_row.Denot Name.the_row.Denot V.Denot)
+    (function_clone : Clone.Ghosts Sum.the_row.Denot) (alloc : Allocator.Ghosts A.Denot)
     (sv : IsSend V) (sa : IsSend A) (yv : IsSync V) (ya : IsSync A) (frees : Frees alloc alloc.dealloc_token) where
-  pub bench_map_sync : IsSync (Map.the_row Name.the_row V Sum.the_row A hash key_eq key_same key_clone value_clone value_eq value_same remap function_clone
+  pub bench_map_sync : IsSync
+      (Map.the_row Name.the_row V Sum.the_row A hash key_eq key_same key_clone value_clone value_eq value_same
+      remap function_clone
       alloc)
   bench_map_sync = search (map_sync, name_send, name_sync, sum_send, sum_sync) depth 20

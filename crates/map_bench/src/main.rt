@@ -1,4 +1,5 @@
-//! `map_bench` measures the map: how many million calls a second some threads make of one map together.
+//! `map_bench` measures the map: how many million calls a second some threads make of one map
+//! together.
 #![tactic(auto)]
 
 ghost use Rattle.std.specs.Prelude.{◌≡◌, ◌*◌, ◌/◌, ◌<◌};

@@ -3,7 +3,8 @@ use hashkeys::{HashKey, Key};
 use std::alloc::AllocError;
 use std::marker::Model;
 
-/// A key that lives as long as the program, by a reference to it: a copy is one word. Contracts see the key's bytes.
+/// A key that lives as long as the program, by a reference to it: a copy is one word. Contracts see
+/// the key's bytes.
 #[derive(Drop)]
 pub(crate) struct Name(pub(crate) &'static Key);
 

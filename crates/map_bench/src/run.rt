@@ -75,7 +75,8 @@ fn open(alloc: Global, settings: &Settings, clients: u32) -> Result<Opened<Name,
     }
 }
 
-/// Says how long the threads took to make their calls of a new map, which is closed afterwards: so no call was lost.
+/// Says how long the threads took to make their calls of a new map, which is closed afterwards: so
+/// no call was lost.
 pub(crate) fn measure<R: Threads + Wait + Clock + Sync>(
     rt: &R,
     alloc: Global,

@@ -37,7 +37,8 @@ impl Mode {
     }
 }
 
-/// The workload: each of the threads makes so many calls on so many keys, of which every second one is present at first.
+/// The workload: each of the threads makes so many calls on so many keys, of which every second one
+/// is present at first.
 #[derive(Clone, Copy, Debug)]
 pub(crate) struct Settings {
     pub(crate) threads: u8,

@@ -6,8 +6,8 @@ use crate::name::Name;
 use bin_history::Remap;
 use std::alloc::AllocError;
 
-/// A merge adds the value given, and stays at the nearest end of the 64-bit range where the sum is outside. A compute
-/// call, of which the workload has none, leaves the value.
+/// A merge adds the value given, and stays at the nearest end of the 64-bit range where the sum is
+/// outside. A compute call, of which the workload has none, leaves the value.
 #[derive(Drop)]
 pub(crate) struct Sum;
 

@@ -46,7 +46,8 @@ fn rows(rt: &impl Abort, alloc: Global) -> Result<Vec<(KeyCall, Reply<u64>)>, Al
     Ok(Vec::from_array(alloc, rows)?)
 }
 
-/// Makes the calls, and answers which are the first to be replied something else than their rows say.
+/// Makes the calls, and answers which are the first to be replied something else than their rows
+/// say.
 fn first_wrong<R: Wait, A: Allocator + Clone>(
     rt: &R,
     map: &KeyMap<A>,
@@ -68,8 +69,8 @@ fn first_wrong<R: Wait, A: Allocator + Clone>(
     wrong
 }
 
-/// Makes the calls of the rows on a map of one bin. Answers the first wrong line, how many calls were made, and how
-/// many keys were counted before and after the map was closed.
+/// Makes the calls of the rows on a map of one bin. Answers the first wrong line, how many calls
+/// were made, and how many keys were counted before and after the map was closed.
 fn reply_to_all<R: Wait + Abort>(
     rt: &R,
     alloc: Global,

@@ -1,4 +1,5 @@
-//! The examples of opening, sharing and closing a map, and of a closed one, each as it stands with its call.
+//! The examples of opening, sharing and closing a map, and of a closed one, each as it stands with
+//! its call.
 ghost use Rattle.std.specs.Prelude.{◌≡◌, All};
 
 use crate::call_examples::right_calls;
@@ -34,7 +35,8 @@ impl Remap<u64, u64> for Plus {
 
     ghost remapped = { λ f _ value. Some (min (unwrap_or value 0 + f.0) (2 ^ 64 - 1)) };
 
-    ghost merged = { λ f old given. Some (min (min (old + given) (2 ^ 64 - 1) + f.0) (2 ^ 64 - 1)) };
+    ghost merged = { λ f old given. Some
+        (min (min (old + given) (2 ^ 64 - 1) + f.0) (2 ^ 64 - 1)) };
 
     fn remap(&self, _key: &u64, value: Option<&u64>) -> Result<Option<u64>, AllocError> {
         let old = value.copied().unwrap_or(0);

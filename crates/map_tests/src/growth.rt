@@ -49,8 +49,8 @@ fn a_table_grows_at_three_keys_to_four_bins(rt: HostRuntime) -> Result<(), Fail>
     Ok(())
 }
 
-/// The bins, the keys and the records of a map that so many new keys were put into, once it is opened again, with the
-/// keys that its passes count.
+/// The bins, the keys and the records of a map that so many new keys were put into, once it is
+/// opened again, with the keys that its passes count.
 fn grown_again<R: Wait + Abort>(
     rt: &R,
     alloc: Global,

@@ -32,8 +32,8 @@ fn key_of_bin_0(rt: &impl Abort) -> Key {
     numbered(rt, 0)
 }
 
-/// The numbers of 24 keys, none of them of the first bin of 32. Some are of the first 16 bins, which one stride moves, and
-/// some of the others.
+/// The numbers of 24 keys, none of them of the first bin of 32. Some are of the first 16 bins,
+/// which one stride moves, and some of the others.
 fn numbers_of_24(rt: &impl Abort) -> [u32; 24] {
     let mut numbers = [0u32; 24];
     let mut count = 0usize;
@@ -53,7 +53,8 @@ fn numbers_of_24(rt: &impl Abort) -> [u32; 24] {
     numbers
 }
 
-/// Puts copies of a value at these 24 keys: a table of 32 bins grows then. Before the last the copies are told to wait.
+/// Puts copies of a value at these 24 keys: a table of 32 bins grows then. Before the last the
+/// copies are told to wait.
 fn put_24<R: Wait + Abort, V: Clone + Eq + Drop, F: Remap<Key, V> + Clone + Drop>(
     rt: &R,
     map: &Map<Key, V, F, Global>,
@@ -78,8 +79,9 @@ fn put_24<R: Wait + Abort, V: Clone + Eq + Drop, F: Remap<Key, V> + Clone + Drop
     }
 }
 
-/// Client 0 puts keys until the table grows. The first copy that the move makes of a value waits for a second one.
-/// Client 1 then makes a call on the first bin, which was moved before. Answers how many keys there are.
+/// Client 0 puts keys until the table grows. The first copy that the move makes of a value waits
+/// for a second one. Client 1 then makes a call on the first bin, which was moved before. Answers
+/// how many keys there are.
 fn call_while_another_moves<
     R: Threads + Wait + Abort + Sync,
     V: Clone + Eq + Drop + Send + Sync,
@@ -109,8 +111,8 @@ fn call_while_another_moves<
 
 #[test]
 fn a_call_helps_with_a_stride(rt: HostRuntime) -> Result<(), Fail> {
-    // The copy that the first waits for is one of a value in the last 16 bins, and the opener, which waits, has not come
-    // to them.
+    // The copy that the first waits for is one of a value in the last 16 bins, and the opener,
+    // which waits, has not come to them.
     let event = Event::new();
     let told = AtomicU64::new(0);
     let value = Paired::new(&event, &told);

@@ -165,8 +165,8 @@ fn make<'a, R: Wait>(
     make_plain(rt, map, pass, call, key)
 }
 
-/// The reply of a call, whether a request of it was refused, how many calls were made with the put of `a`, and the length
-/// of the value at `a` once the map is closed.
+/// The reply of a call, whether a request of it was refused, how many calls were made with the put
+/// of `a`, and the length of the value at `a` once the map is closed.
 type Made = (Result<Reply<usize>, Fault>, bool, u64, Option<usize>);
 
 fn assert_made(rt: &impl Abort, call: Lent, found: &Made, wanted: &Made) {
@@ -231,9 +231,9 @@ fn calls_that_borrow_their_key_reply_as_those_that_take_it(rt: HostRuntime) -> R
     Ok(())
 }
 
-/// How many requests for memory a call makes. A lean map copies the value that a get answers. A recorded one copies
-/// the key, the values before and after, and the value that is both stored and recorded; in the bin of `b` there is no
-/// room for a record yet.
+/// How many requests for memory a call makes. A lean map copies the value that a get answers. A
+/// recorded one copies the key, the values before and after, and the value that is both stored and
+/// recorded; in the bin of `b` there is no room for a record yet.
 fn requests_of(form: Form, call: Lent, present: bool) -> u64 {
     match (form, call, present) {
         (Form::Lean, Lent::Get, true) => 1,
@@ -271,8 +271,9 @@ fn a_refused_call_that_borrows_its_key_leaves_the_map(rt: HostRuntime) -> Result
     Ok(())
 }
 
-/// Puts, replaces and removes at `a`, which has the value `one`, by value and by reference, and puts `one` there again.
-/// Answers whether each call replied the value before it, and none of them but the last asked for memory.
+/// Puts, replaces and removes at `a`, which has the value `one`, by value and by reference, and
+/// puts `one` there again. Answers whether each call replied the value before it, and none of them
+/// but the last asked for memory.
 fn change_often<'a, R: Wait + Abort>(
     rt: &R,
     alloc: Alloc<'a>,
@@ -323,7 +324,8 @@ fn right_rounds<'a, R: Wait + Abort>(
     right
 }
 
-/// Makes a thousand rounds of changes on a lean map. Answers how many were right, and how many keys there are.
+/// Makes a thousand rounds of changes on a lean map. Answers how many were right, and how many keys
+/// there are.
 fn change_lean<R: Wait + Abort>(rt: &R, alloc: &Refusing<Global>) -> (u64, u64) {
     let Texts {
         map,

@@ -1,5 +1,5 @@
-//! Tests of the map by what it makes public: its calls, growth, loads, opening and closing, readings, refused requests
-//! and threads.
+//! Tests of the map by what it makes public: its calls, growth, loads, opening and closing,
+//! readings, refused requests and threads.
 #![tactic(auto)]
 
 #[cfg(test)]

@@ -12,8 +12,9 @@ use std::process::Abort;
 use std::sync::Wait;
 use std::test::Fail;
 
-/// Puts a twelfth key into a map of 16 bins that was opened again with eleven. Answers how many keys the pass and the
-/// words count, how many bins and keys the closed map has, how many entries, and how many records.
+/// Puts a twelfth key into a map of 16 bins that was opened again with eleven. Answers how many
+/// keys the pass and the words count, how many bins and keys the closed map has, how many entries,
+/// and how many records.
 fn put_the_twelfth<R: Wait + Abort>(rt: &R, alloc: Global, form: Form) -> ([u64; 3], [usize; 3]) {
     let first = filled(rt, alloc, form, 16, 11).reopen(1);
     let Single {
@@ -52,8 +53,8 @@ fn twin(rt: &impl Abort, number: u32) -> Key {
     key(rt, &text)
 }
 
-/// Puts 32 keys of one hash into a map of 16 bins. Answers how many bins there are, how many have entries, and how many
-/// keys.
+/// Puts 32 keys of one hash into a map of 16 bins. Answers how many bins there are, how many have
+/// entries, and how many keys.
 fn put_twins<R: Wait + Abort>(rt: &R, alloc: Global, form: Form) -> (usize, usize, u64) {
     let Single {
         map,
@@ -108,8 +109,8 @@ fn a_full_pass_makes_no_more_calls(rt: HostRuntime) -> Result<(), Fail> {
     Ok(())
 }
 
-/// Clears a map of one key by the last call of a pass, and then once more. Answers what both clears answered, and how
-/// many calls and keys there are in the end.
+/// Clears a map of one key by the last call of a pass, and then once more. Answers what both clears
+/// answered, and how many calls and keys there are in the end.
 fn clear_by_the_last_call<R: Wait + Abort>(
     rt: &R,
     alloc: Global,
@@ -154,7 +155,8 @@ fn a_lean_pass_makes_three_million_calls(rt: HostRuntime) -> Result<(), Fail> {
     Ok(())
 }
 
-/// A recorded map with 1,025 calls on two keys of one bin: both are put, one is taken away and put again.
+/// A recorded map with 1,025 calls on two keys of one bin: both are put, one is taken away and put
+/// again.
 fn folded<R: Wait + Abort>(rt: &R, alloc: Global) -> KeyQuiet<Global> {
     let Single {
         map,

@@ -31,7 +31,8 @@ impl Remap<Key, u64> for Plus {
 
     ghost remapped = { λ f k v. option_map (λ n. min (unwrap_or v 0 + n) (2 ^ 64 - 1)) f.0 };
 
-    ghost merged = { λ f old given. option_map (λ n. min (min (old + given) (2 ^ 64 - 1) + n) (2 ^ 64 - 1)) f.0 };
+    ghost merged = { λ f old given. option_map
+        (λ n. min (min (old + given) (2 ^ 64 - 1) + n) (2 ^ 64 - 1)) f.0 };
 
     fn remap(&self, _key: &Key, value: Option<&u64>) -> Result<Option<u64>, AllocError> {
         let old = value.copied().unwrap_or(0);
@@ -307,7 +308,8 @@ pub(crate) fn filled<R: Wait + Abort, A: Allocator + Clone>(
     close(rt, map, pass, place)
 }
 
-/// Asserts that what was found is what is wanted. A call of it is one step of the caller, which goes on as it is.
+/// Asserts that what was found is what is wanted. A call of it is one step of the caller, which
+/// goes on as it is.
 pub(crate) fn assert_same<T: PartialEq + Debug>(rt: &impl Abort, found: &T, wanted: &T) {
     assert_eq!(rt; found, wanted);
 }

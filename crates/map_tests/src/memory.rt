@@ -12,8 +12,8 @@ use std::process::Abort;
 use std::sync::Wait;
 use std::test::Fail;
 
-/// Gets, puts and merges at a key that is there, in turn, three calls a time. Answers how many times all three replied
-/// the value as it should be.
+/// Gets, puts and merges at a key that is there, in turn, three calls a time. Answers how many
+/// times all three replied the value as it should be.
 fn call_often<R: Wait + Abort, A: Allocator + Clone>(
     rt: &R,
     map: &KeyMap<A>,
@@ -36,8 +36,8 @@ fn call_often<R: Wait + Abort, A: Allocator + Clone>(
     right
 }
 
-/// Takes a thousand keys away and puts them again, one after the other, so many times. Answers how often both calls
-/// replied as they should.
+/// Takes a thousand keys away and puts them again, one after the other, so many times. Answers how
+/// often both calls replied as they should.
 fn put_again<R: Wait + Abort, A: Allocator + Clone>(
     rt: &R,
     map: &KeyMap<A>,
@@ -60,8 +60,8 @@ fn put_again<R: Wait + Abort, A: Allocator + Clone>(
     right
 }
 
-/// Makes calls on keys of a lean map that have been there. Answers how many calls replied as they should, and whether
-/// one asked for memory.
+/// Makes calls on keys of a lean map that have been there. Answers how many calls replied as they
+/// should, and whether one asked for memory.
 fn asked_for<R: Wait + Abort>(rt: &R, alloc: &Refusing<Global>) -> ((u64, u64), bool, u64) {
     let Single {
         map,

@@ -34,8 +34,8 @@ fn put_one<R: Wait + Abort, A: Allocator + Clone>(
     map.put(rt, pass, numbered(rt, number), 0).is_ok()
 }
 
-/// Puts two keys into a map of one bin, the first with the requests after so many refused. Answers for each whether it
-/// was put, and how many bins there were then.
+/// Puts two keys into a map of one bin, the first with the requests after so many refused. Answers
+/// for each whether it was put, and how many bins there were then.
 fn two_puts<R: Wait + Abort>(
     rt: &R,
     alloc: &Refusing<Global>,
@@ -59,9 +59,9 @@ fn two_puts<R: Wait + Abort>(
 #[test]
 fn a_later_call_goes_on_with_a_refused_move(rt: HostRuntime) -> Result<(), Fail> {
     let alloc = Refusing::new(rt.alloc());
-    // The requests of the first put: room for its entry, the table of two places, three for the strides, the list of
-    // entries of the half that has the key, and a room for each half. Without one of the last three the table has grown,
-    // and the bin is moved by the next call on it.
+    // The requests of the first put: room for its entry, the table of two places, three for the
+    // strides, the list of entries of the half that has the key, and a room for each half. Without
+    // one of the last three the table has grown, and the bin is moved by the next call on it.
     let rows = [
         ((false, 1), 2),
         ((true, 1), 2),

@@ -13,8 +13,8 @@ use std::process::Abort;
 use std::sync::Wait;
 use std::test::Fail;
 
-/// A map of the default capacity for three clients: its form, its clients, its passes and, closed, its form and its
-/// bins.
+/// A map of the default capacity for three clients: its form, its clients, its passes and, closed,
+/// its form and its bins.
 fn of_three<R: Wait + Abort>(
     rt: &R,
     alloc: Global,
@@ -76,7 +76,8 @@ fn close_early<R: Wait + Abort, A: Allocator + Clone>(
     }
 }
 
-/// Closes a map of two clients, in vain while a pass is missing. Answers how many keys the passes count.
+/// Closes a map of two clients, in vain while a pass is missing. Answers how many keys the passes
+/// count.
 fn close_twice<R: Wait + Abort>(rt: &R, alloc: Global, form: Form) -> u64 {
     let Single {
         map,

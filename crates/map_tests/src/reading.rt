@@ -16,8 +16,8 @@ use std::test::Fail;
 /// The keys of four bins of 16.
 const FOUR: [(&[u8], u64); 4] = [(b"q", 1), (b"a", 2), (b"Aa", 3), (b"zzzzzz", 4)];
 
-/// Sixteen visits, one for each class, of which the first and the last show one of the four keys, and the second shows
-/// these pairs.
+/// Sixteen visits, one for each class, of which the first and the last show one of the four keys,
+/// and the second shows these pairs.
 fn assert_walk<A: Allocator>(
     rt: &impl Abort,
     visits: &[Visit<Key, u64, A>],
@@ -145,8 +145,8 @@ fn four_keys_stand_in_the_walk_order_of_a_salt(rt: HostRuntime) -> Result<(), Fa
     Ok(())
 }
 
-/// Glances at two keys before any call, and before and after a move. Answers what was shown, how many calls were made,
-/// and how many bins there are in the end.
+/// Glances at two keys before any call, and before and after a move. Answers what was shown, how
+/// many calls were made, and how many bins there are in the end.
 fn glances<R: Wait + Abort>(
     rt: &R,
     alloc: Global,
@@ -178,8 +178,8 @@ fn a_glance_shows_the_value_before_and_after_a_move(rt: HostRuntime) -> Result<(
     Ok(())
 }
 
-/// Clears a map of three keys. Answers what the clear answered, how many calls were made, and how many keys and records
-/// there are in the end.
+/// Clears a map of three keys. Answers what the clear answered, how many calls were made, and how
+/// many keys and records there are in the end.
 fn clear_three<R: Wait + Abort>(
     rt: &R,
     alloc: Global,

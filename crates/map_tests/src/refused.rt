@@ -49,8 +49,9 @@ fn three_keys<'a, R: Wait + Abort>(
     Single { map, pass, place }
 }
 
-/// Puts a twelfth key, with the request after so many refused. Answers whether it was put, whether there was such a
-/// request, how many keys and calls there are then, and how many bins and keys the closed map has.
+/// Puts a twelfth key, with the request after so many refused. Answers whether it was put, whether
+/// there was such a request, how many keys and calls there are then, and how many bins and keys the
+/// closed map has.
 fn put_the_twelfth<R: Wait + Abort>(
     rt: &R,
     alloc: &Refusing<Global>,
@@ -74,9 +75,9 @@ fn put_the_twelfth<R: Wait + Abort>(
     (reply, refused, live, left)
 }
 
-/// Puts a twelfth key, which asks for room for its entry, the first of its bin, and in a recorded map for room for the
-/// record. Where a request of these is refused there are eleven keys as before; where one of the move is, there are
-/// twelve.
+/// Puts a twelfth key, which asks for room for its entry, the first of its bin, and in a recorded
+/// map for room for the record. Where a request of these is refused there are eleven keys as
+/// before; where one of the move is, there are twelve.
 fn refuse_put<R: Wait + Abort>(rt: &R, alloc: &Refusing<Global>, form: Form, granted: u64) -> bool {
     let (reply, refused, live, (bins, keys)) = put_the_twelfth(rt, alloc, form, granted);
     let own = match form {
@@ -94,9 +95,9 @@ fn refuse_put<R: Wait + Abort>(rt: &R, alloc: &Refusing<Global>, form: Form, gra
     refused
 }
 
-/// Clears, with the request after so many refused, and clears again. Answers what the first clear answered, whether
-/// there was such a request, how many keys and calls there were between the two, and how many keys there are in the
-/// end.
+/// Clears, with the request after so many refused, and clears again. Answers what the first clear
+/// answered, whether there was such a request, how many keys and calls there were between the two,
+/// and how many keys there are in the end.
 fn clear_twice<R: Wait + Abort>(
     rt: &R,
     alloc: &Refusing<Global>,
@@ -122,8 +123,8 @@ fn clear_twice<R: Wait + Abort>(
     (cleared, refused, between, keys)
 }
 
-/// Clears. The one request is that of the full list of the four records of `a` and `q`: where it is refused, `Aa` is
-/// away by a call that stands, and the next clear takes the others.
+/// Clears. The one request is that of the full list of the four records of `a` and `q`: where it is
+/// refused, `Aa` is away by a call that stands, and the next clear takes the others.
 fn refuse_clear<R: Wait + Abort>(
     rt: &R,
     alloc: &Refusing<Global>,
@@ -207,7 +208,8 @@ fn refuse_close<R: Wait + Abort>(
     refused
 }
 
-/// Opens a map again. Where a request is refused the closed map is as before, and the next try opens it.
+/// Opens a map again. Where a request is refused the closed map is as before, and the next try
+/// opens it.
 fn refuse_reopening<R: Wait + Abort>(
     rt: &R,
     alloc: &Refusing<Global>,
@@ -234,8 +236,8 @@ fn refuse_reopening<R: Wait + Abort>(
     refused
 }
 
-/// Takes the pairs out by value. Where the request of their list is refused the closed map comes back as it was, and the
-/// next try takes them.
+/// Takes the pairs out by value. Where the request of their list is refused the closed map comes
+/// back as it was, and the next try takes them.
 fn refuse_taking<R: Wait + Abort>(
     rt: &R,
     alloc: &Refusing<Global>,

@@ -97,7 +97,8 @@ fn count_numbers<R: Wait + Abort, A: Allocator + Clone>(
     found
 }
 
-/// How many of the three keys and of the numbered keys are found with the value that they were put with.
+/// How many of the three keys and of the numbered keys are found with the value that they were put
+/// with.
 fn count_found<R: Wait + Abort, A: Allocator + Clone>(
     rt: &R,
     map: &KeyMap<A>,
@@ -110,8 +111,9 @@ fn count_found<R: Wait + Abort, A: Allocator + Clone>(
     texts.wrapping_add(count_numbers(rt, map, pass))
 }
 
-/// What a map of eleven keys told: the reply of the put of a twelfth, whether a request of it was refused, how many keys
-/// were found with their values then, and how many after the put of one more, and how many bins there were in the end.
+/// What a map of eleven keys told: the reply of the put of a twelfth, whether a request of it was
+/// refused, how many keys were found with their values then, and how many after the put of one
+/// more, and how many bins there were in the end.
 #[derive(Drop)]
 struct Told {
     reply: Result<Reply<u64>, Fault>,
@@ -120,7 +122,8 @@ struct Told {
     bins: usize,
 }
 
-/// Puts a twelfth key into a map of eleven, with the request after so many refused, and then one more.
+/// Puts a twelfth key into a map of eleven, with the request after so many refused, and then one
+/// more.
 fn put_the_twelfth<R: Wait + Abort>(
     rt: &R,
     alloc: &Refusing<Global>,
@@ -148,9 +151,10 @@ fn put_the_twelfth<R: Wait + Abort>(
     }
 }
 
-/// Refuses each request of the twelfth put in turn, and answers how many there are. Its own are the first ones: room for
-/// the entry, and in a recorded map for the record. Where one of them is refused the key is not there; where one of the
-/// move is, each key has its value, and later calls move what was not moved.
+/// Refuses each request of the twelfth put in turn, and answers how many there are. Its own are the
+/// first ones: room for the entry, and in a recorded map for the record. Where one of them is
+/// refused the key is not there; where one of the move is, each key has its value, and later calls
+/// move what was not moved.
 fn refuse_each<R: Wait + Abort>(rt: &R, memory: Global, form: Form, own: u64) -> u64 {
     for granted in 0..1000u64 {
         let alloc = Refusing::new(memory);

@@ -16,8 +16,8 @@ use std::sync::atomic::Ordering::SeqCst;
 use std::test::Fail;
 use std::thread::{self, Threads};
 
-/// Lets 32 clients put a key where it is not there. Answers how many found no value, how many the value, and how many
-/// keys there are.
+/// Lets 32 clients put a key where it is not there. Answers how many found no value, how many the
+/// value, and how many keys there are.
 fn put_once<R: Threads + Wait + Abort + Sync>(rt: &R, alloc: Global, form: Form) -> [u64; 3] {
     let none = AtomicU64::new(0);
     let some = AtomicU64::new(0);
@@ -56,7 +56,8 @@ fn counters(alloc: Global, count: usize) -> Result<Vec<AtomicU64>, AllocError> {
     Ok(counters)
 }
 
-/// Adds 1 to the value of one key a thousand times, and counts each reply at the counter of its number.
+/// Adds 1 to the value of one key a thousand times, and counts each reply at the counter of its
+/// number.
 fn merge_often<R: Wait + Abort, A: Allocator + Clone>(
     rt: &R,
     map: &KeyMap<A>,

@@ -161,8 +161,9 @@ fn assert_shown(rt: &impl Abort, shown: &Shown, value: Option<u64>, made: u64) {
     assert_same(rt, &(found, pairs.len(), *calls), &wanted);
 }
 
-/// What was told of a call one of whose requests was refused: the reply and whether there was such a request, what was
-/// shown before and after it, and, where it was refused, the reply of the same call made again and what was shown then.
+/// What was told of a call one of whose requests was refused: the reply and whether there was such
+/// a request, what was shown before and after it, and, where it was refused, the reply of the same
+/// call made again and what was shown then.
 #[derive(Drop)]
 struct Told {
     reply: Result<Reply<u64>, Fault>,
@@ -249,8 +250,8 @@ fn tell<'a, R: Wait + Abort>(
     }
 }
 
-/// Makes a call where `a` has the value 1, or has none, with the request after so many refused. Where it was refused,
-/// makes it again.
+/// Makes a call where `a` has the value 1, or has none, with the request after so many refused.
+/// Where it was refused, makes it again.
 fn call_twice<R: Wait + Abort>(
     rt: &R,
     (memory, alloc): (Global, &Refusing<Global>),
@@ -281,8 +282,8 @@ fn is_reply(found: &Result<Reply<u64>, Fault>, wanted: &Reply<u64>) -> bool {
     }
 }
 
-/// Asserts what is told of a call where `a` has this value and so many calls were made: where a request was refused the
-/// call was, a walk and the books were as before, and the next try made it.
+/// Asserts what is told of a call where `a` has this value and so many calls were made: where a
+/// request was refused the call was, a walk and the books were as before, and the next try made it.
 fn assert_told(
     rt: &impl Abort,
     kind: usize,
@@ -324,9 +325,10 @@ fn refuse_each<R: Wait + Abort>(
 
 #[test]
 fn each_of_the_twelve_calls_is_refused_in_turn(rt: HostRuntime) -> Result<(), Fail> {
-    // A lean map copies the value that is both stored and replied, and a function asks once: 9 where `a` has a value, 5
-    // where it has none. A recorded one copies the values before and after for the record, too, and an argument that is
-    // stored: 34 and 13. There is room for the entry and the record.
+    // A lean map copies the value that is both stored and replied, and a function asks once: 9
+    // where `a` has a value, 5 where it has none. A recorded one copies the values before and after
+    // for the record, too, and an argument that is stored: 34 and 13. There is room for the entry
+    // and the record.
     for (form, wanted) in [(Form::Recorded, 47), (Form::Lean, 14)] {
         let mut requests = 0u64;
         for (kind, (present, absent)) in rows().iter().enumerate() {

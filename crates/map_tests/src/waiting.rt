@@ -128,7 +128,8 @@ pub(crate) const WAIT: u64 = 1;
 
 const REFUSE: u64 = 2;
 
-/// A value whose copies wait for one another, or are refused, once they are told to. Any two are equal.
+/// A value whose copies wait for one another, or are refused, once they are told to. Any two are
+/// equal.
 #[derive(Drop)]
 pub(crate) struct Paired<'a> {
     event: &'a Event,
@@ -219,8 +220,8 @@ fn put_a<'a, R: Wait + Abort>(
     map.put(rt, &mut passes[0], key(rt, b"a"), value) == Ok(Reply::Value(None))
 }
 
-/// Glances at a value in two threads at once. Answers what both found, how many waits were given up, and how many keys
-/// there are.
+/// Glances at a value in two threads at once. Answers what both found, how many waits were given
+/// up, and how many keys there are.
 fn glance_together<R: Threads + Wait + Abort + Sync>(
     rt: &R,
     alloc: Global,
@@ -249,7 +250,8 @@ fn two_glances_copy_one_value_at_once(rt: HostRuntime) -> Result<(), Fail> {
     Ok(())
 }
 
-/// Glances at a value whose copies are refused, and again once they are not. Answers whether each glance found it.
+/// Glances at a value whose copies are refused, and again once they are not. Answers whether each
+/// glance found it.
 fn glance_in_vain<R: Wait + Abort>(
     rt: &R,
     alloc: Global,

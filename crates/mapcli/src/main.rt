@@ -1,5 +1,5 @@
-//! `mapcli` runs scripts of client blocks over a concurrent hash map, all clients at the same time, and answers
-//! queries of it.
+//! `mapcli` runs scripts of client blocks over a concurrent hash map, all clients at the same time,
+//! and answers queries of it.
 #![tactic(auto)]
 
 use facing_cli::{Fault, OpenGate, Options, Output, Reader, Writer, run, status, tell, words};

@@ -45,7 +45,7 @@ fn pairs<Rt: Abort>(
 }
 
 // The entries of a closed map of these rows, in walk order.
-fn quiet_of<Rt: Wait + Abort>(
+pub(crate) fn quiet_of<Rt: Wait + Abort>(
     rt: &Rt,
     alloc: Global,
     capacity: usize,
@@ -84,7 +84,8 @@ fn open_plan(threshold: u64, workers: usize) -> Plan<'static, OpenGate> {
     }
 }
 
-/// What each operation answers: the sum, the sum over 0, a value above 0, and how many answers an action gives.
+/// What each operation answers: the sum, the sum over 0, a value above 0, and how many answers an
+/// action gives.
 type Answers = (
     Result<Option<i128>, BulkFault>,
     Result<i128, BulkFault>,

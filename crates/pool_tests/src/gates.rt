@@ -5,7 +5,8 @@ use std::sync::atomic::AtomicU64;
 use std::sync::atomic::Ordering::SeqCst;
 use steal_pool::Gate;
 
-/// Tells the leaves that it is called for, whether one was begun before its call, and the greatest number of a worker.
+/// Tells the leaves that it is called for, whether one was begun before its call, and the greatest
+/// number of a worker.
 #[derive(Drop)]
 pub(crate) struct Before<'a> {
     pub(crate) begun: &'a Leaves,
@@ -24,7 +25,8 @@ impl Gate for Before<'_> {
     }
 }
 
-/// Writes down the leaves by two digits each, and, if it is to, holds the leaf 0-1 until worker 1 has begun one, at most 10,000,000 turns.
+/// Writes down the leaves by two digits each, and, if it is to, holds the leaf 0-1 until worker 1
+/// has begun one, at most 10,000,000 turns.
 #[derive(Drop)]
 pub(crate) struct Watch {
     holds: bool,
@@ -66,7 +68,8 @@ impl Gate for Watch {
     }
 }
 
-/// Holds each leaf until so many leaves have begun, for at most so many turns. It is late where they did not.
+/// Holds each leaf until so many leaves have begun, for at most so many turns. It is late where
+/// they did not.
 #[derive(Drop)]
 pub(crate) struct Meeting {
     wanted: u64,

@@ -1,10 +1,13 @@
-//! Tests of trees of completers, of runs of the pool, and of bulk operations, by what each has for its callers.
+//! Tests of trees of completers, of runs of the pool, and of bulk operations, by what each has for
+//! its callers.
 #![tactic(auto)]
 
 #[cfg(test)]
 mod bulk;
 #[cfg(test)]
 mod counting;
+#[cfg(test)]
+mod examples;
 #[cfg(test)]
 mod gates;
 #[cfg(test)]

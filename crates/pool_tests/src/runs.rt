@@ -16,7 +16,8 @@ use steal_pool::{OpenGate, run};
 /// The leaves of five bins with batch 2.
 const FOUR_LEAVES: [(usize, usize); 4] = [(0, 1), (1, 2), (2, 3), (3, 5)];
 
-// A run with these workers over these bins calls its gate and its body for just these leaves, the gate first, and has no more workers than leaves.
+// A run with these workers over these bins calls its gate and its body for just these leaves, the
+// gate first, and has no more workers than leaves.
 fn assert_leaves<Rt: Threads + Wait + Sync + Abort>(
     rt: &Rt,
     alloc: Global,
@@ -25,7 +26,8 @@ fn assert_leaves<Rt: Threads + Wait + Sync + Abort>(
     batch: usize,
     leaves: &[(usize, usize)],
 )
-    requires { (0 < workers) × (workers ≤ most_workers) × (0 < bins) × (bins ≤ 64) × (batch ≤ most_batch) }
+    requires { (0 < workers) × (workers ≤ most_workers) × (0 < bins) × (bins ≤ 64)
+        × (batch ≤ most_batch) }
 {
     let body = new_count();
     let gate = Before {

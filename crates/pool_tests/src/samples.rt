@@ -1,4 +1,5 @@
-//! What bulk operations are run on: closed maps at the program's keys, a reducer, probes and actions.
+//! What bulk operations are run on: closed maps at the program's keys, a reducer, probes and
+//! actions.
 ghost use Rattle.std.specs.Prelude.{◌≡◌};
 
 use bin_history::Remap;
@@ -13,7 +14,8 @@ use std::sync::Wait;
 use std::sync::atomic::AtomicU64;
 use std::sync::atomic::Ordering::SeqCst;
 
-/// Asserts that what was found is what is wanted. A call of it is one step of the caller, which goes on as it is.
+/// Asserts that what was found is what is wanted. A call of it is one step of the caller, which
+/// goes on as it is.
 pub(crate) fn assert_same<T: PartialEq + Debug>(rt: &impl Abort, found: &T, wanted: &T) {
     assert_eq!(rt; found, wanted);
 }
@@ -135,7 +137,14 @@ impl Reducer<Key, i64> for ShortGreatest {
         Ok(left.max(right))
     }
 
-    ghost associative = { λ _ a b c. Prim.omega (arith, ints, int_max_is a b, int_max_is (int_max a b) c, int_max_is b c, int_max_is a (int_max b c)) };
+    ghost associative = { λ _ a b c. Prim.omega (
+      arith,
+      ints,
+      int_max_is a b,
+      int_max_is (int_max a b) c,
+      int_max_is b c,
+      int_max_is a (int_max b c),
+    ) };
 
     ghost commutative = { λ _ a b. Prim.omega (arith, ints, int_max_is a b, int_max_is b a) };
 

@@ -69,7 +69,8 @@ fn assert_parts(rt: &impl Abort, mut parts: Parts<usize>, ranges: &[(usize, usiz
     assert!(rt; parts.take().is_none());
 }
 
-// The leaves of a tree over five bins: 0-1, 1-2, 2-3 and 3-5. The root forked at 2 and at 1, and the node of 2-5 at 3.
+// The leaves of a tree over five bins: 0-1, 1-2, 2-3 and 3-5. The root forked at 2 and at 1, and
+// the node of 2-5 at 3.
 fn leaves_of_five(
     alloc: Global,
     tree: &BinTree,
@@ -104,7 +105,8 @@ fn is_last_of_five(rt: &impl Abort, leaf: Leaf<'_>) -> bool {
     true
 }
 
-// Arrives, and goes on to the root where it was the last at the node of 2-5. Whether it was last there and at the root.
+// Arrives, and goes on to the root where it was the last at the node of 2-5. Whether it was last
+// there and at the root.
 fn climb_of_five(rt: &impl Abort, leaf: Leaf<'_>) -> (bool, bool) {
     if leaf.ticket.lo() < 2 {
         return (false, is_last_of_five(rt, leaf));
@@ -118,7 +120,8 @@ fn climb_of_five(rt: &impl Abort, leaf: Leaf<'_>) -> (bool, bool) {
     (true, is_last_of_five(rt, above))
 }
 
-// How many of four leaves are last at the node of 2-5, and how many at the root, in one of 24 orders.
+// How many of four leaves are last at the node of 2-5, and how many at the root, in one of 24
+// orders.
 fn lasts_of_five(rt: &impl Abort, alloc: Global, order: usize) -> Result<(u64, u64), AllocError> {
     let (tree, supply) = Tree::new(alloc, &Bins, 4, 3, 5)?;
     assert!(rt; supply.level() == 2);
@@ -160,8 +163,8 @@ fn the_first_claim_is_found(rt: HostRuntime) {
     assert_same(&rt, &(before, after), &(None, Some(65535)));
 }
 
-// The leaves of a tree over eight bins, of one bin each, in an order in which that of 4-5 is the last. The root forked
-// seven times. And the level of what is left to fork.
+// The leaves of a tree over eight bins, of one bin each, in an order in which that of 4-5 is the
+// last. The root forked seven times. And the level of what is left to fork.
 fn leaves_of_eight(
     alloc: Global,
     tree: &BinTree,
@@ -232,7 +235,8 @@ fn range_of(rt: &impl Abort, mut parts: Parts<usize>) -> (usize, usize) {
     (first.lo, end)
 }
 
-// Arrives, and goes on to the tickets above while it is last. How often it was, and whether it ended at the root.
+// Arrives, and goes on to the tickets above while it is last. How often it was, and whether it
+// ended at the root.
 fn climb(rt: &impl Abort, leaf: Leaf<'_>) -> (usize, bool) {
     let mut lasts = 0;
     let mut leaf = leaf;
@@ -253,7 +257,8 @@ fn climb(rt: &impl Abort, leaf: Leaf<'_>) -> (usize, bool) {
     (lasts, false)
 }
 
-// Halves the range and the supply until the node is alone, child before node. How many arrivals were last, and how many of them at the root.
+// Halves the range and the supply until the node is alone, child before node. How many arrivals
+// were last, and how many of them at the root.
 fn fill(rt: &impl Abort, tree: &BinTree, mut node: Node<usize>, level: u32) -> (usize, usize)
     requires tree { node.tree ≡ tree.now.identity }
     requires level { node.level ≡ level }
@@ -285,7 +290,8 @@ fn a_tree_of_128_nodes_is_filled(rt: HostRuntime) -> Result<(), Fail> {
     Ok(())
 }
 
-// Waits until the other thread is there too, at most so many turns, and arrives. Whether it was last.
+// Waits until the other thread is there too, at most so many turns, and arrives. Whether it was
+// last.
 fn meet(leaf: Leaf<'_>, there: &AtomicU64) -> bool {
     there.fetch_add(1, SeqCst);
     for _ in 0..10_000u32 {

@@ -72,8 +72,9 @@ fn is_made<'a>(rt: &impl Abort, bin: &mut CountedBin<'a>, call: CountedCall<'a>)
     }
 }
 
-/// Makes the call of a kind on a new bin of all keys, in which `a` has the value 1 or none, with the request after so
-/// many refused. Answers whether the call was made, and how often its function was asked.
+/// Makes the call of a kind on a new bin of all keys, in which `a` has the value 1 or none, with
+/// the request after so many refused. Answers whether the call was made, and how often its function
+/// was asked.
 fn ask(
     rt: &impl Abort,
     memory: Global,

@@ -75,7 +75,8 @@ fn assert_new(rt: &impl Abort, made: Result<NumberBin<'_>, AllocError>, refused:
     }
 }
 
-/// Makes a bin of one pair with the request after so many refused, and answers whether there was one.
+/// Makes a bin of one pair with the request after so many refused, and answers whether there was
+/// one.
 fn refuse_new(
     rt: &impl Abort,
     alloc: Alloc<'_>,
@@ -161,8 +162,8 @@ fn bin_of<'a>(
     Ok(bin)
 }
 
-/// Asserts that `a` has this value, if any, after so many calls: a recorded bin has a record of each over no base, a
-/// lean one none over its entries.
+/// Asserts that `a` has this value, if any, after so many calls: a recorded bin has a record of
+/// each over no base, a lean one none over its entries.
 fn assert_value(rt: &impl Abort, bin: &NumberBin<'_>, value: Option<u64>, calls: usize) {
     match value {
         Some(number) => assert_pairs(rt, bin.entries(), &[(b"a", number)]),
@@ -191,11 +192,12 @@ fn answer_of(reply: Result<Reply<Number<'_>>, AllocError>) -> Option<Told> {
     }
 }
 
-/// What a call tells, the value that it leaves, and how often it asks for memory in a recorded bin and in a lean one.
+/// What a call tells, the value that it leaves, and how often it asks for memory in a recorded bin
+/// and in a lean one.
 type Outcome = (Told, Option<u64>, u64, u64);
 
-/// Makes a call on a bin in which `a` has this value, with the request after so many refused, and once more where there
-/// was one. Answers whether there was.
+/// Makes a call on a bin in which `a` has this value, with the request after so many refused, and
+/// once more where there was one. Answers whether there was.
 fn refuse_call_after(
     rt: &impl Abort,
     alloc: Alloc<'_>,
@@ -220,8 +222,8 @@ fn refuse_call_after(
     Ok(refused)
 }
 
-/// Makes a call on a bin in which `a` has this value, with each request refused in turn and the call then made again.
-/// Answers how many requests there were.
+/// Makes a call on a bin in which `a` has this value, with each request refused in turn and the
+/// call then made again. Answers how many requests there were.
 fn refuse_call(
     rt: &impl Abort,
     memory: Global,
@@ -241,10 +243,10 @@ fn refuse_call(
 
 /// Of each kind of call what it does where `a` has the value 1, and where it has none.
 ///
-/// The requests, in this order. Where `a` has none and the call may give it one: room for the entry. A request of the
-/// function, where it is asked. A copy for the reply, where that is the value after the call. In a recorded bin, for the
-/// record: a copy of the argument, where it is the value after the call; of the value before and of the value after, if
-/// there is one.
+/// The requests, in this order. Where `a` has none and the call may give it one: room for the
+/// entry. A request of the function, where it is asked. A copy for the reply, where that is the
+/// value after the call. In a recorded bin, for the record: a copy of the argument, where it is the
+/// value after the call; of the value before and of the value after, if there is one.
 const OUTCOMES: [(Outcome, Outcome); 12] = [
     ((SOME_1, Some(1), 3, 1), (NONE, None, 0, 0)),
     ((TRUE, Some(1), 2, 0), (FALSE, None, 0, 0)),

@@ -55,7 +55,8 @@ fn make(alloc: Alloc<'_>) -> Result<Made<'_>, AllocError>
     Ledger::new(alloc, Form::Recorded, Salt(0), 2, &bases)
 }
 
-/// Makes a ledger with the request after so many refused, and again where there was one. Answers whether there was.
+/// Makes a ledger with the request after so many refused, and again where there was one. Answers
+/// whether there was.
 fn refuse_ledger(rt: &impl Abort, alloc: Alloc<'_>, granted: u64) -> Result<bool, AllocError> {
     alloc.refuse_after(granted);
     if let Ok(made) = make(alloc) {
@@ -83,7 +84,8 @@ fn a_refused_ledger_is_made_again(rt: HostRuntime) -> Result<(), Fail> {
     Ok(())
 }
 
-/// Makes the move of one bin, again where a request was refused, and moves the bin. Answers its range and its finish.
+/// Makes the move of one bin, again where a request was refused, and moves the bin. Answers its
+/// range and its finish.
 fn move_one(rt: &impl Abort, alloc: Alloc<'_>) -> Result<(Range, Finish), AllocError> {
     let made = Strides::new(alloc, 1).or_else(|_| Strides::new(alloc, 1));
     let (strides, mut opener) = made?;

@@ -32,8 +32,8 @@ fn assert_bin(
     assert_same(rt, &bin.records().len(), &records);
 }
 
-/// Puts to a bin with 1,024 records with the request after so many refused, and once more where there was one. Answers
-/// whether there was.
+/// Puts to a bin with 1,024 records with the request after so many refused, and once more where
+/// there was one. Answers whether there was.
 fn refuse_fold(rt: &impl Abort, alloc: Alloc<'_>, granted: u64) -> Result<bool, AllocError> {
     let mut bin = empty(alloc, Form::Recorded)?;
     let filled = fill(rt, alloc, &mut bin);
@@ -67,15 +67,16 @@ fn a_refused_fold_leaves_the_base(rt: HostRuntime) -> Result<(), Fail> {
         }
         refusals = refusals.wrapping_add(1);
     }
-    // Room in the base, and two copies of the value: the entries had two keys, and a list that is folded has room for
-    // the record.
+    // Room in the base, and two copies of the value: the entries had two keys, and a list that is
+    // folded has room for the record.
     assert_same(&rt, &refusals, &3);
     Ok(())
 }
 
 type Halves<'a> = Result<(NumberBin<'a>, NumberBin<'a>), AllocError>;
 
-/// Asserts that `a` and `q` have a half each with so many records, or where a request was refused that there is none.
+/// Asserts that `a` and `q` have a half each with so many records, or where a request was refused
+/// that there is none.
 fn assert_halves(rt: &impl Abort, halves: Halves<'_>, records: (usize, usize), refused: bool) {
     assert_same(rt, &halves.is_err(), &refused);
     if let Ok((low, high)) = halves {
@@ -85,7 +86,8 @@ fn assert_halves(rt: &impl Abort, halves: Halves<'_>, records: (usize, usize), r
     }
 }
 
-/// Splits a bin with the request after so many refused, and answers whether there was one. The bin stays as it is.
+/// Splits a bin with the request after so many refused, and answers whether there was one. The bin
+/// stays as it is.
 fn refuse_split(
     rt: &impl Abort,
     alloc: Alloc<'_>,
@@ -135,7 +137,8 @@ fn refuse_splits(
 
 #[test]
 fn a_refused_split_leaves_the_bin(rt: HostRuntime) -> Result<(), Fail> {
-    // Of entries two lists and two copies; in a recorded bin of records two lists and seven copies, and two logs.
+    // Of entries two lists and two copies; in a recorded bin of records two lists and seven copies,
+    // and two logs.
     refuse_splits(&rt, rt.alloc(), Form::Recorded, (1, 2), 15)?;
     refuse_splits(&rt, rt.alloc(), Form::Lean, (0, 0), 4)?;
     Ok(())

@@ -73,7 +73,8 @@ fn put_often(rt: &impl Abort, bin: &mut PlainBin<'_>, times: u64, keys: u64) -> 
 
 #[test]
 fn lists_of_a_thousand_ask_few_times(rt: HostRuntime) -> Result<(), Fail> {
-    // A list whose room at least doubles, from room for one on, has room for 1,000 after eleven requests.
+    // A list whose room at least doubles, from room for one on, has room for 1,000 after eleven
+    // requests.
     for (form, most) in [(Form::Recorded, 22), (Form::Lean, 11)] {
         let alloc = Refusing::new(rt.alloc());
         let mut bin = empty(&alloc, form)?;
@@ -87,7 +88,8 @@ fn lists_of_a_thousand_ask_few_times(rt: HostRuntime) -> Result<(), Fail> {
 
 #[test]
 fn folds_of_one_key_ask_once(rt: HostRuntime) -> Result<(), Fail> {
-    // Room for the entry, eleven times at most for 1,024 records, and once in the base, which has one pair.
+    // Room for the entry, eleven times at most for 1,024 records, and once in the base, which has
+    // one pair.
     let alloc = Refusing::new(rt.alloc());
     let mut bin = empty(&alloc, Form::Recorded)?;
     alloc.refuse_after(13);

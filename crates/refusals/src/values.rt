@@ -10,7 +10,8 @@ use std::process::Abort;
 /// The allocator of a test.
 pub(crate) type Alloc<'a> = &'a Refusing<Global>;
 
-/// Asserts that what was found is what is wanted. A call of it is one step of the caller, which goes on as it is.
+/// Asserts that what was found is what is wanted. A call of it is one step of the caller, which
+/// goes on as it is.
 pub(crate) fn assert_same<T: PartialEq + Debug>(rt: &impl Abort, found: &T, wanted: &T) {
     assert_eq!(rt; found, wanted);
 }
@@ -70,8 +71,8 @@ impl<'a> Eq for Number<'a> {
     ghost laws = { nat_eq_equiv };
 }
 
-/// The function whose result is this number, or none. Its calls and its copies ask for memory. Contracts see it as the
-/// result.
+/// The function whose result is this number, or none. Its calls and its copies ask for memory.
+/// Contracts see it as the result.
 #[derive(Drop)]
 pub(crate) struct Answer<'a> {
     pub(crate) number: Option<u64>,

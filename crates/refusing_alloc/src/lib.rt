@@ -1,4 +1,5 @@
-//! An allocator for tests that refuses one request, so that a test can show what each refusal leaves.
+//! An allocator for tests that refuses one request, so that a test can show what each refusal
+//! leaves.
 #![tactic(auto)]
 
 use std::alloc::{AllocError, Allocator};
@@ -19,8 +20,9 @@ impl Requests {
     }
 }
 
-/// An allocator that takes all memory from another, and refuses a request where it is told to. A `&` to it
-/// is an allocator that can be cloned; all clones count together, in any number of threads.
+/// An allocator that takes all memory from another, and refuses a request where it is told to. A
+/// `&` to it is an allocator that can be cloned; all clones count together, in any number of
+/// threads.
 #[derive(Drop)]
 pub struct Refusing<A: Allocator> {
     inner: A,
@@ -37,7 +39,8 @@ impl<A: Allocator> Refusing<A> {
         Refusing { inner, requests }
     }
 
-    /// From now on this many requests are granted, the next one is refused, and all later ones are granted.
+    /// From now on this many requests are granted, the next one is refused, and all later ones are
+    /// granted.
     pub fn refuse_after(&self, granted: u64) {
         let made = self.requests.made.load(SeqCst);
         self.requests

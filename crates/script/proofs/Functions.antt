@@ -1,10 +1,12 @@
 -- The words of functions.
-use Rattle.std.proofs.Common.{◌≡◌, ◌≢◌, ℕ, ℤ, ◌<◌, inl, inr, List, [], ◌∷◌, Contains, slice_index_or, refl, sym, ◌∙◌, subst, arith}
+use Rattle.std.proofs.Common.{◌≡◌, ◌≢◌, ℕ, ℤ, ◌<◌, inl, inr, List, [], ◌∷◌, Contains, slice_index_or, refl, sym, ◌∙◌}
+use Rattle.std.proofs.Common.{subst, arith}
 use Rattle.std.specs.Prelude.{codes}
 use Rattle.script.specs.Functions.{with_number}
 use Rattle.script.specs.Lines.{Word, IsNumber}
 use Rattle.script.specs.Grammar.{IsFunction, IsMerger}
-use Rattle.script.specs.Faults.{Slot, a_function, a_merger, a_number, function_words, Fits, IsWrong, FailsFirst, FailsAt}
+use Rattle.script.specs.Faults.{Slot, a_function, a_merger, a_number, function_words, Fits, IsWrong, FailsFirst}
+use Rattle.script.specs.Faults.{FailsAt}
 use Rattle.script.specs.declared.function.Function.{Function}
 use Rattle.script.specs.declared.function.Function.TheVariants.{Sum, Max, Set, Drop}
 use Rattle.script.specs.declared.fault.Kind.{Kind}
@@ -20,7 +22,8 @@ IsMerger-fits (Set n) w v h = subst (Contains function_words) (sym h.0) (named 2
 IsMerger-fits Drop w v h = subst (Contains function_words) (sym h) (named 3 (codes "drop") (omega arith) refl)
 
 -- the word, and then a number where the function has one
-pub IsFunction-with_number : (f : Function) (w x : Word) (u n : ℤ) → IsMerger w u f → f ≢ Drop → IsNumber x n → IsFunction (w ∷ x ∷ []) (with_number f n)
+pub IsFunction-with_number : (f : Function) (w x : Word) (u n : ℤ) → IsMerger w u f → f ≢ Drop → IsNumber x n →
+    IsFunction (w ∷ x ∷ []) (with_number f n)
 IsFunction-with_number (Sum m) w x u n h some is = (x, is, λ i. h.0 i ∷ x ∷ [])
 IsFunction-with_number (Max m) w x u n h some is = (x, is, λ i. h.0 i ∷ x ∷ [])
 IsFunction-with_number (Set m) w x u n h some is = (x, is, λ i. h.0 i ∷ x ∷ [])
@@ -32,16 +35,22 @@ IsMerger-with_number (Max m) w u n h = (h.0, refl)
 IsMerger-with_number (Set m) w u n h = (h.0, refl)
 IsMerger-with_number Drop w u n h = h
 
-wrong_at : (ss : List Slot) (kind : Kind) (old : List Word) (w : Word) (new : List Word) (name : Word) → old ≡ w ∷ new → w ≡ name
+wrong_at : (ss : List Slot) (kind : Kind) (old : List Word) (w : Word) (new : List Word) (name : Word) →
+    old ≡ w ∷ new → w ≡ name
     → IsWrong (a_function ∷ ss) (name ∷ new) kind → IsWrong (a_function ∷ ss) old kind
-wrong_at ss kind old w new name e h wrong = subst (λ (ws : List Word). IsWrong (a_function ∷ ss) ws kind) (sym (e ∙ (λ i. h i ∷ new))) wrong
+wrong_at ss kind old w new name e h wrong = subst (λ (ws : List Word). IsWrong (a_function ∷ ss) ws kind)
+    (sym (e ∙ (λ i. h i ∷ new))) wrong
 
 -- where its number is wrong, the function is
-pub FailsAt-number : (f : Function) (old new : List Word) (w : Word) (u : ℤ) (kind : Kind) → IsMerger w u f → f ≢ Drop → old ≡ w ∷ new
+pub FailsAt-number : (f : Function) (old new : List Word) (w : Word) (u : ℤ) (kind : Kind) → IsMerger w u f →
+    f ≢ Drop → old ≡ w ∷ new
     → FailsAt a_number new kind → FailsAt a_function old kind
-FailsAt-number (Sum m) old new w u kind h some e wrong = λ ss. wrong_at ss kind old w new (codes "sum") e h.0 (inr ((0, omega arith, refl), wrong ss))
-FailsAt-number (Max m) old new w u kind h some e wrong = λ ss. wrong_at ss kind old w new (codes "max") e h.0 (inr ((1, omega arith, refl), wrong ss))
-FailsAt-number (Set m) old new w u kind h some e wrong = λ ss. wrong_at ss kind old w new (codes "set") e h.0 (inr ((2, omega arith, refl), wrong ss))
+FailsAt-number (Sum m) old new w u kind h some e wrong = λ ss. wrong_at ss kind old w new (codes "sum") e h.0
+    (inr ((0, omega arith, refl), wrong ss))
+FailsAt-number (Max m) old new w u kind h some e wrong = λ ss. wrong_at ss kind old w new (codes "max") e h.0
+    (inr ((1, omega arith, refl), wrong ss))
+FailsAt-number (Set m) old new w u kind h some e wrong = λ ss. wrong_at ss kind old w new (codes "set") e h.0
+    (inr ((2, omega arith, refl), wrong ss))
 FailsAt-number Drop old new w u kind h some e wrong = absurd (some refl)
 
 pub FailsFirst-merger : (ws : List Word) (kind : Kind) → FailsFirst a_function ws kind → FailsAt a_merger ws kind

@@ -1,5 +1,6 @@
 -- The words of a line, cut at its first space.
-use Rattle.std.proofs.Common.{◌≡◌, ◌≢◌, ℕ, ◌+◌, ◌==◌, Bool, true, false, Option, Some, None, MatchOption, List, [], ◌∷◌, ◌++◌, length, All, refl, sym, ap, ◌∙◌}
+use Rattle.std.proofs.Common.{◌≡◌, ◌≢◌, ℕ, ◌+◌, ◌==◌, Bool, true, false, Option, Some, None, MatchOption, List, [], ◌∷◌}
+use Rattle.std.proofs.Common.{◌++◌, length, All, refl, sym, ap, ◌∙◌}
 use Rattle.std.proofs.Common.{arith}
 use Rattle.std.specs.List.{list_any}
 use Rattle.std.specs.Option.{option_map_or}
@@ -14,7 +15,8 @@ no_spaces : (l : List ℕ) → All (λ b. b ≢ 32) l → All (λ b. (b == 32) �
 no_spaces l h = λ k d lt. let ne = h k d lt in grind (arith, nat_tests)
 
 -- the words after the first are those of what follows its space
-pub words_at : (text l : List ℕ) (rest : Option (List ℕ)) → All (λ b. b ≢ 32) l → MatchOption rest (l ≡ text) (λ more. text ≡ l ++ 32 ∷ more)
+pub words_at : (text l : List ℕ) (rest : Option (List ℕ)) → All (λ b. b ≢ 32) l →
+    MatchOption rest (l ≡ text) (λ more. text ≡ l ++ 32 ∷ more)
     → words text ≡ l ∷ option_map_or words rest []
 words_at text l None h e = ap words (sym e) ∙ slice_split_none (λ b. b == 32) l (no_spaces l h)
 words_at text l (Some more) h e = ap words e ∙ slice_split_at (λ b. b == 32) l 32 more (no_spaces l h) refl

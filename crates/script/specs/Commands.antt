@@ -1,5 +1,6 @@
 -- The form of each call.
-use Rattle.bin_history.specs.declared.call.Call.TheVariants.{Get, Contains as Holds, Put, PutIfAbsent, Remove, RemoveIf, Replace, ReplaceIf, ComputeIfAbsent}
+use Rattle.bin_history.specs.declared.call.Call.TheVariants.{Get, Contains as Holds, Put, PutIfAbsent, Remove, RemoveIf}
+use Rattle.bin_history.specs.declared.call.Call.TheVariants.{Replace, ReplaceIf, ComputeIfAbsent}
 use Rattle.bin_history.specs.declared.call.Call.TheVariants.{ComputeIfPresent, Compute, Merge}
 use Rattle.script.specs.Grammar.{Form, key, key_number, key_numbers, key_function, key_merger}
 use Rattle.script.specs.declared.command.Command.{Command}

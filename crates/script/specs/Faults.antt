@@ -1,9 +1,11 @@
 -- Which word after the first is wrong, if one is.
-use Rattle.std.specs.Prelude.{◌≡◌, ℕ, ℤ, ◌⊎◌, true, nat_eq, if◌then◌else◌, List, [], ◌∷◌, ◌++◌, Contains, MatchOption, codes}
+use Rattle.std.specs.Prelude.{◌≡◌, ℕ, ℤ, ◌⊎◌, true, nat_eq, if◌then◌else◌, List, [], ◌∷◌, ◌++◌, Contains, MatchOption}
+use Rattle.std.specs.Prelude.{codes}
 use Rattle.std.specs.Cmp.Lexicographic.{pointwise}
 use Rattle.hashkeys.specs.Text.{is_key}
 use Rattle.script.specs.Lines.{Word, IsNumber, IsThreshold}
-use Rattle.script.specs.Grammar.{Form, alone, key, key_number, key_numbers, key_function, key_merger, threshold, sum_or_max, above, form_of}
+use Rattle.script.specs.Grammar.{Form, alone, key, key_number, key_numbers, key_function, key_merger, threshold}
+use Rattle.script.specs.Grammar.{sum_or_max, above, form_of}
 use Rattle.script.specs.declared.fault.Kind.{Kind}
 use Rattle.script.specs.declared.fault.Kind.TheVariants as kinds
 
@@ -66,12 +68,14 @@ abbrev pub IsWrong : List Slot → List Word → Kind → Type 0
 IsWrong [] [] kind = ⊥
 IsWrong [] (w ∷ ws) kind = kind ≡ kinds.Count
 IsWrong (s ∷ ss) [] kind = kind ≡ kinds.Count
-IsWrong (s ∷ ss) (w ∷ ws) kind = ((¬ Fits s w) × (kind ≡ kind_of s)) ⊎ (Fits s w × IsWrong (following s w ++ ss) ws kind)
+IsWrong (s ∷ ss) (w ∷ ws) kind = ((¬ Fits s w) × (kind ≡ kind_of s))
+    ⊎ (Fits s w × IsWrong (following s w ++ ss) ws kind)
 
 -- the first of these words is none that has a form, or another is wrong
 abbrev pub AreWrong : List (Word × Form) → List Word → Kind → Type 0
 AreWrong forms [] kind = ⊥
-AreWrong forms (first ∷ rest) kind = MatchOption (form_of forms first) (kind ≡ kinds.Word) (λ form. IsWrong (slots_of form) rest kind)
+AreWrong forms (first ∷ rest) kind = MatchOption (form_of forms first) (kind ≡ kinds.Word)
+    (λ form. IsWrong (slots_of form) rest kind)
 
 -- the first of these words is missing, or is not what it is to be
 abbrev pub FailsFirst : Slot → List Word → Kind → Type 0

@@ -4,7 +4,8 @@ use Rattle.std.specs.Cmp.Lexicographic.{pointwise}
 use Rattle.hashkeys.specs.Text.{is_key}
 use Rattle.bin_history.specs.Entries.{lookup}
 use Rattle.bin_history.specs.declared.call.Call.{Call}
-use Rattle.bin_history.specs.declared.call.Call.TheVariants.{Get, Contains as Holds, Put, PutIfAbsent, Remove, RemoveIf, Replace, ReplaceIf, ComputeIfAbsent}
+use Rattle.bin_history.specs.declared.call.Call.TheVariants.{Get, Contains as Holds, Put, PutIfAbsent, Remove, RemoveIf}
+use Rattle.bin_history.specs.declared.call.Call.TheVariants.{Replace, ReplaceIf, ComputeIfAbsent}
 use Rattle.bin_history.specs.declared.call.Call.TheVariants.{ComputeIfPresent, Compute, Merge}
 use Rattle.script.specs.Lines.{Word, IsNumber, IsThreshold}
 use Rattle.script.specs.declared.function.Function.{Function}
@@ -101,19 +102,24 @@ form_of forms first = lookup (pointwise nat_eq) forms first
 abbrev pub Says : Form → List Word → Line → Type 0
 Says (alone made) ws line = (ws ≡ []) × (line ≡ made)
 Says (key made) ws line = (k : Word) × (is_key k ≡ true) × (ws ≡ k ∷ []) × (line ≡ call (made k))
-Says (key_number made) ws line = (k w : Word) × (v : ℤ) × (is_key k ≡ true) × IsNumber w v × (ws ≡ k ∷ w ∷ []) × (line ≡ call (made k v))
+Says (key_number made) ws line = (k w : Word) × (v : ℤ) × (is_key k ≡ true) × IsNumber w v × (ws ≡ k ∷ w ∷ [])
+    × (line ≡ call (made k v))
 Says (key_numbers made) ws line =
-    (k w x : Word) × (u v : ℤ) × (is_key k ≡ true) × IsNumber w u × IsNumber x v × (ws ≡ k ∷ w ∷ x ∷ []) × (line ≡ call (made k u v))
-Says (key_function made) ws line = (k : Word) × (fs : List Word) × (f : Function) × (is_key k ≡ true) × IsFunction fs f × (ws ≡ k ∷ fs)
+    (k w x : Word) × (u v : ℤ) × (is_key k ≡ true) × IsNumber w u × IsNumber x v × (ws ≡ k ∷ w ∷ x ∷ [])
+    × (line ≡ call (made k u v))
+Says (key_function made) ws line = (k : Word) × (fs : List Word) × (f : Function) × (is_key k ≡ true) × IsFunction fs f
+    × (ws ≡ k ∷ fs)
     × (line ≡ call (made k f))
 Says (key_merger made) ws line =
-    (k w m : Word) × (v : ℤ) × (f : Function) × (is_key k ≡ true) × IsNumber w v × IsMerger m v f × (ws ≡ k ∷ w ∷ m ∷ []) × (line ≡ call (made k v f))
+    (k w m : Word) × (v : ℤ) × (f : Function) × (is_key k ≡ true) × IsNumber w v × IsMerger m v f
+    × (ws ≡ k ∷ w ∷ m ∷ []) × (line ≡ call (made k v f))
 Says (threshold made) ws line = (w : Word) × (t : ℕ) × IsThreshold w t × (ws ≡ w ∷ []) × (line ≡ ask (made t))
 Says (sum_or_max sum max) ws line =
     (w : Word) × (t : ℕ) × IsThreshold w t
     × (((ws ≡ codes "sum" ∷ w ∷ []) × (line ≡ ask (sum t))) ⊎ ((ws ≡ codes "max" ∷ w ∷ []) × (line ≡ ask (max t))))
 Says (above made) ws line =
-    (w x : Word) × (v : ℤ) × (t : ℕ) × IsNumber w v × IsThreshold x t × (ws ≡ codes "above" ∷ w ∷ x ∷ []) × (line ≡ ask (made v t))
+    (w x : Word) × (v : ℤ) × (t : ℕ) × IsNumber w v × IsThreshold x t × (ws ≡ codes "above" ∷ w ∷ x ∷ [])
+    × (line ≡ ask (made v t))
 
 -- the words make the line, by the form of the first of them
 abbrev pub Reads : List (Word × Form) → List Word → Line → Type 0

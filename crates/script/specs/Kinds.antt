@@ -1,7 +1,8 @@
 -- How what is wrong with a text is told.
 use Rattle.std.specs.Prelude.{ℕ, List, ◌++◌, codes, decimal}
 use Rattle.script.specs.declared.fault.Kind.{Kind}
-use Rattle.script.specs.declared.fault.Kind.TheVariants.{Cut, Bytes, Spaces, Word, Count, Key, Number, Function, Limit, Missing}
+use Rattle.script.specs.declared.fault.Kind.TheVariants.{Cut, Bytes, Spaces, Word, Count, Key, Number, Function, Limit}
+use Rattle.script.specs.declared.fault.Kind.TheVariants.{Missing}
 use Rattle.script.specs.declared.fault.ParseError.{ParseError}
 use Rattle.script.specs.declared.fault.ParseError.TheVariants.{NoMemory, Fault}
 

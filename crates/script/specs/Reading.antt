@@ -3,13 +3,15 @@ use Rattle.std.specs.Prelude.{◌≡◌, ◌≢◌, ℕ, ◌+◌, ◌<◌, ◌�
 use Rattle.bin_history.specs.Limits.{most_clients, most_calls}
 use Rattle.bin_history.specs.declared.form.Form.TheVariants.{Recorded}
 use Rattle.script.specs.Lines.{Word, BeginsWith, words, IsPrintable, IsSpaced}
-use Rattle.script.specs.Grammar.{ScriptCall, Line, client, query, call, ask, Form, start_forms, block_forms, query_forms, Reads}
+use Rattle.script.specs.Grammar.{ScriptCall, Line, client, query, call, ask, Form, start_forms, block_forms}
+use Rattle.script.specs.Grammar.{query_forms, Reads}
 use Rattle.script.specs.Faults.{AreWrong}
 use Rattle.script.specs.declared.script.Query.{Query}
 use Rattle.script.specs.declared.fault.Kind.{Kind}
 use Rattle.script.specs.declared.fault.Kind.TheVariants as kinds
 
--- a section of a script, with what was read before it: at the start, in a client's block after others, or among the queries
+-- a section of a script, with what was read before it: at the start, in a client's block after others, or among the
+-- queries
 pub data Section : Type 0 where
   start : Section
   calls : List (List ScriptCall) → List ScriptCall → Section
@@ -32,10 +34,13 @@ pub data Leads : Section → Line → Section → Type 0 where
   first_client : Leads start client (calls [] [])
   next_client : (blocks : List (List ScriptCall)) (block : List ScriptCall) → length blocks + 1 < most_clients
       → Leads (calls blocks block) client (calls (blocks ++ block ∷ []) [])
-  next_call : (blocks : List (List ScriptCall)) (block : List ScriptCall) (c : ScriptCall) → length block < most_calls Recorded
+  next_call : (blocks : List (List ScriptCall)) (block : List ScriptCall) (c : ScriptCall) →
+      length block < most_calls Recorded
       → Leads (calls blocks block) (call c) (calls blocks (block ++ c ∷ []))
-  first_query : (blocks : List (List ScriptCall)) (block : List ScriptCall) → Leads (calls blocks block) query (queries (blocks ++ block ∷ []) [])
-  next_query : (blocks : List (List ScriptCall)) (asked : List Query) (q : Query) → Leads (queries blocks asked) (ask q) (queries blocks (asked ++ q ∷ []))
+  first_query : (blocks : List (List ScriptCall)) (block : List ScriptCall) →
+      Leads (calls blocks block) query (queries (blocks ++ block ∷ []) [])
+  next_query : (blocks : List (List ScriptCall)) (asked : List Query) (q : Query) →
+      Leads (queries blocks asked) (ask q) (queries blocks (asked ++ q ∷ []))
 
 -- the line says this in the section
 pub record IsLine (p : Section) (l : List ℕ) (line : Line) : Type 0 where
@@ -65,10 +70,14 @@ pub data Verdict : Type 0 where
 
 -- what the text from a section and a line number on is
 pub data HasVerdictFrom : Section → ℕ → List ℕ → Verdict → Type 0 where
-  good : (p q : Section) (n : ℕ) (text l more : List ℕ) (line : Line) (v : Verdict) → BeginsWith text l more → IsLine p l line → Leads p line q
+  good : (p q : Section) (n : ℕ) (text l more : List ℕ) (line : Line) (v : Verdict) → BeginsWith text l more →
+      IsLine p l line → Leads p line q
       → HasVerdictFrom q (n + 1) more v → HasVerdictFrom p n text v
-  bad : (p : Section) (n : ℕ) (text l more : List ℕ) (kind : Kind) → BeginsWith text l more → IsBad p l kind → HasVerdictFrom p n text (faulty n kind)
-  cut : (p : Section) (n : ℕ) (text : List ℕ) → text ≢ [] → All (λ b. b ≢ 10) text → HasVerdictFrom p n text (faulty n kinds.Cut)
-  ended : (blocks : List (List ScriptCall)) (asked : List Query) (n : ℕ) → HasVerdictFrom (queries blocks asked) n [] (whole blocks asked)
+  bad : (p : Section) (n : ℕ) (text l more : List ℕ) (kind : Kind) → BeginsWith text l more → IsBad p l kind →
+      HasVerdictFrom p n text (faulty n kind)
+  cut : (p : Section) (n : ℕ) (text : List ℕ) → text ≢ [] → All (λ b. b ≢ 10) text →
+      HasVerdictFrom p n text (faulty n kinds.Cut)
+  ended : (blocks : List (List ScriptCall)) (asked : List Query) (n : ℕ) →
+      HasVerdictFrom (queries blocks asked) n [] (whole blocks asked)
   missing : (p : Section) (n : ℕ) → ((blocks : List (List ScriptCall)) (asked : List Query) → p ≢ queries blocks asked)
       → HasVerdictFrom p n [] (faulty n kinds.Missing)

@@ -1,5 +1,6 @@
 //! Byte strings, and places in them.
-ghost use Rattle.std.specs.Prelude.{◌≡◌, ◌≢◌, ℕ, ◌+◌, ◌<◌, ◌≤◌, All, length, take, slice_index, nat_eq};
+ghost use Rattle.std.specs.Prelude.{◌≡◌, ◌≢◌, ℕ, ◌+◌, ◌<◌, ◌≤◌, All, length, take, slice_index};
+ghost use Rattle.std.specs.Prelude.{nat_eq};
 ghost use Rattle.std.specs.Cmp.Lexicographic.{pointwise};
 
 use std::simd::prelude::*;
@@ -15,7 +16,8 @@ pub(crate) fn is(name: &[u8], first: &[u8]) -> bool
     name.len() == first.len() && name == first
 }
 
-/// How many of the 32 bytes from a place on stand before the first that is this one; all where none is.
+/// How many of the 32 bytes from a place on stand before the first that is this one; all where none
+/// is.
 #[inline(always)]
 fn run_before(text: &[u8], at: usize, byte: u8) -> usize
     requires { at + LANES ≤ length text.now }
@@ -33,8 +35,8 @@ fn run_before(text: &[u8], at: usize, byte: u8) -> usize
     }
 }
 
-/// The index of the first such byte before the end, or the end where there is none. The text may go on after the end,
-/// so that its bytes can be looked at together there too.
+/// The index of the first such byte before the end, or the end where there is none. The text may go
+/// on after the end, so that its bytes can be looked at together there too.
 #[inline(always)]
 pub(crate) fn place_before(text: &[u8], end: usize, byte: u8) -> usize
     requires { end ≤ length text.now }

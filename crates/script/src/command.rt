@@ -25,7 +25,8 @@ pub(crate) enum Command {
 /// The call that a first word names, if it names one.
 #[inline(always)]
 pub(crate) fn command_of(first: &[u8]) -> Option<Command>
-    ensures { MatchOption result (form_of call_forms first.now ≡ None) (λ c. form_of call_forms first.now ≡ Some (form c)) }
+    ensures { MatchOption result (form_of call_forms first.now ≡ None)
+        (λ c. form_of call_forms first.now ≡ Some (form c)) }
 {
     if is(b"get", first) {
         Some(Command::Get)

@@ -1,9 +1,11 @@
 //! Scripts as far as they were read.
 ghost use Rattle.std.specs.Prelude.{List, OnOk, IfErr};
 ghost use Rattle.script.specs.Lines.{words, IsPrintable, IsSpaced};
-ghost use Rattle.script.specs.Grammar.{ScriptCall as CallView, Line, Reads, client, call as call_line};
+ghost use Rattle.script.specs.Grammar.{ScriptCall as CallView, Line, Reads, client};
+ghost use Rattle.script.specs.Grammar.{call as call_line};
 ghost use Rattle.script.specs.Reading.{calls, forms_at, IsLine, Leads};
-ghost use Rattle.script.specs.Drafts.{in_block, section_of, HasBadBytes, IsRefused, IsMisread, IsRefusedAtLimit};
+ghost use Rattle.script.specs.Drafts.{in_block, section_of, HasBadBytes, IsRefused, IsMisread};
+ghost use Rattle.script.specs.Drafts.{IsRefusedAtLimit};
 
 use crate::fault::{Kind, LineError};
 use crate::forms::{BlockLine, read_in_block, read_query, read_start};
@@ -47,8 +49,8 @@ fn check_bytes(line: &[u8]) -> Result<(), Kind>
 }
 
 impl<A: Allocator + Clone> Draft<A> {
-    /// Takes one more line. Where all words are right, so are the bytes: they are looked at only where
-    /// one is wrong.
+    /// Takes one more line. Where all words are right, so are the bytes: they are looked at only
+    /// where one is wrong.
     pub(crate) fn take(&mut self, alloc: A, line: &TextLine<'_>) -> Result<(), LineError>
         ensures ok { OnOk result ((said : Line) × IsLine (section_of self.old) line.now said
             × Leads (section_of self.old) said (section_of self.new)) }
@@ -66,7 +68,8 @@ impl<A: Allocator + Clone> Draft<A> {
 
     /// Takes what the words of one more line say.
     fn take_words(&mut self, alloc: A, line: &TextLine<'_>) -> Result<(), LineError>
-        ensures ok { OnOk result ((said : Line) × Reads (forms_at (section_of self.old)) (words line.now) said
+        ensures ok { OnOk result
+            ((said : Line) × Reads (forms_at (section_of self.old)) (words line.now) said
             × Leads (section_of self.old) said (section_of self.new)) }
         ensures err { IfErr result (IsMisread (section_of self.old) line.now) }
     {
@@ -107,8 +110,11 @@ fn push_block<A: Allocator>(
     blocks: &mut Vec<Vec<ScriptCall, A>, A>,
     block: &mut Vec<ScriptCall, A>,
 ) -> Result<(), LineError>
-    ensures ok { OnOk result (Leads (in_block blocks.old.items block.old.items) client (in_block blocks.new.items block.new.items)) }
-    ensures err { IfErr result (IsRefusedAtLimit (in_block blocks.old.items block.old.items) client) }
+    ensures ok { OnOk result
+        (Leads (in_block blocks.old.items block.old.items) client
+        (in_block blocks.new.items block.new.items)) }
+    ensures err { IfErr result
+        (IsRefusedAtLimit (in_block blocks.old.items block.old.items) client) }
 {
     if blocks.len() >= MOST_CLIENTS as usize - 1 {
         return Err(LineError::Bad(Kind::Limit));
@@ -122,8 +128,10 @@ fn push_call<A: Allocator>(
     block: &mut Vec<ScriptCall, A>,
     call: ScriptCall,
 ) -> Result<(), LineError>
-    ensures ok { OnOk result ((blocks : List (List CallView)) → Leads (calls blocks block.old.items) (call_line call) (calls blocks block.new.items)) }
-    ensures err { IfErr result (λ e. (blocks : List (List CallView)) → IsRefusedAtLimit (calls blocks block.old.items) (call_line call) e) }
+    ensures ok { OnOk result ((blocks : List (List CallView)) →
+        Leads (calls blocks block.old.items) (call_line call) (calls blocks block.new.items)) }
+    ensures err { IfErr result (λ e. (blocks : List (List CallView)) →
+        IsRefusedAtLimit (calls blocks block.old.items) (call_line call) e) }
 {
     if block.len() >= MOST_CALLS as usize {
         return Err(LineError::Bad(Kind::Limit));

@@ -52,8 +52,8 @@ impl fmt::Display for Kind {
     }
 }
 
-/// The first bad line of a text, from 1, and what is wrong with it. A script that ends too early has the kind
-/// `Missing`, at the number of its lines plus 1.
+/// The first bad line of a text, from 1, and what is wrong with it. A script that ends too early
+/// has the kind `Missing`, at the number of its lines plus 1.
 #[derive(Clone, Copy, Debug, PartialEq, Eq)]
 pub struct Fault {
     pub line: u64,

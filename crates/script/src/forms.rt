@@ -1,8 +1,11 @@
 //! The forms of lines: what each first word asks for, and what the line then says.
 ghost use Rattle.std.specs.Prelude.{◌≡◌, [], ◌∷◌, OnOk, IfOk, IfErr};
 ghost use Rattle.script.specs.Lines.{Word, IsNumber, IsThreshold};
-ghost use Rattle.script.specs.Grammar.{client, call, ask, sum_or_max, above, start_forms, call_forms, block_forms, query_forms, IsFunction, IsMerger, Says, Reads};
-ghost use Rattle.script.specs.Faults.{a_number, a_threshold, a_function, a_merger, a_sum_or_max, the_above, slots_of, IsWrong, AreWrong};
+ghost use Rattle.script.specs.Grammar.{client, call, ask, sum_or_max, above, start_forms};
+ghost use Rattle.script.specs.Grammar.{call_forms, block_forms, query_forms, IsFunction, IsMerger};
+ghost use Rattle.script.specs.Grammar.{Says, Reads};
+ghost use Rattle.script.specs.Faults.{a_number, a_threshold, a_function, a_merger, a_sum_or_max};
+ghost use Rattle.script.specs.Faults.{the_above, slots_of, IsWrong, AreWrong};
 ghost use Rattle.script.specs.Commands.{form};
 ghost use Rattle.script.specs.Drafts.{line_of};
 
@@ -66,8 +69,8 @@ fn read_call(first: &[u8], rest: Words<'_>) -> Result<ScriptCall, Kind>
     }
 }
 
-/// Reads the words after the first word of a call. All calls have a key in front: it is read in one place, and moved
-/// into the call from there.
+/// Reads the words after the first word of a call. All calls have a key in front: it is read in one
+/// place, and moved into the call from there.
 #[inline(always)]
 fn read_arguments(command: Command, mut words: Words<'_>) -> Result<ScriptCall, Kind>
     ensures ok { IfOk result (λ c. Says (form command) words.entry (call c)) }
@@ -122,7 +125,8 @@ fn last_number(mut words: Words<'_>) -> Result<i64, Kind>
 /// The two words that are left, which are to be numbers.
 #[inline(always)]
 fn last_numbers(mut words: Words<'_>) -> Result<(i64, i64), Kind>
-    ensures ok { IfOk result (λ r. (w x : Word) × IsNumber w r.0 × IsNumber x r.1 × (words.entry ≡ w ∷ x ∷ [])) }
+    ensures ok { IfOk result (λ r. (w x : Word) × IsNumber w r.0 × IsNumber x r.1
+        × (words.entry ≡ w ∷ x ∷ [])) }
     ensures err { IfErr result (IsWrong (a_number ∷ a_number ∷ []) words.entry) }
 {
     let first = words.number()?;
@@ -145,7 +149,8 @@ fn last_function(mut words: Words<'_>) -> Result<Function, Kind>
 /// The value and the function of a merge, whose words are left.
 #[inline(always)]
 fn last_merger(mut words: Words<'_>) -> Result<(i64, Function), Kind>
-    ensures ok { IfOk result (λ r. (w m : Word) × IsNumber w r.0 × IsMerger m r.0 r.1 × (words.entry ≡ w ∷ m ∷ [])) }
+    ensures ok { IfOk result (λ r. (w m : Word) × IsNumber w r.0 × IsMerger m r.0 r.1
+        × (words.entry ≡ w ∷ m ∷ [])) }
     ensures err { IfErr result (IsWrong (a_number ∷ a_merger ∷ []) words.entry) }
 {
     let number = words.number()?;
@@ -184,7 +189,8 @@ fn read_threshold(mut words: Words<'_>) -> Result<u64, Kind>
 }
 
 fn read_reduce(mut words: Words<'_>) -> Result<Query, Kind>
-    ensures ok { IfOk result (λ q. Says (sum_or_max Query.ReduceSum Query.ReduceMax) words.entry (ask q)) }
+    ensures ok { IfOk result
+        (λ q. Says (sum_or_max Query.ReduceSum Query.ReduceMax) words.entry (ask q)) }
     ensures err { IfErr result (IsWrong (a_sum_or_max ∷ a_threshold ∷ []) words.entry) }
 {
     let is_sum = words.is_sum()?;

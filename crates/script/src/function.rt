@@ -5,7 +5,8 @@ use bin_history::Remap;
 use hashkeys::Key;
 use std::alloc::AllocError;
 
-/// A function of the value at a key, which may be absent. All but `Drop` give their number for an absent key.
+/// A function of the value at a key, which may be absent. All but `Drop` give their number for an
+/// absent key.
 #[derive(Debug, Drop, PartialEq, Eq)]
 pub enum Function {
     /// The value plus the number, or the nearest end of the 64-bit range where the sum is outside.
@@ -71,8 +72,8 @@ impl Clone for Function {
     }
 }
 
-/// A compute call applies the function to the value at the key; a merge on a present key applies it to
-/// the old value with the given one for its number.
+/// A compute call applies the function to the value at the key; a merge on a present key applies it
+/// to the old value with the given one for its number.
 impl Remap<Key, i64> for Function {
     ghost use Rattle.script.specs.Functions.{remapped, merged};
 

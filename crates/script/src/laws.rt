@@ -12,5 +12,6 @@ pub fn one_verdict()
 
 /// A script has 1 to 32 blocks, each of at most 1,000,000 calls.
 pub fn scripts_are_within_limits()
-    ensures { (text : List ℕ) (blocks : List (List ScriptCall)) (asked : List Query) → HasVerdict text (whole blocks asked) → IsWithinLimits blocks }
+    ensures { (text : List ℕ) (blocks : List (List ScriptCall)) (asked : List Query) →
+        HasVerdict text (whole blocks asked) → IsWithinLimits blocks }
 {}

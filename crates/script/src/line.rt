@@ -1,5 +1,6 @@
 //! The lines of a text.
-ghost use Rattle.std.specs.Prelude.{◌≡◌, ◌≢◌, ◌∷◌, ◌++◌, ◌≤◌, All, MatchOption, length, take, true, false};
+ghost use Rattle.std.specs.Prelude.{◌≡◌, ◌≢◌, ◌∷◌, ◌++◌, ◌≤◌, All, MatchOption, length, take, true};
+ghost use Rattle.std.specs.Prelude.{false};
 ghost use Rattle.hashkeys.specs.Text.{is_key};
 ghost use Rattle.script.specs.Lines.{BeginsWith};
 
@@ -7,8 +8,9 @@ use crate::bytes::place_before;
 use hashkeys::Key;
 use std::marker::Model;
 
-/// A line of a text, without its line feed, or a word of one. What follows it in the text is kept beside it, so that its
-/// last bytes can be looked at together with others. Contracts see the line's bytes.
+/// A line of a text, without its line feed, or a word of one. What follows it in the text is kept
+/// beside it, so that its last bytes can be looked at together with others. Contracts see the
+/// line's bytes.
 #[derive(Drop)]
 pub(crate) struct TextLine<'a> {
     text: &'a [u8],
@@ -28,7 +30,8 @@ impl<'a> Model for TextLine<'a> {
 /// The first line of a text, and what follows its line feed, if there is one.
 #[inline(always)]
 pub(crate) fn first_line(text: &[u8]) -> Option<(TextLine<'_>, &[u8])>
-    ensures { MatchOption result (All (λ b. b ≢ 10) text.now) (λ r. BeginsWith text.now r.0 r.1.now) }
+    ensures { MatchOption result (All (λ b. b ≢ 10) text.now)
+        (λ r. BeginsWith text.now r.0 r.1.now) }
 {
     let len = place_before(text, text.len(), b'\n');
     if len >= text.len() {
@@ -49,7 +52,8 @@ impl<'a> TextLine<'a> {
     /// The key that these bytes are, or none.
     #[inline(always)]
     pub(crate) fn key(&self) -> Option<Key>
-        ensures { MatchOption result (is_key self.now ≡ false) (λ key. (key ≡ self.now) × (is_key self.now ≡ true)) }
+        ensures { MatchOption result (is_key self.now ≡ false)
+            (λ key. (key ≡ self.now) × (is_key self.now ≡ true)) }
     {
         Key::read_front(self.text, self.len)
     }
@@ -58,7 +62,8 @@ impl<'a> TextLine<'a> {
     #[inline(always)]
     pub(crate) fn split(&self) -> (TextLine<'a>, Option<TextLine<'a>>)
         ensures before { All (λ b. b ≢ 32) result.0 }
-        ensures parts { MatchOption result.1 (result.0 ≡ self.now) (λ more. self.now ≡ result.0 ++ 32 ∷ more) }
+        ensures parts { MatchOption result.1 (result.0 ≡ self.now)
+            (λ more. self.now ≡ result.0 ++ 32 ∷ more) }
     {
         let text = self.text;
         let end = place_before(text, self.len, b' ');

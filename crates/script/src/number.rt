@@ -9,7 +9,8 @@ use itoa::Buffer;
 #[inline(always)]
 fn value_of(digits: &[u8]) -> Option<u64>
     requires { length digits.now ≤ 19 }
-    ensures { MatchOption result (AllDigits 10 digits.now → ⊥) (λ n. AllDigits 10 digits.now × (n ≡ digits_value 10 digits.now)) }
+    ensures { MatchOption result (AllDigits 10 digits.now → ⊥)
+        (λ n. AllDigits 10 digits.now × (n ≡ digits_value 10 digits.now)) }
 {
     let mut value = 0u64;
     for byte in digits {
@@ -24,7 +25,8 @@ fn value_of(digits: &[u8]) -> Option<u64>
 /// The number from 0 on, below 10^19, that the word is, or none.
 #[inline(always)]
 fn read_size(word: &[u8]) -> Option<u64>
-    ensures { MatchOption result ((n : ℕ) → n < 10 ^ 19 → word.now ≢ decimal n) (λ n. (n < 10 ^ 19) × (word.now ≡ decimal n)) }
+    ensures { MatchOption result ((n : ℕ) → n < 10 ^ 19 → word.now ≢ decimal n)
+        (λ n. (n < 10 ^ 19) × (word.now ≡ decimal n)) }
 {
     let length = word.len();
     if length < 1 {
@@ -66,7 +68,8 @@ pub(crate) fn read_number(word: &[u8]) -> Option<i64>
 
 /// The number from 0 on that the word is, or none.
 pub(crate) fn read_threshold(word: &[u8]) -> Option<u64>
-    ensures { MatchOption result ((n : ℕ) → IsThreshold word.now n → ⊥) (λ n. IsThreshold word.now n) }
+    ensures { MatchOption result ((n : ℕ) → IsThreshold word.now n → ⊥)
+        (λ n. IsThreshold word.now n) }
 {
     let Ok(text) = str::from_utf8(word) else {
         return None;

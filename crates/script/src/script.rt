@@ -8,8 +8,8 @@ use std::alloc::Allocator;
 /// A call of a script.
 pub type ScriptCall = Call<Key, i64, Function>;
 
-/// A question that is asked of the map once all clients have ended. Thresholds say from how many keys on the
-/// work may be divided; they change no answer.
+/// A question that is asked of the map once all clients have ended. Thresholds say from how many
+/// keys on the work may be divided; they change no answer.
 #[derive(Debug, Drop, PartialEq, Eq)]
 pub enum Query {
     /// The number of keys.
@@ -24,8 +24,8 @@ pub enum Query {
     List(u64),
 }
 
-/// A script that was read: the calls of each client, in their order, and the queries. There are 1 to 32 blocks,
-/// of at most 1,000,000 calls each.
+/// A script that was read: the calls of each client, in their order, and the queries. There are 1
+/// to 32 blocks, of at most 1,000,000 calls each.
 #[derive(Drop)]
 pub struct Script<A: Allocator> {
     pub blocks: Vec<Vec<ScriptCall, A>, A>,

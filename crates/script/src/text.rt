@@ -9,8 +9,8 @@ use crate::line::first_line;
 use crate::script::Script;
 use std::alloc::Allocator;
 
-/// The script that the text is. Where the text is no script, the error names its first bad line; else an error
-/// comes only where memory runs out.
+/// The script that the text is. Where the text is no script, the error names its first bad line;
+/// else an error comes only where memory runs out.
 pub fn parse<A: Allocator + Clone>(alloc: A, text: &[u8]) -> Result<Script<A>, ParseError>
     // The text is that of this script, and of no other.
     ensures script { IfOk result (λ s. IsText text.now s) }

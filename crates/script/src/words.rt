@@ -1,8 +1,10 @@
 //! The words of a line, read from left to right.
-ghost use Rattle.std.specs.Prelude.{◌≡◌, pos, [], ◌∷◌, ◌++◌, List, codes, if◌then◌else◌, OnOk, IfOk, IfErr};
+ghost use Rattle.std.specs.Prelude.{◌≡◌, pos, [], ◌∷◌, ◌++◌, List, codes, if◌then◌else◌, OnOk};
+ghost use Rattle.std.specs.Prelude.{IfOk, IfErr};
 ghost use Rattle.script.specs.Lines.{Word, words, IsNumber, IsThreshold};
 ghost use Rattle.script.specs.Grammar.{IsFunction, IsMerger};
-ghost use Rattle.script.specs.Faults.{a_number, a_threshold, a_function, a_merger, a_sum_or_max, the_above, IsWrong, FailsFirst, FailsAt};
+ghost use Rattle.script.specs.Faults.{a_number, a_threshold, a_function, a_merger, a_sum_or_max};
+ghost use Rattle.script.specs.Faults.{the_above, IsWrong, FailsFirst, FailsAt};
 
 use crate::fault::Kind;
 use crate::function::Function;
@@ -92,7 +94,8 @@ impl<'a> Words<'a> {
     /// The word of a function, whose number is still to come.
     #[inline(always)]
     fn function_word(&mut self) -> Result<Function, Kind>
-        ensures ok { IfOk result (λ f. (w : Word) × IsMerger w (pos 0) f × (self.old ≡ w ∷ self.new)) }
+        ensures ok { IfOk result (λ f. (w : Word) × IsMerger w (pos 0) f
+            × (self.old ≡ w ∷ self.new)) }
         ensures err { IfErr result (FailsFirst a_function self.old) }
     {
         match self.word()? {
@@ -107,7 +110,8 @@ impl<'a> Words<'a> {
     /// A function, with the number that follows its word.
     #[inline(always)]
     pub(crate) fn function(&mut self) -> Result<Function, Kind>
-        ensures ok { IfOk result (λ f. (fs : List Word) × IsFunction fs f × (self.old ≡ fs ++ self.new)) }
+        ensures ok { IfOk result (λ f. (fs : List Word) × IsFunction fs f
+            × (self.old ≡ fs ++ self.new)) }
         ensures err { IfErr result (FailsAt a_function self.old) }
     {
         match self.function_word()? {
@@ -122,7 +126,8 @@ impl<'a> Words<'a> {
     /// The function of a merge, whose number is the given value.
     #[inline(always)]
     pub(crate) fn merger(&mut self, given: i64) -> Result<Function, Kind>
-        ensures ok { IfOk result (λ f. (w : Word) × IsMerger w given f × (self.old ≡ w ∷ self.new)) }
+        ensures ok { IfOk result (λ f. (w : Word) × IsMerger w given f
+            × (self.old ≡ w ∷ self.new)) }
         ensures err { IfErr result (FailsAt a_merger self.old) }
     {
         let named = self.function_word()?;
@@ -131,7 +136,8 @@ impl<'a> Words<'a> {
 
     /// Whether the values are to be added up, or the greatest is sought.
     pub(crate) fn is_sum(&mut self) -> Result<bool, Kind>
-        ensures ok { IfOk result (λ sum. self.old ≡ (if sum then codes "sum" else codes "max") ∷ self.new) }
+        ensures ok { IfOk result
+            (λ sum. self.old ≡ (if sum then codes "sum" else codes "max") ∷ self.new) }
         ensures err { IfErr result (FailsAt a_sum_or_max self.old) }
     {
         match self.word()? {

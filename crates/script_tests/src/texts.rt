@@ -6,30 +6,26 @@ use std::alloc::{AllocError, Global};
 use std::process::Abort;
 use std::test::Fail;
 
-/// The fault of a text, or none where it is a script.
-fn fault_of(alloc: Global, text: &[u8]) -> Result<Option<Fault>, AllocError> {
+/// The line and the kind of a text's fault, or none where it is a script.
+fn fault_of(rt: &impl Abort, alloc: Global, text: &[u8]) -> Option<(u64, Kind)> {
     match parse(alloc, text) {
-        Ok(_) => Ok(None),
-        Err(ParseError::Fault(fault)) => Ok(Some(fault)),
-        Err(ParseError::NoMemory) => Err(AllocError),
+        Ok(_) => None,
+        Err(ParseError::Fault(fault)) => Some((fault.line, fault.kind)),
+        Err(ParseError::NoMemory) => {
+            assert!(rt; false, "no memory");
+            None
+        }
     }
 }
 
-/// Whether a text has this fault.
-fn check(
-    rt: &impl Abort,
-    alloc: Global,
-    text: &[u8],
-    line: u64,
-    kind: Kind,
-) -> Result<(), AllocError> {
-    let found = fault_of(alloc, text)?;
-    assert_eq!(rt; found, Some(Fault { line, kind }), "{text:?}");
-    Ok(())
+/// Asserts that a text has this fault, or is a script where none is wanted.
+fn assert_fault(rt: &impl Abort, alloc: Global, text: &[u8], wanted: Option<(u64, Kind)>) {
+    let found = fault_of(rt, alloc, text);
+    assert!(rt; found == wanted, "{text:?}: {found:?}");
 }
 
 #[test]
-fn the_fault_table(rt: HostRuntime) -> Result<(), Fail> {
+fn the_fault_table(rt: HostRuntime) {
     let rows: [(&[u8], u64, Kind); 14] = [
         (b"", 1, Kind::Missing),
         (b"query\n", 1, Kind::Word),
@@ -47,14 +43,13 @@ fn the_fault_table(rt: HostRuntime) -> Result<(), Fail> {
         (b"client\nquery\nlist -1\n", 3, Kind::Number),
     ];
     for (text, line, kind) in rows {
-        check(&rt, rt.alloc(), text, line, kind)?;
+        assert_fault(&rt, rt.alloc(), text, Some((line, kind)));
     }
-    Ok(())
 }
 
 /// The first failing test gives the kind, though later ones fail as well.
 #[test]
-fn the_first_failing_test_decides(rt: HostRuntime) -> Result<(), Fail> {
+fn the_first_failing_test_decides(rt: HostRuntime) {
     let rows: [(&[u8], u64, Kind); 12] = [
         (b"cl\x00 ent  ", 1, Kind::Cut),
         (b"client\n \x09 nothing\nclient\n", 2, Kind::Bytes),
@@ -70,108 +65,115 @@ fn the_first_failing_test_decides(rt: HostRuntime) -> Result<(), Fail> {
         (b"client\nquery\nsearch above 1\n", 3, Kind::Count),
     ];
     for (text, line, kind) in rows {
-        check(&rt, rt.alloc(), text, line, kind)?;
+        assert_fault(&rt, rt.alloc(), text, Some((line, kind)));
     }
-    Ok(())
 }
 
 /// The first bad line decides, though later ones are bad as well.
 #[test]
-fn the_first_bad_line_decides(rt: HostRuntime) -> Result<(), Fail> {
-    check(
-        &rt,
-        rt.alloc(),
-        b"client\nget a\nget\nput a\nquer",
-        3,
-        Kind::Count,
-    )?;
-    check(&rt, rt.alloc(), b"client\nget a\n", 3, Kind::Missing)?;
-    check(&rt, rt.alloc(), b"client\nquery\ncount", 3, Kind::Cut)?;
-    Ok(())
+fn the_first_bad_line_decides(rt: HostRuntime) {
+    let rows: [(&[u8], u64, Kind); 3] = [
+        (b"client\nget a\nget\nput a\nquer", 3, Kind::Count),
+        (b"client\nget a\n", 3, Kind::Missing),
+        (b"client\nquery\ncount", 3, Kind::Cut),
+    ];
+    for (text, line, kind) in rows {
+        assert_fault(&rt, rt.alloc(), text, Some((line, kind)));
+    }
 }
 
-/// Each beginning of a script has one fault, by its length, until the place of the queries is reached.
+/// Each beginning of a script has one fault, by its length, until the place of the queries is
+/// reached.
 #[test]
-fn beginnings_of_a_script(rt: HostRuntime) -> Result<(), Fail> {
+fn beginnings_of_a_script(rt: HostRuntime) {
     let text = b"client\nput a 1\nget a\nquery\ncount\n";
     for length in 0..text.len() {
-        let found = fault_of(rt.alloc(), &text[..length])?;
-        let expected = match length {
-            0 => Some(Fault {
-                line: 1,
-                kind: Kind::Missing,
-            }),
-            1..=6 => Some(Fault {
-                line: 1,
-                kind: Kind::Cut,
-            }),
-            7 => Some(Fault {
-                line: 2,
-                kind: Kind::Missing,
-            }),
-            8..=14 => Some(Fault {
-                line: 2,
-                kind: Kind::Cut,
-            }),
-            15 => Some(Fault {
-                line: 3,
-                kind: Kind::Missing,
-            }),
-            16..=20 => Some(Fault {
-                line: 3,
-                kind: Kind::Cut,
-            }),
-            21 => Some(Fault {
-                line: 4,
-                kind: Kind::Missing,
-            }),
-            22..=26 => Some(Fault {
-                line: 4,
-                kind: Kind::Cut,
-            }),
+        let wanted = match length {
+            0 => Some((1, Kind::Missing)),
+            1..=6 => Some((1, Kind::Cut)),
+            7 => Some((2, Kind::Missing)),
+            8..=14 => Some((2, Kind::Cut)),
+            15 => Some((3, Kind::Missing)),
+            16..=20 => Some((3, Kind::Cut)),
+            21 => Some((4, Kind::Missing)),
+            22..=26 => Some((4, Kind::Cut)),
             27 => None,
-            _ => Some(Fault {
-                line: 5,
-                kind: Kind::Cut,
-            }),
+            _ => Some((5, Kind::Cut)),
         };
-        assert_eq!(rt; found, expected);
+        assert_fault(&rt, rt.alloc(), &text[..length], wanted);
+    }
+}
+
+/// What a call says: its word, key, numbers and function.
+type Said<'a> = (
+    &'static str,
+    &'a [u8],
+    [Option<i64>; 2],
+    Option<&'a Function>,
+);
+
+fn said(call: &Call<Key, i64, Function>) -> Said<'_> {
+    match call {
+        Call::Get(key) => ("get", key.bytes(), [None; 2], None),
+        Call::Contains(key) => ("contains", key.bytes(), [None; 2], None),
+        Call::Put(key, n) => ("put", key.bytes(), [Some(*n), None], None),
+        Call::PutIfAbsent(key, n) => ("put_if_absent", key.bytes(), [Some(*n), None], None),
+        Call::Remove(key) => ("remove", key.bytes(), [None; 2], None),
+        Call::RemoveIf(key, n) => ("remove_if", key.bytes(), [Some(*n), None], None),
+        Call::Replace(key, n) => ("replace", key.bytes(), [Some(*n), None], None),
+        Call::ReplaceIf(key, n, m) => ("replace_if", key.bytes(), [Some(*n), Some(*m)], None),
+        Call::ComputeIfAbsent(key, f) => ("compute_if_absent", key.bytes(), [None; 2], Some(f)),
+        Call::ComputeIfPresent(key, f) => ("compute_if_present", key.bytes(), [None; 2], Some(f)),
+        Call::Compute(key, f) => ("compute", key.bytes(), [None; 2], Some(f)),
+        Call::Merge(key, n, f) => ("merge", key.bytes(), [Some(*n), None], Some(f)),
+    }
+}
+
+/// Every form of a call, with what it says.
+#[test]
+fn every_form_of_a_call(rt: HostRuntime) -> Result<(), Fail> {
+    let text =
+        b"client\nget a\ncontains b\nput c 1\nput_if_absent d -2\nremove e\nremove_if f 3\nreplace g 4\n\
+replace_if h 5 6\ncompute_if_absent i sum 7\ncompute_if_present j max -8\ncompute k set 9\nmerge l 10 drop\n\
+client\nquery\n";
+    let script = parse(rt.alloc(), text).map_err(|_| "no script")?;
+    let functions = [
+        Function::Sum(7),
+        Function::Max(-8),
+        Function::Set(9),
+        Function::Drop,
+    ];
+    let [sum, max, set, take] = &functions;
+    let wanted: [Said<'_>; 12] = [
+        ("get", b"a", [None; 2], None),
+        ("contains", b"b", [None; 2], None),
+        ("put", b"c", [Some(1), None], None),
+        ("put_if_absent", b"d", [Some(-2), None], None),
+        ("remove", b"e", [None; 2], None),
+        ("remove_if", b"f", [Some(3), None], None),
+        ("replace", b"g", [Some(4), None], None),
+        ("replace_if", b"h", [Some(5), Some(6)], None),
+        ("compute_if_absent", b"i", [None; 2], Some(sum)),
+        ("compute_if_present", b"j", [None; 2], Some(max)),
+        ("compute", b"k", [None; 2], Some(set)),
+        ("merge", b"l", [Some(10), None], Some(take)),
+    ];
+    let mut blocks = script.blocks.iter();
+    let calls = blocks.next().ok_or("no block")?;
+    let is_second_empty = blocks.next().is_some_and(|block| block.is_empty());
+    let is_third = blocks.next().is_some();
+    assert!(rt; calls.len() == 12 && is_second_empty && !is_third);
+    for (call, wanted) in calls.iter().zip(wanted) {
+        assert!(rt; said(call) == wanted, "{}", wanted.0);
     }
     Ok(())
 }
 
-/// Every form of a call and of a query, with what it says.
+/// Every form of a query.
 #[test]
-fn every_form(rt: HostRuntime) -> Result<(), Fail> {
-    let text =
-        b"client\nget a\ncontains b\nput c 1\nput_if_absent d -2\nremove e\nremove_if f 3\nreplace g 4\n\
-replace_if h 5 6\ncompute_if_absent i sum 7\ncompute_if_present j max -8\ncompute k set 9\nmerge l 10 drop\n\
-client\nquery\ncount\nreduce sum 1\nreduce max 2\nsearch above -3 4\nlist 5\n";
+fn every_form_of_a_query(rt: HostRuntime) -> Result<(), Fail> {
+    let text = b"client\nquery\ncount\nreduce sum 1\nreduce max 2\nsearch above -3 4\nlist 5\n";
     let script = parse(rt.alloc(), text).map_err(|_| "no script")?;
-    assert_eq!(rt; script.blocks.len(), 2);
-    assert!(rt; script.blocks[1].is_empty());
-    let mut calls = script.blocks[0].iter();
-    assert!(rt; matches!(calls.next(), Some(Call::Get(key)) if is(key, b"a")));
-    assert!(rt; matches!(calls.next(), Some(Call::Contains(key)) if is(key, b"b")));
-    assert!(rt; matches!(calls.next(), Some(Call::Put(key, 1)) if is(key, b"c")));
-    assert!(rt; matches!(calls.next(), Some(Call::PutIfAbsent(key, -2)) if is(key, b"d")));
-    assert!(rt; matches!(calls.next(), Some(Call::Remove(key)) if is(key, b"e")));
-    assert!(rt; matches!(calls.next(), Some(Call::RemoveIf(key, 3)) if is(key, b"f")));
-    assert!(rt; matches!(calls.next(), Some(Call::Replace(key, 4)) if is(key, b"g")));
-    assert!(rt; matches!(calls.next(), Some(Call::ReplaceIf(key, 5, 6)) if is(key, b"h")));
-    assert!(rt;
-        matches!(calls.next(), Some(Call::ComputeIfAbsent(key, Function::Sum(7))) if is(key, b"i"))
-    );
-    assert!(rt;
-        matches!(calls.next(), Some(Call::ComputeIfPresent(key, Function::Max(-8))) if is(key, b"j"))
-    );
-    assert!(rt;
-        matches!(calls.next(), Some(Call::Compute(key, Function::Set(9))) if is(key, b"k"))
-    );
-    assert!(rt;
-        matches!(calls.next(), Some(Call::Merge(key, 10, Function::Drop)) if is(key, b"l"))
-    );
-    assert!(rt; calls.next().is_none());
     let queries = [
         Query::Count,
         Query::ReduceSum(1),
@@ -179,12 +181,8 @@ client\nquery\ncount\nreduce sum 1\nreduce max 2\nsearch above -3 4\nlist 5\n";
         Query::SearchAbove(-3, 4),
         Query::List(5),
     ];
-    assert_eq!(rt; script.queries.as_slice(), queries.as_slice());
+    assert!(rt; script.queries.as_slice() == queries.as_slice());
     Ok(())
-}
-
-fn is(key: &Key, bytes: &[u8]) -> bool {
-    key.bytes() == bytes
 }
 
 /// A text of some first bytes, a line as often as is asked, and some last bytes.
@@ -203,49 +201,65 @@ fn repeated(
     Ok(text)
 }
 
+/// Asserts the fault of such a text.
+fn assert_repeated(
+    rt: &impl Abort,
+    alloc: Global,
+    parts: [&[u8]; 3],
+    times: u32,
+    wanted: Option<(u64, Kind)>,
+) {
+    let [first, line, last] = parts;
+    let text = repeated(alloc, first, line, times, last).expect(rt, "memory");
+    let found = fault_of(rt, alloc, &text);
+    drop(text);
+    assert!(rt; found == wanted, "{line:?}: {found:?}");
+}
+
 #[test]
-fn blocks_and_calls_have_a_limit(rt: HostRuntime) -> Result<(), Fail> {
-    let blocks = repeated(rt.alloc(), b"", b"client\n", 32, b"query\n")?;
-    assert_eq!(rt; fault_of(rt.alloc(), &blocks)?, None);
-    let blocks = repeated(rt.alloc(), b"", b"client\n", 33, b"query\n")?;
-    check(&rt, rt.alloc(), &blocks, 33, Kind::Limit)?;
-    let calls = repeated(rt.alloc(), b"client\n", b"get a\n", 1_000_000, b"query\n")?;
-    assert_eq!(rt; fault_of(rt.alloc(), &calls)?, None);
-    let calls = repeated(rt.alloc(), b"client\n", b"get a\n", 1_000_001, b"query\n")?;
-    check(&rt, rt.alloc(), &calls, 1_000_002, Kind::Limit)?;
-    Ok(())
+fn blocks_and_calls_have_a_limit(rt: HostRuntime) {
+    let blocks: [&[u8]; 3] = [b"", b"client\n", b"query\n"];
+    let calls: [&[u8]; 3] = [b"client\n", b"get a\n", b"query\n"];
+    for (parts, times, wanted) in [
+        (blocks, 32, None),
+        (blocks, 33, Some((33, Kind::Limit))),
+        (calls, 1_000_000, None),
+        (calls, 1_000_001, Some((1_000_002, Kind::Limit))),
+    ] {
+        assert_repeated(&rt, rt.alloc(), parts, times, wanted);
+    }
 }
 
 /// A byte that is not printable, at the beginning, in the middle and at the end of a line.
 #[test]
-fn bytes_that_are_not_printable(rt: HostRuntime) -> Result<(), Fail> {
+fn bytes_that_are_not_printable(rt: HostRuntime) {
     for byte in [0u8, 9, 13, 31, 127, 128, 255] {
         for place in [7usize, 9, 12] {
             let mut text = *b"client\nget ab\nquery\n";
             text[place] = byte;
-            check(&rt, rt.alloc(), &text, 2, Kind::Bytes)?;
+            assert_fault(&rt, rt.alloc(), &text, Some((2, Kind::Bytes)));
         }
     }
-    check(&rt, rt.alloc(), b"client\r\nquery\r\n", 1, Kind::Bytes)?;
-    Ok(())
+    let text = b"client\r\nquery\r\n";
+    assert_fault(&rt, rt.alloc(), text, Some((1, Kind::Bytes)));
 }
 
 #[test]
-fn long_lines(rt: HostRuntime) -> Result<(), Fail> {
-    let spaces = repeated(rt.alloc(), b"client\n", b" ", 10_000_000, b"\n")?;
-    check(&rt, rt.alloc(), &spaces, 2, Kind::Spaces)?;
-    let spaces = repeated(rt.alloc(), b"client\n", b" ", 10_000_000, b"")?;
-    check(&rt, rt.alloc(), &spaces, 2, Kind::Cut)?;
-    let digits = repeated(rt.alloc(), b"client\nput a ", b"1", 1_000_000, b"\n")?;
-    check(&rt, rt.alloc(), &digits, 2, Kind::Number)?;
-    let words = repeated(rt.alloc(), b"client\nget a", b" b", 1_000_000, b"\n")?;
-    check(&rt, rt.alloc(), &words, 2, Kind::Count)?;
-    Ok(())
+fn long_lines(rt: HostRuntime) {
+    let rows: [([&[u8]; 3], u32, Kind); 4] = [
+        ([b"client\n", b" ", b"\n"], 10_000_000, Kind::Spaces),
+        ([b"client\n", b" ", b""], 10_000_000, Kind::Cut),
+        ([b"client\nput a ", b"1", b"\n"], 1_000_000, Kind::Number),
+        ([b"client\nget a", b" b", b"\n"], 1_000_000, Kind::Count),
+    ];
+    for (parts, times, kind) in rows {
+        assert_repeated(&rt, rt.alloc(), parts, times, Some((2, kind)));
+    }
 }
 
 /// Numbers at and beyond each end of their range, and other spellings.
 #[test]
-fn numbers_and_their_range(rt: HostRuntime) -> Result<(), Fail> {
+fn numbers_and_their_range(rt: HostRuntime) {
     let values: [(&[u8], bool); 12] = [
         (b"0", true),
         (b"-1", true),
@@ -261,12 +275,9 @@ fn numbers_and_their_range(rt: HostRuntime) -> Result<(), Fail> {
         (b"1a", false),
     ];
     for (value, is_number) in values {
-        let text = repeated(rt.alloc(), b"client\nput a ", value, 1, b"\nquery\n")?;
-        let expected = (!is_number).then_some(Fault {
-            line: 2,
-            kind: Kind::Number,
-        });
-        assert_eq!(rt; fault_of(rt.alloc(), &text)?, expected, "{value:?}");
+        let wanted = (!is_number).then_some((2, Kind::Number));
+        let parts: [&[u8]; 3] = [b"client\nput a ", value, b"\nquery\n"];
+        assert_repeated(&rt, rt.alloc(), parts, 1, wanted);
     }
     let thresholds: [(&[u8], bool); 7] = [
         (b"0", true),
@@ -278,49 +289,57 @@ fn numbers_and_their_range(rt: HostRuntime) -> Result<(), Fail> {
         (b"00", false),
     ];
     for (threshold, is_number) in thresholds {
-        let text = repeated(rt.alloc(), b"client\nquery\nlist ", threshold, 1, b"\n")?;
-        let expected = (!is_number).then_some(Fault {
-            line: 3,
-            kind: Kind::Number,
-        });
-        assert_eq!(rt; fault_of(rt.alloc(), &text)?, expected, "{threshold:?}");
+        let wanted = (!is_number).then_some((3, Kind::Number));
+        let parts: [&[u8]; 3] = [b"client\nquery\nlist ", threshold, b"\n"];
+        assert_repeated(&rt, rt.alloc(), parts, 1, wanted);
     }
-    Ok(())
 }
 
 #[test]
-fn keys_have_1_to_32_bytes(rt: HostRuntime) -> Result<(), Fail> {
-    for length in [1u32, 32] {
-        let text = repeated(rt.alloc(), b"client\nget ", b"k", length, b"\nquery\n")?;
-        assert_eq!(rt; fault_of(rt.alloc(), &text)?, None);
+fn keys_have_1_to_32_bytes(rt: HostRuntime) {
+    let parts: [&[u8]; 3] = [b"client\nget ", b"k", b"\nquery\n"];
+    for (length, wanted) in [(1, None), (32, None), (33, Some((2, Kind::Key)))] {
+        assert_repeated(&rt, rt.alloc(), parts, length, wanted);
     }
-    let text = repeated(rt.alloc(), b"client\nget ", b"k", 33, b"\nquery\n")?;
-    check(&rt, rt.alloc(), &text, 2, Kind::Key)?;
-    check(&rt, rt.alloc(), b"client\nget a-b\n", 2, Kind::Key)?;
-    Ok(())
+    let text = b"client\nget a-b\n";
+    assert_fault(&rt, rt.alloc(), text, Some((2, Kind::Key)));
 }
 
 /// What the functions make of a value, of an absent key, and in a merge.
 #[test]
 fn functions(rt: HostRuntime) -> Result<(), Fail> {
     let key = Key::read(b"a").ok_or("no key")?;
-    assert_eq!(rt; Function::Sum(3).remap(&key, None)?, Some(3));
-    assert_eq!(rt;
+    let remapped = [
+        Function::Sum(3).remap(&key, None)?,
         Function::Sum(-1).remap(&key, Some(&i64::MIN))?,
-        Some(i64::MIN)
-    );
-    assert_eq!(rt;
         Function::Sum(1).remap(&key, Some(&i64::MAX))?,
-        Some(i64::MAX)
-    );
-    assert_eq!(rt; Function::Max(3).remap(&key, Some(&9))?, Some(9));
-    assert_eq!(rt; Function::Set(3).remap(&key, Some(&9))?, Some(3));
-    assert_eq!(rt; Function::Drop.remap(&key, None)?, None);
-    assert_eq!(rt; Function::Drop.merge(&9, &2)?, None);
-    assert_eq!(rt; Function::Max(2).merge(&9, &2)?, Some(9));
-    assert_eq!(rt; Function::Sum(2).merge(&9, &2)?, Some(11));
-    assert_eq!(rt; Function::Sum(3).clone()?, Function::Sum(3));
+        Function::Max(3).remap(&key, Some(&9))?,
+        Function::Set(3).remap(&key, Some(&9))?,
+        Function::Drop.remap(&key, None)?,
+    ];
+    let wanted = [
+        Some(3),
+        Some(i64::MIN),
+        Some(i64::MAX),
+        Some(9),
+        Some(3),
+        None,
+    ];
+    assert!(rt; remapped == wanted, "{remapped:?}");
+    let merged = [
+        Function::Drop.merge(&9, &2)?,
+        Function::Max(2).merge(&9, &2)?,
+        Function::Sum(2).merge(&9, &2)?,
+    ];
+    assert!(rt; merged == [None, Some(9), Some(11)], "{merged:?}");
+    assert!(rt; Function::Sum(3).clone()? == Function::Sum(3));
     Ok(())
+}
+
+/// Asserts how an error is printed.
+fn assert_printed(rt: &impl Abort, alloc: Global, error: &ParseError, wanted: &str) {
+    let printed = format!(in alloc; "{error}").expect(rt, "memory");
+    assert!(rt; printed.as_str() == wanted, "{wanted}");
 }
 
 /// How faults are printed.
@@ -339,15 +358,13 @@ fn faults_are_printed(rt: HostRuntime) -> Result<(), Fail> {
         (Kind::Missing, "line 7: missing"),
     ];
     for (kind, text) in kinds {
-        let printed = format!(in rt.alloc(); "{}", Fault { line: 7, kind })?;
-        assert_eq!(rt; printed.as_str(), text);
+        let fault = Fault { line: 7, kind };
+        let printed = format!(in rt.alloc(); "{fault}")?;
+        let is_same = printed.as_str() == text;
+        drop(printed);
+        assert!(rt; is_same, "{text}");
+        assert_printed(&rt, rt.alloc(), &ParseError::from(fault), text);
     }
-    let cut = ParseError::from(Fault {
-        line: 1,
-        kind: Kind::Cut,
-    });
-    assert_eq!(rt; format!(in rt.alloc(); "{cut}")?.as_str(), "line 1: cut");
-    let refused = ParseError::NoMemory;
-    assert_eq!(rt; format!(in rt.alloc(); "{refused}")?.as_str(), "no memory");
+    assert_printed(&rt, rt.alloc(), &ParseError::NoMemory, "no memory");
     Ok(())
 }

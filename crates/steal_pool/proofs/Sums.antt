@@ -7,17 +7,20 @@ pub kept : {X : Type 0} (f : X → ℕ) (xs : List X) (i : ℕ) (x d : X) → i 
 kept f xs i x d lt same = omega (arith, sum_by-set f xs i x d lt)
 
 -- one member gives away some of what it counts
-pub lent : {X : Type 0} (f : X → ℕ) (xs : List X) (i : ℕ) (x d : X) (n : ℕ) → i < length xs → f x + n ≡ f (get_or xs i d)
+pub lent : {X : Type 0} (f : X → ℕ) (xs : List X) (i : ℕ) (x d : X) (n : ℕ) → i < length xs →
+    f x + n ≡ f (get_or xs i d)
     → sum_by f (set xs i x) + n ≡ sum_by f xs
 lent f xs i x d n lt less = omega (arith, sum_by-set f xs i x d lt)
 
 -- one member counts more
-pub gained : {X : Type 0} (f : X → ℕ) (xs : List X) (i : ℕ) (x d : X) (n : ℕ) → i < length xs → f x ≡ f (get_or xs i d) + n
+pub gained : {X : Type 0} (f : X → ℕ) (xs : List X) (i : ℕ) (x d : X) (n : ℕ) → i < length xs →
+    f x ≡ f (get_or xs i d) + n
     → sum_by f (set xs i x) ≡ sum_by f xs + n
 gained f xs i x d n lt more = omega (arith, sum_by-set f xs i x d lt)
 
 -- the last member is settled, v of its tasks are left, and w of those before
-pub settled : {X : Type 0} (p t : X → ℕ) (xs rest : List X) (y : X) (pushed taken w v : ℕ) → xs ≡ rest ++ y ∷ [] → p y ≡ t y + v
+pub settled : {X : Type 0} (p t : X → ℕ) (xs rest : List X) (y : X) (pushed taken w v : ℕ) →
+    xs ≡ rest ++ y ∷ [] → p y ≡ t y + v
     → pushed + sum_by t xs ≡ sum_by p xs + taken + w → pushed + sum_by t rest ≡ sum_by p rest + taken + (w + v)
 settled p t xs rest y pushed taken w v last books all =
     let a = sum_by_push p rest y in

@@ -21,7 +21,8 @@ module _ {T S : Type 0} {g : _} where
 
   -- what the members pushed is what they took and some tasks that are left, so many, each task as often
   abbrev pub IsSettled : List (Member T S g) → ℕ → Type 0
-  IsSettled ms n = (left : List T) × (length left ≡ n) × ((h : T → ℕ) → sum_by (weight_pushed_by h) ms ≡ sum_by (weight_taken_by h) ms + weigh h left)
+  IsSettled ms n = (left : List T) × (length left ≡ n)
+      × ((h : T → ℕ) → sum_by (weight_pushed_by h) ms ≡ sum_by (weight_taken_by h) ms + weigh h left)
 
 module _ {T : Type 0} where
   -- the weight of what a call brought

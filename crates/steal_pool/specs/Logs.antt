@@ -21,7 +21,8 @@ module _ {T : Type 0} where
 
   -- a port with no share has pushed and taken nothing
   abbrev pub IdleIsEmpty : List (Log T) → Type 0
-  IdleIsEmpty views = (port : ℕ) (v : Log T) → get_elem? views port ≡ some v → v.shares ≡ 0 → (v.pushed ≡ []) × (v.taken ≡ [])
+  IdleIsEmpty views = (port : ℕ) (v : Log T) → get_elem? views port ≡ some v → v.shares ≡ 0 →
+      (v.pushed ≡ []) × (v.taken ≡ [])
 
   -- What was pushed is what was taken and what the deque holds, however the tasks are weighed.
   abbrev pub Balanced : List T → List (Log T) → Type 0

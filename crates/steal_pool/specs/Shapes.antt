@@ -44,8 +44,8 @@ weight_led f ss = sum_by (λ s. sum_by f s.ways) ss
 abbrev pub weight_out : (ℕ → ℕ) → List Shape → ℕ
 weight_out f ss = sum_by (λ s. s.out * f s.number) ss
 
--- The members' numbers go down to 0. Of each member as many ways are out as lead to it, whether they lie loose, with these targets, or other members have them:
--- so it is however members are weighed.
+-- The members' numbers go down to 0. Of each member as many ways are out as lead to it, whether they lie loose, with
+-- these targets, or other members have them: so it is however members are weighed.
 pub record AreCrew (loose : List ℕ) (ss : List Shape) : Type 0 where
   pub numbered : numbers ss ≡ countdown (length ss)
   pub ways : (f : ℕ → ℕ) → sum_by f loose + weight_led f ss ≡ weight_out f ss

@@ -1,9 +1,11 @@
 //! What a worker does with its deque and those of the others.
-ghost use Rattle.std.specs.Prelude.{◌≡◌, ◌+◌, ◌<◌, ◌≤◌, ℕ, [], IfErr, IfOk, MatchResult, vec_len, All};
+ghost use Rattle.std.specs.Prelude.{◌≡◌, ◌+◌, ◌<◌, ◌≤◌, ℕ, [], IfErr, IfOk, MatchResult, vec_len};
+ghost use Rattle.std.specs.Prelude.{All};
 ghost use Rattle.crossbeam_deque.specs.Handles.{view, worker_deque};
 ghost use Rattle.steal_pool.specs.Limits.{most_workers};
 ghost use Rattle.steal_pool.specs.Seating.{AreSeated, IsUnshared};
-ghost use Rattle.steal_pool.specs.Books.{weight_brought, weight_put, weight_stolen, weight_pushed_by, weight_taken_by};
+ghost use Rattle.steal_pool.specs.Books.{weight_brought, weight_put, weight_stolen};
+ghost use Rattle.steal_pool.specs.Books.{weight_pushed_by, weight_taken_by};
 ghost use Rattle.steal_pool.specs.Shapes.{shape, shapes, targets, AreCrew};
 ghost use Rattle.steal_pool.specs.Logs.{weigh};
 
@@ -55,7 +57,9 @@ impl<T: Drop, S: Seats> Member<T, S> {
     /// A way into this member's deque.
     pub(crate) fn way(&mut self) -> Result<Way<T, S>, AllocError>
         ensures to { IfOk result (λ w. w.to ≡ self.old.number) }
-        ensures shape { MatchResult result (λ _. shape self.new ≡ record (shape self.old) { out = self.old.out + 1 }) (λ _. shape self.new ≡ shape self.old) }
+        ensures shape { MatchResult result
+            (λ _. shape self.new ≡ record (shape self.old) { out = self.old.out + 1 })
+            (λ _. shape self.new ≡ shape self.old) }
     {
         let stealer = self.own.stealer()?;
         if self.out >= ALL_SHARES - 1 {
@@ -76,7 +80,8 @@ impl<T: Drop, S: Seats> Member<T, S> {
     pub(crate) fn push(&mut self, task: T) -> Result<(), T>
         ensures shape { shape self.new ≡ shape self.old }
         ensures back { IfErr result (λ x. x ≡ task) }
-        ensures pushed { (h : T → ℕ) → weight_pushed_by h self.new ≡ weight_pushed_by h self.old + weight_put h task result }
+        ensures pushed { (h : T → ℕ) →
+            weight_pushed_by h self.new ≡ weight_pushed_by h self.old + weight_put h task result }
         ensures taken { (h : T → ℕ) → weight_taken_by h self.new ≡ weight_taken_by h self.old }
     {
         match push(&mut self.own, task) {
@@ -90,7 +95,8 @@ impl<T: Drop, S: Seats> Member<T, S> {
     pub(crate) fn take(&mut self) -> Option<T>
         ensures shape { shape self.new ≡ shape self.old }
         ensures pushed { (h : T → ℕ) → weight_pushed_by h self.new ≡ weight_pushed_by h self.old }
-        ensures taken { (h : T → ℕ) → weight_taken_by h self.new ≡ weight_taken_by h self.old + weight_brought h result }
+        ensures taken { (h : T → ℕ) →
+            weight_taken_by h self.new ≡ weight_taken_by h self.old + weight_brought h result }
     {
         if let Some(task) = pop(&mut self.own) {
             return Some(task);
@@ -102,7 +108,8 @@ impl<T: Drop, S: Seats> Member<T, S> {
 // The oldest task of the first deque that has one.
 fn steal_any<T: Drop, S: Seats>(ways: &mut [Way<T, S>]) -> Option<T>
     ensures ways { targets ways.new ≡ targets ways.old }
-    ensures taken { (h : T → ℕ) → weight_stolen h ways.new ≡ weight_stolen h ways.old + weight_brought h result }
+    ensures taken { (h : T → ℕ) →
+        weight_stolen h ways.new ≡ weight_stolen h ways.old + weight_brought h result }
 {
     let Some((first, others)) = ways.split_first_mut() else {
         return None;
@@ -117,7 +124,8 @@ impl<T, S: Seats> Way<T, S> {
     #[tactic(auto, using(crate::proofs::Moves::weigh_snoc))]
     fn steal(&mut self) -> Option<T>
         ensures way { self.new.to ≡ self.old.to }
-        ensures taken { (h : T → ℕ) → weigh h (view self.new.pass).taken ≡ weigh h (view self.old.pass).taken + weight_brought h result }
+        ensures taken { (h : T → ℕ) → weigh h (view self.new.pass).taken
+            ≡ weigh h (view self.old.pass).taken + weight_brought h result }
     {
         match steal(&self.stealer, &mut self.pass) {
             Steal::Success(task) => Some(task),

@@ -1,7 +1,9 @@
 //! The steps of a deque under its rule.
-ghost use Rattle.std.specs.Prelude.{◌≡◌, ◌+◌, ◌-◌, ◌<◌, ◌++◌, ◌∷◌, [], ℕ, List, length, IfOk, MatchOption, MatchResult};
+ghost use Rattle.std.specs.Prelude.{◌≡◌, ◌+◌, ◌-◌, ◌<◌, ◌++◌, ◌∷◌, [], ℕ, List, length, IfOk};
+ghost use Rattle.std.specs.Prelude.{MatchOption, MatchResult};
 ghost use Rattle.crossbeam_deque.specs.Steals.{MatchSteal};
-ghost use Rattle.crossbeam_deque.specs.Handles.{view, IsPassOf, worker_deque, stealer_deque, worker_view, worker_flavor};
+ghost use Rattle.crossbeam_deque.specs.Handles.{view, IsPassOf, worker_deque, stealer_deque};
+ghost use Rattle.crossbeam_deque.specs.Handles.{worker_view, worker_flavor};
 ghost use Rattle.steal_pool.specs.Limits.{all_shares};
 ghost use Rattle.steal_pool.specs.Logs.{log, weigh};
 
@@ -27,7 +29,9 @@ pub(crate) fn new_deque<T: Drop>(alloc: Global, capacity: usize) -> Result<Own<T
 pub(crate) fn push<T>(own: &mut Own<T>, task: T) -> Result<(), T>
     requires { 0 < (worker_view own.old).shares }
     ensures deque { worker_deque own.new ≡ worker_deque own.old }
-    ensures log { MatchResult result (λ _. worker_view own.new ≡ log (worker_view own.old).shares ((worker_view own.old).pushed ++ task ∷ [])
+    ensures log { MatchResult result
+        (λ _. worker_view own.new ≡ log (worker_view own.old).shares
+        ((worker_view own.old).pushed ++ task ∷ [])
         (worker_view own.old).taken) (λ x. (x ≡ task) × (worker_view own.new ≡ worker_view own.old)) }
 {
     own.push_as::<Pushed>(task)
@@ -38,7 +42,8 @@ pub(crate) fn pop<T>(own: &mut Own<T>) -> Option<T>
     requires { 0 < (worker_view own.old).shares }
     ensures deque { worker_deque own.new ≡ worker_deque own.old }
     ensures log { MatchOption result (worker_view own.new ≡ worker_view own.old)
-        (λ x. worker_view own.new ≡ log (worker_view own.old).shares (worker_view own.old).pushed ((worker_view own.old).taken ++ x ∷ [])) }
+        (λ x. worker_view own.new ≡ log (worker_view own.old).shares (worker_view own.old).pushed
+        ((worker_view own.old).taken ++ x ∷ [])) }
 {
     own.pop_as::<Taken>()
 }
@@ -49,7 +54,8 @@ pub(crate) fn steal<T>(other: &Other<T>, pass: &mut Pass<T, Log<T>>) -> Steal<T>
     requires share { 0 < (view pass.old).shares }
     ensures deque { IsPassOf (stealer_deque other.now) pass.new }
     ensures log { MatchSteal result (view pass.new ≡ view pass.old) (view pass.new ≡ view pass.old)
-        (λ x. view pass.new ≡ log (view pass.old).shares (view pass.old).pushed ((view pass.old).taken ++ x ∷ [])) }
+        (λ x. view pass.new ≡ log (view pass.old).shares (view pass.old).pushed
+        ((view pass.old).taken ++ x ∷ [])) }
 {
     other.steal_as::<Taken>(pass)
 }
@@ -57,8 +63,10 @@ pub(crate) fn steal<T>(other: &Other<T>, pass: &mut Pass<T, Log<T>>) -> Steal<T>
 /// Cuts off a share for a way into the deque.
 pub(crate) fn cut_share<T>(own: &mut Own<T>) -> Pass<T, Log<T>>
     requires { 1 < (worker_view own.old).shares }
-    ensures deque { (worker_deque own.new ≡ worker_deque own.old) × IsPassOf (worker_deque own.old) result }
-    ensures log { (worker_view own.new ≡ log ((worker_view own.old).shares - 1) (worker_view own.old).pushed (worker_view own.old).taken)
+    ensures deque { (worker_deque own.new ≡ worker_deque own.old)
+        × IsPassOf (worker_deque own.old) result }
+    ensures log { (worker_view own.new ≡ log ((worker_view own.old).shares - 1) (worker_view own.old).pushed
+        (worker_view own.old).taken)
         × (view result ≡ log 1 [] []) }
 {
     own.another::<Share>()
@@ -69,18 +77,22 @@ pub(crate) fn take_share<T>(own: &mut Own<T>, pass: Pass<T, Log<T>>)
     requires deque { IsPassOf (worker_deque own.old) pass }
     requires share { (0 < (worker_view own.old).shares) × (0 < (view pass).shares) }
     ensures deque { worker_deque own.new ≡ worker_deque own.old }
-    ensures log { worker_view own.new ≡ log ((worker_view own.old).shares + (view pass).shares) ((worker_view own.old).pushed ++ (view pass).pushed)
+    ensures log { worker_view own.new ≡ log ((worker_view own.old).shares + (view pass).shares)
+        ((worker_view own.old).pushed ++ (view pass).pushed)
         ((worker_view own.old).taken ++ (view pass).taken) }
 {
     own.absorb::<Share>(pass);
 }
 
-/// With all shares: what was pushed is what was taken and what is left, each task as often. How many are left.
+/// With all shares: what was pushed is what was taken and what is left, each task as often. How
+/// many are left.
 pub(crate) fn settle<T>(own: &mut Own<T>) -> usize
     requires { (worker_view own.old).shares ≡ all_shares }
-    ensures same { (worker_deque own.new ≡ worker_deque own.old) × (worker_view own.new ≡ worker_view own.old) }
+    ensures same { (worker_deque own.new ≡ worker_deque own.old)
+        × (worker_view own.new ≡ worker_view own.old) }
     ensures books { (items : List T) × (length items ≡ result)
-        × ((h : T → ℕ) → weigh h (worker_view own.old).pushed ≡ weigh h (worker_view own.old).taken + weigh h items) }
+        × ((h : T → ℕ) → weigh h (worker_view own.old).pushed
+        ≡ weigh h (worker_view own.old).taken + weigh h items) }
 {
     own.len_as::<Whole>()
 }

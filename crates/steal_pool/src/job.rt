@@ -33,7 +33,8 @@ pub(crate) struct Job<'a, B: Body, G, W: Work> {
 }
 
 impl<B: Body, G: Gate, W: Work> Job<'_, B, G, W> {
-    // Arrives with the part of the ticket's range, and goes on to the ticket above wherever it is the last. At the root it has the part of the whole range.
+    // Arrives with the part of the ticket's range, and goes on to the ticket above wherever it is
+    // the last. At the root it has the part of the whole range.
     fn climb(&self, ticket: Ticket<B::Part>, part: B::Part) -> Option<B::Part>
         requires tree { ticket.tree ≡ W.tree }
         requires part { B.relates self.now.body.now ticket.lo ticket.hi part }
@@ -58,7 +59,8 @@ impl<B: Body, G: Gate, W: Work> Job<'_, B, G, W> {
 
     // Opens the node of a task.
     fn begin(&self, task: Task<B::Part, W>) -> (Node<B::Part>, usize)
-        ensures node { (result.0.tree ≡ W.tree) × (result.0.lo ≡ task.ticket.lo) × (result.0.hi ≡ task.ticket.hi) }
+        ensures node { (result.0.tree ≡ W.tree) × (result.0.lo ≡ task.ticket.lo)
+            × (result.0.hi ≡ task.ticket.hi) }
         ensures range { result.0.hi ≤ W.bins }
         ensures room { (result.1 < 2 ^ result.0.level) × (result.0.forks + result.0.level ≤ 7) }
     {
@@ -72,7 +74,8 @@ impl<B: Body, G: Gate, W: Work> Job<'_, B, G, W> {
         (self.tree.open(supply, Some(ticket), lo, hi), batch)
     }
 
-    // Forks while the batch lasts, and then does the leaf that is left. Where a push is refused it works on the task at once.
+    // Forks while the batch lasts, and then does the leaf that is left. Where a push is refused it
+    // works on the task at once.
     #[tactic(auto, using(crate::proofs::Halves::has_room, crate::proofs::Halves::half_room))]
     fn work<S: Seats, Rt: Wait>(
         &self,
@@ -126,7 +129,8 @@ impl<B: Body, G: Gate, W: Work, S: Seats, Rt: Wait> Labor<
     B::Part,
     Rt,
 > for Job<'_, B, G, W> {
-    ghost fits = { λ job root. (root.tree ≡ W.tree) × (job.batch < 2 ^ root.level) × (root.level ≤ 7) };
+    ghost fits = { λ job root. (root.tree ≡ W.tree) × (job.batch < 2 ^ root.level)
+        × (root.level ≤ 7) };
 
     ghost gives = { λ job part. B.relates job.body.now 0 W.bins part };
 

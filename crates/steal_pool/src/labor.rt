@@ -1,11 +1,13 @@
-//! The threads of a pool: one member leads in the caller's, and the others help in threads of their own.
+//! The threads of a pool: one member leads in the caller's, and the others help in threads of their
+//! own.
 ghost use Rattle.std.specs.Prelude.{◌≡◌, IfSome, map};
 ghost use Rattle.std.specs.Thread.{IsSend, IsSync};
 
 use std::sync::Wait;
 use std::thread::{Threads, join_mut};
 
-/// What the members of a pool do: one of them leads, from a root that it takes, and the others help. Each may find the part of the whole range.
+/// What the members of a pool do: one of them leads, from a root that it takes, and the others
+/// help. Each may find the part of the whole range.
 pub(crate) trait Labor<X, U, P, Rt: Wait> {
     ghost use Rattle.steal_pool.specs.Shapes.{Shape};
 
@@ -65,17 +67,20 @@ fn both_help<X: Send, U, P: Send + Drop, L: Labor<X, U, P, Rt> + Sync, Rt: Threa
 {
     let mut theirs = || -> Option<P>
         requires { IsSync Rt.row × IsSync L.row × IsSend X.row × IsSend P.row }
-        ensures { IfSome result (L.gives labor.entry.now) × (map L.shape front.exit.now ≡ map L.shape front.entry.now) }
+        ensures { IfSome result (L.gives labor.entry.now)
+            × (map L.shape front.exit.now ≡ map L.shape front.entry.now) }
     { all_help(rt, labor, front) };
     let mut ours = || -> Option<P>
         requires { IsSync Rt.row × IsSync L.row × IsSend X.row × IsSend P.row }
-        ensures { IfSome result (L.gives labor.entry.now) × (map L.shape back.exit.now ≡ map L.shape back.entry.now) }
+        ensures { IfSome result (L.gives labor.entry.now)
+            × (map L.shape back.exit.now ≡ map L.shape back.entry.now) }
     { all_help(rt, labor, back) };
     let (theirs, ours) = join_mut(rt, &mut theirs, &mut ours);
     ours.or(theirs)
 }
 
-// One member leads, and the others help. Where no thread can be started they help after it, when nothing is left to do.
+// One member leads, and the others help. Where no thread can be started they help after it, when
+// nothing is left to do.
 fn lead_others<X: Send, U, P: Send + Drop, L: Labor<X, U, P, Rt> + Sync, Rt: Threads + Wait + Sync>(
     rt: &Rt,
     labor: &L,
@@ -92,17 +97,20 @@ fn lead_others<X: Send, U, P: Send + Drop, L: Labor<X, U, P, Rt> + Sync, Rt: Thr
         return labor.lead(rt, root, me);
     }
     let mut theirs = || -> Option<P>
-        ensures { IfSome result (L.gives labor.entry.now) × (map L.shape others.exit.now ≡ map L.shape others.entry.now) }
+        ensures { IfSome result (L.gives labor.entry.now)
+            × (map L.shape others.exit.now ≡ map L.shape others.entry.now) }
     { all_help(rt, labor, others) };
     let mut ours = || -> Option<P>
         requires { IfSome root.now (L.fits labor.now) }
-        ensures { IfSome result (L.gives labor.entry.now) × (L.shape me.exit.now ≡ L.shape me.entry.now) }
+        ensures { IfSome result (L.gives labor.entry.now)
+            × (L.shape me.exit.now ≡ L.shape me.entry.now) }
     { labor.lead(rt, root, me) };
     let (theirs, ours) = join_mut(rt, &mut theirs, &mut ours);
     ours.or(theirs)
 }
 
-/// The last member leads, and at most so many of the others help. Those for whom there is no thread are left out.
+/// The last member leads, and at most so many of the others help. Those for whom there is no thread
+/// are left out.
 pub(crate) fn crew<
     X: Send,
     U: Drop,

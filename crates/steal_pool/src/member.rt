@@ -1,6 +1,7 @@
 //! A member of a pool: a worker's deque, and its ways into those of the others.
 ghost use Rattle.std.specs.Prelude.{◌≡◌, ◌+◌, ◌<◌, [], Some};
-ghost use Rattle.crossbeam_deque.specs.Handles.{view, IsPassOf, stealer_deque, worker_deque, worker_view};
+ghost use Rattle.crossbeam_deque.specs.Handles.{view, IsPassOf, stealer_deque, worker_deque};
+ghost use Rattle.crossbeam_deque.specs.Handles.{worker_view};
 ghost use Rattle.steal_pool.specs.Limits.{all_shares, most_workers};
 
 use crate::deque::{Other, Own};
@@ -34,7 +35,8 @@ pub struct Way<T, S: Seats> {
     ghost share: { ((view pass).shares ≡ 1) × ((view pass).pushed ≡ []) },
 }
 
-/// One worker: its own deque, how many ways into it are out, and its ways into the others' deques, in the order in which it asks them.
+/// One worker: its own deque, how many ways into it are out, and its ways into the others' deques,
+/// in the order in which it asks them.
 #[derive(Drop)]
 pub struct Member<T, S: Seats> {
     pub(crate) number: usize,

@@ -1,5 +1,6 @@
 //! A run: the tree, the deques, and the settlement.
-ghost use Rattle.std.specs.Prelude.{◌≡◌, ◌+◌, ◌*◌, ◌^◌, ◌<◌, ◌≤◌, ℕ, List, All, IfOk, IfSome, vec_len};
+ghost use Rattle.std.specs.Prelude.{◌≡◌, ◌+◌, ◌*◌, ◌^◌, ◌<◌, ◌≤◌, ℕ, List, All, IfOk, IfSome};
+ghost use Rattle.std.specs.Prelude.{vec_len};
 ghost use Rattle.crossbeam_deque.specs.Handles.{worker_deque};
 ghost use Rattle.steal_pool.specs.Limits.{most_batch, most_workers};
 ghost use Rattle.steal_pool.specs.Seating.{AreSeated, IsUnshared};
@@ -24,7 +25,7 @@ use std::thread::Threads;
 const CAPACITY: usize = 4;
 
 // The nodes of a tree for a batch: 2 to the number of its binary digits.
-fn nodes_for(batch: usize) -> usize
+pub(crate) fn nodes_for(batch: usize) -> usize
     requires { batch ≤ most_batch }
     ensures nodes { (batch < result) × (level : ℕ) × (level ≤ 7) × (result ≡ 2 ^ level) }
     ensures tight { (batch ≡ 0 → result ≡ 1) × (0 < batch → result ≤ 2 * batch) }
@@ -76,7 +77,8 @@ pub(crate) struct Order<'a, B: Body, G> {
     ghost batch_is: { batch ≤ most_batch },
 }
 
-// The part of all bins, where somebody came to the root, and how many tasks the settlement found left.
+// The part of all bins, where somebody came to the root, and how many tasks the settlement found
+// left.
 type Outcome<P> = (Option<P>, u128);
 
 // A run whose deques have numbers in contracts. When it ends all members are back.
@@ -118,7 +120,8 @@ fn run_tree<B: Body + Sync, G: Gate + Sync, W: Work + Send + Sync, Rt: Threads +
 ) -> Result<Outcome<B::Part>, AllocError>
 where
     B::Part: Send,
-    requires tree { (tree.now.identity ≡ W.tree) × (tree.now.bins ≡ W.bins) × (tree.now.slots ≡ 8) × (tree.now.relation ≡ order.now.body.now) }
+    requires tree { (tree.now.identity ≡ W.tree) × (tree.now.bins ≡ W.bins) × (tree.now.slots ≡ 8)
+        × (tree.now.relation ≡ order.now.body.now) }
     requires bins { W.bins ≡ order.now.bins }
     requires root { root.tree ≡ W.tree }
     requires room { (order.now.batch < 2 ^ root.level) × (root.level ≤ 7) }
@@ -157,7 +160,8 @@ where
     run_tree::<B, G, Brand, Rt>(rt, alloc, order, &tree, root)
 }
 
-// A run, or one leaf over everything. How many tasks the settlement found left. None: no settlement was made, since memory was refused.
+// A run, or one leaf over everything. How many tasks the settlement found left. None: no settlement
+// was made, since memory was refused.
 pub(crate) fn run_order<B: Body + Sync, G: Gate + Sync, Rt: Threads + Wait + Sync>(
     rt: &Rt,
     alloc: Global,
@@ -176,10 +180,10 @@ where
     }
 }
 
-/// The part of the bins from 0 up to `bins`, of which there is at least one. There are 1 to `MOST_WORKERS`
-/// `workers`, of which the caller is number 0; the others have threads of their own, which end with the
-/// call. A range is halved while its batch, at most 64 at the root, is above 0, and each half gets half of
-/// the batch, rounded down. The gate is called before each leaf.
+/// The part of the bins from 0 up to `bins`, of which there is at least one. There are 1 to
+/// `MOST_WORKERS` `workers`, of which the caller is number 0; the others have threads of their own,
+/// which end with the call. A range is halved while its batch, at most 64 at the root, is above 0,
+/// and each half gets half of the batch, rounded down. The gate is called before each leaf.
 ///
 /// It waits for its workers. There are no more of them than leaves, and one that can't be
 /// started is left out. Where memory for the tree or the deques is refused, the caller does one

@@ -1,6 +1,7 @@
 //! The settlement of a run, with all members back.
 ghost use Rattle.std.specs.Prelude.{◌≡◌, ◌+◌, ◌<◌, ℕ, [], List, All, length, sum_by};
-ghost use Rattle.steal_pool.specs.Books.{weight_brought_by, weight_stolen, weight_pushed_by, weight_taken_by, IsSettled};
+ghost use Rattle.steal_pool.specs.Books.{weight_brought_by, weight_stolen, weight_pushed_by};
+ghost use Rattle.steal_pool.specs.Books.{weight_taken_by, IsSettled};
 ghost use Rattle.steal_pool.specs.Shapes.{shape, shapes, targets, own_ways, AreCrew, IsHome};
 ghost use Rattle.steal_pool.specs.Logs.{weigh};
 
@@ -11,9 +12,11 @@ use std::mem;
 impl<T: Drop, S: Seats> Member<T, S> {
     // All its ways.
     fn take_ways(&mut self) -> Vec<Way<T, S>>
-        ensures shape { (shape self.new ≡ record (shape self.old) { ways = [] }) × (targets result.items ≡ (shape self.old).ways) }
+        ensures shape { (shape self.new ≡ record (shape self.old) { ways = [] })
+            × (targets result.items ≡ (shape self.old).ways) }
         ensures pushed { (h : T → ℕ) → weight_pushed_by h self.new ≡ weight_pushed_by h self.old }
-        ensures taken { (h : T → ℕ) → weight_taken_by h self.new + weight_stolen h result.items ≡ weight_taken_by h self.old }
+        ensures taken { (h : T → ℕ) → weight_taken_by h self.new + weight_stolen h result.items
+            ≡ weight_taken_by h self.old }
     {
         let alloc = *self.ways.allocator();
         mem::replace(&mut self.ways, Vec::new(alloc))
@@ -24,9 +27,11 @@ impl<T: Drop, S: Seats> Member<T, S> {
     fn take_back(&mut self, way: Way<T, S>)
         requires to { way.to ≡ self.old.number }
         requires out { 0 < self.old.out }
-        ensures shape { (shape self.new).number ≡ self.old.number × (self.new.out + 1 ≡ self.old.out) × ((shape self.new).ways ≡ (shape self.old).ways) }
+        ensures shape { (shape self.new).number ≡ self.old.number
+            × (self.new.out + 1 ≡ self.old.out) × ((shape self.new).ways ≡ (shape self.old).ways) }
         ensures pushed { (h : T → ℕ) → weight_pushed_by h self.new ≡ weight_pushed_by h self.old }
-        ensures taken { (h : T → ℕ) → weight_taken_by h self.new ≡ weight_taken_by h self.old + weight_brought_by h way }
+        ensures taken { (h : T → ℕ) →
+            weight_taken_by h self.new ≡ weight_taken_by h self.old + weight_brought_by h way }
     {
         let Way {
             to: _,
@@ -38,10 +43,12 @@ impl<T: Drop, S: Seats> Member<T, S> {
         take_share(&mut self.own, pass);
     }
 
-    // With all ways into its deque and its own ways back: what it pushed is what it took and what is left, of which it says how many.
+    // With all ways into its deque and its own ways back: what it pushed is what it took and what
+    // is left, of which it says how many.
     fn settle(self) -> usize
         requires { IsHome self }
-        ensures { (left : List T) × (length left ≡ result) × ((h : T → ℕ) → weight_pushed_by h self ≡ weight_taken_by h self + weigh h left) }
+        ensures { (left : List T) × (length left ≡ result)
+            × ((h : T → ℕ) → weight_pushed_by h self ≡ weight_taken_by h self + weigh h left) }
     {
         let mut me = self;
         settle(&mut me.own)
@@ -53,8 +60,10 @@ fn give_back<T: Drop, S: Seats>(members: &mut [Member<T, S>], ways: Vec<Way<T, S
     requires { AreCrew (targets ways.items) (shapes members.old) }
     ensures crew { AreCrew [] (shapes members.new) }
     ensures ways { own_ways (shapes members.new) ≡ own_ways (shapes members.old) }
-    ensures pushed { (h : T → ℕ) → sum_by (weight_pushed_by h) members.new ≡ sum_by (weight_pushed_by h) members.old }
-    ensures taken { (h : T → ℕ) → sum_by (weight_taken_by h) members.new ≡ sum_by (weight_taken_by h) members.old + weight_stolen h ways.items }
+    ensures pushed { (h : T → ℕ) → sum_by (weight_pushed_by h) members.new
+        ≡ sum_by (weight_pushed_by h) members.old }
+    ensures taken { (h : T → ℕ) → sum_by (weight_taken_by h) members.new
+        ≡ sum_by (weight_taken_by h) members.old + weight_stolen h ways.items }
 {
     let mut ways = ways;
     while let Some(way) = ways.pop() {
@@ -68,8 +77,10 @@ fn give_back<T: Drop, S: Seats>(members: &mut [Member<T, S>], ways: Vec<Way<T, S
 fn give_all_back<T: Drop, S: Seats>(members: &mut [Member<T, S>])
     requires { AreCrew [] (shapes members.old) }
     ensures home { All IsHome members.new }
-    ensures pushed { (h : T → ℕ) → sum_by (weight_pushed_by h) members.new ≡ sum_by (weight_pushed_by h) members.old }
-    ensures taken { (h : T → ℕ) → sum_by (weight_taken_by h) members.new ≡ sum_by (weight_taken_by h) members.old }
+    ensures pushed { (h : T → ℕ) → sum_by (weight_pushed_by h) members.new
+        ≡ sum_by (weight_pushed_by h) members.old }
+    ensures taken { (h : T → ℕ) → sum_by (weight_taken_by h) members.new
+        ≡ sum_by (weight_taken_by h) members.old }
 {
     for place in 0..members.len() {
         let ways = members[place].take_ways();

@@ -17,7 +17,16 @@ pub trait Work {
 impl Work for Brand {
     ghost use Rattle.std.specs.Prelude.{[]};
 
-    ghost tree = { record { words = 0; slots = 0; views_name = 0; atom = 0; block = 0; offset = 0; slot_names = [] } };
+    ghost tree = { record {
+      words = 0;
+      slots = 0;
+      views_name = 0;
+      atom = 0;
+      block = 0;
+      offset =
+          0;
+      slot_names = [];
+    } };
 
     ghost bins = { 0 };
 }

@@ -9,7 +9,7 @@ ghost use Rattle.steal_pool.specs.Shapes.{shape, shapes};
 use crate::crew::members;
 use crate::deque::Own;
 use crate::member::{Member, Seats};
-use crate::pool::{Order, Refused, new_deques, run_order};
+use crate::pool::{Order, Refused, new_deques, nodes_for, run_order};
 use crate::settle::close;
 use crate::{Body, OpenGate};
 use completers::{Parts, Relation};
@@ -58,7 +58,8 @@ impl Body for Count {
     }
 }
 
-// A run with four workers over five bins, of whom at most so many have a thread: how many leaves it does, and how many tasks its settlement finds left.
+// A run with four workers over five bins, of whom at most so many have a thread: how many leaves it
+// does, and how many tasks its settlement finds left.
 fn run_refused<Rt: Threads + Wait + Sync + Abort>(
     rt: &Rt,
     alloc: Global,
@@ -104,7 +105,8 @@ fn a_run_without_memory_is_one_leaf(rt: HostRuntime) {
     assert_eq!(rt; done, (1, None));
 }
 
-/// Adds up what 64 bins hold, 1 in the first and 64 in the last. What a part has of it is asserted, and no clause.
+/// Adds up what 64 bins hold, 1 in the first and 64 in the last. What a part has of it is asserted,
+/// and no clause.
 #[derive(Drop)]
 struct Sums;
 
@@ -250,4 +252,15 @@ fn take_rounds(alloc: Global) -> Result<[Option<u64>; 3], AllocError> {
 fn a_thief_asks_the_next_number_first(rt: HostRuntime) -> Result<(), Fail> {
     assert_eq!(rt; take_rounds(rt.alloc())?, [Some(2), Some(3), Some(0)]);
     Ok(())
+}
+
+#[test]
+fn nodes_by_binary_digits_of_the_batch(rt: HostRuntime) {
+    let small = [nodes_for(0), nodes_for(1), nodes_for(2), nodes_for(3)];
+    assert!(rt; small == [1, 2, 4, 4]);
+    let middle = [nodes_for(4), nodes_for(7), nodes_for(8), nodes_for(15)];
+    assert!(rt; middle == [8, 8, 16, 16]);
+    let great = [nodes_for(16), nodes_for(31), nodes_for(32), nodes_for(63)];
+    assert!(rt; great == [32, 32, 64, 64]);
+    assert!(rt; nodes_for(64) == 128);
 }

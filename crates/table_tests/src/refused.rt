@@ -9,7 +9,8 @@ use std::process::Abort;
 use std::sync::Wait;
 use std::test::Fail;
 
-/// The size of the class and the number of entries of the bin of the hash 97, as it is held and as it is read.
+/// The size of the class and the number of entries of the bin of the hash 97, as it is held and as
+/// it is read.
 fn sizes<R: Wait, A: Allocator + Clone>(rt: &R, map: &KeyMap<A>) -> [(u32, usize); 2] {
     let held = map.hold(rt, 97);
     let of_held = (held.bin.class().n(), held.bin.entries().len());
@@ -20,8 +21,9 @@ fn sizes<R: Wait, A: Allocator + Clone>(rt: &R, map: &KeyMap<A>) -> [(u32, usize
     [of_held, of_shown]
 }
 
-/// Moves the one bin of a map under an allocator that refuses the request after so many. Where the move is refused the
-/// bin is there as before, and the next try moves it. Answers whether it was moved, and whether a request was refused.
+/// Moves the one bin of a map under an allocator that refuses the request after so many. Where the
+/// move is refused the bin is there as before, and the next try moves it. Answers whether it was
+/// moved, and whether a request was refused.
 fn refused_move<R: Wait + Abort>(
     rt: &R,
     alloc: &Refusing<Global>,
@@ -58,8 +60,8 @@ fn refused_move<R: Wait + Abort>(
 #[test]
 fn a_refused_move_leaves_the_bin(rt: HostRuntime) -> Result<(), Fail> {
     let alloc = Refusing::new(rt.alloc());
-    // The table of two places, the list of entries of the half that has the key, and a room for each half; of a recorded
-    // bin the list of records of that half too, and a log for each half.
+    // The table of two places, the list of entries of the half that has the key, and a room for
+    // each half; of a recorded bin the list of records of that half too, and a log for each half.
     for (form, needed) in [(Form::Recorded, 7), (Form::Lean, 4)] {
         for granted in 0..9u64 {
             let (moved, refused) = refused_move(&rt, &alloc, form, granted)?;
@@ -73,8 +75,9 @@ fn a_refused_move_leaves_the_bin(rt: HostRuntime) -> Result<(), Fail> {
     Ok(())
 }
 
-/// Takes out the bins of a map under an allocator that refuses the request after so many. Where that is refused the map
-/// comes back, and the next try takes them out. Answers whether it was refused.
+/// Takes out the bins of a map under an allocator that refuses the request after so many. Where
+/// that is refused the map comes back, and the next try takes them out. Answers whether it was
+/// refused.
 fn refused_leaves<R: Wait + Abort>(
     rt: &R,
     alloc: &Refusing<Global>,
@@ -108,7 +111,8 @@ fn refused_leaves_give_the_map_back(rt: HostRuntime) -> Result<(), Fail> {
     Ok(())
 }
 
-/// Makes a map under an allocator that refuses the request after so many, and answers whether it was refused.
+/// Makes a map under an allocator that refuses the request after so many, and answers whether it
+/// was refused.
 fn refused_map(rt: &impl Abort, alloc: &Refusing<Global>, form: Form, granted: u64) -> bool {
     alloc.refuse_after(granted);
     match open_quiet(alloc, form, 2) {
@@ -128,8 +132,8 @@ fn refused_map(rt: &impl Abort, alloc: &Refusing<Global>, form: Form, granted: u
 #[test]
 fn a_refused_map_is_made_at_the_next_try(rt: HostRuntime) -> Result<(), Fail> {
     let alloc = Refusing::new(rt.alloc());
-    // Lists of bases, passes, roles and places, the two blocks of the ledger's words, the list of tables, and a room for
-    // each of two bins; of each recorded bin a log.
+    // Lists of bases, passes, roles and places, the two blocks of the ledger's words, the list of
+    // tables, and a room for each of two bins; of each recorded bin a log.
     for (form, needed) in [(Form::Recorded, 11), (Form::Lean, 9)] {
         for granted in 0..14u64 {
             let refused = refused_map(&rt, &alloc, form, granted);

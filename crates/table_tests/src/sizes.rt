@@ -43,8 +43,9 @@ fn the_widest_place_of_a_hash_is_found(rt: HostRuntime) -> Result<(), Fail> {
     Ok(())
 }
 
-/// Makes the table of two places under an allocator that refuses the request after so many, and then moves the one bin,
-/// which is empty, with two requests granted: a room for each half. Answers both.
+/// Makes the table of two places under an allocator that refuses the request after so many, and
+/// then moves the one bin, which is empty, with two requests granted: a room for each half. Answers
+/// both.
 fn widened<R: Wait>(
     rt: &R,
     alloc: &Refusing<Global>,

@@ -10,8 +10,10 @@ use Rattle.transfer.specs.declared.range.Range.{Range}
 use Rattle.transfer.specs.declared.book.Book.{Book}
 use Rattle.transfer.specs.Ranges.{ranges, width, HasBin}
 use Rattle.transfer.specs.Books.{IsMove, IsBook, IsSharedOut, AllClaimed, AllFinished, claims, numbers, once}
-use Rattle.transfer.proofs.Weights.{weighs_at_most, sum-add, some_weighs, none_weighs, sum-le, length-weight, contains_at}
-use Rattle.transfer.proofs.Tiles.{width-ranges, count-ranges, past-ranges, thin-ranges, cover, cover-le-width, cover-ranges}
+use Rattle.transfer.proofs.Weights.{weighs_at_most, sum-add, some_weighs, none_weighs, sum-le, length-weight}
+use Rattle.transfer.proofs.Weights.{contains_at}
+use Rattle.transfer.proofs.Tiles.{width-ranges, count-ranges, past-ranges, thin-ranges, cover, cover-le-width}
+use Rattle.transfer.proofs.Tiles.{cover-ranges}
 
 once-le : (t : Bool) → once t ≤ 1
 once-le true = omega arith
@@ -21,7 +23,8 @@ has-bin : (bin : ℕ) (r : Range) → 0 < cover bin r → HasBin bin r
 has-bin bin r h = (grind (arith, nat_tests), grind (arith, nat_tests))
 
 -- where the books' lists weigh something for a bin, one of them has a range with it
-some-has-bin : (part : Book → List Range) (bin : ℕ) (books : List Book) → 0 < sum_by (λ b. sum_by (cover bin) (part b)) books
+some-has-bin : (part : Book → List Range) (bin : ℕ) (books : List Book) →
+    0 < sum_by (λ b. sum_by (cover bin) (part b)) books
     → Any (λ b. Any (HasBin bin) (part b)) books
 some-has-bin part bin books h =
     let b = some_weighs (λ b. sum_by (cover bin) (part b)) books h in
@@ -29,11 +32,13 @@ some-has-bin part bin books h =
     (b.0, b.1, b.2, b.3, (r.0, r.1, r.2, r.3, has-bin bin r.1 r.4))
 
 -- what is finished weighs no more than what is claimed
-module _ (n : ℕ) (books : List Book) (claimed : IsSharedOut (λ b. b.claimed) books (ranges n (claims books))) (each : All (IsBook n (claims books)) books) where
+module _ (n : ℕ) (books : List Book) (claimed : IsSharedOut (λ b. b.claimed) books (ranges n (claims books)))
+    (each : All (IsBook n (claims books)) books) where
   finished-le : (f : Range → ℕ) → sum_by (λ b. sum_by f b.finished) books ≤ sum_by f (ranges n (claims books))
   finished-le f =
       let below = sum-le (λ b. sum_by f b.finished) (λ b. sum_by f b.claimed) books
-      (All-weaker (IsBook n (claims books)) (λ b. sum_by f b.finished ≤ sum_by f b.claimed) (λ b k. k.finished f) books each) in
+      (All-weaker (IsBook n (claims books)) (λ b. sum_by f b.finished ≤ sum_by f b.claimed)
+      (λ b k. k.finished f) books each) in
       omega (arith, below, claimed f)
 
   pub finished-within : sum_by (λ b. sum_by width b.finished) books ≤ n
@@ -57,11 +62,15 @@ module _ (n cw fw : ℕ) (books : List Book) (m : IsMove n cw fw books) where
       let c = claims books in
       let whole : sum_by width (ranges n c) ≡ sum_by rest (ranges n c) + sum_by (cover bin) (ranges n c) =
       ap (λ (f : Range → ℕ). sum_by f (ranges n c)) (λ i r. cut r i) ∙ sum-add rest (cover bin) (ranges n c) in
-      let done : sum_by (λ b. sum_by width b.finished) books ≡ sum_by (λ b. sum_by rest b.finished) books + sum_by (λ b. sum_by (cover bin) b.finished) books =
-      ap (λ (f : Book → ℕ). sum_by f books) (λ i b. (ap (λ (f : Range → ℕ). sum_by f b.finished) (λ j r. cut r j) ∙ sum-add rest (cover bin) b.finished) i)
+      let done : sum_by (λ b. sum_by width b.finished) books ≡ sum_by (λ b. sum_by rest b.finished) books + sum_by
+      (λ b. sum_by (cover bin) b.finished) books =
+      ap (λ (f : Book → ℕ). sum_by f books)
+      (λ i b. (ap (λ (f : Range → ℕ). sum_by f b.finished) (λ j r. cut r j) ∙ sum-add rest (cover bin) b.finished)
+      i)
       ∙ sum-add (λ b. sum_by rest b.finished) (λ b. sum_by (cover bin) b.finished) books in
       some-has-bin (λ b. b.finished) bin books
-      (let w = width-ranges n c in let most = finished-within n books m.claimed m.each in let most' = finished-le n books m.claimed m.each width in
+      (let w = width-ranges n c in let most = finished-within n books m.claimed m.each in
+      let most' = finished-le n books m.claimed m.each width in
       let others = finished-le n books m.claimed m.each rest in let word = m.finished in
       let there : bin < 16 * c = omega arith in
       let some = cover-ranges bin n c h there in omega arith)
@@ -69,9 +78,11 @@ module _ (n cw fw : ℕ) (books : List Book) (m : IsMove n cw fw books) where
   -- the claim word stays below 16 n + 1,024
   pub claims-le : claims books ≤ n + 64
   claims-le =
-      let each : (b : Book) → length b.claimed + once b.got_none ≤ sum_by (λ _. 1) b.claimed + sum_by (λ _. 1) (numbers b) =
+      let each : (b : Book) → length b.claimed + once b.got_none ≤ sum_by (λ _. 1) b.claimed + sum_by
+      (λ _. 1) (numbers b) =
       λ b. omega (arith, length-weight b.claimed, once-le b.got_none, sum_by-cons (λ _. 1) b.number b.spare) in
-      let all = sum_by-le-sum_by (λ b. length b.claimed + once b.got_none) (λ b. sum_by (λ _. 1) b.claimed + sum_by (λ _. 1) (numbers b)) books each in
+      let all = sum_by-le-sum_by (λ b. length b.claimed + once b.got_none)
+      (λ b. sum_by (λ _. 1) b.claimed + sum_by (λ _. 1) (numbers b)) books each in
       let parts = sum-add (λ b. sum_by (λ _. 1) b.claimed) (λ b. sum_by (λ _. 1) (numbers b)) books in
       omega (arith, all, parts, m.claimed (λ _. 1), (count-ranges n (claims books)).1, m.numbered (λ _. 1))
 
@@ -94,15 +105,25 @@ module _ (n cw fw : ℕ) (books : List Book) (m : IsMove n cw fw books) where
     pub finished-past : All (λ r. r.hi ≤ cw) b.finished
     finished-past =
         let none : sum_by (λ r. r.hi - 16 * claims books) b.finished ≡ 0 =
-        omega (arith, is-book.finished (λ r. r.hi - 16 * claims books), claimed-le (λ r. r.hi - 16 * claims books), past-ranges n (claims books)) in
+        omega (
+          arith,
+          is-book.finished (λ r. r.hi - 16 * claims books),
+          claimed-le (λ r. r.hi - 16 * claims books),
+          past-ranges n (claims books),
+        ) in
         All-weaker (λ r. r.hi - 16 * claims books ≡ 0) (λ r. r.hi ≤ cw) (λ r e. omega (arith, e, m.moved)) b.finished
         (none_weighs (λ r. r.hi - 16 * claims books) b.finished none)
 
     -- and none of them is empty
     pub claimed-wide : (r : Range) → Contains b.claimed r → 0 < width r
     claimed-wide r there =
-        let none : sum_by (λ r. 1 - width r) b.claimed ≡ 0 = omega (arith, claimed-le (λ r. 1 - width r), thin-ranges n (claims books)) in
-        omega (arith, All-contains (λ r. 1 - width r ≡ 0) b.claimed r (none_weighs (λ r. 1 - width r) b.claimed none) there)
+        let none : sum_by (λ r. 1 - width r) b.claimed ≡ 0 =
+        omega (arith, claimed-le (λ r. 1 - width r), thin-ranges n (claims books)) in
+        omega (
+          arith,
+          All-contains (λ r. 1 - width r ≡ 0) b.claimed r
+              (none_weighs (λ r. 1 - width r) b.claimed none) there,
+        )
 
     -- it has no more ranges than there were claims
     pub claimed-few : length b.claimed ≤ claims books

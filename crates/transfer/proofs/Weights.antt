@@ -1,5 +1,6 @@
 -- Weights of lists: what a sum does where one element changes, and what it says of single elements.
-use Rattle.std.proofs.Common.{◌≡◌, ℕ, zero, suc, ◌+◌, ◌<◌, ◌≤◌, Bool, true, cond, eqb, ◌&&◌, List, [], ◌∷◌, ◌++◌, length, set, get_or, refl, sym, ap, subst}
+use Rattle.std.proofs.Common.{◌≡◌, ℕ, zero, suc, ◌+◌, ◌<◌, ◌≤◌, Bool, true, cond, eqb, ◌&&◌, List, [], ◌∷◌, ◌++◌}
+use Rattle.std.proofs.Common.{length, set, get_or, refl, sym, ap, subst}
 use Rattle.std.proofs.Common.{zero-add, ◌∙◌, arith, ⊎_elim}
 use Rattle.std.specs.Prelude.{sum_by, All, Any, Contains}
 use Rattle.std.proofs.lemmas.List.Sums.{sum_by-cons, sum_by_push, sum_by-le-sum_by}
@@ -12,7 +13,8 @@ use Rattle.transfer.specs.declared.range.Range.{Range}
 use Rattle.transfer.specs.Books.{IsSubmultisetOf}
 
 module _ {A : Type 0} where
-  pub sum-set : (f : A → ℕ) (xs : List A) (i : ℕ) (x y : A) → get_elem? xs i ≡ some x → sum_by f (set xs i y) + f x ≡ sum_by f xs + f y
+  pub sum-set : (f : A → ℕ) (xs : List A) (i : ℕ) (x y : A) → get_elem? xs i ≡ some x →
+      sum_by f (set xs i y) + f x ≡ sum_by f xs + f y
   sum-set f [] i x y at = absurd (some-ne-none x (sym at))
   sum-set f (z ∷ zs) zero x y at =
       let e : f z ≡ f x = ap f (some-injective z x at) in
@@ -45,22 +47,31 @@ module _ {A : Type 0} where
   pub none_weighs : (f : A → ℕ) (xs : List A) → sum_by f xs ≡ 0 → All (λ x. f x ≡ 0) xs
   none_weighs f [] h = All-nil (λ x. f x ≡ 0)
   none_weighs f (x ∷ xs) h =
-      All-cons (λ x. f x ≡ 0) x xs (omega (arith, h, sum_by-cons f x xs)) (none_weighs f xs (omega (arith, h, sum_by-cons f x xs)))
+      All-cons (λ x. f x ≡ 0) x xs (omega (arith, h, sum_by-cons f x xs))
+      (none_weighs f xs (omega (arith, h, sum_by-cons f x xs)))
 
   pub contains_at : (xs : List A) (i : ℕ) (x : A) → get_elem? xs i ≡ some x → Contains xs x
   contains_at [] i x at = absurd (some-ne-none x (sym at))
   contains_at (z ∷ zs) zero x at = (0, (omega arith), some-injective z x at)
-  contains_at (z ∷ zs) (suc i) x at = let rest = contains_at zs i x at in (suc rest.0, (let l = rest.1 in omega arith), rest.2)
+  contains_at (z ∷ zs) (suc i) x at = let rest = contains_at zs i x at in
+      (suc rest.0, (let l = rest.1 in omega arith), rest.2)
 
   pub contains_set : (xs : List A) (i : ℕ) (x y : A) → get_elem? xs i ≡ some x → Contains (set xs i y) y
   contains_set [] i x y at = absurd (some-ne-none x (sym at))
   contains_set (z ∷ zs) zero x y at = (0, (omega arith), refl)
-  contains_set (z ∷ zs) (suc i) x y at = let rest = contains_set zs i x y at in (suc rest.0, (let l = rest.1 in omega arith), rest.2)
+  contains_set (z ∷ zs) (suc i) x y at = let rest = contains_set zs i x y at in
+      (suc rest.0, (let l = rest.1 in omega arith), rest.2)
 
   pub sum-le : (f g : A → ℕ) (xs : List A) → All (λ x. f x ≤ g x) xs → sum_by f xs ≤ sum_by g xs
   sum-le f g [] h = omega arith
   sum-le f g (x ∷ xs) h =
-      omega (arith, All-head (λ x. f x ≤ g x) x xs h, sum-le f g xs (All-tail (λ x. f x ≤ g x) x xs h), sum_by-cons f x xs, sum_by-cons g x xs)
+      omega (
+        arith,
+        All-head (λ x. f x ≤ g x) x xs h,
+        sum-le f g xs (All-tail (λ x. f x ≤ g x) x xs h),
+        sum_by-cons f x xs,
+        sum_by-cons g x xs,
+      )
 
   pub length-weight : (xs : List A) → length xs ≡ sum_by (λ _. 1) xs
   length-weight [] = refl
@@ -96,12 +107,25 @@ without-else f r s n =
     ⊎_elim (λ e. absurd (n (same-true r s e))) (λ e. ap (λ (t : Bool). cond t 0 (f s)) e) (cases_Bool (same r s))
 
 -- a list that has the range weighs at least it more
-with_range_at : (f : Range → ℕ) (r : Range) (xs : List Range) (k : ℕ) → k < length xs → get_or xs k r ≡ r → sum_by (without r f) xs + f r ≤ sum_by f xs
+with_range_at : (f : Range → ℕ) (r : Range) (xs : List Range) (k : ℕ) → k < length xs → get_or xs k r ≡ r →
+    sum_by (without r f) xs + f r ≤ sum_by f xs
 with_range_at f r [] k h e = absurd (omega arith)
 with_range_at f r (x ∷ xs) zero h e =
-    omega (arith, sum_by-cons f x xs, sum_by-cons (without r f) x xs, without-at f r x e, sum_by-le-sum_by (without r f) f xs (without-le f r))
+    omega (
+      arith,
+      sum_by-cons f x xs,
+      sum_by-cons (without r f) x xs,
+      without-at f r x e,
+      sum_by-le-sum_by (without r f) f xs (without-le f r),
+    )
 with_range_at f r (x ∷ xs) (suc k) h e =
-    omega (arith, sum_by-cons f x xs, sum_by-cons (without r f) x xs, without-le f r x, with_range_at f r xs k (omega arith) e)
+    omega (
+      arith,
+      sum_by-cons f x xs,
+      sum_by-cons (without r f) x xs,
+      without-le f r x,
+      with_range_at f r xs k (omega arith) e,
+    )
 
 -- and one that has it not weighs the same
 no_range : (f : Range → ℕ) (r : Range) (xs : List Range) → ¬ Contains xs r → sum_by f xs ≤ sum_by (without r f) xs
@@ -115,6 +139,13 @@ no_range f r (x ∷ xs) h =
       no_range f r xs (λ c. h (suc c.0, (let l = c.1 in omega arith), c.2)),
     )
 
-pub part-push : (xs ys : List Range) (r : Range) → IsSubmultisetOf xs ys → Contains ys r → ¬ Contains xs r → IsSubmultisetOf (xs ++ r ∷ []) ys
+pub part-push : (xs ys : List Range) (r : Range) → IsSubmultisetOf xs ys → Contains ys r → ¬ Contains xs r →
+    IsSubmultisetOf (xs ++ r ∷ []) ys
 part-push xs ys r part there none f =
-    omega (arith, sum_by_push f xs r, no_range f r xs none, part (without r f), with_range_at f r ys there.0 there.1 there.2)
+    omega (
+      arith,
+      sum_by_push f xs r,
+      no_range f r xs none,
+      part (without r f),
+      with_range_at f r ys there.0 there.1 there.2,
+    )

@@ -1,12 +1,14 @@
 -- What holds of the two words of a move and of the books of all its movers, between any two steps.
-use Rattle.std.specs.Prelude.{◌≡◌, ℕ, ◌+◌, ◌*◌, ◌<◌, ◌≤◌, ◌==◌, Bool, true, false, if◌then◌else◌, List, [], ◌∷◌, length, slice_index, sum_by, All, Any}
+use Rattle.std.specs.Prelude.{◌≡◌, ℕ, ◌+◌, ◌*◌, ◌<◌, ◌≤◌, ◌==◌, Bool, true, false, if◌then◌else◌, List, [], ◌∷◌, length}
+use Rattle.std.specs.Prelude.{slice_index, sum_by, All, Any}
 use Rattle.std.specs.List.{range_with_len}
 use Rattle.atomic_table.specs.Table.{State}
 use Rattle.transfer.specs.declared.range.Range.{Range}
 use Rattle.transfer.specs.declared.book.Book.{Book}
 use Rattle.transfer.specs.Ranges.{ranges, width, HasBin}
 
--- The lists of all books, put together, are the whole list in some order: whatever its elements weigh, both weigh the same.
+-- The lists of all books, put together, are the whole list in some order: whatever its elements weigh, both weigh the
+-- same.
 abbrev pub IsSharedOut : {A : Type 0} → (Book → List A) → List Book → List A → Type 0
 IsSharedOut {A} part books whole = (weight : A → ℕ) → sum_by (λ b. sum_by weight (part b)) books ≡ sum_by weight whole
 
@@ -54,7 +56,16 @@ Holds n s = (length s.words ≡ 2) × IsMove n (slice_index s.words 0) (slice_in
 
 -- a mover that did nothing yet
 abbrev pub new_book : ℕ → ℕ → List ℕ → Book
-new_book n number spare = record { bins = n; number = number; spare = spare; claimed = []; finished = []; got_none = false; last = false }
+new_book n number spare = record {
+  bins = n;
+  number = number;
+  spare = spare;
+  claimed = [];
+  finished = [];
+  got_none =
+      false;
+  last = false;
+}
 
 -- the opener's, with 63 movers to deal
 abbrev pub first_book : ℕ → Book

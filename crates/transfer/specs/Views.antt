@@ -36,11 +36,27 @@ mover_of identity b = record {
 }
 
 abbrev pub book_of : MoverView → Book
-book_of m = record { bins = m.strides.bins; number = m.number; spare = []; claimed = m.claimed; finished = m.finished; got_none = m.got_none; last = m.last }
+book_of m = record {
+  bins = m.strides.bins;
+  number = m.number;
+  spare = [];
+  claimed = m.claimed;
+  finished = m.finished;
+  got_none = m.got_none;
+  last = m.last;
+}
 
 -- a mover that did nothing yet
 abbrev pub new_mover : StridesView → ℕ → MoverView
-new_mover s number = record { strides = s; number = number; claimed = []; finished = []; got_none = false; last = false }
+new_mover s number = record {
+  strides = s;
+  number = number;
+  claimed = [];
+  finished = [];
+  got_none =
+      false;
+  last = false;
+}
 
 -- a spare mover of the move: it did nothing yet
 pub record IsSpare (s : StridesView) (m : MoverView) : Type 0 where

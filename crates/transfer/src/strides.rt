@@ -1,5 +1,6 @@
 //! The strides of one move.
-ghost use Rattle.std.specs.Prelude.{◌≡◌, ◌≤◌, ◌<◌, [], ◌∷◌, ◌++◌, true, false, All, Contains, IfOk, IfSome, IfNone, IsNone, MatchOption, OnSome, length};
+ghost use Rattle.std.specs.Prelude.{◌≡◌, ◌≤◌, ◌<◌, [], ◌∷◌, ◌++◌, true, false, All, Contains, IfOk};
+ghost use Rattle.std.specs.Prelude.{IfSome, IfNone, IsNone, MatchOption, OnSome, length};
 ghost use Rattle.transfer.specs.Books.{AllClaimed, AllFinished};
 ghost use Rattle.transfer.specs.Ranges.{IsRangeOf};
 ghost use Rattle.transfer.specs.Steps.{Finishes};
@@ -46,7 +47,8 @@ impl<A: Allocator> Model for Strides<A> {
 
     ghost view = { λ s. move_of s.table.shared.table_id s.bins };
 
-    ghost invariant = { λ s. IsMadeOf (move_of s.table.shared.table_id s.bins) s.table.shared.key (vec_len s.spare)
+    ghost invariant = { λ s. IsMadeOf (move_of s.table.shared.table_id s.bins) s.table.shared.key
+        (vec_len s.spare)
         × All (λ p. IsSpare (move_of s.table.shared.table_id s.bins) p.value) s.spare.items };
 }
 
@@ -65,7 +67,8 @@ fn take(place: &Place) -> Option<Mover>
     claim.put(None, MARKED)
 }
 
-// Counts the bins of a range as finished, and gives how many were before. The type parameter tells the proof of the step which range it is.
+// Counts the bins of a range as finished, and gives how many were before. The type parameter tells
+// the proof of the step which range it is.
 fn finish_range<P: OfRange>(words: &Words, seat: &mut Seat<(), Book>, range: Range) -> u64
     requires picked { P.range ≡ range }
     requires table { (seat.old.table_id ≡ words.now.table_id) × (words.now.table_id.words ≡ 2) }
@@ -79,7 +82,8 @@ fn finish_range<P: OfRange>(words: &Words, seat: &mut Seat<(), Book>, range: Ran
 }
 
 impl<A: Allocator + Clone> Strides<A> {
-    /// The strides of a move of 1 to 65,536 bins, and its opener's mover. The spare movers wait in their places.
+    /// The strides of a move of 1 to 65,536 bins, and its opener's mover. The spare movers wait in
+    /// their places.
     pub fn new(alloc: A, bins: usize) -> Result<(Strides<A>, Mover), AllocError>
         requires { (0 < bins) × (bins ≤ 65536) }
         ensures { IfOk result (λ r. (r.0.bins ≡ bins) × (r.1 ≡ new_mover r.0 0)) }
@@ -106,14 +110,16 @@ impl<A: Allocator + Clone> Strides<A> {
 }
 
 impl<A: Allocator> Strides<A> {
-    /// A spare mover. There are 63, and each is handed out once: `None` says that they are out, and the caller goes on without helping.
+    /// A spare mover. There are 63, and each is handed out once: `None` says that they are out, and
+    /// the caller goes on without helping.
     pub fn enter(&self) -> Option<Mover>
         ensures { IfSome result (IsSpare self.now) }
     {
         self.spare.iter().find_map(take)
     }
 
-    /// Ends a mover for good: it does not go back to its place. What it claimed and has not finished is never finished.
+    /// Ends a mover for good: it does not go back to its place. What it claimed and has not
+    /// finished is never finished.
     pub fn leave(&self, mover: Mover)
         requires { mover.strides ≡ self.now }
     {
@@ -154,7 +160,8 @@ impl<A: Allocator> Strides<A> {
         })
     }
 
-    /// Finishes a range that this mover claimed and has not finished. `Finish::Last` says that with it all bins are finished, which one mover is told.
+    /// Finishes a range that this mover claimed and has not finished. `Finish::Last` says that with
+    /// it all bins are finished, which one mover is told.
     #[must_use]
     pub fn finish(&self, mover: &mut Mover, range: Range) -> Finish
         requires mover { mover.old.strides ≡ self.now }

@@ -1,4 +1,5 @@
-//! Tests of the library as a program meets it: typed calls, teams, keys and functions that are ready to use.
+//! Tests of the library as a program meets it: typed calls, teams, keys and functions that are
+//! ready to use.
 #![tactic(auto)]
 
 #[cfg(test)]

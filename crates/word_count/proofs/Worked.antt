@@ -1,5 +1,6 @@
 -- What the clients of a new map made of the parts.
-use Rattle.std.proofs.Common.{◌≡◌, ℕ, ◌<◌, ◌++◌, List, [], ◌∷◌, Vec, length, map, take, slice_index_or, refl, sym, ap, ◌∙◌, arith}
+use Rattle.std.proofs.Common.{◌≡◌, ℕ, ◌<◌, ◌++◌, List, [], ◌∷◌, Vec, length, map, take, slice_index_or, refl, sym, ap}
+use Rattle.std.proofs.Common.{◌∙◌, arith}
 use Rattle.std.proofs.lemmas.List.{map-append, length_push, take_more, take_all, get_or-map, length-map}
 use Rattle.std.proofs.lemmas.List.Elements.{All-push}
 use Rattle.std.proofs.lemmas.List.FromFn.{get_or-map-range_with_len, length-map-range_with_len}
@@ -11,8 +12,10 @@ use Rattle.functions.specs.declared.numbers.Add.{Add}
 use Rattle.facingberyl.specs.Tallies.{AddsOne, AllCounted}
 use Rattle.word_count.specs.Counted.{WordPass, WordRecord, HasCounted, HasWorked, AreWhole}
 
-pub HasCounted-push : (words : List (List ℕ)) (made : List WordRecord) (r : WordRecord) (w : List ℕ) (f : Add) → HasCounted words made
-    → length made < length words → slice_index_or words (length made) w ≡ w → r.call ≡ Merge w 1 f → HasCounted words (made ++ r ∷ [])
+pub HasCounted-push : (words : List (List ℕ)) (made : List WordRecord) (r : WordRecord) (w : List ℕ) (f : Add) →
+    HasCounted words made
+    → length made < length words → slice_index_or words (length made) w ≡ w → r.call ≡ Merge w 1 f →
+    HasCounted words (made ++ r ∷ [])
 HasCounted-push words made r w f counted more is call =
     let key : key_of r.call ≡ w = ap key_of call in
     record {
@@ -35,10 +38,12 @@ module _ (id : LedgerId) (n : ℕ) (passes : List WordPass) (new : passes ≡ ne
   new-length = ap length new ∙ length-map-range_with_len (new_pass id) 0 n
 
   new-at : (c : ℕ) (p : WordPass) → c < n → slice_index_or passes c p ≡ new_pass id c
-  new-at c p lt = ap (λ (ps : List WordPass). slice_index_or ps c p) new ∙ get_or-map-range_with_len (new_pass id) 0 n c c p lt (omega arith)
+  new-at c p lt = ap (λ (ps : List WordPass). slice_index_or ps c p) new ∙ get_or-map-range_with_len
+      (new_pass id) 0 n c c p lt (omega arith)
 
   pub all-counted : {A : Type 0} (parts : List (Vec (List ℕ) A)) → length parts ≡ n → (after : List WordPass)
-      → ((i : ℕ) (d : WordPass) → i < length passes → HasWorked parts (slice_index_or passes i d) (slice_index_or after i d)) → AreWhole parts after
+      → ((i : ℕ) (d : WordPass) → i < length passes →
+      HasWorked parts (slice_index_or passes i d) (slice_index_or after i d)) → AreWhole parts after
       → AllCounted (map (λ part. part.items) parts) after
   all-counted {A} parts as_many after worked whole = λ c p lt.
       let m = new-length in
@@ -50,9 +55,11 @@ module _ (id : LedgerId) (n : ℕ) (passes : List WordPass) (new : passes ≡ ne
       let own : (slice_index_or passes c p).client ≡ c = ap (λ (x : WordPass). x.client) it in
       let counted = done.counted (ap (λ (x : WordPass). x.made) it) v (omega arith) in
       let part = slice_index_or parts (slice_index_or passes c p).client v in
-      let part_is : part.items ≡ (slice_index_or parts c v).items = ap (λ (k : ℕ). (slice_index_or parts k v).items) own in (
+      let part_is : part.items ≡ (slice_index_or parts c v).items =
+      ap (λ (k : ℕ). (slice_index_or parts k v).items) own in (
         done.client ∙ own,
-        counted.keys ∙ take_all (length (slice_index_or after c p).made) part.items (let w = whole.each c p v few in let e = ap length part_is in omega arith)
+        counted.keys ∙ take_all (length (slice_index_or after c p).made) part.items (let w = whole.each c p v few in
+            let e = ap length part_is in omega arith)
             ∙ part_is
             ∙ sym (get_or-map (λ (x : Vec (List ℕ) A). x.items) parts c v [] few),
         counted.ones,

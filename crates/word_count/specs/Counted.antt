@@ -29,11 +29,13 @@ pub record HasCounted (words : List (List ℕ)) (made : List WordRecord) : Type 
 -- a client that had made nothing counts words of its part
 pub record HasWorked {A : Type 0} (parts : List (Vec (List ℕ) A)) (old new : WordPass) : Type 0 where
   pub client : new.client ≡ old.client
-  pub counted : old.made ≡ [] → (v : Vec (List ℕ) A) → old.client < length parts → HasCounted (slice_index_or parts old.client v).items new.made
+  pub counted : old.made ≡ [] → (v : Vec (List ℕ) A) → old.client < length parts →
+      HasCounted (slice_index_or parts old.client v).items new.made
 
 -- each client made a call for each word of its part, which has 2^57 at most
 pub record AreWhole {A : Type 0} (parts : List (Vec (List ℕ) A)) (passes : List WordPass) : Type 0 where
-  pub each : (c : ℕ) (p : WordPass) (v : Vec (List ℕ) A) → c < length parts → length (slice_index_or passes c p).made ≡ length (slice_index_or parts c v).items
+  pub each : (c : ℕ) (p : WordPass) (v : Vec (List ℕ) A) → c < length parts → length (slice_index_or passes c p).made
+      ≡ length (slice_index_or parts c v).items
   pub few : All (λ v. length v.items ≤ most_calls Lean) parts
 
 -- each word stands once, with how often it stands in the parts

@@ -1,6 +1,7 @@
-//! `word_count [FILE [CLIENTS]]` prints the ten most frequent words of a text, those first that come first in byte order
-//! where they are equally frequent. It reads the file, or else standard input. The words are counted in one map by as
-//! many clients, 1 to 32, each in a thread of its own; else by 4.
+//! `word_count [FILE [CLIENTS]]` prints the ten most frequent words of a text, those first that
+//! come first in byte order where they are equally frequent. It reads the file, or else standard
+//! input. The words are counted in one map by as many clients, 1 to 32, each in a thread of its
+//! own; else by 4.
 #![tactic(auto)]
 
 mod count;

@@ -11,7 +11,8 @@ loop-record-preserved g c =
     let tells = key_tells g.met.K.Eq.laws g.met.K.HashKey.equal_is_same in (
       tt,
       tt,
-      rw (c.store_record.ensures.items, c.loop-record.invariant.2) (sym (replay_push g.K.PartialEq.eq tells _ c.loop-record.yielded c.in-Some.record)),
+      rw (c.store_record.ensures.items, c.loop-record.invariant.2)
+          (sym (replay_push g.K.PartialEq.eq tells _ c.loop-record.yielded c.in-Some.record)),
       omega (arith, c.in-Some.ensures.steps),
       omega arith,
     )

@@ -4,7 +4,8 @@ use Rattle.bin_history.proofs.log.fold_in.Goals as goal
 pub returns-then-len-eq-MOST_RECORDS-clause-room : goal.returns-then-len-eq-MOST_RECORDS-clause-room
 returns-then-len-eq-MOST_RECORDS-clause-room g c =
     let records = c.log.inside.records in
-    let short : length c.fold_front.new.records.items ≡ length records.items - 512 = ap length c.fold_front.ensures.records ∙ length-drop 512 records.items in
+    let short : length c.fold_front.new.records.items ≡ length records.items - 512 =
+    ap length c.fold_front.ensures.records ∙ length-drop 512 records.items in
     let long : vec_len records ≡ 1024 = sym c.len.ensures ∙ c.if-len-eq-MOST_RECORDS.true in
     let len = c.fold_front.new.records.ok.0 in
     let had = records.ok.0 in
@@ -15,7 +16,8 @@ returns-then-len-eq-MOST_RECORDS-clause-room g c =
 pub returns-then-len-eq-MOST_RECORDS-clause-fewer : goal.returns-then-len-eq-MOST_RECORDS-clause-fewer
 returns-then-len-eq-MOST_RECORDS-clause-fewer g c =
     let records = c.log.inside.records in
-    let short : length c.fold_front.new.records.items ≡ length records.items - 512 = ap length c.fold_front.ensures.records ∙ length-drop 512 records.items in
+    let short : length c.fold_front.new.records.items ≡ length records.items - 512 =
+    ap length c.fold_front.ensures.records ∙ length-drop 512 records.items in
     let long : vec_len records ≡ 1024 = sym c.len.ensures ∙ c.if-len-eq-MOST_RECORDS.true in
     let had = records.ok.0 in
     omega arith

@@ -4,4 +4,5 @@ use Rattle.hashkeys.specs.Classes.{is_of}
 use Rattle.bin_history.proofs.split.part_of_entries.Given as goal
 
 abbrev pub invariant-loop-key : goal.invariant-loop-key
-invariant-loop-key g l = l.part.items ≡ part_of_entries (is_of g.K.HashKey.code l.salt l.class) (take l.key-index l.entries)
+invariant-loop-key g l = l.part.items ≡ part_of_entries (is_of g.K.HashKey.code l.salt l.class)
+    (take l.key-index l.entries)

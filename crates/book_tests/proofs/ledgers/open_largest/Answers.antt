@@ -13,10 +13,12 @@ new-requires-clause-keys c =
 pub returns-clause-passes : goal.returns-clause-passes
 returns-clause-passes c =
     IfOk-weaker c.new.result _ _
-    (λ r e. rw e (All-map (λ p. p.ledger ≡ r.0.id) (new_pass r.0.id) (range_with_len 0 32) (λ k d inside. refl))) c.new.ensures.passes
+    (λ r e. rw e (All-map (λ p. p.ledger ≡ r.0.id) (new_pass r.0.id) (range_with_len 0 32) (λ k d inside. refl)))
+    c.new.ensures.passes
 
 pub returns-clause-roles : goal.returns-clause-roles
 returns-clause-roles c =
     IfOk-weaker c.new.result _ _
-    (λ r e. rw e (All-map (λ x. x.ledger ≡ r.0.id) (new_role r.0.id (record { 0 = 0 }) (lists_of c.in_ok-bases.bases)) (range_with_len 0 _)
+    (λ r e. rw e (All-map (λ x. x.ledger ≡ r.0.id) (new_role r.0.id (record { 0 = 0 }) (lists_of c.in_ok-bases.bases))
+    (range_with_len 0 _)
     (λ k d inside. refl))) c.new.ensures.roles

@@ -1,6 +1,6 @@
 use Rattle.std.proofs.Common.{◌≡◌, ℕ, ◌+◌, List, ◌++◌, length, get_or, take, ap, subst, sym, ◌∙◌, arith}
 use Rattle.std.proofs.lemmas.List.{length-append, take_all}
-use Rattle.chm.specs.Quiets.{entries_of}
+use Rattle.chm.specs.Headline.{entries_of}
 use Rattle.bulk_tasks.specs.Folds.{fold_from}
 use Rattle.bulk_tasks.proofs.Folding.{from_both}
 use Rattle.bulk_tasks.proofs.Ranges.{entries_more, entries_few}
@@ -34,9 +34,12 @@ loop-bin-preserved g c =
           ∙ sym (from_both lift join c.args.first before own)
           ∙ ap (fold_from lift join c.args.first) more,
       λ n h.
-          let len : length before + length own ≡ length (entries_of (take (i + 1) bins)) = sym (length-append before own) ∙ ap length more in
-          let all : (n + length before) + length own ≡ n + length (entries_of (take (i + 1) bins)) = omega (arith, len) in
-          subst (λ (m : ℕ). within m c.in_ok-folded.folded) all (c.in_ok-folded.ensures.within (n + length before) (c.loop-bin.invariant.1 n h)),
+          let len : length before + length own ≡ length (entries_of (take (i + 1) bins)) =
+          sym (length-append before own) ∙ ap length more in
+          let all : (n + length before) + length own ≡ n + length (entries_of (take (i + 1) bins)) =
+          omega (arith, len) in
+          subst (λ (m : ℕ). within m c.in_ok-folded.folded) all
+          (c.in_ok-folded.ensures.within (n + length before) (c.loop-bin.invariant.1 n h)),
     )
 
 pub returns-clause-within : goal.returns-clause-within

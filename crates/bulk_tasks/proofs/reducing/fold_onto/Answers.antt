@@ -15,10 +15,12 @@ loop-key-preserved g c =
       c.in_ok-folded.ensures.value
           ∙ ap (λ a. join a c.in_ok-lifted.lifted) c.loop-key.invariant.0
           ∙ ap (join before) c.in_ok-lifted.ensures.value
-          ∙ from_more lift join c.args.first entries i c.loop-key-item.result c.loop-key-test.true (sym c.loop-key-item.is),
+          ∙ from_more lift join c.args.first entries i c.loop-key-item.result c.loop-key-test.true
+          (sym c.loop-key-item.is),
       λ n h.
           let both : within ((n + i) + 1) (join c.loop-key.folded c.in_ok-lifted.lifted)
-          = g.met.R.Reducer.joins reducer (n + i) 1 c.loop-key.folded c.in_ok-lifted.lifted (c.loop-key.invariant.1 n h) c.in_ok-lifted.ensures.within in
+          = g.met.R.Reducer.joins reducer (n + i) 1 c.loop-key.folded c.in_ok-lifted.lifted (c.loop-key.invariant.1 n h)
+          c.in_ok-lifted.ensures.within in
           let more : (n + i) + 1 ≡ n + (i + 1) = omega arith in
           subst (within (n + (i + 1))) (sym c.in_ok-folded.ensures.value)
           (subst (λ (m : ℕ). within m (join c.loop-key.folded c.in_ok-lifted.lifted)) more both),

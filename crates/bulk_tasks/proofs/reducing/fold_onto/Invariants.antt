@@ -4,5 +4,7 @@ use Rattle.bulk_tasks.specs.Folds.{fold_from}
 use Rattle.bulk_tasks.proofs.reducing.fold_onto.Given as goal
 
 abbrev pub invariant-loop-key : goal.invariant-loop-key
-invariant-loop-key g l = (l.folded ≡ fold_from (g.R.Reducer.lifted l.reducer) (g.R.Reducer.joined l.reducer) l.fn.first (take l.key-index l.entries))
+invariant-loop-key g l =
+    (l.folded ≡ fold_from (g.R.Reducer.lifted l.reducer) (g.R.Reducer.joined l.reducer) l.fn.first
+    (take l.key-index l.entries))
     × ((n : ℕ) → g.R.Reducer.within l.reducer n l.fn.first → g.R.Reducer.within l.reducer (n + l.key-index) l.folded)

@@ -1,5 +1,5 @@
 use Rattle.std.proofs.Common.{List, subst, drop, take, ap, ◌++◌, ◌∙◌}
-use Rattle.chm.specs.Quiets.{entries_of}
+use Rattle.chm.specs.Headline.{entries_of}
 use Rattle.bulk_tasks.proofs.Ranges.{entries_rest, entries_more}
 use Rattle.bulk_tasks.proofs.stepping.step_through.Goals as goal
 
@@ -14,7 +14,8 @@ returns-then-is_settled g c =
 
 pub loop-bin-preserved : goal.loop-bin-preserved
 loop-bin-preserved g c =
-    let P : List (g.row.K.Denot × g.row.V.Denot) → Type 0 = λ es. g.S.Stepper.reached c.args.stepper.now es c.add_all-part.result in
+    let P : List (g.row.K.Denot × g.row.V.Denot) → Type 0 =
+    λ es. g.S.Stepper.reached c.args.stepper.now es c.add_all-part.result in
     let here = ap (λ b. b.entries) c.bin-item.is in
     let before = entries_of (take c.loop-bin.bin-index c.args.bins.now) in
     subst P (ap (λ es. before ++ es) (c.entries.ensures ∙ here)

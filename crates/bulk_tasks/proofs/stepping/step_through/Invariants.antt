@@ -1,5 +1,5 @@
 use Rattle.std.proofs.Common.{take}
-use Rattle.chm.specs.Quiets.{entries_of}
+use Rattle.chm.specs.Headline.{entries_of}
 use Rattle.bulk_tasks.proofs.stepping.step_through.Given as goal
 
 abbrev pub invariant-loop-bin : goal.invariant-loop-bin

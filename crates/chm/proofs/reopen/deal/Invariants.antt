@@ -7,5 +7,6 @@ abbrev pub invariant-loop-key : goal.invariant-loop-key
 invariant-loop-key g l =
     (goal.iterator-loop-key g).can_next l.key-iterator
     × (goal.iterator-loop-key g).is_finite l.key-iterator
-    × ((done : List (_ × _)) × (done ++ l.key-iterator ≡ l.fn.pairs) × (lists_of l.bases ≡ parts_by_class g.K.HashKey.code l.salt l.n done)
+    × ((done : List (_ × _)) × (done ++ l.key-iterator ≡ l.fn.pairs)
+    × (lists_of l.bases ≡ parts_by_class g.K.HashKey.code l.salt l.n done)
     × (length (flat_map (λ base. base) (lists_of l.bases)) ≡ length done))

@@ -9,7 +9,8 @@ pub loop-n-preserved : goal.loop-n-preserved
 loop-n-preserved c =
     let (size, from, least) = c.loop-n.invariant in
     let narrow = c.loop-n-test.true in
-    let full : threshold c.loop-n.n ≤ c.args.count = (let a = c.if-count-from.true in let b = c.from.ensures in let d = c.threshold.ensures in omega arith) in
+    let full : threshold c.loop-n.n ≤ c.args.count = (let a = c.if-count-from.true in let b = c.from.ensures in
+    let d = c.threshold.ensures in omega arith) in
     let double = IsTableSize-double c.loop-n.n narrow size in
     let past : (m : ℕ) → IsWideEnough c.args.count m → c.loop-n.n ≤ m → c.loop-n.n < m =
     λ m room le. elim (cases_lt c.loop-n.n m) [
@@ -22,5 +23,6 @@ loop-n-preserved c =
     in (
       (double.0, double.1, let is = double.2 in omega arith),
       omega arith,
-      λ m s low room. let wider = IsTableSize-wider c.loop-n.n m size s (past m room (least m s low room)) in omega arith,
+      λ m s low room. let wider = IsTableSize-wider c.loop-n.n m size s (past m room (least m s low room)) in
+          omega arith,
     )

@@ -4,7 +4,8 @@ use Rattle.chm.specs.Sizes.{IsWideEnough}
 use Rattle.chm.proofs.size.size_from.Given as goal
 
 abbrev pub invariant-loop-n : goal.invariant-loop-n
-invariant-loop-n l = IsTableSize l.n × (l.n0 ≤ l.n) × ((m : ℕ) → IsTableSize m → l.n0 ≤ m → IsWideEnough l.count m → l.n ≤ m)
+invariant-loop-n l = IsTableSize l.n × (l.n0 ≤ l.n)
+    × ((m : ℕ) → IsTableSize m → l.n0 ≤ m → IsWideEnough l.count m → l.n ≤ m)
 
 abbrev pub decreases-loop-n : goal.decreases-loop-n
 decreases-loop-n l = 65536 - l.n

@@ -26,7 +26,8 @@ loop-index-preserved g c =
         c.new.ensures,
         c.requires.bases,
       ) (sym (map-range_with_len_more
-          (new_role c.args.all.now.table_id c.args.shared.now.key.salt c.args.shared.now.key.bases) 0 c.loop-index.index c.loop-index.index (omega arith)));
+          (new_role c.args.all.now.table_id c.args.shared.now.key.salt c.args.shared.now.key.bases) 0 c.loop-index.index
+          c.loop-index.index (omega arith)));
       room = rw c.push_reserved.ensures.capacity c.loop-index.invariant.room;
       len = rw c.push_reserved.ensures.len (ap (λ n. n + 1) c.loop-index.invariant.len);
       table = c.take_first-seat.ensures.all ∙ c.loop-index.invariant.table;

@@ -7,7 +7,8 @@ use Rattle.count_ledger.proofs.dealing.deal_roles.Given as goal
 abbrev pub invariant-loop-index : goal.invariant-loop-index
 invariant-loop-index g l =
     record {
-      roles : l.roles.items ≡ map (new_role l.initial.all.table_id l.shared.key.salt l.shared.key.bases) (range_with_len 0 l.index);
+      roles : l.roles.items ≡ map (new_role l.initial.all.table_id l.shared.key.salt l.shared.key.bases)
+          (range_with_len 0 l.index);
       room : l.n ≤ vec_capacity l.roles;
       len : vec_len l.roles ≡ l.index;
       table : l.all.table_id ≡ l.initial.all.table_id;

@@ -13,4 +13,5 @@ pub returns-clause-signed : goal.returns-clause-signed
 returns-clause-signed g c = cast_signed-word_of
 
 pub returns-clause-bounds : goal.returns-clause-bounds
-returns-clause-bounds g c = λ ledger passes a few. let b = total_made_bounds ledger passes a in (omega (arith, ints, b.0), omega (arith, ints, b.1))
+returns-clause-bounds g c = λ ledger passes a few. let b = total_made_bounds ledger passes a in
+    (omega (arith, ints, b.0), omega (arith, ints, b.1))

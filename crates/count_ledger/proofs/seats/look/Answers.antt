@@ -5,5 +5,7 @@ pub load-requires : goal.load-requires
 load-requires g c = (
   c.requires.seat,
   c.requires.word,
-  rw c.requires.terms (Allows-told g.K.HashKey.code c.args.shared.now.key _ g.T.Told.change _ c.args.word c.args.seat.now.me (λ n. n) c.requires.rule),
+  rw c.requires.terms
+      (Allows-told g.K.HashKey.code c.args.shared.now.key _ g.T.Told.change _ c.args.word c.args.seat.now.me
+      (λ n. n) c.requires.rule),
 )

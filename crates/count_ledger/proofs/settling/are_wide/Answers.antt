@@ -12,7 +12,8 @@ loop-role-preserved g c =
     let role = c.role-item.result in
     let before = classes_of_roles (take c.loop-role.role-index c.args.roles.now) in
     let next : classes_of_roles (take (c.loop-role.role-index + 1) c.args.roles.now) ≡ before ++ role.class ∷ [] =
-    map_more (λ r. r.class) c.args.roles.now c.loop-role.role-index role (omega arith) ∙ ap (λ r. before ++ r.class ∷ []) (sym c.role-item.is) in
+    map_more (λ r. r.class) c.args.roles.now c.loop-role.role-index role (omega arith)
+    ∙ ap (λ r. before ++ r.class ∷ []) (sym c.role-item.is) in
     let size = c.n.ensures.value ∙ ap (λ k. k.n) c.class.ensures in
     record {
       left = rw (next, sum_by_push (λ k. 65536 / k.n) before role.class) (
@@ -21,10 +22,12 @@ loop-role-preserved g c =
           let width : 65536 / c.n.result ≡ 65536 / role.class.n = ap (λ n. 65536 / n) size in
           omega arith
           );
-      lawful = rw next (All-push IsClass before role.class c.loop-role.invariant.lawful (rw c.class.ensures at c.n.ensures.class));
+      lawful = rw next (All-push IsClass before role.class c.loop-role.invariant.lawful
+          (rw c.class.ensures at c.n.ensures.class));
     }
 
 pub returns : goal.returns
 returns g c =
     let whole = take_all c.loop-role.role-index c.args.roles.now c.loop-role-test.false in
-    wide_by_rest c.loop-role.left (classes_of_roles c.args.roles.now) (rw whole at c.loop-role.invariant.left) (rw whole at c.loop-role.invariant.lawful)
+    wide_by_rest c.loop-role.left (classes_of_roles c.args.roles.now) (rw whole at c.loop-role.invariant.left)
+    (rw whole at c.loop-role.invariant.lawful)

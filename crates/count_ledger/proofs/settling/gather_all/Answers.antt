@@ -9,8 +9,12 @@ look-requires-clause-rule g c = Keeps-looked g.K.HashKey.code c.args.shared.now.
 
 pub returns : goal.returns
 returns g c =
-    let all = all_gathered pass_book role_book c.args.passes.items _ _ c.args.roles.items _ _ _ _ c.into_seat-seat.result.me.0 c.in-Some.ensures.items
-    c.into_seat.ensures.book c.into_badge-all.ensures.2 c.gather_passes.ensures.view c.gather_roles.ensures.view c.into_seat-seat.ensures.2 in
+    let all =
+    all_gathered pass_book role_book c.args.passes.items _ _ c.args.roles.items _ _ _ _ c.into_seat-seat.result.me.0
+    c.in-Some.ensures.items
+    c.into_seat.ensures.book c.into_badge-all.ensures.2 c.gather_passes.ensures.view c.gather_roles.ensures.view
+    c.into_seat-seat.ensures.2 in
     let told = rw all at c.look.ensures.told.3 in
-    AreReconciled-settled g.K.HashKey.code c.args.shared.now.table_id c.args.shared.now.key c.look.ensures.told.0 c.look.ensures.told.1 c.args.passes.items
+    AreReconciled-settled g.K.HashKey.code c.args.shared.now.table_id c.args.shared.now.key c.look.ensures.told.0
+    c.look.ensures.told.1 c.args.passes.items
     c.args.roles.items c.requires.enough c.requires.wide told

@@ -1,5 +1,5 @@
 use Rattle.std.proofs.Common.{map, sym, subst}
-use Rattle.chm.specs.Quiets.{entries_of}
+use Rattle.chm.specs.Headline.{entries_of}
 use Rattle.facing_cli.specs.Texts.{IsGreatest}
 use Rattle.facing_cli.proofs.Reduced.{greatest-folded}
 use Rattle.facing_cli.proofs.answers.greatest.Goals as goal

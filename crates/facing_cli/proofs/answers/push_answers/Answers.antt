@@ -1,5 +1,5 @@
 use Rattle.std.proofs.Common.{ℕ, List, ◌++◌, ap, ◌∙◌, arith, append_assoc}
-use Rattle.chm.specs.Quiets.{entries_of}
+use Rattle.chm.specs.Headline.{entries_of}
 use Rattle.std.proofs.lemmas.List.{take_more}
 use Rattle.facing_cli.proofs.Answered.{AnswersAll-push}
 use Rattle.facing_cli.proofs.answers.push_answers.Goals as goal

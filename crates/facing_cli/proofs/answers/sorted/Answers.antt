@@ -1,5 +1,5 @@
 use Rattle.std.proofs.Common.{IsPermutation, List, subst, ◌∙◌}
-use Rattle.chm.specs.Quiets.{entries_of}
+use Rattle.chm.specs.Headline.{entries_of}
 use Rattle.facing_cli.proofs.Reduced.{answers-pairs}
 use Rattle.facing_cli.proofs.answers.sorted.Goals as goal
 

@@ -9,4 +9,5 @@ returns c =
     let first = c.in_ok-arg.ensures.shape c.workers.ensures.local ∙ ap₂ with_rule bare c.workers.ensures.rule in
     let second = c.in_ok-arg-2.ensures.shape c.capacity.ensures.local ∙ ap₂ with_rule first c.capacity.ensures.rule in
     let third = c.in_ok-arg-3.ensures.shape c.salt.ensures.local ∙ ap₂ with_rule second c.salt.ensures.rule in
-    IfOk-weaker c.arg-4.result _ _ (λ command added. added.shape c.file.ensures.local ∙ ap₂ with_rule third c.file.ensures.rule) c.arg-4.ensures
+    IfOk-weaker c.arg-4.result _ _ (λ command added. added.shape c.file.ensures.local
+    ∙ ap₂ with_rule third c.file.ensures.rule) c.arg-4.ensures

@@ -8,6 +8,9 @@ use Rattle.facing_cli.proofs.command.number.Goals as goal
 
 pub returns : goal.returns
 returns c =
-    subst (λ (o : Option Text). IfSome c.get_one.result (SaysNumber o)) (one_text-rows (found_of c.args.matches.now) c.args.id.now)
-    (says_number 32 (λ bs r. ParsesUnsigned 32 10 bs r × ExplainsUnsignedError 10 bs r × HasUnsignedDigitsIfOk bs r) (λ t r g. g.0)
-    (one_text (found_of c.args.matches.now) c.args.id.now) c.get_one.result c.get_one.ensures.none c.get_one.ensures.value)
+    subst (λ (o : Option Text). IfSome c.get_one.result (SaysNumber o))
+    (one_text-rows (found_of c.args.matches.now) c.args.id.now)
+    (says_number 32 (λ bs r. ParsesUnsigned 32 10 bs r × ExplainsUnsignedError 10 bs r × HasUnsignedDigitsIfOk bs r)
+    (λ t r g. g.0)
+    (one_text (found_of c.args.matches.now) c.args.id.now) c.get_one.result c.get_one.ensures.none
+    c.get_one.ensures.value)

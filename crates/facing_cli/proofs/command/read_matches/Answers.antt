@@ -10,9 +10,12 @@ returns-in_ok-from_str-in-Ok-clause-said c =
     let rows = rows_of (found_of c.args.matches.now) in
     let options = c.in-Ok.ensures.options in
     record {
-      workers = subst (SaysNumber (one_of (codes "workers") rows)) (sym (ap (λ (o : OptionsView). o.workers) options)) c.in-Some.ensures;
-      capacity = subst (SaysNumber (one_of (codes "capacity") rows)) (sym (ap (λ (o : OptionsView). o.capacity) options)) c.in-Some-number.ensures;
-      salt = subst (SaysNumber (one_of (codes "salt") rows)) (sym (ap (λ (o : OptionsView). o.salt.0) options)) c.in-Some-number-2.ensures;
+      workers = subst (SaysNumber (one_of (codes "workers") rows)) (sym (ap (λ (o : OptionsView). o.workers) options))
+          c.in-Some.ensures;
+      capacity = subst (SaysNumber (one_of (codes "capacity") rows))
+          (sym (ap (λ (o : OptionsView). o.capacity) options)) c.in-Some-number.ensures;
+      salt = subst (SaysNumber (one_of (codes "salt") rows)) (sym (ap (λ (o : OptionsView). o.salt.0) options))
+          c.in-Some-number-2.ensures;
       file = sym (first_value-rows (found_of c.args.matches.now) (codes "FILE")) ∙ sym c.in-Some-get_str.ensures
           ∙ ap Some (sym c.in_ok-from_str-in-Ok.ensures.ok);
     }

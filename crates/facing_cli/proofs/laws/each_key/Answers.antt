@@ -4,4 +4,5 @@ use Rattle.facing_cli.proofs.EachKey.{IsHistoryOf-order}
 use Rattle.facing_cli.proofs.laws.each_key.Goals as goal
 
 pub returns : goal.returns
-returns c = λ blocks o k allowed. let (calls, order) = allowed.order in (records_on same_key k calls, IsHistoryOf-order blocks o k calls order)
+returns c = λ blocks o k allowed. let (calls, order) = allowed.order in
+    (records_on same_key k calls, IsHistoryOf-order blocks o k calls order)

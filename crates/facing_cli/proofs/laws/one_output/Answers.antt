@@ -12,7 +12,8 @@ use Rattle.facing_cli.proofs.SamePairs.{same_pairs}
 use Rattle.facing_cli.proofs.laws.one_output.Goals as goal
 
 same_output : (calls : List ScriptCall) (queries : List Query) (o p : Outcome) (one other : List ℕ)
-    → HasNoSearch queries → IsAllowed (calls ∷ []) o → IsAllowed (calls ∷ []) p → IsOutput queries o one → IsOutput queries p other → one ≡ other
+    → HasNoSearch queries → IsAllowed (calls ∷ []) o → IsAllowed (calls ∷ []) p → IsOutput queries o one →
+    IsOutput queries p other → one ≡ other
 same_output calls queries o p one other none first second (answers, all, is) (answers', all', is') =
     let (replies, values) = same_outcomes calls o.replies p.replies o.pairs p.pairs first second in
     let pairs = same_pairs same_key bytes_decides o.pairs p.pairs first.distinct second.distinct values in
@@ -32,7 +33,8 @@ pub returns-clause-script : goal.returns-clause-script
 returns-clause-script c = same_output
 
 pub returns-clause-text : goal.returns-clause-text
-returns-clause-text c = λ text one other (calls, queries, script, none) (blocks, asked, o, is, allowed, output) (blocks', asked', p, is', allowed', output').
+returns-clause-text c = λ text one other (calls, queries, script, none) (blocks, asked, o, is, allowed, output)
+    (blocks', asked', p, is', allowed', output').
     let first = script.only _ is.holds in
     let second = script.only _ is'.holds in
     same_output calls queries o p one other none

@@ -11,14 +11,17 @@ returns-in-Ok-close-clause-ok g c =
     let ledger = c.in-Ok-close.ensures.ledger in
     IsAllowed-closed (lists_of c.args.blocks) (lists_of c.in-Ok.replies) c.in-Ok-close.map c.lawful.ensures
     (ap (λ l. l.opening) ledger ∙ c.in_ok-map.ensures.new.opening)
-    (let clients : c.in-Ok-close.map.ledger.clients ≡ c.len.result = ap (λ l. l.clients) ledger ∙ c.in_ok-map.ensures.new.clients in
+    (let clients : c.in-Ok-close.map.ledger.clients ≡ c.len.result = ap (λ l. l.clients) ledger
+    ∙ c.in_ok-map.ensures.new.clients in
     omega (arith, c.len.ensures, length-map c.args.blocks.items (λ (b : Vec _ _). b.items)))
-    (subst (ArePlayed (lists_of c.args.blocks) (lists_of c.in-Ok.replies)) (sym c.in-Ok-close.ensures.passes) c.in-Ok.ensures.played)
+    (subst (ArePlayed (lists_of c.args.blocks) (lists_of c.in-Ok.replies)) (sym c.in-Ok-close.ensures.passes)
+    c.in-Ok.ensures.played)
 
 pub returns-in-Err-close-clause-fault : goal.returns-in-Err-close-clause-fault
 returns-in-Err-close-clause-fault g c =
     let refused = c.in-Err-close.ensures.refused in
-    let same : c.not_closed.inside.fault ≡ c.in-Err-close.not_closed.fault = ap (λ (e : NotClosedView _ _ _). e.fault) c.not_closed.view_is in
+    let same : c.not_closed.inside.fault ≡ c.in-Err-close.not_closed.fault =
+    ap (λ (e : NotClosedView _ _ _). e.fault) c.not_closed.view_is in
     elim refused.faults [
       | inl memory ↦ inl (same ∙ memory)
       | inr others ↦

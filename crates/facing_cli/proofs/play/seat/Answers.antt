@@ -1,4 +1,5 @@
-use Rattle.std.proofs.Common.{◌≡◌, ◌++◌, List, [], ◌∷◌, Option, Some, None, All, map, refl, sym, ap, subst, ◌∙◌, arith, append_assoc}
+use Rattle.std.proofs.Common.{◌≡◌, ◌++◌, List, [], ◌∷◌, Option, Some, None, All, map, refl, sym, ap, subst, ◌∙◌, arith}
+use Rattle.std.proofs.Common.{append_assoc}
 use Rattle.std.proofs.lemmas.List.{map-append}
 use Rattle.std.proofs.lemmas.List.Elements.{All-push}
 use Rattle.facing_cli.specs.Played.{ScriptPass, passes_of}
@@ -12,10 +13,12 @@ loop-calls-preserved g c =
     let old : List (Client _) = c.loop-calls.clients.items in
     let own : Client _ = record { pass = c.remove.result; calls = Some c.in-Some.calls; replies = None } in
     let pushed : c.push_reserved.new.self.items ≡ old ++ own ∷ [] = c.push_reserved.ensures.items in
-    let first : c.remove.result ∷ c.remove.new.self.items ≡ c.loop-calls.passes.items = first-removed c.loop-calls.passes.items c.remove.new.self.items
+    let first : c.remove.result ∷ c.remove.new.self.items ≡ c.loop-calls.passes.items =
+    first-removed c.loop-calls.passes.items c.remove.new.self.items
     c.remove.result (omega (arith, c.in-Some.ensures.steps)) c.remove.ensures.value c.remove.ensures.items in (
       ap (λ (cs : List (Client _)). passes_of cs ++ c.remove.new.self.items) pushed
-          ∙ ap (λ (ps : List ScriptPass). ps ++ c.remove.new.self.items) (map-append (λ (x : Client _). x.pass) old (own ∷ []))
+          ∙ ap (λ (ps : List ScriptPass). ps ++ c.remove.new.self.items)
+          (map-append (λ (x : Client _). x.pass) old (own ∷ []))
           ∙ append_assoc (passes_of old) (c.remove.result ∷ []) c.remove.new.self.items
           ∙ ap (λ (ps : List ScriptPass). passes_of old ++ ps) first
           ∙ passes,
@@ -25,7 +28,8 @@ loop-calls-preserved g c =
           ∙ sym (map-append Some c.loop-calls.yielded (c.in-Some.calls ∷ [])),
       subst (λ (cs : List (Client _)). All (λ (x : Client _). x.replies ≡ None) cs) (sym pushed)
           (All-push (λ (x : Client _). x.replies ≡ None) old own none refl),
-      append_assoc c.loop-calls.yielded _ _ ∙ ap (λ (cs : _). c.loop-calls.yielded ++ cs) (sym c.in-Some.ensures.steps.0) ∙ rest,
+      append_assoc c.loop-calls.yielded _ _ ∙ ap (λ (cs : _). c.loop-calls.yielded ++ cs)
+          (sym c.in-Some.ensures.steps.0) ∙ rest,
       omega (arith, c.in-Some.ensures.steps, c.remove.ensures.len),
       omega (arith, c.in-Some.ensures.steps, c.push_reserved.ensures.len, c.push_reserved.ensures.capacity),
       c.remove.ensures.capacity ∙ capacity,

@@ -1,4 +1,5 @@
-use Rattle.std.proofs.Common.{◌≡◌, ℕ, ◌⊎◌, inl, inr, List, [], Option, None, Some, IfErr, Result, IsErrOf, refl, sym, subst, rules}
+use Rattle.std.proofs.Common.{◌≡◌, ℕ, ◌⊎◌, inl, inr, List, [], Option, None, Some, IfErr, Result, IsErrOf, refl, sym}
+use Rattle.std.proofs.Common.{subst, rules}
 use Rattle.facing_cli.specs.Runs.{IsRefusalOf, OfInput}
 use Rattle.facing_cli.specs.declared.fault.Fault.{Fault}
 use Rattle.facing_cli.specs.declared.fault.Fault.TheVariants.{NoMemory, Device}

@@ -10,12 +10,14 @@ abbrev pub invariant-loop-index : goal.invariant-loop-index
 invariant-loop-index g l =
     record {
       roles : (ledger : LedgerId) → l.fn.roles.items ≡ new_roles ledger l.salt (lists_of l.fn.bases)
-          → into_iter_items l.roles ≡ map (new_role ledger l.salt (lists_of l.fn.bases)) (range_with_len l.index (l.n - l.index));
+          → into_iter_items l.roles ≡ map (new_role ledger l.salt (lists_of l.fn.bases))
+          (range_with_len l.index (l.n - l.index));
       roles_left : into_iter_len l.roles ≡ l.n - l.index;
       bases : into_iter_items l.bases ≡ drop l.index l.fn.bases.items;
       bases_left : into_iter_len l.bases ≡ l.n - l.index;
       places : (ledger : LedgerId) → l.fn.roles.items ≡ new_roles ledger l.salt (lists_of l.fn.bases)
-          → l.places.items ≡ map (tag_at (record { ledger = ledger; form = l.form; salt = l.salt; n = l.n }) l.n) (range_with_len 0 l.index);
+          → l.places.items ≡ map (tag_at (record { ledger = ledger; form = l.form; salt = l.salt; n = l.n }) l.n)
+          (range_with_len 0 l.index);
       len : vec_len l.places ≡ l.index;
       room : l.n ≤ vec_capacity l.places;
     }

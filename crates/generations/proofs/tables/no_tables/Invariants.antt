@@ -7,7 +7,8 @@ abbrev pub invariant-loop-exponent : goal.invariant-loop-exponent
 invariant-loop-exponent g l =
     record {
       slots : (e : ℕ) (d : Named) → e < l.exponent
-          → IsSlotOf (record { ledger = l.fn.ledger; form = l.form; salt = l.salt; n = l.n }) e (get_or l.slots.items e d);
+          → IsSlotOf (record { ledger = l.fn.ledger; form = l.form; salt = l.salt; n = l.n }) e
+          (get_or l.slots.items e d);
       len : vec_len l.slots ≡ l.exponent;
       room : 17 ≤ vec_capacity l.slots;
     }

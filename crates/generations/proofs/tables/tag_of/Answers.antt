@@ -7,7 +7,12 @@ use Rattle.generations.proofs.tables.tag_of.Goals as goal
 pub returns-clause-map : goal.returns-clause-map
 returns-clause-map c =
     ap generations_named c.of-tag.ensures
-    ∙ (λ i. record { ledger = id_of (c.to_tag.ensures i); form = form_numbered-number c.args.form i; salt = c.args.salt; n = c.args.n })
+    ∙ (λ i. record {
+      ledger = id_of (c.to_tag.ensures i);
+      form = form_numbered-number c.args.form i;
+      salt = c.args.salt;
+      n = c.args.n;
+    })
 
 pub returns-clause-size : goal.returns-clause-size
 returns-clause-size c = ap size_named c.of-tag.ensures

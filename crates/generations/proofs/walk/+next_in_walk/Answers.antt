@@ -1,7 +1,8 @@
 use Rattle.std.proofs.Common.{◌+◌, ◌/◌, ◌^◌, ◌≤◌, ◌∙◌, sym, ap, subst, arith}
 use Rattle.std.proofs.lemmas.Nat.{pow_pos}
 use Rattle.hashkeys.specs.Classes.{ClassView, IsTableSize}
-use Rattle.generations.proofs.Walks.{halved, IsFirstAfter-opening, IsLastInWalk-opening, after_low, after_high, at_least, IsFirstAfter-high, IsLastInWalk-high}
+use Rattle.generations.proofs.Walks.{halved, IsFirstAfter-opening, IsLastInWalk-opening, after_low, after_high}
+use Rattle.generations.proofs.Walks.{at_least, IsFirstAfter-high, IsLastInWalk-high}
 use Rattle.generations.proofs.walk.+next_in_walk.Goals as goal
 
 pub returns-then-index-n-clause-next : goal.returns-then-index-n-clause-next
@@ -24,7 +25,8 @@ pub new-requires-else-index-half : goal.new-requires-else-index-half
 new-requires-else-index-half t c =
     let value = c.n.ensures.value in
     let size = c.n-half.ensures.value in
-    let (k, half, even, is_size) = halved c.args.n c.args.class.n c.requires.size c.n.ensures.class.0 c.requires.least (λ e. c.if-n.false (value ∙ e)) in
+    let (k, half, even, is_size) = halved c.args.n c.args.class.n c.requires.size c.n.ensures.class.0 c.requires.least
+    (λ e. c.if-n.false (value ∙ e)) in
     let index = c.index-index.ensures in
     let below = c.n.ensures.class.1 in
     let high = c.if-index-half.false in
@@ -37,7 +39,8 @@ returns-then-index-half-clause-next t c =
     let index = c.index-index.ensures in
     let low = c.if-index-half.true in
     let at = ap (λ (x : ClassView). x.index) c.new-then-index-half.ensures in
-    after_low c.args.n c.args.class c.new-then-index-half.result c.requires.size c.n.ensures.class c.requires.least (λ e. c.if-n.false (value ∙ e))
+    after_low c.args.n c.args.class c.new-then-index-half.result c.requires.size c.n.ensures.class c.requires.least
+    (λ e. c.if-n.false (value ∙ e))
     (omega arith) (omega arith)
 
 pub returns-else-index-half-clause-next : goal.returns-else-index-half-clause-next
@@ -49,7 +52,8 @@ returns-else-index-half-clause-next t c =
     let n_is = ap (λ (x : ClassView). x.n) c.new-else-index-half.ensures in
     let at = ap (λ (x : ClassView). x.index) c.new-else-index-half.ensures in
     IsFirstAfter-high c.args.n c.new-else-index-half.result c.args.class
-    (after_high c.args.n c.new-else-index-half.result c.args.class c.requires.size c.n.ensures.class c.requires.least (λ e. c.if-n.false (value ∙ e))
+    (after_high c.args.n c.new-else-index-half.result c.args.class c.requires.size c.n.ensures.class c.requires.least
+    (λ e. c.if-n.false (value ∙ e))
     (omega arith) (n_is ∙ ap (λ x. x / 2) size) (omega arith))
     _ c.next_in_walk.ensures.next
 
@@ -62,7 +66,8 @@ returns-else-index-half-clause-last t c =
     let n_is = ap (λ (x : ClassView). x.n) c.new-else-index-half.ensures in
     let at = ap (λ (x : ClassView). x.index) c.new-else-index-half.ensures in
     IsLastInWalk-high c.args.n c.new-else-index-half.result c.args.class
-    (after_high c.args.n c.new-else-index-half.result c.args.class c.requires.size c.n.ensures.class c.requires.least (λ e. c.if-n.false (value ∙ e))
+    (after_high c.args.n c.new-else-index-half.result c.args.class c.requires.size c.n.ensures.class c.requires.least
+    (λ e. c.if-n.false (value ∙ e))
     (omega arith) (n_is ∙ ap (λ x. x / 2) size) (omega arith))
     _ c.next_in_walk.ensures.last
 
@@ -70,7 +75,8 @@ pub next_in_walk-requires : goal.next_in_walk-requires
 next_in_walk-requires t c =
     let value = c.n.ensures.value in
     let size = c.n-half.ensures.value in
-    let (k, half, even, is_size) = halved c.args.n c.args.class.n c.requires.size c.n.ensures.class.0 c.requires.least (λ e. c.if-n.false (value ∙ e)) in
+    let (k, half, even, is_size) = halved c.args.n c.args.class.n c.requires.size c.n.ensures.class.0 c.requires.least
+    (λ e. c.if-n.false (value ∙ e)) in
     let n_is = ap (λ (x : ClassView). x.n) c.new-else-index-half.ensures in
     let some = c.n.ensures.class.1 in
     let twos = pow_pos k in

@@ -4,4 +4,5 @@ use Rattle.script.proofs.Steps.{Leads-to_calls}
 use Rattle.script.proofs.draft.push_call.Goals as goal
 
 pub returns-clause-ok : goal.returns-clause-ok
-returns-clause-ok g c = λ blocks. Leads-to_calls _ _ blocks blocks _ _ refl c.in_ok-push.ensures.items (next_call blocks _ c.args.call (omega arith))
+returns-clause-ok g c = λ blocks. Leads-to_calls _ _ blocks blocks _ _ refl c.in_ok-push.ensures.items
+    (next_call blocks _ c.args.call (omega arith))

@@ -9,5 +9,6 @@ returns-clause-ok c =
     let (w, num, e) = c.in_ok-value.ensures.ok in
     let (x, is, d) = c.in_ok-threshold.ensures.ok in
     let fits : FitsSigned w64 c.in_ok-value.value = num.0 in
-    let parts = c.in_ok-above.ensures.ok ∙ ap (λ (ws : List Word). codes "above" ∷ ws) (e ∙ ap (λ (ws : List Word). w ∷ ws) d) in
+    let parts = c.in_ok-above.ensures.ok ∙ ap (λ (ws : List Word). codes "above" ∷ ws)
+    (e ∙ ap (λ (ws : List Word). w ∷ ws) d) in
     simp to_z-of_z (w, x, c.in_ok-value.value, c.in_ok-threshold.threshold, num, is, parts, refl)

@@ -1,6 +1,7 @@
 use Rattle.std.proofs.Common.{◌≡◌, ℕ, List, length, slice_index, sym, ap, ◌∙◌, arith}
 use Rattle.script.proofs.Numbers.{decimal_some, decimal_short, decimal_leads, size_from_value}
-use Rattle.script.proofs.number.read_size.Goals.{else-length-gt1-via-then-length-gt1+else-word-eq48, else-length-gt1-via-else-length-gt1}
+use Rattle.script.proofs.number.read_size.Goals.{else-length-gt1-via-then-length-gt1+else-word-eq48}
+use Rattle.script.proofs.number.read_size.Goals.{else-length-gt1-via-else-length-gt1}
 use Rattle.script.proofs.number.read_size.Goals as goal
 
 pub returns-then-length-lt1 : goal.returns-then-length-lt1

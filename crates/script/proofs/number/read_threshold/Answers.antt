@@ -15,6 +15,7 @@ pub returns-else-eq : goal.returns-else-eq
 returns-else-eq c = λ n h.
     let parsed = threshold-parses _ _ n _ h c.in-Ok.ensures.cases.0 c.parse.ensures.value.0 in
     let same_number : c.in-Ok-parse.threshold ≡ n = cc in
-    let same : c.as_bytes.result.now ≡ c.args.word.now = c.as_bytes.ensures.value ∙ c.format.ensures.text ∙ ap decimal same_number ∙ sym h.1 in
+    let same : c.as_bytes.result.now ≡ c.args.word.now = c.as_bytes.ensures.value ∙ c.format.ensures.text
+    ∙ ap decimal same_number ∙ sym h.1 in
     let equal = (bytes_eq-Decides c.as_bytes.result.now c.args.word.now).1 same in
     absurd (cc (c.eq.ensures, c.if-eq.false))

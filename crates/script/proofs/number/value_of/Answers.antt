@@ -18,12 +18,14 @@ returns-then-not-is_ascii_digit c = λ all.
 
 pub overflow_mul-value : goal.overflow_mul-value
 overflow_mul-value c =
-    let small = front_is_small c.args.digits.now c.loop-byte.byte-index c.requires c.loop-byte-test.true c.loop-byte.invariant.digits in
+    let small = front_is_small c.args.digits.now c.loop-byte.byte-index c.requires c.loop-byte-test.true
+    c.loop-byte.invariant.digits in
     omega (arith, small, c.loop-byte.invariant.value)
 
 pub overflow_add-value : goal.overflow_add-value
 overflow_add-value c =
-    let small = front_is_small c.args.digits.now c.loop-byte.byte-index c.requires c.loop-byte-test.true c.loop-byte.invariant.digits in
+    let small = front_is_small c.args.digits.now c.loop-byte.byte-index c.requires c.loop-byte-test.true
+    c.loop-byte.invariant.digits in
     let range = c.if-not-is_ascii_digit.ensures.cases in
     omega (arith, small, c.loop-byte.invariant.value, range, c.from.ensures)
 
@@ -35,7 +37,13 @@ loop-byte-preserved c =
     let is = digit_value_digit _ c.if-not-is_ascii_digit.ensures.cases in
     record {
       digits = digits_more 10 ds i c.loop-byte-test.true c.loop-byte.invariant.digits digit;
-      value = omega (arith, digits_value_more 10 ds i c.loop-byte-test.true, c.loop-byte.invariant.value, is, c.from.ensures);
+      value = omega (
+        arith,
+        digits_value_more 10 ds i c.loop-byte-test.true,
+        c.loop-byte.invariant.value,
+        is,
+        c.from.ensures,
+      );
     }
 
 pub returns : goal.returns

@@ -1,4 +1,5 @@
-use Rattle.std.proofs.Common.{rules, arith, ◌≡◌, ℕ, ◌+◌, ◌<◌, ◌≤◌, List, ◌∷◌, [], ◌++◌, length, map, set, vec_len, refl, ap, sym, ◌∙◌, subst}
+use Rattle.std.proofs.Common.{rules, arith, ◌≡◌, ℕ, ◌+◌, ◌<◌, ◌≤◌, List, ◌∷◌, [], ◌++◌, length, map, set, vec_len, refl}
+use Rattle.std.proofs.Common.{ap, sym, ◌∙◌, subst}
 use Rattle.std.proofs.lemmas.List.{length-append, length-set, map_push}
 use Rattle.std.specs.Prelude.{Some}
 use Rattle.std.proofs.lemmas.List.Elements.{All-pop}
@@ -21,9 +22,11 @@ invariant_of-push g c =
     let count : length c.pop.new.self.items ≡ c.len.result = search rules in
     let longer : length c.loop-own.deques.items ≡ length c.pop.new.self.items + 1 = ap length c.in-Some.ensures.items
     ∙ length-append c.pop.new.self.items (c.in-Some.own ∷ []) in
-    let most : length c.loop-own.deques.items ≤ most_workers = omega (arith, c.loop-own.deques.ok.0, c.loop-own.invariant.few) in
+    let most : length c.loop-own.deques.items ≤ most_workers =
+    omega (arith, c.loop-own.deques.ok.0, c.loop-own.invariant.few) in
     record {
-      deque = ap g.S.Seats.deque (sym count) ∙ last_seat worker_deque g.S.Seats.deque c.pop.new.self.items c.in-Some.own all;
+      deque = ap g.S.Seats.deque (sym count) ∙ last_seat worker_deque g.S.Seats.deque c.pop.new.self.items
+          c.in-Some.own all;
       shares = omega arith;
       some = omega arith;
       few = (let less : c.len.result < most_workers = omega (arith, count, longer, most) in less);
@@ -34,7 +37,8 @@ loop-own-preserved g c =
     let all = subst (AreSeated worker_deque g.S.Seats.deque) c.in-Some.ensures.items c.loop-own.invariant.seats in
     let longer : length c.loop-own.deques.items ≡ length c.pop.new.self.items + 1 = ap length c.in-Some.ensures.items
     ∙ length-append c.pop.new.self.items (c.in-Some.own ∷ []) in
-    let most : length c.loop-own.deques.items ≤ most_workers = omega (arith, c.loop-own.deques.ok.0, c.loop-own.invariant.few) in
+    let most : length c.loop-own.deques.items ≤ most_workers =
+    omega (arith, c.loop-own.deques.ok.0, c.loop-own.invariant.few) in
     let of : Member g.row.T.Denot g.row.S.Denot g.S.Seats → Shape = shape in
     record {
       count = search rules;
@@ -42,8 +46,10 @@ loop-own-preserved g c =
       shares = (All-pop IsUnshared c.loop-own.deques.items c.pop.new.self.items
           (Some c.in-Some.own) c.in-Some.ensures.items c.loop-own.invariant.shares).0;
       seats = other_seats worker_deque g.S.Seats.deque c.pop.new.self.items c.in-Some.own all;
-      numbered = one_numbered of c.loop-own.all.items c.push.new.self.items _ c.in_ok-push.ensures.items c.len-workers.result
-          (vec_len c.loop-own.deques) (vec_len c.pop.new.self) (omega (arith, longer, c.loop-own.deques.ok.0, c.pop.new.self.ok.0))
+      numbered = one_numbered of c.loop-own.all.items c.push.new.self.items _ c.in_ok-push.ensures.items
+          c.len-workers.result
+          (vec_len c.loop-own.deques) (vec_len c.pop.new.self)
+          (omega (arith, longer, c.loop-own.deques.ok.0, c.pop.new.self.ok.0))
           (omega (arith, c.pop.new.self.ok.0)) c.loop-own.invariant.numbered;
       ways = one_alone of c.loop-own.all.items c.push.new.self.items _ c.in_ok-push.ensures.items refl
           (ap targets c.new.ensures.items) c.loop-own.invariant.ways;
@@ -65,7 +71,9 @@ loop-before-preserved g c =
     let more : map to c.push-in-loop-before.new.self.items ≡ map to two.ways.items ++ to c.in_ok-way.way ∷ [] =
     ap (map to) c.in_ok-push-2.ensures.items ∙ map_push to two.ways.items c.in_ok-way.way in (
       c.loop-before.invariant.0,
-      hands of all c.if-before-place.other c.way.new.self one c.loop-place.place _ two (to c.in_ok-way.way) c.loop-before.invariant.1 other
-          c.index_mut.ensures.value c.in_ok-way.ensures.shape c.in_ok-way.ensures.to mine c.index_mut-in-loop-before.ensures.value
+      hands of all c.if-before-place.other c.way.new.self one c.loop-place.place _ two
+          (to c.in_ok-way.way) c.loop-before.invariant.1 other
+          c.index_mut.ensures.value c.in_ok-way.ensures.shape c.in_ok-way.ensures.to mine
+          c.index_mut-in-loop-before.ensures.value
           (ap (λ (l : List ℕ). record (of two) { ways = l }) more),
     )

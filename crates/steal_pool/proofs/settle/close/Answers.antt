@@ -20,5 +20,6 @@ returns g c =
           c.give_all_back.ensures.pushed h ∙ ap (sum_by pushed) c.as_mut_slice.ensures.value in
           let t : sum_by taken c.give_all_back.new.members ≡ sum_by taken c.args.members.items =
           c.give_all_back.ensures.taken h ∙ ap (sum_by taken) c.as_mut_slice.ensures.value in
-          let all : sum_by pushed c.give_all_back.new.members ≡ sum_by taken c.give_all_back.new.members + weigh h s.0 = rw back at (s.2 h) in omega arith,
+          let all : sum_by pushed c.give_all_back.new.members ≡ sum_by taken c.give_all_back.new.members + weigh h s.0 =
+          rw back at (s.2 h) in omega arith,
     )

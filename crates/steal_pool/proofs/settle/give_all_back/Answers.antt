@@ -12,7 +12,8 @@ pub give_back-requires : goal.give_back-requires
 give_back-requires g c =
     let of : Member g.row.T.Denot g.row.S.Denot g.S.Seats → Shape = shape in
     let here : c.loop-place.place < length c.loop-place.members = omega arith in
-    lays of _ c.loop-place.members c.loop-place.place c.take_ways-ways.new.self c.index-members-place.result c.loop-place.invariant.crew
+    lays of _ c.loop-place.members c.loop-place.place c.take_ways-ways.new.self c.index-members-place.result
+    c.loop-place.invariant.crew
     here c.take_ways-ways.ensures.shape.0 c.take_ways-ways.ensures.shape.1
 
 pub loop-place-preserved : goal.loop-place-preserved
@@ -28,11 +29,13 @@ loop-place-preserved g c =
           (ap (λ (u : Shape). u.ways) e.shape.0) c.give_back.ensures.ways c.loop-place.invariant.none;
       pushed = λ h.
           c.give_back.ensures.pushed h
-          ∙ (kept (weight_pushed_by {S = g.row.S.Denot} {g = g.S.Seats} h) ms c.loop-place.place c.take_ways-ways.new.self one here (e.pushed h)
+          ∙ (kept (weight_pushed_by {S = g.row.S.Denot} {g = g.S.Seats} h) ms c.loop-place.place
+          c.take_ways-ways.new.self one here (e.pushed h)
           ∙ c.loop-place.invariant.pushed h);
       taken = λ h.
           c.give_back.ensures.taken h
-          ∙ (lent (weight_taken_by {S = g.row.S.Denot} {g = g.S.Seats} h) ms c.loop-place.place c.take_ways-ways.new.self one
+          ∙ (lent (weight_taken_by {S = g.row.S.Denot} {g = g.S.Seats} h) ms c.loop-place.place
+          c.take_ways-ways.new.self one
           (weight_stolen h c.take_ways-ways.result.items) here (e.taken h)
           ∙ c.loop-place.invariant.taken h);
     }
@@ -42,6 +45,8 @@ returns-clause-home g c k d here =
     let of : Member g.row.T.Denot g.row.S.Denot g.S.Seats → Shape = shape in
     let ms = c.loop-place.members in
     let own : List (List ℕ) = own_ways (shapes ms) in
-    let long : length own ≤ c.loop-place.place = omega (arith, length-map ms of, length-map (shapes ms) (λ (u : Shape). u.ways)) in
-    let none : All (λ (w : List ℕ). w ≡ []) own = subst (All (λ (w : List ℕ). w ≡ [])) (take_all c.loop-place.place own long) c.loop-place.invariant.none in
+    let long : length own ≤ c.loop-place.place =
+    omega (arith, length-map ms of, length-map (shapes ms) (λ (u : Shape). u.ways)) in
+    let none : All (λ (w : List ℕ). w ≡ []) own =
+    subst (All (λ (w : List ℕ). w ≡ [])) (take_all c.loop-place.place own long) c.loop-place.invariant.none in
     let all = all_home of ms c.loop-place.invariant.crew none k d here in (all.0, nil_from_map (λ w. w.to) _ all.1)

@@ -9,6 +9,7 @@ invariant-loop-place g l =
     record {
       crew : AreCrew [] (shapes l.members);
       none : All (λ ws. ws ≡ []) (take l.place (own_ways (shapes l.members)));
-      pushed : (h : g.row.T.Denot → ℕ) → sum_by (weight_pushed_by h) l.members ≡ sum_by (weight_pushed_by h) l.fn.members;
+      pushed : (h : g.row.T.Denot → ℕ) → sum_by (weight_pushed_by h) l.members
+          ≡ sum_by (weight_pushed_by h) l.fn.members;
       taken : (h : g.row.T.Denot → ℕ) → sum_by (weight_taken_by h) l.members ≡ sum_by (weight_taken_by h) l.fn.members;
     }

@@ -11,27 +11,32 @@ use Rattle.steal_pool.proofs.settle.give_back.Goals as goal
 pub overflow_sub-home : goal.overflow_sub-home
 overflow_sub-home g c =
     let crew = popped (λ w. w.to) _ _ _ _ c.in-Some.ensures.items c.loop-way.invariant.crew in
-    let h = (home (shape {T = g.row.T.Denot} {S = g.row.S.Denot} {g = g.S.Seats}) _ _ c.loop-way.members crew).0 in omega arith
+    let h = (home (shape {T = g.row.T.Denot} {S = g.row.S.Denot} {g = g.S.Seats}) _ _ c.loop-way.members crew).0 in
+    omega arith
 
 pub overflow_sub-home-in-Some : goal.overflow_sub-home-in-Some
 overflow_sub-home-in-Some g c =
     let crew = popped (λ w. w.to) _ _ _ _ c.in-Some.ensures.items c.loop-way.invariant.crew in
-    let h = (home (shape {T = g.row.T.Denot} {S = g.row.S.Denot} {g = g.S.Seats}) _ _ c.loop-way.members crew).0 in omega arith
+    let h = (home (shape {T = g.row.T.Denot} {S = g.row.S.Denot} {g = g.S.Seats}) _ _ c.loop-way.members crew).0 in
+    omega arith
 
 pub bounds-members-home : goal.bounds-members-home
 bounds-members-home g c =
     let crew = popped (λ w. w.to) _ _ _ _ c.in-Some.ensures.items c.loop-way.invariant.crew in
-    let h = (home (shape {T = g.row.T.Denot} {S = g.row.S.Denot} {g = g.S.Seats}) _ _ c.loop-way.members crew).0 in omega arith
+    let h = (home (shape {T = g.row.T.Denot} {S = g.row.S.Denot} {g = g.S.Seats}) _ _ c.loop-way.members crew).0 in
+    omega arith
 
 pub take_back-requires-clause-to : goal.take_back-requires-clause-to
 take_back-requires-clause-to g c =
     let crew = popped (λ w. w.to) _ _ _ _ c.in-Some.ensures.items c.loop-way.invariant.crew in
-    sym ((home (shape {T = g.row.T.Denot} {S = g.row.S.Denot} {g = g.S.Seats}) _ _ c.loop-way.members crew).1 c.index-members-home.result).1
+    sym ((home (shape {T = g.row.T.Denot} {S = g.row.S.Denot} {g = g.S.Seats}) _ _ c.loop-way.members crew).1
+    c.index-members-home.result).1
 
 pub take_back-requires-clause-out : goal.take_back-requires-clause-out
 take_back-requires-clause-out g c =
     let crew = popped (λ w. w.to) _ _ _ _ c.in-Some.ensures.items c.loop-way.invariant.crew in
-    ((home (shape {T = g.row.T.Denot} {S = g.row.S.Denot} {g = g.S.Seats}) _ _ c.loop-way.members crew).1 c.index-members-home.result).0
+    ((home (shape {T = g.row.T.Denot} {S = g.row.S.Denot} {g = g.S.Seats}) _ _ c.loop-way.members crew).1
+    c.index-members-home.result).0
 
 pub loop-way-preserved : goal.loop-way-preserved
 loop-way-preserved g c =
@@ -51,8 +56,10 @@ loop-way-preserved g c =
           ∙ c.loop-way.invariant.pushed h;
       taken = λ h.
           let brought : Way g.row.T.Denot g.row.S.Denot g.S.Seats → ℕ = weight_brought_by h in
-          let more = gained (weight_taken_by {S = g.row.S.Denot} {g = g.S.Seats} h) ms at c.take_back.new.self one (brought c.in-Some.way) here (e.taken h) in
-          let less : sum_by brought c.loop-way.ways.items ≡ sum_by brought c.pop.new.self.items + brought c.in-Some.way =
+          let more = gained (weight_taken_by {S = g.row.S.Denot} {g = g.S.Seats} h) ms at c.take_back.new.self one
+          (brought c.in-Some.way) here (e.taken h) in
+          let less : sum_by brought c.loop-way.ways.items ≡ sum_by brought c.pop.new.self.items + brought
+          c.in-Some.way =
           ap (sum_by brought) c.in-Some.ensures.items ∙ sum_by_push brought c.pop.new.self.items c.in-Some.way in
           omega (arith, c.loop-way.invariant.taken h);
     }

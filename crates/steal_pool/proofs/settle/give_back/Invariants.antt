@@ -8,8 +8,10 @@ invariant-loop-way g l =
     record {
       crew : AreCrew (targets l.ways.items) (shapes l.members);
       ways : own_ways (shapes l.members) ≡ own_ways (shapes l.fn.members);
-      pushed : (h : g.row.T.Denot → ℕ) → sum_by (weight_pushed_by h) l.members ≡ sum_by (weight_pushed_by h) l.fn.members;
-      taken : (h : g.row.T.Denot → ℕ) → sum_by (weight_taken_by h) l.members + weight_stolen h l.ways.items ≡ sum_by (weight_taken_by h) l.fn.members
+      pushed : (h : g.row.T.Denot → ℕ) → sum_by (weight_pushed_by h) l.members
+          ≡ sum_by (weight_pushed_by h) l.fn.members;
+      taken : (h : g.row.T.Denot → ℕ) → sum_by (weight_taken_by h) l.members + weight_stolen h l.ways.items
+          ≡ sum_by (weight_taken_by h) l.fn.members
           + weight_stolen h l.fn.ways.items;
     }
 

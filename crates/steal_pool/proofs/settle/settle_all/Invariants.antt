@@ -11,7 +11,8 @@ invariant-loop-member g l =
       home : All IsHome l.members.items;
       small : l.left + 2 ^ 64 * vec_len l.members ≤ 2 ^ 64 * vec_len l.fn.members;
       books : (rest : List g.row.T.Denot) × (length rest ≡ l.left)
-          × ((h : g.row.T.Denot → ℕ) → sum_by (weight_pushed_by h) l.fn.members.items + sum_by (weight_taken_by h) l.members.items ≡ sum_by
+          × ((h : g.row.T.Denot → ℕ) → sum_by (weight_pushed_by h) l.fn.members.items + sum_by
+          (weight_taken_by h) l.members.items ≡ sum_by
           (weight_pushed_by h) l.members.items + sum_by (weight_taken_by h) l.fn.members.items + weigh h rest);
     }
 

@@ -8,6 +8,7 @@ close-requires g c =
     let new = c.two_take-newest.new.members in
     let long : length new ≡ c.in_ok-members.members.len = omega arith in
     let back = take_at new (drop (length new) c.in_ok-members.members.items) c.in_ok-members.members.len long in
-    let same : shapes new ≡ shapes c.in_ok-members.members.items = c.two_take-newest.ensures ∙ ap shapes c.as_mut_slice.ensures.value in
+    let same : shapes new ≡ shapes c.in_ok-members.members.items = c.two_take-newest.ensures
+    ∙ ap shapes c.as_mut_slice.ensures.value in
     let all : AreCrew [] (shapes new) = subst (AreCrew []) (sym same) c.in_ok-members.ensures.crew in
     rw back all

@@ -17,6 +17,7 @@ new-requires-2-clause-of_class g c =
 
 pub returns-in-Ok-clause-passes : goal.returns-in-Ok-clause-passes
 returns-in-Ok-clause-passes g c =
-    let own = All-map (λ (p : PassView _ _ _). p.ledger ≡ c.in_ok-ledger.ledger.id) (new_pass c.in_ok-ledger.ledger.id) (range_with_len 0 c.args.clients)
+    let own = All-map (λ (p : PassView _ _ _). p.ledger ≡ c.in_ok-ledger.ledger.id) (new_pass c.in_ok-ledger.ledger.id)
+    (range_with_len 0 c.args.clients)
     (λ k d inside. refl) in
     subst (All (λ (p : PassView _ _ _). p.ledger ≡ c.in_ok-ledger.ledger.id)) (sym c.in_ok-ledger.ensures.passes) own

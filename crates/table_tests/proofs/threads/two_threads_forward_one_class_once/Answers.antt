@@ -10,7 +10,8 @@ pub open_quiet-requires : goal.open_quiet-requires
 open_quiet-requires g c = (4, omega arith, refl)
 
 pub join-one-requires-send-F : goal.join-one-requires-send-F
-join-one-requires-send-F g c κs within = search (sendable, crosses, the_words.the_sync, the_lease.the_sync, map_sync) depth 40 fits 20000
+join-one-requires-send-F g c κs within = search (sendable, crosses, the_words.the_sync, the_lease.the_sync, map_sync)
+    depth 40 fits 20000
 
 pub new-requires : goal.new-requires
 new-requires g c = ((5, omega arith, refl), omega arith)

@@ -1,10 +1,11 @@
-use Rattle.std.proofs.Common.{◌≡◌, ◌+◌, ◌<◌, ◌^◌, ℕ, Option, Some, min, nat_eq, List, [], Vec, length, map, sym, ap, ◌∙◌, subst, refl, arith, rules}
+use Rattle.std.proofs.Common.{◌≡◌, ◌+◌, ◌<◌, ◌^◌, ℕ, Option, Some, min, nat_eq, List, [], Vec, length, map, sym, ap}
+use Rattle.std.proofs.Common.{◌∙◌, subst, refl, arith, rules}
 use Rattle.std.proofs.lemmas.List.{length-map}
 use Rattle.bin_history.specs.Calls.{after}
 use Rattle.bin_history.specs.Entries.{lookup, HasDistinctKeys}
 use Rattle.bin_history.specs.declared.call.Call.{Call}
 use Rattle.count_ledger.specs.Views.{LedgerView}
-use Rattle.chm.specs.Quiets.{entries_of}
+use Rattle.chm.specs.Headline.{entries_of}
 use Rattle.functions.specs.declared.numbers.Add.{Add}
 use Rattle.facingberyl.proofs.Tallies.{stored_count-of-key, times-few}
 use Rattle.facingberyl.specs.Tallies.{AllCounted, times_in_all}
@@ -19,7 +20,8 @@ exact n room = ap Some (omega arith)
 pub returns : goal.returns
 returns g c =
     let after_calls : Call (List ℕ) ℕ Add → Option ℕ
-    → Option ℕ = after nat_eq (λ (f : Add) (k : List ℕ) (v : Option ℕ). v) (λ (f : Add) (old given : ℕ). Some (min (old + given) 18446744073709551615)) in
+    → Option ℕ = after nat_eq (λ (f : Add) (k : List ℕ) (v : Option ℕ). v)
+    (λ (f : Add) (old given : ℕ). Some (min (old + given) 18446744073709551615)) in
     let parts : List (List (List ℕ)) = map (λ part. part.items) c.args.parts.now in
     let n : ℕ = length c.args.parts.now in
     let team = c.in_ok-team.team in
@@ -30,19 +32,25 @@ returns g c =
     let lent : AreWhole c.args.parts.now c.passes.result.now =
     search (rules, c.if-not-are_counted.ensures, c.are_counted.ensures, c.if-not-are_counted.false) in
     let whole : AreWhole c.args.parts.now passes = subst (AreWhole c.args.parts.now) c.passes.ensures lent in
-    let made : AllCounted parts passes = all-counted team.map.ledger.id n team.passes new c.args.parts.now refl passes c.work.ensures.done whole in
+    let made : AllCounted parts passes = all-counted team.map.ledger.id n team.passes new c.args.parts.now refl passes
+    c.work.ensures.done whole in
     let ledger_is : q.ledger ≡ team.map.ledger = c.in_ok-map.ensures.ledger ∙ ap (λ m. m.ledger) c.work.ensures.map in
-    let clients : q.ledger.clients ≡ length parts = ap (λ (l : LedgerView (List ℕ) ℕ). l.clients) ledger_is ∙ c.in_ok-team.ensures.new.clients ∙ sym wide in
-    let opening : q.ledger.opening ≡ [] = ap (λ (l : LedgerView (List ℕ) ℕ). l.opening) ledger_is ∙ c.in_ok-team.ensures.new.opening in
-    let as_many : length q.passes ≡ length parts = ap length c.in_ok-map.ensures.passes ∙ c.work.ensures.len ∙ new-length team.map.ledger.id n team.passes new
+    let clients : q.ledger.clients ≡ length parts = ap (λ (l : LedgerView (List ℕ) ℕ). l.clients) ledger_is
+    ∙ c.in_ok-team.ensures.new.clients ∙ sym wide in
+    let opening : q.ledger.opening ≡ [] = ap (λ (l : LedgerView (List ℕ) ℕ). l.opening) ledger_is
+    ∙ c.in_ok-team.ensures.new.opening in
+    let as_many : length q.passes ≡ length parts = ap length c.in_ok-map.ensures.passes ∙ c.work.ensures.len
+    ∙ new-length team.map.ledger.id n team.passes new
     ∙ sym wide in
     let counted : AllCounted parts q.passes = subst (AllCounted parts) (sym c.in_ok-map.ensures.passes) made in
-    let items : c.in_ok-for_each.field-0.items ≡ entries_of q.bins = c.in_ok-for_each.ensures.answers ∙ pairs-same (entries_of q.bins) in
+    let items : c.in_ok-for_each.field-0.items ≡ entries_of q.bins = c.in_ok-for_each.ensures.answers
+    ∙ pairs-same (entries_of q.bins) in
     record {
       distinct = subst (HasDistinctKeys same_word) (sym items) c.histories.ensures.distinct;
       each = λ w.
           let few = times-few same_word w 144115188075855872 c.args.parts.now whole.few in
           let room : times_in_all same_word w parts < 2 ^ 64 = omega (arith, few) in
-          ap (λ (es : List (List ℕ × ℕ)). lookup same_word es w) items ∙ stored_count-of-key same_word after_calls (λ k f. refl)
+          ap (λ (es : List (List ℕ × ℕ)). lookup same_word es w) items
+          ∙ stored_count-of-key same_word after_calls (λ k f. refl)
           (λ k f m. exact m) q parts clients as_many opening counted c.histories.ensures.each_key w room;
     }

@@ -15,11 +15,13 @@ loop-word-preserved g c =
           let (counted, count) = c.loop-word.invariant.1 fresh in
           let w : List ℕ = c.word.inside.0.now in
           let e : w ≡ c.word-item.result = c.word.view_is in
-          let there : slice_index_or c.args.part.now (length before.made) w ≡ slice_index_or c.args.part.now c.loop-word.word-index c.word-item.result =
+          let there : slice_index_or c.args.part.now (length before.made) w
+          ≡ slice_index_or c.args.part.now c.loop-word.word-index c.word-item.result =
           λ i. slice_index_or c.args.part.now (count i) (e i) in
           let is : slice_index_or c.args.part.now (length before.made) w ≡ w = there ∙ sym c.word-item.is ∙ sym e in
           let more : length before.made < length c.args.part.now = omega (arith, count, c.loop-word-test.true) in (
-            subst (HasCounted c.args.part.now) (sym made) (HasCounted-push c.args.part.now before.made r w _ counted more is called.call_is),
+            subst (HasCounted c.args.part.now) (sym made)
+                (HasCounted-push c.args.part.now before.made r w _ counted more is called.call_is),
             ap length made ∙ length_push before.made r ∙ ap (λ (n : ℕ). n + 1) count,
           ),
     )

@@ -5,4 +5,5 @@ use Rattle.word_count.proofs.count.count_part.Given as goal
 abbrev pub invariant-loop-word : goal.invariant-loop-word
 invariant-loop-word g l =
     (l.client.pass.now.client ≡ l.initial.client.pass.now.client)
-    × (l.initial.client.pass.now.made ≡ [] → HasCounted l.part l.client.pass.now.made × (length l.client.pass.now.made ≡ l.word-index))
+    × (l.initial.client.pass.now.made ≡ [] → HasCounted l.part l.client.pass.now.made
+    × (length l.client.pass.now.made ≡ l.word-index))

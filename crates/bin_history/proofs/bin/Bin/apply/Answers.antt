@@ -23,6 +23,8 @@ returns-clause-history g c =
     let olds = c.self.inside.entries.items in
     let news = c.carry_out-taken.new.entries.items in
     rw (← c.self.view_is, ← c.ready.view_is)
-    (GoesOn-called g.K.PartialEq.eq tells g.K.HashKey.code (after g.V.PartialEq.eq g.F.Remap.remapped g.F.Remap.merged) _ _ _ _
+    (GoesOn-called g.K.PartialEq.eq tells g.K.HashKey.code
+    (after g.V.PartialEq.eq g.F.Remap.remapped g.F.Remap.merged) _ _ _ _
     refl c.add_to.ensures.form (stored_by_form c.self.inside.log olds) (stored_by_form c.add_to.new.log news)
-    (λ e. c.add_to.ensures.base news ∙ base_in_log c.self.inside.log news olds e) records entries (w.worked_out.before_is, w.worked_out.after_is))
+    (λ e. c.add_to.ensures.base news ∙ base_in_log c.self.inside.log news olds e) records entries
+    (w.worked_out.before_is, w.worked_out.after_is))

@@ -7,7 +7,12 @@ use Rattle.bin_history.proofs.bin.Bin.part.Goals as goal
 pub invariant_of-result : goal.invariant_of-result
 invariant_of-result g c =
     let tells = key_tells g.met.K.Eq.laws g.met.K.HashKey.equal_is_same in
-    rw (c.in_ok-entries.ensures, c.deref.ensures.value, c.in_ok-log.ensures.base c.self.inside.entries.items, c.in_ok-log.ensures.records)
+    rw (
+      c.in_ok-entries.ensures,
+      c.deref.ensures.value,
+      c.in_ok-log.ensures.base c.self.inside.entries.items,
+      c.in_ok-log.ensures.records,
+    )
     (IsReplayed-part g.K.PartialEq.eq tells _ _ _ _ c.args.half _ _ _ c.self.invariant)
 
 pub returns-clause-part : goal.returns-clause-part

@@ -1,6 +1,6 @@
 use Rattle.std.proofs.Common.{◌≡◌, ◌+◌, List, length, ap, sym, ◌∙◌, subst, slice_range, arith}
 use Rattle.std.proofs.lemmas.List.{length-append}
-use Rattle.chm.specs.Quiets.{entries_of}
+use Rattle.chm.specs.Headline.{entries_of}
 use Rattle.bulk_tasks.proofs.Ranges.{entries_side_by_side, range_few}
 use Rattle.bulk_tasks.proofs.collector.CollectingBody.join.Goals as goal
 
@@ -29,6 +29,7 @@ loop-next-preserved g c =
       omega arith,
       a.3,
       subst P (entries_side_by_side c.args.self.now.bins.now c.args.lo c.loop-next.whole.hi c.in-Some-take.next.hi i.0
-          (omega arith)) (c.append.ensures (entries_of (slice_range c.args.self.now.bins.now c.args.lo c.loop-next.whole.hi))
+          (omega arith))
+          (c.append.ensures (entries_of (slice_range c.args.self.now.bins.now c.args.lo c.loop-next.whole.hi))
           (entries_of (slice_range c.args.self.now.bins.now c.loop-next.whole.hi c.in-Some-take.next.hi)) i.2 a.2),
     )

@@ -1,6 +1,7 @@
-use Rattle.std.proofs.Common.{◌≡◌, ℕ, suc, ◌+◌, List, ◌∷◌, ◌++◌, Some, length, get_or, slice_range, ap, subst, sym, ◌∙◌, arith}
+use Rattle.std.proofs.Common.{◌≡◌, ℕ, suc, ◌+◌, List, ◌∷◌, ◌++◌, Some, length, get_or, slice_range, ap, subst, sym, ◌∙◌}
+use Rattle.std.proofs.Common.{arith}
 use Rattle.std.proofs.lemmas.List.{length-append}
-use Rattle.chm.specs.Quiets.{entries_of}
+use Rattle.chm.specs.Headline.{entries_of}
 use Rattle.bulk_tasks.specs.Folds.{fold_from, plain_fold}
 use Rattle.bulk_tasks.proofs.Folding.{begun}
 use Rattle.bulk_tasks.proofs.Ranges.{entries_after_none}
@@ -20,15 +21,18 @@ returns-in-Some g c =
     let own : first ∷ others ≡ (get_or bins i c.index-bins-place.result).entries
     = sym c.in-Some.ensures.cases.0 ∙ c.entries.ensures ∙ ap (λ b. b.entries) c.index-bins-place.is in
     let all : (first ∷ others) ++ rest ≡ entries_of bins
-    = ap (λ (es : List _). es ++ rest) own ∙ entries_after_none bins i c.index-bins-place.result c.loop-place-test.true c.loop-place.invariant in
+    = ap (λ (es : List _). es ++ rest) own ∙ entries_after_none bins i c.index-bins-place.result c.loop-place-test.true
+    c.loop-place.invariant in
     let value : c.in_ok-begun.begun ≡ fold_from lift join (lift first.0 first.1) others
     = c.in_ok-begun.ensures.fold ∙ ap (λ a. fold_from lift join a others) c.in_ok-lifted.ensures.value in (
       ap Some (c.in_ok-fold_bins_onto.ensures.fold ∙ ap (λ a. fold_from lift join a rest) value)
           ∙ begun lift join first others rest ∙ ap (plain_fold lift join) all,
-      let both : suc (length others) + length rest ≡ length (entries_of bins) = sym (length-append (first ∷ others) rest) ∙ ap length all in
+      let both : suc (length others) + length rest ≡ length (entries_of bins) =
+          sym (length-append (first ∷ others) rest) ∙ ap length all in
           let len : (1 + length others) + length rest ≡ length (entries_of bins) = omega (arith, both) in
           subst (λ (m : ℕ). within m c.in_ok-fold_bins_onto.field-0) len
-          (c.in_ok-fold_bins_onto.ensures.within (1 + length others) (c.in_ok-begun.ensures.within 1 c.in_ok-lifted.ensures.within)),
+          (c.in_ok-fold_bins_onto.ensures.within (1 + length others)
+          (c.in_ok-begun.ensures.within 1 c.in_ok-lifted.ensures.within)),
     )
 
 pub fold_bins_onto-requires : goal.fold_bins_onto-requires
@@ -41,7 +45,15 @@ fold_bins_onto-requires g c =
     let own : first ∷ others ≡ (get_or bins i c.index-bins-place.result).entries
     = sym c.in-Some.ensures.cases.0 ∙ c.entries.ensures ∙ ap (λ b. b.entries) c.index-bins-place.is in
     let all : (first ∷ others) ++ rest ≡ entries_of bins
-    = ap (λ (es : List _). es ++ rest) own ∙ entries_after_none bins i c.index-bins-place.result c.loop-place-test.true c.loop-place.invariant in
-    let both : suc (length others) + length rest ≡ length (entries_of bins) = sym (length-append (first ∷ others) rest) ∙ ap length all in
+    = ap (λ (es : List _). es ++ rest) own ∙ entries_after_none bins i c.index-bins-place.result c.loop-place-test.true
+    c.loop-place.invariant in
+    let both : suc (length others) + length rest ≡ length (entries_of bins) = sym (length-append (first ∷ others) rest)
+    ∙ ap length all in
     let few = c.requires.few in
-    record { few = (1 + length others, c.in_ok-begun.ensures.within 1 c.in_ok-lifted.ensures.within, omega (arith, both, few)) }
+    record {
+      few = (
+        1 + length others,
+        c.in_ok-begun.ensures.within 1 c.in_ok-lifted.ensures.within,
+        omega (arith, both, few),
+      );
+    }

@@ -1,6 +1,6 @@
 -- No bin up to here has a pair.
 use Rattle.std.proofs.Common.{◌≡◌, [], take}
-use Rattle.chm.specs.Quiets.{entries_of}
+use Rattle.chm.specs.Headline.{entries_of}
 use Rattle.bulk_tasks.proofs.reducing.FoldingCollector.collect.Given as goal
 
 abbrev pub invariant-loop-place : goal.invariant-loop-place

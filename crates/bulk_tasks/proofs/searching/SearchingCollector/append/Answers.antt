@@ -8,7 +8,8 @@ returns-in-Found g c = λ es fs h k.
 
 pub returns-in-Nothing : goal.returns-in-Nothing
 returns-in-Nothing g c = λ es fs h k.
-    let l = rw c.in-Nothing.is at h in after_nothing (g.P.Probe.probed c.args.self.now.probe.now) g.P.Probe.never_refuses
+    let l = rw c.in-Nothing.is at h in
+    after_nothing (g.P.Probe.probed c.args.self.now.probe.now) g.P.Probe.never_refuses
     (IsTrue c.args.self.now.may_give_up) es fs c.args.right l k
 
 pub returns-in-Found-right : goal.returns-in-Found-right

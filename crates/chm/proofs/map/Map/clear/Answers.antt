@@ -18,7 +18,8 @@ loop-init g c =
     let V : VisitView _ _ → Type 0 = IsVisit g.K.PartialEq.eq g.K.HashKey.code
     (after g.V.PartialEq.eq g.F.Remap.remapped g.F.Remap.merged) c.args.self.now.ledger c.args.pass.now in
     let E : VisitView _ _ → Type 0 = λ v. v.entries ≡ [] in
-    let first : c.new-next.result ≡ record { n = n; index = 0 } = c.new-next.ensures ∙ (λ i. record { n = own i; index = 0 }) in
+    let first : c.new-next.result ≡ record { n = n; index = 0 } =
+    c.new-next.ensures ∙ (λ i. record { n = own i; index = 0 }) in
     let first_n : c.new-next.result.n ≡ n = ap (λ (k : ClassView). k.n) first in
     record {
       visits = ([], subst (IsWalkTo n []) (sym first) (c.walk_laws.ensures.first n size), All-nil V, All-nil E);
@@ -27,7 +28,9 @@ loop-init g c =
     }
 
 pub returns-in_err-class-clause-removed : goal.returns-in_err-class-clause-removed
-returns-in_err-class-clause-removed g c = removed-more c.args.pass.now c.loop.pass c.empty_first.new.pass c.loop.invariant.removed c.empty_first.ensures.removed
+returns-in_err-class-clause-removed g c =
+    removed-more c.args.pass.now c.loop.pass c.empty_first.new.pass c.loop.invariant.removed
+    c.empty_first.ensures.removed
 
 pub loop-preserved : goal.loop-preserved
 loop-preserved g c =
@@ -41,22 +44,26 @@ loop-preserved g c =
     let narrow = first.narrow in
     let least = c.loop.invariant.least in
     let after_it = subst (λ (m : ℕ). IsFirstAfter m class then) own c.in-Some-next_in_walk.ensures.next in
-    let walk = c.walk_laws.ensures.next n (classes_of_visits old) c.loop.next class then size first.next_is first.class_is
+    let walk = c.walk_laws.ensures.next n (classes_of_visits old) c.loop.next class then size
+    first.next_is first.class_is
     (omega arith) walked first.covers narrow after_it in
     let once : (hash : ℕ) → covering (classes_of_visits old ++ class ∷ []) hash ≤ 1 =
     λ hash. ⊎_elim (λ p. (let e = p.1 in omega arith)) (λ p. (let e = p.1 in omega arith)) (walk.each_hash hash) in
     let (visits, all_empty) = visits-more g.K.PartialEq.eq g.K.HashKey.code
-    (after g.V.PartialEq.eq g.F.Remap.remapped g.F.Remap.merged) c.args.self.now.ledger c.loop.pass c.empty_first.new.pass class old
+    (after g.V.PartialEq.eq g.F.Remap.remapped g.F.Remap.merged) c.args.self.now.ledger c.loop.pass
+    c.empty_first.new.pass class old
     c.in_ok-class.ensures.there once each empty c.in_ok-class.ensures.visit in
     record {
       visits = (
         old ++ record { class = class; entries = [] } ∷ [],
-        subst (λ (cs : List ClassView). IsWalkTo n cs then) (sym (classes-push old (record { class = class; entries = [] }))) walk,
+        subst (λ (cs : List ClassView). IsWalkTo n cs then)
+            (sym (classes-push old (record { class = class; entries = [] }))) walk,
         visits,
         all_empty,
       );
       least = (let l = c.in-Some-next_in_walk.ensures.least in omega arith);
-      removed = removed-more c.args.pass.now c.loop.pass c.empty_first.new.pass c.loop.invariant.removed c.empty_first.ensures.removed;
+      removed = removed-more c.args.pass.now c.loop.pass c.empty_first.new.pass c.loop.invariant.removed
+          c.empty_first.ensures.removed;
     }
 
 pub returns-in-None-next_in_walk-clause-cleared : goal.returns-in-None-next_in_walk-clause-cleared
@@ -72,18 +79,25 @@ returns-in-None-next_in_walk-clause-cleared g c =
     let last = subst (λ (m : ℕ). IsLastInWalk m class) own c.in-None-next_in_walk.ensures.last in
     let walk = c.walk_laws.ensures.last n (classes_of_visits old) c.loop.next class size first.next_is first.class_is
     (omega arith) walked first.covers narrow last in
-    let once : (hash : ℕ) → covering (classes_of_visits old ++ class ∷ []) hash ≤ 1 = λ hash. (let e = walk.each_hash hash in omega arith) in
+    let once : (hash : ℕ) → covering (classes_of_visits old ++ class ∷ []) hash ≤ 1 =
+    λ hash. (let e = walk.each_hash hash in omega arith) in
     let (visits, all_empty) = visits-more g.K.PartialEq.eq g.K.HashKey.code
-    (after g.V.PartialEq.eq g.F.Remap.remapped g.F.Remap.merged) c.args.self.now.ledger c.loop.pass c.empty_first.new.pass class old
+    (after g.V.PartialEq.eq g.F.Remap.remapped g.F.Remap.merged) c.args.self.now.ledger c.loop.pass
+    c.empty_first.new.pass class old
     c.in_ok-class.ensures.there once each empty c.in_ok-class.ensures.visit in (
       old ++ record { class = class; entries = [] } ∷ [],
-      record { each = visits; walk = subst (IsWalk n) (sym (classes-push old (record { class = class; entries = [] }))) walk },
+      record {
+        each = visits;
+        walk =
+            subst (IsWalk n) (sym (classes-push old (record { class = class; entries = [] }))) walk;
+      },
       all_empty,
     )
 
 pub returns-in-None-next_in_walk-clause-removed : goal.returns-in-None-next_in_walk-clause-removed
 returns-in-None-next_in_walk-clause-removed g c =
-    removed-more c.args.pass.now c.loop.pass c.empty_first.new.pass c.loop.invariant.removed c.empty_first.ensures.removed
+    removed-more c.args.pass.now c.loop.pass c.empty_first.new.pass c.loop.invariant.removed
+    c.empty_first.ensures.removed
 
 pub returns-in-None-next_in_walk-clause-emptied : goal.returns-in-None-next_in_walk-clause-emptied
 returns-in-None-next_in_walk-clause-emptied g c one =
@@ -91,10 +105,13 @@ returns-in-None-next_in_walk-clause-emptied g c one =
       classes_of_visits visits,
       are.walk,
       emptied g.K.PartialEq.eq g.K.HashKey.code
-          (after g.V.PartialEq.eq g.F.Remap.remapped g.F.Remap.merged) c.args.self.now.ledger c.empty_first.new.pass visits one are.each empty,
+          (after g.V.PartialEq.eq g.F.Remap.remapped g.F.Remap.merged) c.args.self.now.ledger c.empty_first.new.pass
+          visits one are.each empty,
     )
 
 pub returns-in_err-class-clause-own_left : goal.returns-in_err-class-clause-own_left
 returns-in_err-class-clause-own_left g c = λ one full.
-    own_left g.K.PartialEq.eq g.K.HashKey.code (after g.V.PartialEq.eq g.F.Remap.remapped g.F.Remap.merged) c.args.self.now.ledger c.empty_first.new.pass one
-    (c.in_err-class.ensures.left (passed_on c.from_residual.result c.in_err-class.field-0.0 PassFull c.from_residual.ensures.1 full))
+    own_left g.K.PartialEq.eq g.K.HashKey.code (after g.V.PartialEq.eq g.F.Remap.remapped g.F.Remap.merged)
+    c.args.self.now.ledger c.empty_first.new.pass one
+    (c.in_err-class.ensures.left
+    (passed_on c.from_residual.result c.in_err-class.field-0.0 PassFull c.from_residual.ensures.1 full))

@@ -8,7 +8,8 @@ use Rattle.chm.proofs.map.Map.empty.Goals as goal
 pub loop-pass-init : goal.loop-pass-init
 loop-pass-init g c =
     record {
-      removed = unchanged_in g.K.HashKey.code c.args.bin.now.salt c.args.bin.now.class c.args.pass.now c.args.pass.now refl;
+      removed = unchanged_in g.K.HashKey.code c.args.bin.now.salt c.args.bin.now.class c.args.pass.now
+          c.args.pass.now refl;
       class = refl;
       form = refl;
       salt = refl;
@@ -19,11 +20,15 @@ loop-pass-init g c =
 pub loop-pass-preserved : goal.loop-pass-preserved
 loop-pass-preserved g c =
     let inv = c.loop-pass.invariant in
-    let more = subst (λ (s : Salt). HasRemovedIn g.K.HashKey.code s c.args.bin.now.class c.loop-pass.pass c.remove_first.new.pass) inv.salt
-    (subst (λ (k : ClassView). HasRemovedIn g.K.HashKey.code c.loop-pass.bin.salt k c.loop-pass.pass c.remove_first.new.pass) inv.class
+    let more =
+    subst (λ (s : Salt). HasRemovedIn g.K.HashKey.code s c.args.bin.now.class c.loop-pass.pass
+    c.remove_first.new.pass) inv.salt
+    (subst (λ (k : ClassView). HasRemovedIn g.K.HashKey.code c.loop-pass.bin.salt k c.loop-pass.pass
+    c.remove_first.new.pass) inv.class
     c.remove_first.ensures.removed) in
     record {
-      removed = removed_in-more g.K.HashKey.code c.args.bin.now.salt c.args.bin.now.class c.args.pass.now c.loop-pass.pass c.remove_first.new.pass inv.removed
+      removed = removed_in-more g.K.HashKey.code c.args.bin.now.salt c.args.bin.now.class c.args.pass.now
+          c.loop-pass.pass c.remove_first.new.pass inv.removed
           more;
       class = c.remove_first.ensures.class ∙ inv.class;
       form = c.remove_first.ensures.form ∙ inv.form;
@@ -35,7 +40,11 @@ loop-pass-preserved g c =
 pub returns-in_err-remove_first-clause-removed : goal.returns-in_err-remove_first-clause-removed
 returns-in_err-remove_first-clause-removed g c =
     let inv = c.loop-pass.invariant in
-    let more = subst (λ (s : Salt). HasRemovedIn g.K.HashKey.code s c.args.bin.now.class c.loop-pass.pass c.remove_first.new.pass) inv.salt
-    (subst (λ (k : ClassView). HasRemovedIn g.K.HashKey.code c.loop-pass.bin.salt k c.loop-pass.pass c.remove_first.new.pass) inv.class
+    let more =
+    subst (λ (s : Salt). HasRemovedIn g.K.HashKey.code s c.args.bin.now.class c.loop-pass.pass
+    c.remove_first.new.pass) inv.salt
+    (subst (λ (k : ClassView). HasRemovedIn g.K.HashKey.code c.loop-pass.bin.salt k c.loop-pass.pass
+    c.remove_first.new.pass) inv.class
     c.remove_first.ensures.removed) in
-    removed_in-more g.K.HashKey.code c.args.bin.now.salt c.args.bin.now.class c.args.pass.now c.loop-pass.pass c.remove_first.new.pass inv.removed more
+    removed_in-more g.K.HashKey.code c.args.bin.now.salt c.args.bin.now.class c.args.pass.now c.loop-pass.pass
+    c.remove_first.new.pass inv.removed more

@@ -22,29 +22,39 @@ release-requires g c =
       form = c.empty-done.ensures.form ∙ ap (λ (b : BinView _ _ _). b.form) same_bin ∙ at.form;
       salt = c.empty-done.ensures.salt ∙ ap (λ (b : BinView _ _ _). b.salt) same_bin ∙ at.salt;
       ledger = ap (λ (r : RoleView _ _ _). r.ledger) same ∙ c.empty-done.ensures.ledger ∙ at.ledger;
-      agree = subst (λ (r : RoleView _ _ _). BinAgrees g.K.PartialEq.eq (after g.V.PartialEq.eq g.F.Remap.remapped g.F.Remap.merged) c.empty-done.new.bin r)
+      agree = subst
+          (λ (r : RoleView _ _ _). BinAgrees g.K.PartialEq.eq
+          (after g.V.PartialEq.eq g.F.Remap.remapped g.F.Remap.merged) c.empty-done.new.bin r)
           (sym same) c.empty-done.ensures.agree;
     }
 
 pub returns-clause-there : goal.returns-clause-there
 returns-clause-there g c =
-    subst (λ (p : PassView _ _ _). HasRemovedIn g.K.HashKey.code c.args.self.now.ledger.salt c.class-class.result c.args.pass.now p)
+    subst (λ (p : PassView _ _ _). HasRemovedIn g.K.HashKey.code c.args.self.now.ledger.salt c.class-class.result
+    c.args.pass.now p)
     (sym c.meet_under.ensures.same_pass)
-    (subst (λ (k : ClassView). HasRemovedIn g.K.HashKey.code c.args.self.now.ledger.salt k c.args.pass.now c.empty-done.new.pass) (sym c.class-class.ensures)
-    (subst (λ (s : Salt). HasRemovedIn g.K.HashKey.code s c.as_mut-bin.result.now.class c.args.pass.now c.empty-done.new.pass)
-    (ap (λ (b : BinView _ _ _). b.salt) c.as_mut-bin.ensures.value ∙ c.hold_first-held.ensures.salt) c.empty-done.ensures.removed))
+    (subst (λ (k : ClassView). HasRemovedIn g.K.HashKey.code c.args.self.now.ledger.salt k c.args.pass.now
+    c.empty-done.new.pass) (sym c.class-class.ensures)
+    (subst (λ (s : Salt). HasRemovedIn g.K.HashKey.code s c.as_mut-bin.result.now.class c.args.pass.now
+    c.empty-done.new.pass)
+    (ap (λ (b : BinView _ _ _). b.salt) c.as_mut-bin.ensures.value ∙ c.hold_first-held.ensures.salt)
+    c.empty-done.ensures.removed))
 
 pub returns-clause-visit : goal.returns-clause-visit
 returns-clause-visit g c =
     let met = c.meet_under.ensures.met in
     let Visited : ClassView → PassView _ _ _ → Type 0 = λ class pass.
-    IsVisit g.K.PartialEq.eq g.K.HashKey.code (after g.V.PartialEq.eq g.F.Remap.remapped g.F.Remap.merged) c.args.self.now.ledger pass
+    IsVisit g.K.PartialEq.eq g.K.HashKey.code (after g.V.PartialEq.eq g.F.Remap.remapped g.F.Remap.merged)
+    c.args.self.now.ledger pass
     (record { class = class; entries = [] }) in
     subst (Visited c.class-class.result) (sym c.meet_under.ensures.same_pass)
-    (subst (λ (class : ClassView). Visited class c.empty-done.new.pass) (sym (c.class-class.ensures ∙ sym c.empty-done.ensures.class))
+    (subst (λ (class : ClassView). Visited class c.empty-done.new.pass)
+    (sym (c.class-class.ensures ∙ sym c.empty-done.ensures.class))
     (record {
       distinct = tt;
-      of_class = All-nil (λ (e : _ × _). is_of g.K.HashKey.code c.args.self.now.ledger.salt c.empty-done.new.bin.class e.0 ≡ true);
+      of_class =
+          All-nil (λ (e : _ × _). is_of g.K.HashKey.code c.args.self.now.ledger.salt c.empty-done.new.bin.class e.0
+          ≡ true);
       history = (c.empty-done.new.role.kept, met.history, sym c.in_ok-done.ensures.empty ∙ met.entries);
     }))
 
@@ -53,19 +63,25 @@ returns-in_err-done-clause-left g c = λ full.
     let met = c.meet_under.ensures.met in
     let lawful = c.lawful.ensures.lawful in
     let bin = c.empty-done.new.bin in
-    let salt = c.empty-done.ensures.salt ∙ ap (λ (b : BinView _ _ _). b.salt) c.as_mut-bin.ensures.value ∙ c.hold_first-held.ensures.salt in
-    let some = c.in_err-done.ensures.left (passed_on c.from_residual.result c.in_err-done.field-0.0 PassFull c.from_residual.ensures.1 full) in
-    let visit : IsVisit g.K.PartialEq.eq g.K.HashKey.code (after g.V.PartialEq.eq g.F.Remap.remapped g.F.Remap.merged) c.args.self.now.ledger
+    let salt = c.empty-done.ensures.salt ∙ ap (λ (b : BinView _ _ _). b.salt) c.as_mut-bin.ensures.value
+    ∙ c.hold_first-held.ensures.salt in
+    let some =
+    c.in_err-done.ensures.left
+    (passed_on c.from_residual.result c.in_err-done.field-0.0 PassFull c.from_residual.ensures.1 full) in
+    let visit : IsVisit g.K.PartialEq.eq g.K.HashKey.code (after g.V.PartialEq.eq g.F.Remap.remapped g.F.Remap.merged)
+    c.args.self.now.ledger
     c.empty-done.new.pass (record { class = bin.class; entries = bin.entries }) =
     record {
       distinct = lawful.distinct;
-      of_class = subst (λ (s : Salt). All (λ (e : _ × _). is_of g.K.HashKey.code s bin.class e.0 ≡ true) bin.entries) salt
+      of_class =
+          subst (λ (s : Salt). All (λ (e : _ × _). is_of g.K.HashKey.code s bin.class e.0 ≡ true) bin.entries) salt
           lawful.of_class;
       history = (c.empty-done.new.role.kept, met.history, met.entries);
     } in (
       record { class = bin.class; entries = bin.entries },
       subst (λ (p : PassView _ _ _). IsVisit g.K.PartialEq.eq g.K.HashKey.code
-          (after g.V.PartialEq.eq g.F.Remap.remapped g.F.Remap.merged) c.args.self.now.ledger p (record { class = bin.class; entries = bin.entries }))
+          (after g.V.PartialEq.eq g.F.Remap.remapped g.F.Remap.merged) c.args.self.now.ledger p
+          (record { class = bin.class; entries = bin.entries }))
           (sym c.meet_under.ensures.same_pass) visit,
       some,
     )

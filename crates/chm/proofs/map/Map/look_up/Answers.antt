@@ -12,7 +12,8 @@ use Rattle.chm.proofs.map.Map.look_up.Goals as goal
 pub release-requires : goal.release-requires
 release-requires g c =
     let At : RoleView _ _ _ → Type 0 = λ r. AreAt g.K.PartialEq.eq
-    (after g.V.PartialEq.eq g.F.Remap.remapped g.F.Remap.merged) c.hold-held.result.place.now c.hold-held.result.bin.value r in
+    (after g.V.PartialEq.eq g.F.Remap.remapped g.F.Remap.merged) c.hold-held.result.place.now
+    c.hold-held.result.bin.value r in
     subst At (sym c.meet_under.ensures.same_role) c.hold-held.ensures.at
 
 pub returns-clause-found : goal.returns-clause-found
@@ -21,8 +22,10 @@ returns-clause-found g c =
     let bin = c.as_ref-bin.result.now in
     let hash : c.hash_of.result ≡ hash_of c.args.self.now.ledger.salt (g.K.HashKey.code key) = c.hash_of.ensures.hash
     ∙ (λ i. hash_of (c.salt.ensures i) (g.K.HashKey.code key)) in
-    let on = ap (covers bin.class) (sym hash) ∙ ap (λ (b : BinView _ _ _). covers b.class c.hash_of.result) c.as_ref-bin.ensures ∙ c.hold-held.ensures.covers in
-    let value = c.in_ok-value.ensures ∙ copied-found c.get.result (lookup g.K.PartialEq.eq bin.entries key) c.get.ensures in (
+    let on = ap (covers bin.class) (sym hash) ∙ ap (λ (b : BinView _ _ _). covers b.class c.hash_of.result)
+    c.as_ref-bin.ensures ∙ c.hold-held.ensures.covers in
+    let value = c.in_ok-value.ensures ∙ copied-found c.get.result (lookup g.K.PartialEq.eq bin.entries key)
+    c.get.ensures in (
       bin.class,
       c.hold-held.result.role.kept,
       subst IsClass c.class.ensures c.n.ensures.class,

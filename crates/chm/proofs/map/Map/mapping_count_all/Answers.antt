@@ -13,11 +13,14 @@ returns-clause-count g c =
     let own : c.self.inside.ledger ≡ c.args.self.now.ledger = ap (λ (m : MapView _ _). m.ledger) c.self.view_is in
     let opened : c.self.inside.opened ≡ length c.args.self.now.ledger.opening = c.self.invariant.opened_is
     ∙ ap (λ (l : LedgerView _ _). length l.opening) own in
-    let clients : c.self.inside.ledger.clients ≡ c.args.self.now.ledger.clients = ap (λ (l : LedgerView _ _). l.clients) own in
+    let clients : c.self.inside.ledger.clients ≡ c.args.self.now.ledger.clients =
+    ap (λ (l : LedgerView _ _). l.clients) own in
     let few = c.self.invariant.clients in
     let all = c.requires.all in
     let bounds = total_made_bounds c.self.inside.ledger c.args.passes.now c.sum_all.ensures.of_passes in
-    let word = count_word c.self.inside.opened c.sum_all.result (total_made c.args.passes.now) c.self.invariant.few c.sum_all.ensures.sum
+    let word = count_word c.self.inside.opened c.sum_all.result (total_made c.args.passes.now) c.self.invariant.few
+    c.sum_all.ensures.sum
     (omega (arith, ints, bounds.0, clients, few, all)) (omega (arith, ints, bounds.1, clients, few, all))
     in
-    c.count_of.ensures.value ∙ ap (int_max (pos 0)) (word ∙ ap (λ (n : ℕ). pos n +ℤ total_made c.args.passes.now) opened)
+    c.count_of.ensures.value ∙ ap (int_max (pos 0))
+    (word ∙ ap (λ (n : ℕ). pos n +ℤ total_made c.args.passes.now) opened)

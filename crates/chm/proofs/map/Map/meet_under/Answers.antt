@@ -12,6 +12,8 @@ returns-clause-met g c =
     let own : c.self.inside.ledger ≡ c.args.self.now.ledger = ap (λ (m : MapView _ _). m.ledger) c.self.view_is in
     let L : LedgerView _ _ → Type 0 = λ l. IsMet g.K.PartialEq.eq g.K.HashKey.code
     (after g.V.PartialEq.eq g.F.Remap.remapped g.F.Remap.merged) l c.args.pass.now c.args.bin.now c.args.role.now in
-    subst L own (IsMet-agree g.K.PartialEq.eq (key_tells g.met.K.Eq.laws g.met.K.HashKey.equal_is_same) g.K.HashKey.code _
-    c.self.inside.ledger c.args.pass.now c.args.bin.now c.args.role.now c.requires.agree c.meet.ensures.of_role c.meet.ensures.of_pass c.lawful.ensures.lawful
+    subst L own
+    (IsMet-agree g.K.PartialEq.eq (key_tells g.met.K.Eq.laws g.met.K.HashKey.equal_is_same) g.K.HashKey.code _
+    c.self.inside.ledger c.args.pass.now c.args.bin.now c.args.role.now c.requires.agree c.meet.ensures.of_role
+    c.meet.ensures.of_pass c.lawful.ensures.lawful
     c.lawful.ensures.replayed c.meet.ensures.agree)

@@ -7,7 +7,8 @@ use Rattle.chm.proofs.map.Map.remove_first.Given
 use Rattle.chm.proofs.map.Map.remove_first.Goals as goal
 
 pub returns-in_err-key-clause-removed : goal.returns-in_err-key-clause-removed
-returns-in_err-key-clause-removed g c = unchanged_in g.K.HashKey.code c.args.bin.now.salt c.args.bin.now.class c.args.pass.now c.args.pass.now refl
+returns-in_err-key-clause-removed g c =
+    unchanged_in g.K.HashKey.code c.args.bin.now.salt c.args.bin.now.class c.args.pass.now c.args.pass.now refl
 
 pub call_under-requires-clause-of_class : goal.call_under-requires-clause-of_class
 call_under-requires-clause-of_class g c =
@@ -15,28 +16,34 @@ call_under-requires-clause-of_class g c =
     let d = c.index-entries-0.result in
     let key = c.requires.keys (slice_index_or c.entries.result.now 0 d).0 c.in_ok-key.key c.in_ok-key.ensures.cases in
     ap of (key ∙ ap (λ (l : List (_ × _)). (slice_index_or l 0 d).0) c.entries.ensures)
-    ∙ first_of g.K.PartialEq.eq (key_tells g.met.K.Eq.laws g.met.K.HashKey.equal_is_same) g.K.HashKey.code g.V.PartialEq.eq g.F.Remap.remapped g.F.Remap.merged
+    ∙ first_of g.K.PartialEq.eq (key_tells g.met.K.Eq.laws g.met.K.HashKey.equal_is_same) g.K.HashKey.code
+    g.V.PartialEq.eq g.F.Remap.remapped g.F.Remap.merged
     (λ e. of e.0 ≡ true) c.args.bin.now.entries d c.requires.some c.lawful.ensures.lawful.of_class
 
 pub returns-in_err-call_under-clause-removed : goal.returns-in_err-call_under-clause-removed
 returns-in_err-call_under-clause-removed g c =
-    unchanged_in g.K.HashKey.code c.args.bin.now.salt c.args.bin.now.class c.args.pass.now c.call_under.new.pass c.in_err-call_under.ensures.refused
+    unchanged_in g.K.HashKey.code c.args.bin.now.salt c.args.bin.now.class c.args.pass.now c.call_under.new.pass
+    c.in_err-call_under.ensures.refused
 
 -- the call took the first entry away
-taken : (g : Given.Over) (c : goal.Joined-branch-3 g) → HasRemovedIn g.K.HashKey.code c.args.bin.now.salt c.args.bin.now.class c.args.pass.now
+taken : (g : Given.Over) (c : goal.Joined-branch-3 g) →
+    HasRemovedIn g.K.HashKey.code c.args.bin.now.salt c.args.bin.now.class c.args.pass.now
     c.call_under.new.pass × (length c.call_under.new.bin.entries < length c.args.bin.now.entries)
 taken g c =
     let d = c.index-entries-0.result in
     let key = c.requires.keys (slice_index_or c.entries.result.now 0 d).0 c.in_ok-key.key c.in_ok-key.ensures.cases in
     let P : _ × _ → Type 0 = λ e. is_of g.K.HashKey.code c.args.bin.now.salt c.args.bin.now.class e.0 ≡ true in
     let tells = key_tells g.met.K.Eq.laws g.met.K.HashKey.equal_is_same in
-    let here = first_of g.K.PartialEq.eq tells g.K.HashKey.code g.V.PartialEq.eq g.F.Remap.remapped g.F.Remap.merged P c.args.bin.now.entries d c.requires.some
+    let here = first_of g.K.PartialEq.eq tells g.K.HashKey.code g.V.PartialEq.eq g.F.Remap.remapped g.F.Remap.merged P
+    c.args.bin.now.entries d c.requires.some
     c.lawful.ensures.lawful.of_class in
     let first = ap (λ (l : List (_ × _)). slice_index_or l 0 d) c.entries.ensures in
-    let of = ap (is_of g.K.HashKey.code c.args.bin.now.salt c.args.bin.now.class) (key ∙ ap (λ (e : _ × _). e.0) first) ∙ here in
+    let of = ap (is_of g.K.HashKey.code c.args.bin.now.salt c.args.bin.now.class) (key ∙ ap (λ (e : _ × _). e.0) first)
+    ∙ here in
     removed-first g.K.PartialEq.eq tells g.K.HashKey.code g.V.PartialEq.eq g.F.Remap.remapped g.F.Remap.merged
     c.args.bin.now.entries c.call_under.new.bin.entries
-    (slice_index_or c.entries.result.now 0 d) d c.in_ok-key.key c.args.bin.now.salt c.args.bin.now.class c.args.pass.now c.call_under.new.pass _
+    (slice_index_or c.entries.result.now 0 d) d c.in_ok-key.key c.args.bin.now.salt c.args.bin.now.class c.args.pass.now
+    c.call_under.new.pass _
     c.requires.some first key of c.in_ok-call_under.ensures.called
 
 pub returns-clause-removed : goal.returns-clause-removed

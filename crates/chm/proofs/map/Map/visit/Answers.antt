@@ -12,20 +12,29 @@ use Rattle.chm.proofs.map.Map.visit.Goals as goal
 pub release-requires : goal.release-requires
 release-requires g c =
     let At : RoleView _ _ _ → Type 0 = λ r. AreAt g.K.PartialEq.eq
-    (after g.V.PartialEq.eq g.F.Remap.remapped g.F.Remap.merged) c.hold_first-held.result.place.now c.hold_first-held.result.bin.value r in
+    (after g.V.PartialEq.eq g.F.Remap.remapped g.F.Remap.merged) c.hold_first-held.result.place.now
+    c.hold_first-held.result.bin.value r in
     subst At (sym c.meet_under.ensures.same_role) c.hold_first-held.ensures.at
 
 pub returns-clause-visit : goal.returns-clause-visit
 returns-clause-visit g c =
-    let Visited : ClassView → Type 0 = λ class. IsVisit g.K.PartialEq.eq g.K.HashKey.code (after g.V.PartialEq.eq g.F.Remap.remapped g.F.Remap.merged)
+    let Visited : ClassView → Type 0 = λ class. IsVisit g.K.PartialEq.eq g.K.HashKey.code
+    (after g.V.PartialEq.eq g.F.Remap.remapped g.F.Remap.merged)
     c.args.self.now.ledger c.args.pass.now (record { class = class; entries = c.in_ok-entries.field-0.items }) in
     let lawful = c.lawful.ensures.lawful in
     let bin = c.as_ref-bin.result.now in
     let class = bin.class in
     let salt = ap (λ (b : BinView _ _ _). b.salt) c.as_ref-bin.ensures ∙ c.hold_first-held.ensures.salt in
-    let Of : Salt → List (_ × _) → Type 0 = λ salt entries. All (λ e. is_of g.K.HashKey.code salt class e.0 ≡ true) entries in
+    let Of : Salt → List (_ × _) → Type 0 =
+    λ salt entries. All (λ e. is_of g.K.HashKey.code salt class e.0 ≡ true) entries in
     subst Visited (sym c.class-class.ensures) (record {
       distinct = subst (HasDistinctKeys g.K.PartialEq.eq) (sym c.in_ok-entries.ensures) lawful.distinct;
-      of_class = subst (λ (s : Salt). Of s c.in_ok-entries.field-0.items) salt (subst (Of bin.salt) (sym c.in_ok-entries.ensures) lawful.of_class);
-      history = (c.hold_first-held.result.role.kept, c.meet_under.ensures.met.history, c.in_ok-entries.ensures ∙ c.meet_under.ensures.met.entries);
+      of_class = subst (λ (s : Salt). Of s c.in_ok-entries.field-0.items) salt
+          (subst (Of bin.salt) (sym c.in_ok-entries.ensures) lawful.of_class);
+      history = (
+        c.hold_first-held.result.role.kept,
+        c.meet_under.ensures.met.history,
+        c.in_ok-entries.ensures
+            ∙ c.meet_under.ensures.met.entries,
+      );
     })

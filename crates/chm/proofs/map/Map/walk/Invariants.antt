@@ -8,7 +8,8 @@ abbrev pub invariant-loop : goal.invariant-loop
 invariant-loop g l =
     record {
       walk : IsWalkTo l.self.n (classes_of_visits l.visits.items) l.next;
-      each : All (IsVisit g.K.PartialEq.eq g.K.HashKey.code (after g.V.PartialEq.eq g.F.Remap.remapped g.F.Remap.merged) l.self.ledger l.initial.pass)
+      each : All (IsVisit g.K.PartialEq.eq g.K.HashKey.code (after g.V.PartialEq.eq g.F.Remap.remapped g.F.Remap.merged)
+          l.self.ledger l.initial.pass)
           l.visits.items;
       least : l.self.n ≤ l.next.n;
       pass : l.pass ≡ l.initial.pass;

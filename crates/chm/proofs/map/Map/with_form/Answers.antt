@@ -6,14 +6,18 @@ use Rattle.chm.proofs.Passes.{new_passes-ledger}
 use Rattle.chm.proofs.map.Map.with_form.Goals as goal
 
 pub open-requires-clause-size : goal.open-requires-clause-size
-open-requires-clause-size g c = subst IsTableSize (sym (length-empty c.in_ok-bases.bases.items c.size_for.result c.in_ok-bases.ensures)) c.size_for.ensures.size
+open-requires-clause-size g c =
+    subst IsTableSize (sym (length-empty c.in_ok-bases.bases.items c.size_for.result c.in_ok-bases.ensures))
+    c.size_for.ensures.size
 
 pub open-requires-clause-distinct : goal.open-requires-clause-distinct
-open-requires-clause-distinct g c = distinct-empty g.K.PartialEq.eq c.in_ok-bases.bases.items c.size_for.result c.in_ok-bases.ensures
+open-requires-clause-distinct g c =
+    distinct-empty g.K.PartialEq.eq c.in_ok-bases.bases.items c.size_for.result c.in_ok-bases.ensures
 
 pub open-requires-clause-opened : goal.open-requires-clause-opened
 open-requires-clause-opened g c = sym
-    (ap (λ (l : List (List _)). length (flat_map (λ b. b) l)) c.in_ok-bases.ensures ∙ ap (λ (l : List _). length l) (flat_map-empty c.size_for.result))
+    (ap (λ (l : List (List _)). length (flat_map (λ b. b) l)) c.in_ok-bases.ensures ∙ ap (λ (l : List _). length l)
+    (flat_map-empty c.size_for.result))
 
 pub returns-clause-new : goal.returns-clause-new
 returns-clause-new g c =
@@ -21,9 +25,11 @@ returns-clause-new g c =
       form = c.in_ok-open.ensures.form;
       salt = c.in_ok-open.ensures.salt;
       clients = c.in_ok-open.ensures.clients;
-      opening = c.in_ok-open.ensures.opening ∙ ap (λ (l : List (List _)). flat_map (λ b. b) l) c.in_ok-bases.ensures ∙ flat_map-empty c.size_for.result;
+      opening = c.in_ok-open.ensures.opening ∙ ap (λ (l : List (List _)). flat_map (λ b. b) l) c.in_ok-bases.ensures
+          ∙ flat_map-empty c.size_for.result;
       size = subst (IsSizeFor c.args.capacity)
-          (sym (c.in_ok-open.ensures.n ∙ length-empty c.in_ok-bases.bases.items c.size_for.result c.in_ok-bases.ensures)) c.size_for.ensures;
+          (sym (c.in_ok-open.ensures.n ∙ length-empty c.in_ok-bases.bases.items c.size_for.result
+          c.in_ok-bases.ensures)) c.size_for.ensures;
       passes = c.in_ok-open.ensures.passes;
       own = new_passes-ledger _ _ _ c.in_ok-open.ensures.passes;
     }

@@ -1,6 +1,6 @@
 use Rattle.std.proofs.Common.{List, ◌++◌, ap, sym, ◌∙◌}
 use Rattle.std.proofs.lemmas.List.{nil_from_length}
-use Rattle.chm.specs.Quiets.{entries_of}
+use Rattle.chm.specs.Headline.{entries_of}
 use Rattle.chm.proofs.quiet.EntriesIterator.next.Goals as goal
 
 pub loop-first-preserved : goal.loop-first-preserved

@@ -1,5 +1,5 @@
 use Rattle.std.proofs.Common.{◌≡◌, ◌++◌, length}
-use Rattle.chm.specs.Quiets.{entries_of}
+use Rattle.chm.specs.Headline.{entries_of}
 use Rattle.chm.proofs.quiet.EntriesIterator.next.Given as goal
 
 abbrev pub invariant-loop-first : goal.invariant-loop-first

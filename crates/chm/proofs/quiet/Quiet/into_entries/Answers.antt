@@ -1,6 +1,6 @@
 use Rattle.std.proofs.Common.{◌≤◌, List, length, vec_capacity, sym, ap, subst}
 use Rattle.bin_history.specs.Lawful.{BinView}
-use Rattle.chm.specs.Quiets.{QuietView, entries_of}
+use Rattle.chm.specs.Headline.{QuietView, entries_of}
 use Rattle.chm.proofs.quiet.Quiet.into_entries.Goals as goal
 
 pub move_all-requires-clause-room : goal.move_all-requires-clause-room

@@ -6,7 +6,7 @@ use Rattle.bin_history.proofs.Keys.{key_tells}
 use Rattle.bin_history.specs.Calls.{after}
 use Rattle.bin_history.specs.Entries.{HasDistinctKeys, lookup}
 use Rattle.count_ledger.specs.Opening.{lists_of}
-use Rattle.chm.specs.Quiets.{QuietView, entries_of}
+use Rattle.chm.specs.Headline.{QuietView, entries_of}
 use Rattle.chm.specs.Reopened.{in_classes}
 use Rattle.chm.specs.Sizes.{IsSizeFrom}
 use Rattle.chm.proofs.Dealing.{positive, length-parts_by_class, distinct-parts_by_class, of_class-parts_by_class}
@@ -19,7 +19,8 @@ use Rattle.chm.proofs.quiet.Quiet.reopen_with.Goals as goal
 pub open-requires-clause-size : goal.open-requires-clause-size
 open-requires-clause-size g c =
     let len : length c.in_ok-bases.bases.items ≡ c.size_from-n.result =
-    sym (length-map c.in_ok-bases.bases.items (λ b. b.items)) ∙ ap (λ (l : List (List _)). length l) c.in_ok-bases.ensures.dealt
+    sym (length-map c.in_ok-bases.bases.items (λ b. b.items))
+    ∙ ap (λ (l : List (List _)). length l) c.in_ok-bases.ensures.dealt
     ∙ length-parts_by_class g.K.HashKey.code c.args.salt c.size_from-n.result c.entries.result in
     subst IsTableSize (sym len) c.size_from-n.ensures.size
 
@@ -32,11 +33,13 @@ open-requires-clause-distinct g c =
     distinct g.K.PartialEq.eq tells g.K.HashKey.code
     (after g.V.PartialEq.eq g.F.Remap.remapped g.F.Remap.merged) _ c.args.self.now.bins c.args.self.now.roles with_roles
     (λ k. (let one = walk.each_hash (hash_of c.args.self.now.ledger.salt (g.K.HashKey.code k)) in omega arith)) in
-    distinct-parts_by_class g.K.PartialEq.eq tells g.K.HashKey.code c.args.salt c.size_from-n.result c.entries.result c.in_ok-bases.bases
+    distinct-parts_by_class g.K.PartialEq.eq tells g.K.HashKey.code c.args.salt c.size_from-n.result c.entries.result
+    c.in_ok-bases.bases
     (subst (HasDistinctKeys g.K.PartialEq.eq) (sym c.entries.ensures) pairs) c.in_ok-bases.ensures.dealt
 
 pub open-requires-clause-of_class : goal.open-requires-clause-of_class
-open-requires-clause-of_class g c = of_class-parts_by_class g.K.HashKey.code c.args.salt c.size_from-n.result c.entries.result
+open-requires-clause-of_class g c =
+    of_class-parts_by_class g.K.HashKey.code c.args.salt c.size_from-n.result c.entries.result
     (lists_of c.in_ok-bases.bases) c.in_ok-bases.ensures.dealt
 
 pub returns-clause-new : goal.returns-clause-new
@@ -62,7 +65,8 @@ returns-clause-new g c =
     in
     let tells = key_tells g.met.K.Eq.laws g.met.K.HashKey.equal_is_same in
     record {
-      form = c.in_ok-open.ensures.form ∙ c.self.invariant.3 ∙ ap (λ (q : QuietView _ _ _). q.ledger.form) c.self.view_is;
+      form = c.in_ok-open.ensures.form ∙ c.self.invariant.3
+          ∙ ap (λ (q : QuietView _ _ _). q.ledger.form) c.self.view_is;
       salt = c.in_ok-open.ensures.salt;
       clients = c.in_ok-open.ensures.clients;
       opening = opening;
@@ -76,16 +80,20 @@ returns-clause-new g c =
 
 pub returns-in_err-bases-clause-limits : goal.returns-in_err-bases-clause-limits
 returns-in_err-bases-clause-limits g c = IsLimited-refused _ _ _ c.from_residual-in_err-bases.ensures.1
-    (let count = c.mapping_count-count.ensures in let few = c.if-count-gt-MOST_PAIRS.false in omega (arith, count, few)) (search)
+    (let count = c.mapping_count-count.ensures in let few = c.if-count-gt-MOST_PAIRS.false in
+    omega (arith, count, few)) (search)
 
 pub returns-in_err-clone-2-clause-limits : goal.returns-in_err-clone-2-clause-limits
 returns-in_err-clone-2-clause-limits g c = IsLimited-refused _ _ _ c.from_residual-in_err-clone-2.ensures.1
-    (let count = c.mapping_count-count.ensures in let few = c.if-count-gt-MOST_PAIRS.false in omega (arith, count, few)) (search)
+    (let count = c.mapping_count-count.ensures in let few = c.if-count-gt-MOST_PAIRS.false in
+    omega (arith, count, few)) (search)
 
 pub returns-in_err-open-clause-limits : goal.returns-in_err-open-clause-limits
 returns-in_err-open-clause-limits g c = IsLimited-refused _ _ _ c.from_residual-in_err-open.ensures.1
-    (let count = c.mapping_count-count.ensures in let few = c.if-count-gt-MOST_PAIRS.false in omega (arith, count, few)) (search)
+    (let count = c.mapping_count-count.ensures in let few = c.if-count-gt-MOST_PAIRS.false in
+    omega (arith, count, few)) (search)
 
 pub returns-clause-limits : goal.returns-clause-limits
 returns-clause-limits g c = IsLimited-ok _ _ _
-    (let count = c.mapping_count-count.ensures in let few = c.if-count-gt-MOST_PAIRS.false in omega (arith, count, few)) (search)
+    (let count = c.mapping_count-count.ensures in let few = c.if-count-gt-MOST_PAIRS.false in
+    omega (arith, count, few)) (search)

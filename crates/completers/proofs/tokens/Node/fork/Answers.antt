@@ -1,4 +1,5 @@
-use Rattle.std.proofs.Common.{rules, arith, ◌≡◌, ℕ, ◌+◌, ◌-◌, ◌*◌, ◌/◌, ◌%◌, ◌^◌, ◌<◌, ◌≤◌, [], length, sym, ap, ◌∙◌, subst}
+use Rattle.std.proofs.Common.{rules, arith, ◌≡◌, ℕ, ◌+◌, ◌-◌, ◌*◌, ◌/◌, ◌%◌, ◌^◌, ◌<◌, ◌≤◌, [], length, sym, ap, ◌∙◌}
+use Rattle.std.proofs.Common.{subst}
 use Rattle.completers.specs.Rights.{nodes, head, tail, lower_half, upper_half, up_in}
 use Rattle.completers.specs.Steps.{forked_rights}
 use Rattle.completers.specs.Views.{after_fork}
@@ -16,14 +17,19 @@ count_up-requires-clause-rule g c =
     let range = rw (← c.self.view_is) at c.requires.range in
     let slots : n.forks + 1 < c.tree.inside.slots = rw (← c.self.view_is, ← c.tree.view_is) at c.requires.slots in
     let few = c.tree.invariant.few_slots in
-    forks_node (g.B.Relation.relates key.relation.value) key.bins c.args.mid _ _ _ n.node n.lo n.hi (n.forks + 1) (up_in n.seat.me.0)
+    forks_node (g.B.Relation.relates key.relation.value) key.bins c.args.mid _ _ _ n.node n.lo n.hi (n.forks + 1)
+    (up_in n.seat.me.0)
     (nodes (n.node + 1) (2 ^ n.level - 1)) [] c.self.invariant.rights range.0 range.1 (omega arith)
 
 pub split_seat-ticket-requires : goal.split_seat-ticket-requires
 split_seat-ticket-requires g c =
     let key = c.tree.inside.board.shared.key in
-    let v = c.count_up.new.seat.me.0 in
-    (search rules, search rules, splits (g.B.Relation.relates key.relation.value) key.bins _ v (tail v) (head v) (λ h. first_weight h v))
+    let v = c.count_up.new.seat.me.0 in (
+      search rules,
+      search rules,
+      splits (g.B.Relation.relates key.relation.value) key.bins _ v (tail v) (head v)
+          (λ h. first_weight h v),
+    )
 
 pub split_seat-supply-requires : goal.split_seat-supply-requires
 split_seat-supply-requires g c =
@@ -45,7 +51,9 @@ invariant_of-ticket g c =
     let few = c.tree.invariant.few_slots in
     record {
       rights = is_ticket _ n.node (n.forks + 1) c.args.mid n.hi 0 (up_in n.seat.me.0)
-          (split.4 ∙ (ap (λ m. (head m.0, [])) told ∙ ap (λ m. (head (forked_rights c.args.mid m.0), [])) c.self.invariant.rights));
+          (split.4 ∙
+          (ap (λ m. (head m.0, [])) told ∙ ap (λ m. (head (forked_rights c.args.mid m.0), []))
+          c.self.invariant.rights));
       small = omega arith;
       inside = subst (λ t. 8 * n.node + 8 ≤ t.slots) (sym table) (has_slots n.node n.level _ c.self.invariant.inside);
       range = (rw (← c.self.view_is) at c.requires.range).1;

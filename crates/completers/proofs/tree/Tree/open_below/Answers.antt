@@ -23,7 +23,11 @@ write_code-requires-clause-rule g c =
     let t = c.above.inside in
     let s = c.supply.inside in
     let more = nodes_step s.first (2 ^ s.level) (some_nodes s.level) in
-    let rights = c.join_seat.ensures.2 ∙ (λ k.
-    ((c.above.invariant.rights k).0 ++ (ap (λ m. m.0) c.supply.invariant.rights ∙ more) k, (c.above.invariant.rights k).1)) in
-    opens_below (g.B.Relation.relates key.relation.value) key.bins _ _ _ _ t.node t.number t.lo t.hi (forks_in t.seat.me.0)
-    (up_in t.seat.me.0) s.first (nodes (s.first + 1) (2 ^ s.level - 1)) [] rights c.above.invariant.small c.above.invariant.range
+    let rights = c.join_seat.ensures.2 ∙ (λ k. (
+      (c.above.invariant.rights k).0 ++ (ap (λ m. m.0) c.supply.invariant.rights ∙ more) k,
+      (c.above.invariant.rights k).1,
+    )) in
+    opens_below (g.B.Relation.relates key.relation.value) key.bins _ _ _ _ t.node t.number t.lo t.hi
+    (forks_in t.seat.me.0)
+    (up_in t.seat.me.0) s.first (nodes (s.first + 1) (2 ^ s.level - 1)) [] rights c.above.invariant.small
+    c.above.invariant.range

@@ -21,6 +21,7 @@ loop-i-preserved g c =
           ∙ sym (word_of-add (total_made (take i xs)) (sum_of_deltas (get_or xs i d).made))
           ∙ ap word_of (sym (total_of_more (λ p. sum_of_deltas p.made) xs i d there))
           );
-      sound = rw kept (All-more (IsPassOf c.args.self.now) xs i d there c.loop-i.invariant.sound c.share-total.ensures.of_pass);
+      sound = rw kept
+          (All-more (IsPassOf c.args.self.now) xs i d there c.loop-i.invariant.sound c.share-total.ensures.of_pass);
       same = kept ∙ c.loop-i.invariant.same;
     }

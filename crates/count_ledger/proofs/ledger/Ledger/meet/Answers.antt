@@ -10,14 +10,22 @@ look-requires-clause-rule g c = Keeps-looked g.K.HashKey.code c.self.inside.tabl
 
 pub returns-clause-agree : goal.returns-clause-agree
 returns-clause-agree g c =
-    let books = rw (both_books c.pass.inside.seat.me c.join.new.seat.me c.role.inside.badge.views _ _ c.pass.invariant.book c.role.invariant
+    let books =
+    rw (both_books c.pass.inside.seat.me c.join.new.seat.me c.role.inside.badge.views _ _ c.pass.invariant.book
+    c.role.invariant
     c.join.ensures.books) at c.look.ensures.told.3 in
-    rw (← c.pass.view_is, ← c.role.view_is) (agree_by (is_of g.K.HashKey.code (salt_of_role c.role.inside.badge.views) c.role.inside.class) c.pass.inside.client
-    c.look.ensures.told.1 (made_of_pass c.pass.inside.seat.me.0) (kept_of_role c.role.inside.badge.views) books.0.4 books.2.0.3)
+    rw (← c.pass.view_is, ← c.role.view_is)
+    (agree_by (is_of g.K.HashKey.code (salt_of_role c.role.inside.badge.views) c.role.inside.class)
+    c.pass.inside.client
+    c.look.ensures.told.1 (made_of_pass c.pass.inside.seat.me.0) (kept_of_role c.role.inside.badge.views)
+    books.0.4 books.2.0.3)
 
 pub returns-clause-of_role : goal.returns-clause-of_role
 returns-clause-of_role g c =
-    let books = rw (both_books c.pass.inside.seat.me c.join.new.seat.me c.role.inside.badge.views _ _ c.pass.invariant.book c.role.invariant
+    let books =
+    rw (both_books c.pass.inside.seat.me c.join.new.seat.me c.role.inside.badge.views _ _ c.pass.invariant.book
+    c.role.invariant
     c.join.ensures.books) at c.look.ensures.told.3 in
-    rw (← c.self.view_is, ← c.role.view_is) (IsRoleOf-sound g.K.HashKey.code c.self.inside.table.shared.table_id c.self.inside.table.shared.key
+    rw (← c.self.view_is, ← c.role.view_is)
+    (IsRoleOf-sound g.K.HashKey.code c.self.inside.table.shared.table_id c.self.inside.table.shared.key
     c.look.ensures.told.0 c.look.ensures.told.1 _ books.2.0)

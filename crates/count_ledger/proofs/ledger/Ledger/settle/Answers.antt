@@ -22,4 +22,5 @@ pub returns-clause-cover : goal.returns-clause-cover
 returns-clause-cover g c = CoverAll-once (classes_of_roles c.args.roles.items) c.gather_all.ensures.each_hash
 
 pub returns-then-not-has_all-clause-refused : goal.returns-then-not-has_all-clause-refused
-returns-then-not-has_all-clause-refused g c = rw (c.as_slice.ensures.value, c.as_slice-2.ensures.value) at c.if-not-has_all.ensures
+returns-then-not-has_all-clause-refused g c =
+    rw (c.as_slice.ensures.value, c.as_slice-2.ensures.value) at c.if-not-has_all.ensures

@@ -9,7 +9,8 @@ returns-in-Err-clause-faults g c =
     elim refused.faults [
       | inl memory ↦ inl (same ∙ memory)
       | inr other ↦ elim other [
-        | inl missing ↦ let fewer : length c.self.inside.passes.items < c.self.inside.map.ledger.clients = refused.missing.0 missing in absurd (omega arith)
+        | inl missing ↦ let fewer : length c.self.inside.passes.items < c.self.inside.map.ledger.clients =
+            refused.missing.0 missing in absurd (omega arith)
         | inr bins ↦ inr (same ∙ bins)
       ]
     ]

@@ -5,7 +5,8 @@ use Rattle.generations.proofs.generations.Generations.find.Goals as goal
 
 pub returns-then-is_begun-clause-of_map : goal.returns-then-is_begun-clause-of_map
 returns-then-is_begun-clause-of_map g c =
-    c.place_in-class.ensures.of_map c.args.self.now (2 ^ (c.min-widest.result - c.loop-narrower.narrower)) c.in-Some.ensures
+    c.place_in-class.ensures.of_map c.args.self.now (2 ^ (c.min-widest.result - c.loop-narrower.narrower))
+    c.in-Some.ensures
 
 pub returns-clause-of_map : goal.returns-clause-of_map
 returns-clause-of_map g c =

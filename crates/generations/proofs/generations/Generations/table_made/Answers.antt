@@ -8,4 +8,5 @@ keep_table-requires g c = subst (λ (n : ℕ). IsTable c.args.self.now n c.in_ok
     (sym (exponent_is c.args.size c.requires.size)) c.in_ok-places.ensures
 
 pub returns : goal.returns
-returns g c = subst (λ (n : ℕ). IsTable c.args.self.now n c.wait_for_table.result.now.items) (exponent_is c.args.size c.requires.size) c.wait_for_table.ensures
+returns g c = subst (λ (n : ℕ). IsTable c.args.self.now n c.wait_for_table.result.now.items)
+    (exponent_is c.args.size c.requires.size) c.wait_for_table.ensures

@@ -4,7 +4,8 @@ use Rattle.generations.specs.Views.{GenerationsView}
 use Rattle.generations.proofs.generations.Generations.widest_place.Goals as goal
 
 pub returns-in-Some-clause-of_map : goal.returns-in-Some-clause-of_map
-returns-in-Some-clause-of_map g c = c.place_in.ensures.of_map c.args.self.now (2 ^ c.min-widest.result) c.in-Some.ensures
+returns-in-Some-clause-of_map g c =
+    c.place_in.ensures.of_map c.args.self.now (2 ^ c.min-widest.result) c.in-Some.ensures
 
 pub returns-in-None-clause-of_map : goal.returns-in-None-clause-of_map
 returns-in-None-clause-of_map g c =

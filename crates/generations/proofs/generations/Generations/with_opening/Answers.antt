@@ -7,6 +7,8 @@ invariant_of-result g c =
     let many : c.len.result ≡ length c.args.opening.items = omega (arith, c.len.ensures, c.args.opening.ok.0) in
     record {
       opening_is = c.requires.opening;
-      slots_are = subst (λ (n : ℕ). AreSlots (record { ledger = c.args.ledger; form = c.args.form; salt = c.args.salt; n = n }) c.in_ok-tables.tables.items)
+      slots_are =
+          subst (λ (n : ℕ). AreSlots (record { ledger = c.args.ledger; form = c.args.form; salt = c.args.salt; n = n })
+          c.in_ok-tables.tables.items)
           many c.in_ok-tables.ensures;
     }

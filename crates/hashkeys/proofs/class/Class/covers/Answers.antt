@@ -9,4 +9,5 @@ remainder h m (e, _, is) =
     rw (is, less) (and_mask h e)
 
 pub returns : goal.returns
-returns c = rw (c.from.ensures, c.from-2.ensures, ← c.self.view_is) (rw (remainder c.args.hash c.self.inside.mask c.self.invariant.0) refl)
+returns c = rw (c.from.ensures, c.from-2.ensures, ← c.self.view_is)
+    (rw (remainder c.args.hash c.self.inside.mask c.self.invariant.0) refl)

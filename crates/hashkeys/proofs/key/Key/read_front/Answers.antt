@@ -7,14 +7,16 @@ use Rattle.hashkeys.proofs.key.Key.read_front.Goals as goal
 pub returns-then-not-are_word_bytes : goal.returns-then-not-are_word_bytes
 returns-then-not-are_word_bytes c =
     let bytes = take c.args.len c.args.text.now in
-    let same = ap are_word_bytes c.filled-copy.ensures ∙ are_word_bytes-filled bytes (replicate 32 95) c.args.len refl in
+    let same = ap are_word_bytes c.filled-copy.ensures ∙ are_word_bytes-filled bytes
+    (replicate 32 95) c.args.len refl in
     not_key-from bytes (sym same ∙ sym c.are_word_bytes.ensures ∙ c.if-not-are_word_bytes.true)
 
 pub invariant_of-result : goal.invariant_of-result
 invariant_of-result c =
     let bytes = take c.args.len c.args.text.now in
     let long = length-take-le c.args.len c.args.text.now c.requires in
-    let same = ap are_word_bytes c.filled-copy.ensures ∙ are_word_bytes-filled bytes (replicate 32 95) c.args.len refl in
+    let same = ap are_word_bytes c.filled-copy.ensures ∙ are_word_bytes-filled bytes
+    (replicate 32 95) c.args.len refl in
     let front = ap (take c.args.len) c.filled-copy.ensures ∙ take-filled c.args.len c.args.text.now _ c.requires in
     let key = is_key-from bytes (omega (arith, long, c.if-len-lt1.false)) (omega (arith, long, c.if-len-gt32.false))
     (sym same ∙ sym c.are_word_bytes.ensures ∙ c.if-not-are_word_bytes.false) in
@@ -24,7 +26,8 @@ pub returns : goal.returns
 returns c =
     let bytes = take c.args.len c.args.text.now in
     let long = length-take-le c.args.len c.args.text.now c.requires in
-    let same = ap are_word_bytes c.filled-copy.ensures ∙ are_word_bytes-filled bytes (replicate 32 95) c.args.len refl in
+    let same = ap are_word_bytes c.filled-copy.ensures ∙ are_word_bytes-filled bytes
+    (replicate 32 95) c.args.len refl in
     let front = ap (take c.args.len) c.filled-copy.ensures ∙ take-filled c.args.len c.args.text.now _ c.requires in
     let key = is_key-from bytes (omega (arith, long, c.if-len-lt1.false)) (omega (arith, long, c.if-len-gt32.false))
     (sym same ∙ sym c.are_word_bytes.ensures ∙ c.if-not-are_word_bytes.false) in

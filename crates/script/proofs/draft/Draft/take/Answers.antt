@@ -5,7 +5,8 @@ use Rattle.script.proofs.draft.Draft.take.Goals as goal
 
 pub returns-in_err-check_bytes-in-Err-Bad-clause-err : goal.returns-in_err-check_bytes-in-Err-Bad-clause-err
 returns-in_err-check_bytes-in-Err-Bad-clause-err g c =
-    subst (λ (l : List ℕ). IfErr c.from_residual.result (IsRefused (section_of c.args.self.now) l)) c.bytes.ensures (search rules)
+    subst (λ (l : List ℕ). IfErr c.from_residual.result (IsRefused (section_of c.args.self.now) l))
+    c.bytes.ensures (search rules)
 
 pub returns-in-Ok-clause-ok : goal.returns-in-Ok-clause-ok
 returns-in-Ok-clause-ok g c =

@@ -14,7 +14,8 @@ returns-in_ok-clone-in-Start-clause-ok g c =
     let none = ap (map (λ (b : Vec _ _). b.items)) c.new.ensures.items in
     rw c.in-Start.is (
       client,
-      Reads-words start line (read.0.now ∷ read.1) c.first_word-rest.ensures client c.in_ok-read_start-in-Start.ensures.ok,
+      Reads-words start line (read.0.now ∷ read.1) c.first_word-rest.ensures client
+          c.in_ok-read_start-in-Start.ensures.ok,
       Leads-to_calls start client [] _ [] _ none c.new-in-Start.ensures.items first_client,
     )
 
@@ -25,14 +26,16 @@ returns-in_ok-clone-in-Query-2-clause-ok g c =
     let items = λ (b : Vec _ _). b.items in
     let before = map items c.in-Calls.blocks.items in
     let block = c.in-Calls.block.items in
-    let reads = subst (λ (b : BlockLine). Reads block_forms (read.0.now ∷ read.1) (line_of b)) c.in-Query.is c.in_ok-read_in_block-in-Calls.ensures.ok in
+    let reads = subst (λ (b : BlockLine). Reads block_forms (read.0.now ∷ read.1) (line_of b)) c.in-Query.is
+    c.in_ok-read_in_block-in-Calls.ensures.ok in
     let taken = ap (λ (v : Vec _ _). map items v.items) c.replace-in-Query.ensures.value in
     let full = ap (λ (b : Vec _ _). before ++ b.items ∷ []) c.replace.ensures.value in
     let pushed = blocks_pushed _ _ _ c.in_ok-push-in-Query.ensures.items in
     rw c.in-Calls.is (
       query,
       Reads-words (calls before block) line (read.0.now ∷ read.1) c.first_word-rest.ensures query reads,
-      Leads-to_queries _ query _ _ _ _ (taken ∙ pushed ∙ full) c.new-in-Query-3.ensures.items (first_query before block),
+      Leads-to_queries _ query _ _ _ _ (taken ∙ pushed ∙ full) c.new-in-Query-3.ensures.items
+          (first_query before block),
     )
 
 pub returns-in-Call-clause-ok : goal.returns-in-Call-clause-ok
@@ -42,10 +45,15 @@ returns-in-Call-clause-ok g c =
     let said = call c.in-Call.call in
     let before = map (λ (b : Vec _ _). b.items) c.in-Calls.blocks.items in
     let block = c.in-Calls.block.items in
-    let reads = subst (λ (b : BlockLine). Reads block_forms (read.0.now ∷ read.1) (line_of b)) c.in-Call.is c.in_ok-read_in_block-in-Calls.ensures.ok in
+    let reads = subst (λ (b : BlockLine). Reads block_forms (read.0.now ∷ read.1) (line_of b)) c.in-Call.is
+    c.in_ok-read_in_block-in-Calls.ensures.ok in
     rw c.in-Calls.is
     (on_ok_weaker c.push_call.result
-    (λ leads. (said, Reads-words (calls before block) line (read.0.now ∷ read.1) c.first_word-rest.ensures said reads, leads before))
+    (λ leads. (
+      said,
+      Reads-words (calls before block) line (read.0.now ∷ read.1) c.first_word-rest.ensures said reads,
+      leads before,
+    ))
     c.push_call.ensures.ok)
 
 pub returns-in-Call-clause-err : goal.returns-in-Call-clause-err
@@ -55,10 +63,12 @@ returns-in-Call-clause-err g c =
     let said = call c.in-Call.call in
     let before = map (λ (b : Vec _ _). b.items) c.in-Calls.blocks.items in
     let block = c.in-Calls.block.items in
-    let reads = subst (λ (b : BlockLine). Reads block_forms (read.0.now ∷ read.1) (line_of b)) c.in-Call.is c.in_ok-read_in_block-in-Calls.ensures.ok in
+    let reads = subst (λ (b : BlockLine). Reads block_forms (read.0.now ∷ read.1) (line_of b)) c.in-Call.is
+    c.in_ok-read_in_block-in-Calls.ensures.ok in
     rw c.in-Calls.is
     (IfErr-weaker c.push_call.result _ _
-    (λ e refused. IsMisread-at_limit (calls before block) line (read.0.now ∷ read.1) c.first_word-rest.ensures said e reads (refused before))
+    (λ e refused. IsMisread-at_limit (calls before block) line (read.0.now ∷ read.1) c.first_word-rest.ensures said e
+    reads (refused before))
     c.push_call.ensures.err)
 
 pub returns-in_ok-push-in-Queries-clause-ok : goal.returns-in_ok-push-in-Queries-clause-ok
@@ -68,6 +78,8 @@ returns-in_ok-push-in-Queries-clause-ok g c =
     let asked = ask c.in_ok-query-in-Queries.query in
     rw c.in-Queries.is (
       asked,
-      Reads-words (queries [] []) line (read.0.now ∷ read.1) c.first_word-rest.ensures asked c.in_ok-query-in-Queries.ensures.ok,
-      Leads-to_queries _ _ _ _ _ _ refl c.in_ok-push-in-Queries.ensures.items (next_query _ _ c.in_ok-query-in-Queries.query),
+      Reads-words (queries [] []) line (read.0.now ∷ read.1) c.first_word-rest.ensures asked
+          c.in_ok-query-in-Queries.ensures.ok,
+      Leads-to_queries _ _ _ _ _ _ refl c.in_ok-push-in-Queries.ensures.items
+          (next_query _ _ c.in_ok-query-in-Queries.query),
     )

@@ -9,8 +9,12 @@ use Rattle.script.proofs.words.Words.merger.Goals as goal
 pub returns-clause-ok : goal.returns-clause-ok
 returns-clause-ok c =
     let (w, is, parts) = c.in_ok-named.ensures.ok in
-    let made = simp (to_z-of_z, c.ranges.given) at c.with_number.ensures in
-    (w, subst (λ (f : Function). IsMerger w c.args.given f) (sym made) (IsMerger-with_number c.in_ok-named.named w _ c.args.given is), parts)
+    let made = simp (to_z-of_z, c.ranges.given) at c.with_number.ensures in (
+      w,
+      subst (λ (f : Function). IsMerger w c.args.given f) (sym made)
+          (IsMerger-with_number c.in_ok-named.named w _ c.args.given is),
+      parts,
+    )
 
 pub returns-in_err-named-clause-err : goal.returns-in_err-named-clause-err
 returns-in_err-named-clause-err c =

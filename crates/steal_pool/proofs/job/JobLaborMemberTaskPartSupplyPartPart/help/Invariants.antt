@@ -4,4 +4,5 @@ use Rattle.steal_pool.proofs.job.JobLaborMemberTaskPartSupplyPartPart.help.Given
 
 abbrev pub invariant-loop : goal.invariant-loop
 invariant-loop g l =
-    (goal.iterator-loop g).can_next l.iterator' × (goal.iterator-loop g).is_finite l.iterator' × (shape l.me ≡ shape l.fn.me)
+    (goal.iterator-loop g).can_next l.iterator' × (goal.iterator-loop g).is_finite l.iterator'
+    × (shape l.me ≡ shape l.fn.me)

@@ -14,7 +14,8 @@ split_seat-requires g c =
     let l = c.loop-number in (
       l.invariant.table,
       (let two = c.in_ok-table.ensures.0 in omega arith),
-      holds-deals _ _ _ _ _ (ap (λ (b : Book). b.spare) l.invariant.book ∙ next-spare l._number c.loop-number-test.true),
+      holds-deals _ _ _ _ _ (ap (λ (b : Book). b.spare) l.invariant.book
+          ∙ next-spare l._number c.loop-number-test.true),
     )
 
 pub loop-number-preserved : goal.loop-number-preserved
@@ -33,7 +34,8 @@ loop-number-preserved g c =
           rw c.push_reserved.ensures.items
           (All-push (λ p. IsSpare move p.value) l.spare.items c.new.result l.invariant.spare
           (rw (c.new.ensures, c.of-tag.ensures)
-          (spare_book-spare move.identity _ move.bins l._number _ l.seat.me.0 _ (cut.3 ∙ l.invariant.table) (ap (λ (b : Book). b.bins) l.invariant.book)
+          (spare_book-spare move.identity _ move.bins l._number _ l.seat.me.0 _ (cut.3 ∙ l.invariant.table)
+          (ap (λ (b : Book). b.bins) l.invariant.book)
           (ap (λ (b : Book). b.spare) l.invariant.book ∙ next-spare l._number c.loop-number-test.true)
           (let d = l.invariant.dealt in omega arith) c.loop-number-test.true (ap (λ m. m.0) cut.4))));
     }

@@ -1,0 +1,46 @@
+//! The examples of the bulk operations, as they stand with them.
+use crate::bulk::quiet_of;
+use crate::samples::{Above, KeyQuiet};
+use bulk_tasks::{Action, BulkFault, Greatest, Plan, Sum, for_each, reduce, reduce_based, search};
+use hashkeys::Key;
+use std::alloc::{AllocError, Global};
+use std::sync::Wait;
+use std::test::Fail;
+use std::thread::Threads;
+
+/// Answers each value.
+struct Values;
+
+impl Action<Key, i64> for Values {
+    type R = i64;
+
+    ghost acted = { λ _ _ v. v };
+
+    fn act(&self, _key: &Key, value: &i64) -> Result<i64, AllocError> {
+        Ok(*value)
+    }
+}
+
+/// Whether each operation answers as its example says of a map in which `a` has the value 1, and
+/// `b` 2.
+fn examples<Rt: Threads + Wait + Sync>(
+    rt: &Rt,
+    alloc: Global,
+    quiet: &KeyQuiet,
+) -> Result<[bool; 4], BulkFault> {
+    Ok([
+        reduce(rt, alloc, quiet, &Plan::new(0, 4), &Greatest)? == Some(2),
+        reduce_based(rt, alloc, quiet, &Plan::new(0, 4), &Sum)? == 3,
+        search(rt, alloc, quiet, &Plan::new(0, 4), &Above(1))? == Some(2),
+        for_each(rt, alloc, quiet, &Plan::new(0, 4), &Values)?.as_slice() == [1, 2].as_slice(),
+    ])
+}
+
+#[test]
+fn each_operation_answers_as_its_example_says(rt: HostRuntime) -> Result<(), Fail> {
+    let quiet = quiet_of(&rt, rt.alloc(), 16, &[(b"a", 1), (b"b", 2)])?;
+    let found = examples(&rt, rt.alloc(), &quiet);
+    drop(quiet);
+    assert!(rt; found == Ok([true; 4]), "{found:?}");
+    Ok(())
+}
