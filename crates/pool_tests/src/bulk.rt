@@ -60,7 +60,11 @@ fn digit(n: u32) -> u8 {
 }
 
 // A closed map of so many keys, whose values are 1, 2, and so on.
-fn counted<Rt: Wait + Abort>(rt: &Rt, alloc: Global, count: u32) -> Result<KeyQuiet, AllocError> {
+pub(crate) fn counted<Rt: Wait + Abort>(
+    rt: &Rt,
+    alloc: Global,
+    count: u32,
+) -> Result<KeyQuiet, AllocError> {
     let mut pairs = Vec::new(alloc);
     for n in 1..=count {
         let text = [

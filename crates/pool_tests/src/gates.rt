@@ -1,8 +1,8 @@
 //! Gates that hold leaves back, or watch them.
 use crate::counting::Leaves;
-use std::hint;
 use std::sync::atomic::AtomicU64;
 use std::sync::atomic::Ordering::SeqCst;
+use std::thread;
 use steal_pool::Gate;
 
 /// Tells the leaves that it is called for, whether one was begun before its call, and the greatest
@@ -61,7 +61,7 @@ impl Gate for Watch {
                 if self.first.load(SeqCst) > 0 {
                     return;
                 }
-                hint::spin_loop();
+                thread::yield_now();
             }
             self.late.store(1, SeqCst);
         }
@@ -94,13 +94,14 @@ impl Gate for Meeting {
             if self.begun.load(SeqCst) >= self.wanted {
                 return;
             }
-            hint::spin_loop();
+            thread::yield_now();
         }
         self.late.store(1, SeqCst);
     }
 }
 
-/// Holds each leaf until the workers of these bits have begun one, for at most 10,000,000 turns.
+/// Holds each leaf until the workers of these bits have begun one, for at most 10,000,000 turns, or
+/// until one leaf was held in vain.
 #[derive(Drop)]
 pub(crate) struct AllWorkers {
     wanted: u64,
@@ -120,10 +121,11 @@ impl Gate for AllWorkers {
     fn leaf(&self, worker: usize, _lo: usize, _hi: usize) {
         self.seen.fetch_or(1u64.wrapping_shl(worker as u32), SeqCst);
         for _ in 0..10_000_000u32 {
-            if self.seen.load(SeqCst) & self.wanted == self.wanted {
+            let is_met = self.seen.load(SeqCst) & self.wanted == self.wanted;
+            if is_met || self.late.load(SeqCst) > 0 {
                 return;
             }
-            hint::spin_loop();
+            thread::yield_now();
         }
         self.late.store(1, SeqCst);
     }

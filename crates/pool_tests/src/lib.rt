@@ -9,6 +9,8 @@ mod counting;
 #[cfg(test)]
 mod examples;
 #[cfg(test)]
+mod finds;
+#[cfg(test)]
 mod gates;
 #[cfg(test)]
 mod runs;

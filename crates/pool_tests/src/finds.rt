@@ -1,0 +1,149 @@
+//! Searches for one pair of several, by one worker and by more; what a basis is joined to; and a
+//! task that is the only one.
+ghost use Rattle.std.specs.Prelude.{◌≡◌};
+
+use crate::bulk::{counted, quiet_of};
+use crate::gates::all_workers;
+use crate::samples::{Above, assert_same};
+use bulk_tasks::{
+    BasedReducer, BulkFault, Plan, Probe, Reducer, Sum, reduce, reduce_based, search,
+};
+use hashkeys::Key;
+use std::alloc::AllocError;
+use std::sync::atomic::AtomicU64;
+use std::sync::atomic::Ordering::SeqCst;
+use std::test::Fail;
+
+/// Finds the value 7, and is refused at any other.
+struct Refusing;
+
+impl Probe<Key, i64> for Refusing {
+    ghost use Rattle.std.specs.Prelude.{false, Some};
+
+    type U = i64;
+
+    ghost probed = { λ _ _ v. Some v };
+
+    ghost never_refuses = { false };
+
+    fn probe(&self, _key: &Key, value: &i64) -> Result<Option<i64>, AllocError> {
+        if *value == 7 {
+            return Ok(Some(*value));
+        }
+        Err(AllocError)
+    }
+}
+
+/// Reduces to nothing, and counts how often two are joined.
+#[derive(Drop)]
+struct CountedJoins {
+    joins: AtomicU64,
+}
+
+impl Reducer<Key, i64> for CountedJoins {
+    ghost use Rattle.std.specs.Prelude.{true};
+    ghost use Rattle.std.proofs.Common.{refl};
+
+    type A = ();
+
+    ghost lifted = { λ _ _ _. tt };
+
+    ghost joined = { λ _ _ _. tt };
+
+    ghost within = { λ _ _ _. Unit {0} };
+
+    ghost never_refuses = { true };
+
+    fn lift(&self, _key: &Key, _value: &i64) -> Result<(), AllocError> {
+        Ok(())
+    }
+
+    fn join(&self, _left: (), _right: ()) -> Result<(), AllocError> {
+        self.joins.fetch_add(1, SeqCst);
+        Ok(())
+    }
+
+    ghost associative = { λ _ a b c. refl };
+
+    ghost commutative = { λ _ a b. refl };
+
+    ghost joins = { λ _ n m a b p q. tt };
+}
+
+impl BasedReducer<Key, i64> for CountedJoins {
+    ghost use Rattle.std.proofs.Common.{refl};
+
+    ghost based = { λ _. tt };
+
+    fn basis(&self) -> Result<(), AllocError> {
+        Ok(())
+    }
+
+    ghost identity = { λ _. ((λ k v. (refl, refl)), λ a b. (refl, refl)) };
+}
+
+// In a table of 16 bins p, x and o lie in the bins 0, 8 and 15, the first, a middle and the last.
+#[test]
+fn one_pair_of_three_is_found(rt: HostRuntime) -> Result<(), Fail> {
+    let first = quiet_of(&rt, rt.alloc(), 16, &[(b"p", 9), (b"x", 1), (b"o", 2)])?;
+    let middle = quiet_of(&rt, rt.alloc(), 16, &[(b"p", 1), (b"x", 9), (b"o", 2)])?;
+    let last = quiet_of(&rt, rt.alloc(), 16, &[(b"p", 1), (b"x", 2), (b"o", 9)])?;
+    for workers in [1, 4] {
+        let plan = Plan::new(1, workers);
+        let found = [
+            search(&rt, rt.alloc(), &first, &plan, &Above(2)),
+            search(&rt, rt.alloc(), &middle, &plan, &Above(2)),
+            search(&rt, rt.alloc(), &last, &plan, &Above(2)),
+        ];
+        assert_same(&rt, &found, &[Ok(Some(9)); 3]);
+    }
+    Ok(())
+}
+
+#[test]
+fn a_refused_probe_is_no_memory(rt: HostRuntime) -> Result<(), Fail> {
+    let quiet = quiet_of(&rt, rt.alloc(), 16, &[(b"a", 1)])?;
+    let found = [
+        search(&rt, rt.alloc(), &quiet, &Plan::new(1, 1), &Refusing),
+        search(&rt, rt.alloc(), &quiet, &Plan::new(1, 4), &Refusing),
+    ];
+    drop(quiet);
+    assert_same(&rt, &found, &[Err(BulkFault::NoMemory); 2]);
+    Ok(())
+}
+
+// Five values are joined four times, and once to the basis.
+#[test]
+fn a_basis_is_joined_once(rt: HostRuntime) -> Result<(), Fail> {
+    for (count, wanted) in [(0, 0), (1, 1), (2, 2), (5, 5)] {
+        let quiet = counted(&rt, rt.alloc(), count)?;
+        let reducer = CountedJoins {
+            joins: AtomicU64::new(0),
+        };
+        let nothing = reduce_based(&rt, rt.alloc(), &quiet, &Plan::new(1, 4), &reducer);
+        drop(quiet);
+        assert_same(
+            &rt,
+            &(nothing, reducer.joins.load(SeqCst)),
+            &(Ok(()), wanted),
+        );
+    }
+    Ok(())
+}
+
+// The worker that calls does a task that is not divided.
+#[test]
+fn the_only_task_is_of_worker_0(rt: HostRuntime) -> Result<(), Fail> {
+    let quiet = counted(&rt, rt.alloc(), 64)?;
+    let gate = all_workers(0b1);
+    let plan = Plan {
+        threshold: u64::MAX,
+        workers: 4,
+        gate: &gate,
+    };
+    let sum = reduce(&rt, rt.alloc(), &quiet, &plan, &Sum);
+    drop(quiet);
+    let found = (sum, gate.late.load(SeqCst), gate.seen.load(SeqCst));
+    assert_same(&rt, &found, &(Ok(Some(2080)), 0, 0b1));
+    Ok(())
+}
