@@ -85,11 +85,11 @@ impl<
         (R.within c.reducer.now) R.never_refuses es part };
 
     fn collect(&self, bins: &[Bin<K, V, F, A>]) -> Result<Option<R::A>, AllocError> {
-        for (place, bin) in bins.iter().enumerate() {
+        for (index, bin) in bins.iter().enumerate() {
             if let Some((first, others)) = bin.entries().split_first() {
                 let lifted = self.reducer.lift(&first.0, &first.1)?;
                 let begun = fold_onto(self.reducer, lifted, others)?;
-                return Ok(Some(fold_bins_onto(self.reducer, begun, &bins[place + 1..])?));
+                return Ok(Some(fold_bins_onto(self.reducer, begun, &bins[index + 1..])?));
             }
         }
         Ok(None)

@@ -9,7 +9,7 @@ use std::alloc::Allocator;
 use std::marker::{Brand, PhantomData};
 
 /// Which map a client works on, and which pass it was lent. A call at `Brand` picks them.
-pub trait Seat {
+pub trait Loan {
     ghost use Rattle.count_ledger.specs.Views.{LedgerId};
     ghost use base.Fml.{GName};
 
@@ -18,7 +18,7 @@ pub trait Seat {
     ghost lent: { GName };
 }
 
-impl Seat for Brand {
+impl Loan for Brand {
     ghost use Rattle.std.specs.Prelude.{[]};
 
     ghost ledger = { record {
@@ -38,18 +38,18 @@ impl Seat for Brand {
 /// A map and a pass of it that its holder was lent, by which it makes calls. That they belong
 /// together is known of each `Client`, so no call needs to be told.
 #[derive(Drop)]
-pub struct Client<'a, S: Seat, K: HashKey, V: Clone + Eq, F: Remap<K, V> + Clone, A: Allocator> {
+pub struct Client<'a, L: Loan, K: HashKey, V: Clone + Eq, F: Remap<K, V> + Clone, A: Allocator> {
     pub map: &'a Map<K, V, F, A>,
     pub pass: &'a mut Pass<K, V, F>,
-    pub seat: PhantomData<S>,
-    pub ghost map_is: { map.now.ledger.id ≡ S.ledger },
-    pub ghost pass_is: { pass.now.ledger ≡ S.ledger },
-    pub ghost lent: { pass.ghost_name ≡ S.lent },
+    pub loan: PhantomData<L>,
+    pub ghost map_is: { map.now.ledger.id ≡ L.ledger },
+    pub ghost pass_is: { pass.now.ledger ≡ L.ledger },
+    pub ghost lent: { pass.ghost_name ≡ L.lent },
 }
 
-impl<S: Seat, K: HashKey, V: Clone + Eq, F: Remap<K, V> + Clone, A: Allocator> Client<
+impl<L: Loan, K: HashKey, V: Clone + Eq, F: Remap<K, V> + Clone, A: Allocator> Client<
     '_,
-    S,
+    L,
     K,
     V,
     F,

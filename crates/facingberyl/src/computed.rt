@@ -8,7 +8,7 @@ ghost use Rattle.bin_history.specs.declared.call.Reply.TheVariants.{Value};
 ghost use Rattle.count_ledger.specs.Words.{word_of};
 ghost use Rattle.facingberyl.specs.Computed.{IsTold};
 
-use crate::client::{Client, Seat};
+use crate::client::{Client, Loan};
 use crate::typed::value_in;
 use bin_history::Remap;
 use chm::Fault;
@@ -25,9 +25,9 @@ pub struct Computed<V> {
     pub used: bool,
 }
 
-impl<S: Seat, K: HashKey, V: Clone + Eq, F: Remap<K, V> + Clone, A: Allocator> Client<
+impl<L: Loan, K: HashKey, V: Clone + Eq, F: Remap<K, V> + Clone, A: Allocator> Client<
     '_,
-    S,
+    L,
     K,
     V,
     F,
@@ -50,12 +50,12 @@ impl<S: Seat, K: HashKey, V: Clone + Eq, F: Remap<K, V> + Clone, A: Allocator> C
 }
 
 impl<
-    S: Seat,
+    L: Loan,
     K: HashKey + Drop,
     V: Clone + Eq + Drop,
     F: Remap<K, V> + Clone + Drop,
     A: Allocator + Clone,
-> Client<'_, S, K, V, F, A> {
+> Client<'_, L, K, V, F, A> {
     /// Gives a key without a value what the function makes of none. It answers the value after, and
     /// whether the function was used.
     ///

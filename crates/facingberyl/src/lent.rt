@@ -4,7 +4,7 @@ ghost use Rattle.chm.specs.Headline.{AreExact, IsAnsweredAs};
 ghost use Rattle.bin_history.specs.declared.call.Call.TheVariants.{Get, Contains, Remove, Replace};
 ghost use Rattle.bin_history.specs.declared.call.Reply.TheVariants.{Value, Truth};
 
-use crate::client::{Client, Seat};
+use crate::client::{Client, Loan};
 use crate::typed::{truth_in, value_in};
 use bin_history::Remap;
 use chm::Fault;
@@ -13,12 +13,12 @@ use std::alloc::Allocator;
 use std::sync::Wait;
 
 impl<
-    S: Seat,
+    L: Loan,
     K: HashKey + Drop,
     V: Clone + Eq + Drop,
     F: Remap<K, V> + Clone + Drop,
     A: Allocator + Clone,
-> Client<'_, S, K, V, F, A> {
+> Client<'_, L, K, V, F, A> {
     /// The same as `get`, with the key borrowed. The value at the key.
     pub fn get_by<R: Wait>(&mut self, rt: &R, key: &K) -> Result<Option<V>, Fault>
         requires exact { AreExact K.is_clone V.is_clone F.is_clone }

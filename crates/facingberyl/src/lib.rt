@@ -16,7 +16,7 @@ pub use chm::{
     MOST_CLIENTS, MOST_LEAN_CALLS, Map, NotClosed, Opened, Pass, Quiet, Remap, Reply, Salt,
     Sharing, Visit, retire_all,
 };
-pub use client::{Client, Seat};
+pub use client::{Client, Loan};
 pub use computed::Computed;
 pub use functions::{Add, Greatest, NoFunction, Set};
 pub use team::Team;

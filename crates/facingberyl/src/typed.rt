@@ -8,7 +8,7 @@ ghost use Rattle.bin_history.specs.declared.call.Call.TheVariants.{Remove, Remov
 ghost use Rattle.bin_history.specs.declared.call.Call.TheVariants.{ReplaceIf, Compute};
 ghost use Rattle.bin_history.specs.declared.call.Reply.TheVariants.{Value, Truth};
 
-use crate::client::{Client, Seat};
+use crate::client::{Client, Loan};
 use bin_history::{Remap, Reply};
 use chm::Fault;
 use hashkeys::HashKey;
@@ -38,12 +38,12 @@ pub(crate) fn truth_in<V: Drop>(reply: Reply<V>) -> bool
 }
 
 impl<
-    S: Seat,
+    L: Loan,
     K: HashKey + Drop,
     V: Clone + Eq + Drop,
     F: Remap<K, V> + Clone + Drop,
     A: Allocator + Clone,
-> Client<'_, S, K, V, F, A> {
+> Client<'_, L, K, V, F, A> {
     /// The value at the key.
     ///
     ///     client.put(rt, 1, 5)?;

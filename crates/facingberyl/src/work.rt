@@ -1,7 +1,7 @@
 //! What a client does with a map.
 ghost use Rattle.std.specs.Prelude.{◌≡◌};
 
-use crate::client::{Client, Seat};
+use crate::client::{Client, Loan};
 use bin_history::Remap;
 use chm::{Map, Sharing};
 use count_ledger::Pass;
@@ -18,14 +18,14 @@ pub trait Work<K: HashKey, V: Clone + Eq, F: Remap<K, V> + Clone, A: Allocator> 
     ghost does: { Self → PassView K V F → PassView K V F → Type 0 } = { λ _ _ _. Unit {0} };
 
     /// The work of a client: `client.number()` is 0 for the first, and so on.
-    fn work<S: Seat, R: Wait>(&self, rt: &R, client: &mut Client<'_, S, K, V, F, A>)
+    fn work<L: Loan, R: Wait>(&self, rt: &R, client: &mut Client<'_, L, K, V, F, A>)
         ensures { does self.now client.old.pass.now client.new.pass.now };
 }
 
-/// Lets a client work whose seat is known, and gives the pass back.
+/// Lets a client work whose loan is known, and gives the pass back.
 fn work_seated<
     'a,
-    S: Seat,
+    L: Loan,
     K: HashKey,
     V: Clone + Eq,
     F: Remap<K, V> + Clone,
@@ -33,23 +33,23 @@ fn work_seated<
     W: Work<K, V, F, A>,
     R: Wait,
 >(rt: &R, map: &'a Map<K, V, F, A>, pass: &'a mut Pass<K, V, F>, work: &W) -> &'a mut Pass<K, V, F>
-    requires map { map.now.ledger.id ≡ S.ledger }
-    requires pass { pass.old.ledger ≡ S.ledger }
-    requires lent { pass.ghost_name ≡ S.lent }
+    requires map { map.now.ledger.id ≡ L.ledger }
+    requires pass { pass.old.ledger ≡ L.ledger }
+    requires lent { pass.ghost_name ≡ L.lent }
     ensures lent { result.ghost_name ≡ pass.entry.ghost_name }
-    ensures ledger { result.now.ledger ≡ S.ledger }
+    ensures ledger { result.now.ledger ≡ L.ledger }
     ensures done { W.does work.now pass.old result.now }
 {
-    let mut client: Client<'a, S, K, V, F, A> = Client {
+    let mut client: Client<'a, L, K, V, F, A> = Client {
         map,
         pass,
-        seat: PhantomData,
+        loan: PhantomData,
     };
     work.work(rt, &mut client);
     let Client {
         map: _,
         pass,
-        seat: _,
+        loan: _,
     } = client;
     pass
 }

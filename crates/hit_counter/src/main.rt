@@ -5,7 +5,7 @@
 
 use anyhow::Result;
 use facingberyl::bulk::{Plan, Sum, reduce};
-use facingberyl::{Client, Fault, Quiet, Remap, Seat, Team, Work};
+use facingberyl::{Client, Fault, Loan, Quiet, Remap, Team, Work};
 use std::alloc::{AllocError, Global};
 use std::sync::Wait;
 use std::sync::atomic::AtomicU64;
@@ -46,10 +46,10 @@ struct LookUp<'a> {
 }
 
 impl LookUp<'_> {
-    fn look_up<S: Seat, R: Wait>(
+    fn look_up<L: Loan, R: Wait>(
         &self,
         rt: &R,
-        client: &mut Client<'_, S, u64, u64, Square, Global>,
+        client: &mut Client<'_, L, u64, u64, Square, Global>,
         number: u64,
     ) -> Result<(), Fault> {
         if client.get(rt, number)?.is_some() {
@@ -63,7 +63,7 @@ impl LookUp<'_> {
 }
 
 impl Work<u64, u64, Square, Global> for LookUp<'_> {
-    fn work<S: Seat, R: Wait>(&self, rt: &R, client: &mut Client<'_, S, u64, u64, Square, Global>) {
+    fn work<L: Loan, R: Wait>(&self, rt: &R, client: &mut Client<'_, L, u64, u64, Square, Global>) {
         let own = client.number();
         for number in 0..100u64 {
             let asked = self.all || number as usize % 4 == own;
@@ -81,7 +81,7 @@ struct Empty<'a> {
 }
 
 impl Work<u64, u64, Square, Global> for Empty<'_> {
-    fn work<S: Seat, R: Wait>(&self, rt: &R, client: &mut Client<'_, S, u64, u64, Square, Global>) {
+    fn work<L: Loan, R: Wait>(&self, rt: &R, client: &mut Client<'_, L, u64, u64, Square, Global>) {
         if let Ok(visits) = client.map.walk(rt, client.pass) {
             for visit in &visits {
                 self.seen.fetch_add(visit.entries.len() as u64, SeqCst);

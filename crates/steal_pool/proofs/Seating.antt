@@ -1,4 +1,4 @@
--- Members get the numbers of their places.
+-- The number of a member is its index.
 use Rattle.std.proofs.Common.{◌≡◌, ℕ, zero, suc, List, [], ◌∷◌, ◌++◌, length, Global, ap, sym, refl}
 use Rattle.std.specs.Prelude.{Option, Some}
 use Rattle.atomic_blocks.specs.Lent.{RowsId}

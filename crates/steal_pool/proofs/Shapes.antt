@@ -61,13 +61,13 @@ numbered_home j (s ∷ ss) is some =
     let more : 0 < weight_out (at j) ss = omega arith in
     let later = numbered_home j ss rest more in
     let below : j < length ss = later.0 in
-    let place : suc (length ss - 1 - j) ≡ suc (length ss) - 1 - j = omega arith in
-    (omega arith, λ d. subst (P d) place (later.1 d)))
+    let index : suc (length ss - 1 - j) ≡ suc (length ss) - 1 - j = omega arith in
+    (omega arith, λ d. subst (P d) index (later.1 d)))
     (λ (out : 0 < s.out * at j s.number).
     let mine = at_only (s.number == j) s.out j s.number refl out in
     let it : s.number ≡ j = mine.1 in
-    let place : zero ≡ suc (length ss) - 1 - j = omega arith in
-    (omega arith, λ d. subst (P d) place mine))
+    let index : zero ≡ suc (length ss) - 1 - j = omega arith in
+    (omega arith, λ d. subst (P d) index mine))
     (eq-zero-or-pos (s.out * at j s.number))
 
 led_none : (f : ℕ → ℕ) (ss : List Shape) → All (λ (ws : List ℕ). ws ≡ []) (own_ways ss) → weight_led f ss ≡ 0

@@ -9,13 +9,13 @@ use Rattle.crossbeam_deque.specs.declared.handles.Worker.{Worker}
 use Rattle.steal_pool.specs.Limits.{all_shares}
 use Rattle.steal_pool.specs.declared.log.Log.{Log}
 
--- the deque at a place of a list
+-- the deque at an index of a list
 abbrev pub deque_at : {X : Type 0} → (X → RowsId × Global) → List X → ℕ → Option (RowsId × Global)
 deque_at of [] i = None
 deque_at of (w ∷ ws) zero = Some (of w)
 deque_at of (w ∷ ws) (suc i) = deque_at of ws i
 
--- each has the deque of its number, its place in the list
+-- each has the deque of its number, its index in the list
 abbrev pub AreSeated : {X : Type 0} → (X → RowsId × Global) → (ℕ → Option (RowsId × Global)) → List X → Type 0
 AreSeated {X} of deque ws = (i : ℕ) (w : X) → get_elem? ws i ≡ some w → deque i ≡ Some (of w)
 

@@ -38,16 +38,16 @@ pub(crate) fn members<T: Drop, S: Seats>(
             ways: Vec::new(alloc),
         })?;
     }
-    for place in 0..workers {
-        // The numbers ascend as the places descend.
+    for index in 0..workers {
+        // The numbers ascend as the indices descend.
         for before in 1..workers {
-            let other = if before <= place {
-                place - before
+            let other = if before <= index {
+                index - before
             } else {
-                place + (workers - before)
+                index + (workers - before)
             };
             let way = all[other].way()?;
-            all[place].ways.push(way)?;
+            all[index].ways.push(way)?;
         }
     }
     Ok(all)

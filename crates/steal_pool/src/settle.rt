@@ -82,8 +82,8 @@ fn give_all_back<T: Drop, S: Seats>(members: &mut [Member<T, S>])
     ensures taken { (h : T → ℕ) → sum_by (weight_taken_by h) members.new
         ≡ sum_by (weight_taken_by h) members.old }
 {
-    for place in 0..members.len() {
-        let ways = members[place].take_ways();
+    for index in 0..members.len() {
+        let ways = members[index].take_ways();
         give_back(members, ways);
     }
 }

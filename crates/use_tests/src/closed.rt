@@ -1,6 +1,6 @@
 //! Threads that share a map without a team, and the pairs of a closed map.
 use facingberyl::{
-    Add, Bytes, Client, Map, NotClosed, Pass, Quiet, Salt, Seat, Sharing, Team, Work, retire_all,
+    Add, Bytes, Client, Loan, Map, NotClosed, Pass, Quiet, Salt, Sharing, Team, Work, retire_all,
 };
 use std::alloc::Global;
 use std::sync::Wait;
@@ -60,10 +60,10 @@ fn threads_share_a_map_without_a_team(rt: HostRuntime) -> Result<(), Fail> {
 struct Words;
 
 impl Work<Bytes<'static>, u64, Add, Global> for Words {
-    fn work<S: Seat, R: Wait>(
+    fn work<L: Loan, R: Wait>(
         &self,
         rt: &R,
-        client: &mut Client<'_, S, Bytes<'static>, u64, Add, Global>,
+        client: &mut Client<'_, L, Bytes<'static>, u64, Add, Global>,
     ) {
         let _ = client.put(rt, Bytes(b"one"), 1);
         let _ = client.put(rt, Bytes(b"two"), 2);

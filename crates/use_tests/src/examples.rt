@@ -1,5 +1,5 @@
 //! The examples of the calls of a client, each as it stands with its call.
-use facingberyl::{Add, Client, Computed, Fault, Seat, Team, Work};
+use facingberyl::{Add, Client, Computed, Fault, Loan, Team, Work};
 use std::alloc::Global;
 use std::sync::Wait;
 use std::sync::atomic::AtomicU64;
@@ -7,59 +7,59 @@ use std::sync::atomic::Ordering::SeqCst;
 use std::test::Fail;
 
 /// A client of the examples.
-type Numbers<'a, S> = Client<'a, S, u64, u64, Add, Global>;
+type Numbers<'a, L> = Client<'a, L, u64, u64, Add, Global>;
 
-fn get<S: Seat, R: Wait>(rt: &R, client: &mut Numbers<'_, S>) -> Result<bool, Fault> {
+fn get<L: Loan, R: Wait>(rt: &R, client: &mut Numbers<'_, L>) -> Result<bool, Fault> {
     client.put(rt, 1, 5)?;
     Ok(client.get(rt, 1)? == Some(5))
 }
 
-fn look_up<S: Seat, R: Wait>(rt: &R, client: &mut Numbers<'_, S>) -> Result<bool, Fault> {
+fn look_up<L: Loan, R: Wait>(rt: &R, client: &mut Numbers<'_, L>) -> Result<bool, Fault> {
     client.put(rt, 1, 5)?;
     Ok(client.look_up(rt, &1)? == Some(5))
 }
 
-fn contains_key<S: Seat, R: Wait>(rt: &R, client: &mut Numbers<'_, S>) -> Result<bool, Fault> {
+fn contains_key<L: Loan, R: Wait>(rt: &R, client: &mut Numbers<'_, L>) -> Result<bool, Fault> {
     client.put(rt, 1, 5)?;
     Ok(client.contains_key(rt, 1)?)
 }
 
-fn put<S: Seat, R: Wait>(rt: &R, client: &mut Numbers<'_, S>) -> Result<bool, Fault> {
+fn put<L: Loan, R: Wait>(rt: &R, client: &mut Numbers<'_, L>) -> Result<bool, Fault> {
     client.put(rt, 1, 5)?;
     Ok(client.put(rt, 1, 6)? == Some(5))
 }
 
-fn put_if_absent<S: Seat, R: Wait>(rt: &R, client: &mut Numbers<'_, S>) -> Result<bool, Fault> {
+fn put_if_absent<L: Loan, R: Wait>(rt: &R, client: &mut Numbers<'_, L>) -> Result<bool, Fault> {
     client.put(rt, 1, 5)?;
     Ok(client.put_if_absent(rt, 1, 6)? == Some(5))
 }
 
-fn remove<S: Seat, R: Wait>(rt: &R, client: &mut Numbers<'_, S>) -> Result<bool, Fault> {
+fn remove<L: Loan, R: Wait>(rt: &R, client: &mut Numbers<'_, L>) -> Result<bool, Fault> {
     client.put(rt, 1, 5)?;
     Ok(client.remove(rt, 1)? == Some(5))
 }
 
-fn remove_if<S: Seat, R: Wait>(rt: &R, client: &mut Numbers<'_, S>) -> Result<bool, Fault> {
+fn remove_if<L: Loan, R: Wait>(rt: &R, client: &mut Numbers<'_, L>) -> Result<bool, Fault> {
     client.put(rt, 1, 5)?;
     Ok(!client.remove_if(rt, 1, 6)?)
 }
 
-fn replace<S: Seat, R: Wait>(rt: &R, client: &mut Numbers<'_, S>) -> Result<bool, Fault> {
+fn replace<L: Loan, R: Wait>(rt: &R, client: &mut Numbers<'_, L>) -> Result<bool, Fault> {
     client.remove(rt, 1)?;
     Ok(client.replace(rt, 1, 6)? == None)
 }
 
-fn replace_if<S: Seat, R: Wait>(rt: &R, client: &mut Numbers<'_, S>) -> Result<bool, Fault> {
+fn replace_if<L: Loan, R: Wait>(rt: &R, client: &mut Numbers<'_, L>) -> Result<bool, Fault> {
     client.put(rt, 1, 5)?;
     Ok(client.replace_if(rt, 1, 5, 6)?)
 }
 
-fn compute<S: Seat, R: Wait>(rt: &R, client: &mut Numbers<'_, S>) -> Result<bool, Fault> {
+fn compute<L: Loan, R: Wait>(rt: &R, client: &mut Numbers<'_, L>) -> Result<bool, Fault> {
     client.put(rt, 1, 5)?;
     Ok(client.compute(rt, 1, Add)? == Some(5))
 }
 
-fn compute_if_absent<S: Seat, R: Wait>(rt: &R, client: &mut Numbers<'_, S>) -> Result<bool, Fault> {
+fn compute_if_absent<L: Loan, R: Wait>(rt: &R, client: &mut Numbers<'_, L>) -> Result<bool, Fault> {
     client.put(rt, 1, 5)?;
     Ok(
         client.compute_if_absent(rt, 1, Add)?
@@ -70,9 +70,9 @@ fn compute_if_absent<S: Seat, R: Wait>(rt: &R, client: &mut Numbers<'_, S>) -> R
     )
 }
 
-fn compute_if_present<S: Seat, R: Wait>(
+fn compute_if_present<L: Loan, R: Wait>(
     rt: &R,
-    client: &mut Numbers<'_, S>,
+    client: &mut Numbers<'_, L>,
 ) -> Result<bool, Fault> {
     client.put(rt, 1, 5)?;
     Ok(
@@ -84,7 +84,7 @@ fn compute_if_present<S: Seat, R: Wait>(
     )
 }
 
-fn merge<S: Seat, R: Wait>(rt: &R, client: &mut Numbers<'_, S>) -> Result<bool, Fault> {
+fn merge<L: Loan, R: Wait>(rt: &R, client: &mut Numbers<'_, L>) -> Result<bool, Fault> {
     client.put(rt, 1, 5)?;
     Ok(
         client.merge(rt, 1, 2, Add)?
@@ -95,7 +95,7 @@ fn merge<S: Seat, R: Wait>(rt: &R, client: &mut Numbers<'_, S>) -> Result<bool, 
     )
 }
 
-fn balance<S: Seat, R: Wait>(rt: &R, client: &mut Numbers<'_, S>) -> Result<bool, Fault> {
+fn balance<L: Loan, R: Wait>(rt: &R, client: &mut Numbers<'_, L>) -> Result<bool, Fault> {
     client.remove(rt, 1)?;
     let before = client.balance();
     client.put(rt, 1, 5)?;
@@ -109,7 +109,7 @@ struct Examples<'a> {
 }
 
 impl Work<u64, u64, Add, Global> for Examples<'_> {
-    fn work<S: Seat, R: Wait>(&self, rt: &R, client: &mut Numbers<'_, S>) {
+    fn work<L: Loan, R: Wait>(&self, rt: &R, client: &mut Numbers<'_, L>) {
         let told = [
             get(rt, client),
             look_up(rt, client),

@@ -1,5 +1,5 @@
 //! Calls of a client that borrow their key.
-use facingberyl::{Add, Client, Seat, Team, Work};
+use facingberyl::{Add, Client, Loan, Team, Work};
 use std::alloc::Global;
 use std::sync::Wait;
 use std::sync::atomic::AtomicU64;
@@ -21,7 +21,7 @@ impl LentCalls<'_> {
 }
 
 impl Work<u64, u64, Add, Global> for LentCalls<'_> {
-    fn work<S: Seat, R: Wait>(&self, rt: &R, client: &mut Client<'_, S, u64, u64, Add, Global>) {
+    fn work<L: Loan, R: Wait>(&self, rt: &R, client: &mut Client<'_, L, u64, u64, Add, Global>) {
         let (one, two) = (1, 2);
         self.note(client.put(rt, one, 5) == Ok(None));
         self.note(client.contains_key_by(rt, &one) == Ok(true));

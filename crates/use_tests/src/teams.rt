@@ -1,6 +1,6 @@
 //! A team of one client, and refused teams.
 use facingberyl::bulk::{Greatest, Plan, reduce};
-use facingberyl::{Add, Client, Computed, Fault, NoFunction, Seat, Team, Work};
+use facingberyl::{Add, Client, Computed, Fault, Loan, NoFunction, Team, Work};
 use std::alloc::Global;
 use std::sync::Wait;
 use std::sync::atomic::AtomicU64;
@@ -27,7 +27,7 @@ impl EachCall<'_> {
 }
 
 impl Work<u64, u64, Add, Global> for EachCall<'_> {
-    fn work<S: Seat, R: Wait>(&self, rt: &R, client: &mut Client<'_, S, u64, u64, Add, Global>) {
+    fn work<L: Loan, R: Wait>(&self, rt: &R, client: &mut Client<'_, L, u64, u64, Add, Global>) {
         self.note(client.contains_key(rt, 1) == Ok(false));
         self.note(client.replace(rt, 1, 9) == Ok(None));
         self.note(client.put(rt, 1, 5) == Ok(None));

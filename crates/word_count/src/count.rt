@@ -4,7 +4,7 @@ ghost use Rattle.word_count.specs.Counted.{AreCounts, AreWhole, HasCounted};
 
 use anyhow::{Result, bail};
 use facingberyl::bulk::{Action, Plan, for_each};
-use facingberyl::{Add, Bytes, Client, Pass, Seat, Team, Work};
+use facingberyl::{Add, Bytes, Client, Loan, Pass, Team, Work};
 use std::alloc::{AllocError, Global};
 use std::sync::Wait;
 use std::thread::Threads;
@@ -19,9 +19,9 @@ struct Counting<'a, 'p> {
 }
 
 /// Adds 1 to the count of each word, up to one that is refused.
-fn count_part<'a, S: Seat, R: Wait>(
+fn count_part<'a, L: Loan, R: Wait>(
     rt: &R,
-    client: &mut Client<'_, S, Bytes<'a>, u64, Add, Global>,
+    client: &mut Client<'_, L, Bytes<'a>, u64, Add, Global>,
     part: &[Bytes<'a>],
 )
     ensures client { client.new.pass.now.client ≡ client.old.pass.now.client }
@@ -40,10 +40,10 @@ impl<'a> Work<Bytes<'a>, u64, Add, Global> for Counting<'a, '_> {
 
     ghost does = { λ counting old new. HasWorked counting.parts.now old new };
 
-    fn work<S: Seat, R: Wait>(
+    fn work<L: Loan, R: Wait>(
         &self,
         rt: &R,
-        client: &mut Client<'_, S, Bytes<'a>, u64, Add, Global>,
+        client: &mut Client<'_, L, Bytes<'a>, u64, Add, Global>,
     ) {
         if let Some(part) = self.parts.get(client.number()) {
             count_part(rt, client, part);

@@ -12,7 +12,7 @@ use Rattle.steal_pool.specs.declared.member.Way.{Way}
 use Rattle.steal_pool.specs.Shapes.{Shape, shape, targets}
 use Rattle.steal_pool.proofs.Shapes.{hands, one_alone, one_numbered}
 use Rattle.steal_pool.proofs.crew.members.Goals as goal
-use Rattle.steal_pool.proofs.crew.members.Goals.{then-before-place, else-before-place}
+use Rattle.steal_pool.proofs.crew.members.Goals.{then-before-index, else-before-index}
 
 pub invariant_of-push : goal.invariant_of-push
 invariant_of-push g c =
@@ -62,16 +62,16 @@ loop-before-preserved g c =
     let all = c.loop-before.all.items in
     let one = c.index_mut.result.now in
     let two = c.index_mut-in-loop-before.result.now in
-    let before = set all c.if-before-place.other c.way.new.self in
+    let before = set all c.if-before-index.other c.way.new.self in
     let long : length all ≡ c.len-workers.result = omega (arith, c.loop-before.all.ok.0, c.loop-before.invariant.0) in
-    let other : c.if-before-place.other < length all =
-    elim c.if-before-place.branch [ then-before-place w ↦ omega arith | else-before-place w ↦ omega arith ] in
-    let same : length before ≡ length all = length-set all c.if-before-place.other c.way.new.self in
-    let mine : c.loop-place.place < length before = omega arith in
+    let other : c.if-before-index.other < length all =
+    elim c.if-before-index.branch [ then-before-index w ↦ omega arith | else-before-index w ↦ omega arith ] in
+    let same : length before ≡ length all = length-set all c.if-before-index.other c.way.new.self in
+    let mine : c.loop-index.index < length before = omega arith in
     let more : map to c.push-in-loop-before.new.self.items ≡ map to two.ways.items ++ to c.in_ok-way.way ∷ [] =
     ap (map to) c.in_ok-push-2.ensures.items ∙ map_push to two.ways.items c.in_ok-way.way in (
       c.loop-before.invariant.0,
-      hands of all c.if-before-place.other c.way.new.self one c.loop-place.place _ two
+      hands of all c.if-before-index.other c.way.new.self one c.loop-index.index _ two
           (to c.in_ok-way.way) c.loop-before.invariant.1 other
           c.index_mut.ensures.value c.in_ok-way.ensures.shape c.in_ok-way.ensures.to mine
           c.index_mut-in-loop-before.ensures.value

@@ -20,8 +20,8 @@ invariant-loop-own g l =
 abbrev pub decreases-loop-own : goal.decreases-loop-own
 decreases-loop-own g l = vec_len l.deques
 
-abbrev pub invariant-loop-place : goal.invariant-loop-place
-invariant-loop-place g l = (vec_len l.all ≡ l.workers) × AreCrew [] (shapes l.all.items)
+abbrev pub invariant-loop-index : goal.invariant-loop-index
+invariant-loop-index g l = (vec_len l.all ≡ l.workers) × AreCrew [] (shapes l.all.items)
 
 abbrev pub invariant-loop-before : goal.invariant-loop-before
 invariant-loop-before g l = (vec_len l.all ≡ l.workers) × AreCrew [] (shapes l.all.items)

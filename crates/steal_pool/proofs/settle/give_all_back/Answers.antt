@@ -11,42 +11,42 @@ use Rattle.steal_pool.proofs.settle.give_all_back.Goals as goal
 pub give_back-requires : goal.give_back-requires
 give_back-requires g c =
     let of : Member g.row.T.Denot g.row.S.Denot g.S.Seats → Shape = shape in
-    let here : c.loop-place.place < length c.loop-place.members = omega arith in
-    lays of _ c.loop-place.members c.loop-place.place c.take_ways-ways.new.self c.index-members-place.result
-    c.loop-place.invariant.crew
+    let here : c.loop-index.index < length c.loop-index.members = omega arith in
+    lays of _ c.loop-index.members c.loop-index.index c.take_ways-ways.new.self c.index-members-index.result
+    c.loop-index.invariant.crew
     here c.take_ways-ways.ensures.shape.0 c.take_ways-ways.ensures.shape.1
 
-pub loop-place-preserved : goal.loop-place-preserved
-loop-place-preserved g c =
+pub loop-index-preserved : goal.loop-index-preserved
+loop-index-preserved g c =
     let of : Member g.row.T.Denot g.row.S.Denot g.S.Seats → Shape = shape in
-    let ms = c.loop-place.members in
-    let one = c.index-members-place.result in
-    let here : c.loop-place.place < length ms = omega arith in
+    let ms = c.loop-index.members in
+    let one = c.index-members-index.result in
+    let here : c.loop-index.index < length ms = omega arith in
     let e = c.take_ways-ways.ensures in
     record {
       crew = c.give_back.ensures.crew;
-      none = more_none of ms c.loop-place.place c.take_ways-ways.new.self _ here
-          (ap (λ (u : Shape). u.ways) e.shape.0) c.give_back.ensures.ways c.loop-place.invariant.none;
+      none = more_none of ms c.loop-index.index c.take_ways-ways.new.self _ here
+          (ap (λ (u : Shape). u.ways) e.shape.0) c.give_back.ensures.ways c.loop-index.invariant.none;
       pushed = λ h.
           c.give_back.ensures.pushed h
-          ∙ (kept (weight_pushed_by {S = g.row.S.Denot} {g = g.S.Seats} h) ms c.loop-place.place
+          ∙ (kept (weight_pushed_by {S = g.row.S.Denot} {g = g.S.Seats} h) ms c.loop-index.index
           c.take_ways-ways.new.self one here (e.pushed h)
-          ∙ c.loop-place.invariant.pushed h);
+          ∙ c.loop-index.invariant.pushed h);
       taken = λ h.
           c.give_back.ensures.taken h
-          ∙ (lent (weight_taken_by {S = g.row.S.Denot} {g = g.S.Seats} h) ms c.loop-place.place
+          ∙ (lent (weight_taken_by {S = g.row.S.Denot} {g = g.S.Seats} h) ms c.loop-index.index
           c.take_ways-ways.new.self one
           (weight_stolen h c.take_ways-ways.result.items) here (e.taken h)
-          ∙ c.loop-place.invariant.taken h);
+          ∙ c.loop-index.invariant.taken h);
     }
 
 pub returns-clause-home : goal.returns-clause-home
 returns-clause-home g c k d here =
     let of : Member g.row.T.Denot g.row.S.Denot g.S.Seats → Shape = shape in
-    let ms = c.loop-place.members in
+    let ms = c.loop-index.members in
     let own : List (List ℕ) = own_ways (shapes ms) in
-    let long : length own ≤ c.loop-place.place =
+    let long : length own ≤ c.loop-index.index =
     omega (arith, length-map ms of, length-map (shapes ms) (λ (u : Shape). u.ways)) in
     let none : All (λ (w : List ℕ). w ≡ []) own =
-    subst (All (λ (w : List ℕ). w ≡ [])) (take_all c.loop-place.place own long) c.loop-place.invariant.none in
-    let all = all_home of ms c.loop-place.invariant.crew none k d here in (all.0, nil_from_map (λ w. w.to) _ all.1)
+    subst (All (λ (w : List ℕ). w ≡ [])) (take_all c.loop-index.index own long) c.loop-index.invariant.none in
+    let all = all_home of ms c.loop-index.invariant.crew none k d here in (all.0, nil_from_map (λ w. w.to) _ all.1)

@@ -14,15 +14,15 @@ returns-in-Some g c =
     let join = g.R.Reducer.joined reducer in
     let within = g.R.Reducer.within reducer in
     let bins = c.args.bins.now in
-    let i = c.loop-place.place in
+    let i = c.loop-index.index in
     let first = c.in-Some.first.now in
     let others = c.in-Some.others.now in
     let rest = entries_of (slice_range bins (i + 1) (length bins)) in
-    let own : first ∷ others ≡ (get_or bins i c.index-bins-place.result).entries
-    = sym c.in-Some.ensures.cases.0 ∙ c.entries.ensures ∙ ap (λ b. b.entries) c.index-bins-place.is in
+    let own : first ∷ others ≡ (get_or bins i c.index-bins-index.result).entries
+    = sym c.in-Some.ensures.cases.0 ∙ c.entries.ensures ∙ ap (λ b. b.entries) c.index-bins-index.is in
     let all : (first ∷ others) ++ rest ≡ entries_of bins
-    = ap (λ (es : List _). es ++ rest) own ∙ entries_after_none bins i c.index-bins-place.result c.loop-place-test.true
-    c.loop-place.invariant in
+    = ap (λ (es : List _). es ++ rest) own ∙ entries_after_none bins i c.index-bins-index.result c.loop-index-test.true
+    c.loop-index.invariant in
     let value : c.in_ok-begun.begun ≡ fold_from lift join (lift first.0 first.1) others
     = c.in_ok-begun.ensures.fold ∙ ap (λ a. fold_from lift join a others) c.in_ok-lifted.ensures.value in (
       ap Some (c.in_ok-fold_bins_onto.ensures.fold ∙ ap (λ a. fold_from lift join a rest) value)
@@ -38,15 +38,15 @@ returns-in-Some g c =
 pub fold_bins_onto-requires : goal.fold_bins_onto-requires
 fold_bins_onto-requires g c =
     let bins = c.args.bins.now in
-    let i = c.loop-place.place in
+    let i = c.loop-index.index in
     let first = c.in-Some.first.now in
     let others = c.in-Some.others.now in
     let rest = entries_of (slice_range bins (i + 1) (length bins)) in
-    let own : first ∷ others ≡ (get_or bins i c.index-bins-place.result).entries
-    = sym c.in-Some.ensures.cases.0 ∙ c.entries.ensures ∙ ap (λ b. b.entries) c.index-bins-place.is in
+    let own : first ∷ others ≡ (get_or bins i c.index-bins-index.result).entries
+    = sym c.in-Some.ensures.cases.0 ∙ c.entries.ensures ∙ ap (λ b. b.entries) c.index-bins-index.is in
     let all : (first ∷ others) ++ rest ≡ entries_of bins
-    = ap (λ (es : List _). es ++ rest) own ∙ entries_after_none bins i c.index-bins-place.result c.loop-place-test.true
-    c.loop-place.invariant in
+    = ap (λ (es : List _). es ++ rest) own ∙ entries_after_none bins i c.index-bins-index.result c.loop-index-test.true
+    c.loop-index.invariant in
     let both : suc (length others) + length rest ≡ length (entries_of bins) = sym (length-append (first ∷ others) rest)
     ∙ ap length all in
     let few = c.requires.few in
