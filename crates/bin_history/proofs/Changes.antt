@@ -7,7 +7,7 @@ use Rattle.std.proofs.lemmas.Grind.{common_steps}
 use Rattle.std.proofs.lemmas.Option.{none-some}
 use Rattle.std.specs.List.{remove as remove_at}
 use Rattle.bin_history.specs.Entries.{lookup, put, remove, store}
-use Rattle.bin_history.specs.Births.{index_of}
+use Rattle.bin_history.specs.Births.{is_birth, index_of}
 use Rattle.bin_history.specs.Changes.{assign_at, entries_after, HasIndex, IsIndexOf, Fits, value_in, taken_from}
 use Rattle.bin_history.specs.Changes.{taken_by, change_to, change_by, left_by}
 use Rattle.bin_history.specs.Calls.{key_of, after}
@@ -79,6 +79,14 @@ module _ {K V : Type 0} (same : K → K → Bool) (tells : (x y : K) → Decides
   entries_after-to es k None (Some v) f = sym (put_absent es k v f)
   entries_after-to es k (Some i) None f = sym (remove-at es k i f.1 f.0)
   entries_after-to es k (Some i) (Some v) f = sym (put_at es k v i f.1 f.0)
+
+  -- the change fits where there is room for a key that it makes present
+  pub Fits-birth : (es : List (K × V)) (k : K) (found : Option ℕ) (w : Option V) (room : ℕ) → IsIndexOf same es k found
+      → (is_birth (lookup same es k) w ≡ true → 0 < room) → Fits room (change_to found k w)
+  Fits-birth es k None None room f has = tt
+  Fits-birth es k None (Some v) room f has = has (ap (λ found. is_birth found (Some v)) (lookup_absent es k f))
+  Fits-birth es k (Some i) None room f has = tt
+  Fits-birth es k (Some i) (Some v) room f has = tt
 
   pub entries_after-by : {F : Type 0} (es : List (K × V)) (k : K) (found : Option ℕ) (op : Op V F) (effect : Effect V)
       (given : Option V)

@@ -2,7 +2,10 @@
 use Rattle.std.specs.Prelude.{◌≡◌, ◌≢◌, ℕ, ◌<◌, ◌≤◌, Bool, Option, Some, None, List, [], ◌∷◌, ◌++◌, length, take, drop}
 use Rattle.std.specs.Prelude.{◌⊎◌}
 use Rattle.std.specs.declared.boxed.Box.{Box}
-use Rattle.bin_history.specs.Entries.{replay}
+use Rattle.bin_history.specs.Births.{births_in}
+use Rattle.bin_history.specs.Entries.{lookup, HasDistinctKeys, replay}
+use Rattle.bin_history.specs.Plain.{IsLegal}
+use Rattle.bin_history.specs.declared.call.Call.{Call}
 use Rattle.bin_history.specs.Records.{RecordView}
 use Rattle.bin_history.specs.declared.form.Form.{Form}
 use Rattle.bin_history.specs.declared.form.Form.TheVariants.{Recorded, Lean}
@@ -34,11 +37,19 @@ module _ {K V F A : Type 0} where
   record_room_of None = 0
 
 module _ {K V F A : Type 0} where
-  -- there is room for one more record or, where there are 1,024, in the base for 512 of them
+  -- there is room for one more record or, where there are 1,024, in the base for the keys that the oldest 512 of them
+  -- made present
   abbrev pub CanFold : Option (Box (LogView K V F) A) → Type 0
-  CanFold (Some log) = (length log.value.records ≡ 1024 → 512 ≤ log.value.base_room)
+  CanFold (Some log) = (length log.value.records ≡ 1024 → births_in (take 512 log.value.records) ≤ log.value.base_room)
       × (length log.value.records ≢ 1024 → 0 < log.value.record_room)
   CanFold None = Unit {0}
+
+-- the records are of calls on the base, by some rules of what a call leaves
+pub record AreCallsOn {K V F : Type 0} (same_key : K → K → Bool) (base : List (K × V)) (records : List (RecordView K V F)) :
+    Type 0 where
+  pub distinct : HasDistinctKeys same_key base
+  pub rules : Call K V F → Option V → Option V
+  pub legal : IsLegal same_key rules (lookup same_key base) records
 
 -- base and records as they were, or the oldest 512 of 1,024 records folded into the base
 abbrev pub IsKeptOrFolded : {K V F : Type 0} → (K → K → Bool) → List (K × V) → List (RecordView K V F) → List (K × V) →

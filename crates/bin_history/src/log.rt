@@ -4,14 +4,14 @@ ghost use Rattle.std.specs.Prelude.{OnOk};
 ghost use Rattle.hashkeys.specs.Classes.{is_of};
 ghost use Rattle.bin_history.specs.Copies.{IsExact};
 ghost use Rattle.bin_history.specs.Logs.{form_of, base_of, records_of, record_room_of, CanFold};
-ghost use Rattle.bin_history.specs.Logs.{IsKeptOrFolded, with_one_more};
+ghost use Rattle.bin_history.specs.Logs.{AreCallsOn, IsKeptOrFolded, with_one_more};
 ghost use Rattle.bin_history.specs.Part.{part_of_entries, part_of_records};
 ghost use Rattle.bin_history.specs.Readiness.{kept_in};
 ghost use Rattle.bin_history.specs.declared.call.Call.{Call};
 ghost use Rattle.bin_history.specs.declared.form.Form.TheVariants.{Recorded};
 
 use crate::bin::MOST_RECORDS;
-use crate::fold::{FOLDED, fold_front};
+use crate::fold::{births_in_front, fold_front};
 use crate::ready::Kept;
 use crate::record::Record;
 use crate::room::make_room_in;
@@ -86,8 +86,8 @@ impl<K: HashKey, V: Clone, F: Clone, A: Allocator + Clone> Log<K, V, F, A> {
     }
 }
 
-/// Makes room in a log for one more record or, where it has 1,024, in its base for the oldest 512
-/// of them.
+/// Makes room in a log for one more record or, where it has 1,024, in its base for the keys that
+/// the oldest 512 of them made present.
 pub(crate) fn reserve_in<K: Drop, V: Drop, F: Drop, A: Allocator + Clone>(
     log: &mut Option<Box<Log<K, V, F, A>, A>>,
 ) -> Result<(), AllocError>
@@ -104,7 +104,7 @@ pub(crate) fn reserve_in<K: Drop, V: Drop, F: Drop, A: Allocator + Clone>(
     };
     let log = log.as_mut();
     if log.records.len() == MOST_RECORDS {
-        log.base.reserve(FOLDED)
+        log.base.reserve(births_in_front(&log.records))
     } else {
         make_room_in(&mut log.records)
     }
@@ -116,6 +116,8 @@ pub(crate) fn fold_in<K: HashKey, V: Drop, F: Drop, A: Allocator>(
     log: &mut Option<Box<Log<K, V, F, A>, A>>,
 )
     requires room { CanFold log.old }
+    requires calls { (es : List (K × V)) → form_of log.old ≡ Recorded →
+        AreCallsOn K.eq (base_of log.old es) (records_of log.old) }
     requires few { length (records_of log.old) ≤ 1024 }
     ensures form { form_of log.new ≡ form_of log.old }
     ensures kept { (es : List (K × V)) →

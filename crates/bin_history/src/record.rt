@@ -1,5 +1,6 @@
 //! Records of calls.
 ghost use Rattle.std.specs.Prelude.{◌≡◌, ◌<◌, ◌^◌, IfOk, option_copied};
+ghost use Rattle.bin_history.specs.Births.{is_birth};
 ghost use Rattle.bin_history.specs.Copies.{IsExact};
 ghost use Rattle.bin_history.specs.Deltas.{delta};
 ghost use Rattle.bin_history.specs.Records.{before_of, after_of};
@@ -141,6 +142,18 @@ impl<K, V, F> Record<K, V, F> {
             Values::After(_) => 1,
             Values::Before(_) => -1,
             Values::Neither | Values::Both(_, _) => 0,
+        }
+    }
+}
+
+impl<K, V, F> Record<K, V, F> {
+    /// Whether the call made its key present.
+    pub(crate) fn is_birth(&self) -> bool
+        ensures { result ≡ is_birth self.now.before self.now.after }
+    {
+        match &self.values {
+            Values::After(_) => true,
+            Values::Neither | Values::Before(_) | Values::Both(_, _) => false,
         }
     }
 }

@@ -99,3 +99,19 @@ fn folds_of_one_key_ask_once(rt: HostRuntime) -> Result<(), Fail> {
     assert_same(&rt, &(bin.records().len(), bin.base().len()), &(784, 1));
     Ok(())
 }
+
+#[test]
+fn a_fold_asks_for_room_for_new_keys_alone(rt: HostRuntime) -> Result<(), Fail> {
+    // The first 512 of 1,024 puts at four keys made all four present. No later one makes a key
+    // present, so no later fold needs room.
+    let alloc = Refusing::new(rt.alloc());
+    let mut bin = empty(&alloc, Form::Recorded)?;
+    let first = put_often(&rt, &mut bin, 1025, 4);
+    let before = (bin.records().len(), bin.base().len());
+    alloc.refuse_after(0);
+    let later = put_often(&rt, &mut bin, 4 * 512, 4);
+    assert_same(&rt, &(first, before), &(1025, (513, 4)));
+    assert_same(&rt, &(later, alloc.has_refused()), &(2048, false));
+    assert_same(&rt, &bin.base().len(), &4);
+    Ok(())
+}

@@ -1,5 +1,5 @@
-use Rattle.std.proofs.Common.{◌≡◌, ◌+◌, ◌≤◌, vec_len, vec_capacity}
-use Rattle.std.specs.Vec.Iter.{drain_len}
+use Rattle.std.proofs.Common.{◌≡◌, ◌≤◌, ◌++◌, vec_capacity}
+use Rattle.std.specs.Vec.Iter.{drain_items}
 use Rattle.bin_history.specs.Entries.{replay}
 use Rattle.bin_history.proofs.fold.fold_front.Given as goal
 
@@ -8,5 +8,5 @@ invariant-loop-record g l =
     (goal.iterator-loop-record g).can_next l.record-iterator
     × (goal.iterator-loop-record g).is_finite l.record-iterator
     × (l.base.items ≡ replay g.K.PartialEq.eq l.initial.base.items l.yielded)
-    × (vec_len l.base + drain_len l.record-iterator ≤ vec_len l.initial.base + 512)
+    × (l.yielded ++ drain_items l.record-iterator ≡ drain_items l.initial.record-iterator)
     × (vec_capacity l.initial.base ≤ vec_capacity l.base)

@@ -1,4 +1,5 @@
-use Rattle.std.proofs.Common.{◌≡◌, ◌-◌, length, vec_len, ap, ◌∙◌, sym, arith, length-drop}
+use Rattle.std.proofs.Common.{◌≡◌, ◌-◌, [], length, vec_len, refl, ap, ◌∙◌, sym, subst, arith, length-drop}
+use Rattle.bin_history.specs.Logs.{LogView, AreCallsOn}
 use Rattle.bin_history.proofs.log.fold_in.Goals as goal
 
 pub returns-then-len-eq-MOST_RECORDS-clause-room : goal.returns-then-len-eq-MOST_RECORDS-clause-room
@@ -21,3 +22,9 @@ returns-then-len-eq-MOST_RECORDS-clause-fewer g c =
     let long : vec_len records ≡ 1024 = sym c.len.ensures ∙ c.if-len-eq-MOST_RECORDS.true in
     let had = records.ok.0 in
     omega arith
+
+pub fold_front-requires-clause-calls : goal.fold_front-requires-clause-calls
+fold_front-requires-clause-calls g c =
+    let calls = rw c.in-Some.is at c.requires.calls in
+    subst (λ (l : LogView _ _ _). AreCallsOn g.K.PartialEq.eq l.base l.records)
+    (sym (c.log.view_is ∙ c.as_mut-log.ensures.value)) (calls [] refl)

@@ -1,11 +1,13 @@
 use Rattle.std.proofs.Common.{◌≡◌, ◌-◌, ℕ, Option, List, vec_len, vec_capacity, subst, sym, ◌∙◌, arith}
 use Rattle.std.proofs.lemmas.Bool.{true≢false}
-use Rattle.bin_history.specs.Logs.{form_of, base_of, records_of, IsKeptOrFolded}
+use Rattle.bin_history.specs.Calls.{after}
+use Rattle.bin_history.specs.Logs.{form_of, base_of, records_of, AreCallsOn, IsKeptOrFolded}
 use Rattle.bin_history.specs.Ops.{key_in}
+use Rattle.bin_history.specs.declared.form.Form.TheVariants.{Recorded}
 use Rattle.bin_history.specs.Changes.{IsIndexOf}
 use Rattle.bin_history.proofs.Changes.{key-call_on, lookup_absent}
 use Rattle.bin_history.proofs.Keys.{key_tells}
-use Rattle.bin_history.proofs.Lawful.{IsReplayed-kept, KeepsOrFolds-of}
+use Rattle.bin_history.proofs.Lawful.{IsReplayed-kept, KeepsOrFolds-of, base_in_log}
 use Rattle.bin_history.proofs.bin.Bin.prepare_on.Goals as goal
 
 kept : (g : _) (c : goal.After-fold_in g) (es : List _) → IsKeptOrFolded g.K.PartialEq.eq (base_of c.self.inside.log es)
@@ -94,3 +96,16 @@ returns-clause-ok g c =
     (records_of after) in
     rw (← c.self.view_is)
     (KeepsOrFolds-of g.K.PartialEq.eq _ _ (subst K c.in_ok-make_room_for.ensures.items (kept g c es)))
+
+-- the records are of calls on the base, by the rules of the twelve
+pub fold_in-requires-clause-calls : goal.fold_in-requires-clause-calls
+fold_in-requires-clause-calls g c = λ es recorded.
+    let log = c.self.inside.log in
+    let entries = c.self.inside.entries.items in
+    let same = c.in_ok-reserve_in.ensures in
+    let was : form_of log ≡ Recorded = sym same.form ∙ recorded in
+    rw (same.base es, same.records, base_in_log log es entries was) (record {
+      distinct = c.self.invariant.base_distinct;
+      rules = after g.V.PartialEq.eq g.F.Remap.remapped g.F.Remap.merged;
+      legal = c.self.invariant.legal;
+    })
