@@ -1,6 +1,6 @@
 -- Bins and their roles at places.
-use Rattle.std.proofs.Common.{◌≡◌, ℕ, Bool, true, Option, Some, None, IsSomeAnd, Decides, sym, ap, ◌∙◌}
-use Rattle.hashkeys.specs.Classes.{ClassView, covers}
+use Rattle.std.proofs.Common.{◌≡◌, ℕ, Bool, Option, Some, None, IsSomeAnd, Decides, sym, ap, subst, ◌∙◌}
+use Rattle.hashkeys.specs.Classes.{ClassView}
 use Rattle.bin_history.specs.BinPart.{IsPartOf}
 use Rattle.bin_history.specs.Lawful.{BinView, IsLawful}
 use Rattle.bin_history.specs.declared.call.Call.{Call}
@@ -13,12 +13,12 @@ use Rattle.generations.specs.Views.{GenerationsView, IsPlaceOf, place_of}
 use Rattle.generations.specs.declared.state.PlaceTag.{PlaceTag}
 
 module _ {K V F : Type 0} (same : K → K → Bool) (after : Call K V F → Option V → Option V) where
-  -- what is at a place covers the hashes of the place
-  pub AreAt-covers : (o : Option (BinView K V F × RoleView K V F)) (p : PlaceTag) (hash : ℕ) →
+  -- what holds of the class of a place holds of the bin's there
+  pub AreAt-class : (P : ClassView → Type 0) (o : Option (BinView K V F × RoleView K V F)) (p : PlaceTag) →
       IsSomeAnd o (λ x. AreAt same after p x.0 x.1)
-      → covers p.class hash ≡ true → IsSomeAnd o (λ x. covers x.0.class hash ≡ true)
-  AreAt-covers (Some x) p hash at place_covers = ap (λ (class : ClassView). covers class hash) at.class ∙ place_covers
-  AreAt-covers None p hash at place_covers = elim at [ ]
+      → P p.class → IsSomeAnd o (λ x. P x.0.class)
+  AreAt-class P (Some x) p at holds = subst P (sym at.class) holds
+  AreAt-class P None p at holds = elim at [ ]
 
   pub IsBinWithRole-at : (code : K → ℕ) (map : GenerationsView) (p : PlaceTag) (b : BinView K V F) (r : RoleView K V F)
       → AreAt same after p b r

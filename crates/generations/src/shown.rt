@@ -1,5 +1,5 @@
 //! A bin that is read, beside others that read it.
-ghost use Rattle.std.specs.Prelude.{◌≡◌, true, IfSome, IsSomeAnd};
+ghost use Rattle.std.specs.Prelude.{◌≡◌, ◌≤◌, true, IfSome, IsSomeAnd};
 ghost use Rattle.hashkeys.specs.Classes.{covers};
 ghost use Rattle.bin_history.specs.Calls.{after};
 ghost use Rattle.bin_history.specs.Lawful.{IsLawful};
@@ -111,6 +111,7 @@ impl<
     /// Waits for the bin of the hash, to read it beside others.
     pub fn read<R: Wait>(&self, rt: &R, hash: u32) -> Shown<'_, K, V, F, A>
         ensures covers { IsSomeAnd result (λ p. covers p.0.class hash ≡ true) }
+        ensures least { IsSomeAnd result (λ p. self.now.n ≤ p.0.class.n) }
         ensures with_role { IsSomeAnd result
             (λ p. IsBinWithRole K.eq K.code (after V.eq F.remapped F.merged) self.now p.0 p.1) }
     {
