@@ -1,10 +1,8 @@
-//! Tests of what the program does: runs of scripts, from bytes to bytes, and its command line.
+//! Tests of what the program does: runs of scripts, from bytes to bytes.
 #![tactic(auto)]
 
 #[cfg(test)]
 mod clients;
-#[cfg(test)]
-mod devices;
 #[cfg(test)]
 mod limits;
 #[cfg(test)]
@@ -15,5 +13,3 @@ mod queries;
 mod samples;
 #[cfg(test)]
 mod scripts;
-#[cfg(test)]
-mod words;

@@ -1,10 +1,9 @@
 //! The twelve calls.
 ghost use Rattle.std.specs.Prelude.{◌≡◌};
 
-use crate::maps::{
-    BOTH, KeyCall, KeyMap, KeyPass, Plus, Single, assert_same, close, key, make, one_client, open,
-};
+use crate::maps::{KeyCall, KeyMap, KeyPass, Plus, assert_same, key, make};
 use bin_history::{Call, Form, Reply};
+use map_samples::{BOTH, Single, close_single, open_single};
 use std::alloc::{AllocError, Allocator, Global};
 use std::process::Abort;
 use std::sync::Wait;
@@ -81,11 +80,11 @@ fn reply_to_all<R: Wait + Abort>(
         map,
         mut pass,
         place,
-    } = one_client(rt, open(rt, alloc, form, 1, 1));
+    } = open_single(alloc, form, 1).expect(rt, "a map");
     let wrong = first_wrong(rt, &map, &mut pass, rows);
     let made = pass.made();
     let live = map.mapping_count();
-    let closed = close(rt, map, pass, place);
+    let closed = close_single(rt, map, pass, place).expect(rt, "a closed map");
     (wrong, made, [live, closed.mapping_count()])
 }
 

@@ -3,11 +3,12 @@
 ghost use Rattle.std.specs.Prelude.{◌≡◌, All};
 
 use crate::call_examples::right_calls;
-use crate::maps::{assert_same, open};
+use crate::maps::assert_same;
 use bin_history::{Form, Remap};
 use chm::{Fault, Map, NotClosed, Opened, Quiet, Sharing};
 use count_ledger::{Pass, retire_all};
 use hashkeys::Salt;
+use map_samples::open;
 use std::alloc::{AllocError, Global};
 use std::process::Abort;
 use std::sync::Wait;
@@ -126,7 +127,9 @@ impl Sharing<u64, u64, Plus, Global> for AddOne {
 }
 
 fn share<R: Threads + Wait + Abort + Sync>(rt: &R, alloc: Global) -> bool {
-    let (map, mut passes): Opened<u64, u64, Plus, Global> = open(rt, alloc, Form::Lean, 16, 4);
+    let (map, mut passes): Opened<u64, u64, Plus, Global> = open(alloc, Form::Lean, 16, 4).expect(
+        rt, "a map",
+    );
     map.share(rt, &mut passes, &AddOne);
     let told = map.glance(rt, &1) == Ok(Some(4));
     retire_all(passes);
@@ -134,7 +137,9 @@ fn share<R: Threads + Wait + Abort + Sync>(rt: &R, alloc: Global) -> bool {
 }
 
 fn mapping_count_all(rt: &impl Abort, alloc: Global) -> bool {
-    let (map, mut passes): Opened<u64, u64, Plus, Global> = open(rt, alloc, Form::Lean, 16, 4);
+    let (map, mut passes): Opened<u64, u64, Plus, Global> = open(alloc, Form::Lean, 16, 4).expect(
+        rt, "a map",
+    );
     assert!(rt; passes.len() == map.clients() as usize);
     let told = map.mapping_count_all(&mut passes) == 0;
     retire_all(passes);
@@ -178,7 +183,7 @@ fn closed<R: Threads + Wait + Abort + Sync>(
     alloc: Global,
     right: &AtomicU64,
 ) -> Result<NumberQuiet, Fault> {
-    let (map, mut passes) = open(rt, alloc, Form::Lean, 16, 1);
+    let (map, mut passes) = open(alloc, Form::Lean, 16, 1).expect(rt, "a map");
     map.share(rt, &mut passes, &Examples { right });
     close(rt, map, passes)
 }

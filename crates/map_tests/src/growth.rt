@@ -1,6 +1,7 @@
 //! How many bins there are, with growth and after opening again.
-use crate::maps::{BOTH, close_all, count_all, filled, records_of};
+use crate::maps::{count_all, filled, records_of};
 use bin_history::Form;
+use map_samples::{BOTH, close};
 use std::alloc::Global;
 use std::process::Abort;
 use std::sync::Wait;
@@ -61,7 +62,7 @@ fn grown_again<R: Wait + Abort>(
     let opened = filled(rt, alloc, form, capacity, puts).reopen(2);
     let (map, mut passes) = opened.expect(rt, "a map");
     let counted = count_all(rt, &map, &mut passes);
-    let closed = close_all(rt, map, passes);
+    let closed = close(rt, map, passes).expect(rt, "a closed map");
     let keys = closed.mapping_count();
     (closed.bins().len(), keys, records_of(&closed), counted)
 }

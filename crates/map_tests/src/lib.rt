@@ -11,10 +11,6 @@ mod examples;
 #[cfg(test)]
 mod growth;
 #[cfg(test)]
-mod helping;
-#[cfg(test)]
-mod lent;
-#[cfg(test)]
 mod loads;
 #[cfg(test)]
 mod maps;
@@ -22,8 +18,6 @@ mod maps;
 mod memory;
 #[cfg(test)]
 mod moves;
-#[cfg(test)]
-mod numbers;
 #[cfg(test)]
 mod opening;
 #[cfg(test)]
@@ -34,7 +28,3 @@ mod refused;
 mod rows;
 #[cfg(test)]
 mod threads;
-#[cfg(test)]
-mod twelve;
-#[cfg(test)]
-mod waiting;

@@ -1,12 +1,12 @@
 //! Many calls of one client.
 use crate::maps::{
-    BOTH, KeyQuiet, Single, assert_entries, assert_same, assert_slot_1, close, close_all,
-    count_all, filled, get_often, key, one_client, open, put_back, put_new, put_numbers, put_texts,
-    records_of,
+    KeyQuiet, assert_entries, assert_same, assert_slot_1, count_all, filled, get_often, key,
+    put_new, put_numbers, put_texts, records_of,
 };
 use bin_history::{Form, Reply};
 use chm::Fault;
 use hashkeys::Key;
+use map_samples::{BOTH, Single, close, close_single, open_single, put_back, take_pass};
 use std::alloc::Global;
 use std::process::Abort;
 use std::sync::Wait;
@@ -21,12 +21,12 @@ fn put_the_twelfth<R: Wait + Abort>(rt: &R, alloc: Global, form: Form) -> ([u64;
         map,
         mut pass,
         mut place,
-    } = one_client(rt, first.expect(rt, "a map"));
+    } = take_pass(first.expect(rt, "a map")).expect(rt, "a pass");
     put_numbers(rt, &map, &mut pass, 11, 1);
-    put_back(rt, &map, pass, &mut place);
+    put_back(&map, pass, &mut place);
     let count = count_all(rt, &map, &mut place);
     let live = map.mapping_count();
-    let closed = close_all(rt, map, place);
+    let closed = close(rt, map, place).expect(rt, "a closed map");
     let counts = [count, live, closed.mapping_count()];
     let entries = closed.entries().count();
     (counts, [closed.bins().len(), entries, records_of(&closed)])
@@ -60,11 +60,11 @@ fn put_twins<R: Wait + Abort>(rt: &R, alloc: Global, form: Form) -> (usize, usiz
         map,
         mut pass,
         place,
-    } = one_client(rt, open(rt, alloc, form, 16, 1));
+    } = open_single(alloc, form, 16).expect(rt, "a map");
     for number in 0..32u32 {
         put_new(rt, &map, &mut pass, twin(rt, number), u64::from(number));
     }
-    let closed = close(rt, map, pass, place);
+    let closed = close_single(rt, map, pass, place).expect(rt, "a closed map");
     for ((key, value), number) in closed.entries().zip(0u32..) {
         assert!(rt; *key == twin(rt, number));
         assert_same(rt, value, &u64::from(number));
@@ -88,7 +88,7 @@ fn a_full_pass_makes_no_more_calls(rt: HostRuntime) -> Result<(), Fail> {
         map,
         mut pass,
         place,
-    } = one_client(&rt, open(&rt, rt.alloc(), Form::Recorded, 16, 1));
+    } = open_single(rt.alloc(), Form::Recorded, 16).expect(&rt, "a map");
     put_texts(&rt, &map, &mut pass, &[(b"a", 1), (b"q", 2), (b"Aa", 3)]);
     get_often(&rt, &map, &mut pass, 999_996, 1);
     let made = pass.made();
@@ -96,7 +96,7 @@ fn a_full_pass_makes_no_more_calls(rt: HostRuntime) -> Result<(), Fail> {
     let got = map.get(&rt, &mut pass, key(&rt, b"a"));
     let walked = map.walk(&rt, &mut pass).map(|visits| visits.len());
     let end = pass.made();
-    let closed = close(&rt, map, pass, place);
+    let closed = close_single(&rt, map, pass, place).expect(&rt, "a closed map");
     assert_entries(&rt, closed.entries(), &[(b"a", 1), (b"q", 2)]);
     drop(closed);
     assert!(rt; got == Err(Fault::PassFull));
@@ -119,13 +119,15 @@ fn clear_by_the_last_call<R: Wait + Abort>(
         map,
         mut pass,
         place,
-    } = one_client(rt, open(rt, alloc, Form::Recorded, 16, 1));
+    } = open_single(alloc, Form::Recorded, 16).expect(rt, "a map");
     put_texts(rt, &map, &mut pass, &[(b"a", 1)]);
     get_often(rt, &map, &mut pass, 999_998, 1);
     let cleared = map.clear(rt, &mut pass);
     let again = map.clear(rt, &mut pass);
     let made = pass.made();
-    let keys = close(rt, map, pass, place).mapping_count();
+    let keys = close_single(rt, map, pass, place)
+        .expect(rt, "a closed map")
+        .mapping_count();
     ([cleared, again], made, keys)
 }
 
@@ -142,12 +144,12 @@ fn a_lean_pass_makes_three_million_calls(rt: HostRuntime) -> Result<(), Fail> {
         map,
         mut pass,
         place,
-    } = one_client(&rt, open(&rt, rt.alloc(), Form::Lean, 16, 1));
+    } = open_single(rt.alloc(), Form::Lean, 16).expect(&rt, "a map");
     put_texts(&rt, &map, &mut pass, &[(b"a", 1)]);
     get_often(&rt, &map, &mut pass, 2_999_998, 1);
     let removed = map.remove(&rt, &mut pass, key(&rt, b"a"));
     let made = pass.made();
-    let closed = close(&rt, map, pass, place);
+    let closed = close_single(&rt, map, pass, place).expect(&rt, "a closed map");
     let left = (closed.mapping_count(), records_of(&closed));
     drop(closed);
     assert!(rt; removed == Ok(Reply::Value(Some(1))));
@@ -162,12 +164,12 @@ fn folded<R: Wait + Abort>(rt: &R, alloc: Global) -> KeyQuiet<Global> {
         map,
         mut pass,
         place,
-    } = one_client(rt, open(rt, alloc, Form::Recorded, 16, 1));
+    } = open_single(alloc, Form::Recorded, 16).expect(rt, "a map");
     put_texts(rt, &map, &mut pass, &[(b"q", 1), (b"a", 2)]);
     get_often(rt, &map, &mut pass, 1_021, 2);
     let removed = map.remove(rt, &mut pass, key(rt, b"q"));
     put_texts(rt, &map, &mut pass, &[(b"q", 3)]);
-    let closed = close(rt, map, pass, place);
+    let closed = close_single(rt, map, pass, place).expect(rt, "a closed map");
     assert!(rt; removed == Ok(Reply::Value(Some(1))));
     closed
 }

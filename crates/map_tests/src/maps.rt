@@ -1,12 +1,11 @@
 //! Maps at the program's keys, and calls on them.
-ghost use Rattle.std.specs.Prelude.{◌≡◌, ◌∷◌, ◌++◌, [], All, IfOk};
-ghost use Rattle.bin_history.specs.Copies.{IsExact};
-ghost use Rattle.chm.specs.Opened.{IsNew};
+ghost use Rattle.std.specs.Prelude.{◌≡◌, All};
 
 use bin_history::{Call, Form, Remap, Reply};
-use chm::{Entries, Fault, Map, NotClosed, Opened, Quiet};
+use chm::{Entries, Fault, Map, Opened, Quiet};
 use count_ledger::{Pass, retire_all};
-use hashkeys::{HashKey, Key, Salt};
+use hashkeys::Key;
+use map_samples::{Single, close_single, numbered_text, open, open_single};
 use std::alloc::{AllocError, Allocator};
 use std::fmt::Debug;
 use std::process::Abort;
@@ -51,160 +50,17 @@ pub(crate) type KeyPass = Pass<Key, u64, Plus>;
 
 pub(crate) type KeyQuiet<A> = Quiet<Key, u64, Plus, A>;
 
+pub(crate) type KeySingle<A> = Single<Key, u64, Plus, A>;
+
 pub(crate) type KeyCall = Call<Key, u64, Plus>;
-
-/// A test that reads no records is made on a map of each form.
-pub(crate) const BOTH: [Form; 2] = [Form::Recorded, Form::Lean];
-
-/// A map and the pass of its last client, with the other passes in their place.
-pub(crate) struct Single<A: Allocator> {
-    pub(crate) map: KeyMap<A>,
-    pub(crate) pass: KeyPass,
-    pub(crate) place: Vec<KeyPass, A>,
-}
 
 pub(crate) fn key(rt: &impl Abort, text: &[u8]) -> Key {
     Key::read(text).expect(rt, "a key")
 }
 
-const DIGITS: [u8; 16] = *b"0123456789abcdef";
-
 /// The key `k` with the lowest five hexadecimal digits of a number.
 pub(crate) fn numbered(rt: &impl Abort, number: u32) -> Key {
-    let first = DIGITS[(number / 65_536 % 16) as usize];
-    let second = DIGITS[(number / 4096 % 16) as usize];
-    let third = DIGITS[(number / 256 % 16) as usize];
-    let fourth = DIGITS[(number / 16 % 16) as usize];
-    let last = DIGITS[(number % 16) as usize];
-    key(rt, &[b'k', first, second, third, fourth, last])
-}
-
-/// Tries to make a map of the form, with the passes of its clients.
-pub(crate) fn try_open<
-    K: HashKey + Drop,
-    V: Clone + Eq + Drop,
-    F: Remap<K, V> + Clone + Drop,
-    A: Allocator + Clone,
->(
-    alloc: A,
-    form: Form,
-    salt: Salt,
-    capacity: usize,
-    clients: u32,
-) -> Result<Opened<K, V, F, A>, Fault>
-    requires keys { IsExact K.is_clone }
-    requires values { IsExact V.is_clone }
-    ensures { IfOk result (λ r. IsNew form salt capacity clients r.0 r.1.items) }
-{
-    match form {
-        Form::Recorded => Map::with_salt(alloc, capacity, clients, salt),
-        Form::Lean => Map::lean(alloc, capacity, clients, salt),
-    }
-}
-
-/// A new map of the form, with the passes of its clients.
-pub(crate) fn open_salted<
-    K: HashKey + Drop,
-    V: Clone + Eq + Drop,
-    F: Remap<K, V> + Clone + Drop,
-    A: Allocator + Clone,
->(
-    rt: &impl Abort,
-    alloc: A,
-    form: Form,
-    salt: Salt,
-    capacity: usize,
-    clients: u32,
-) -> Opened<K, V, F, A>
-    requires keys { IsExact K.is_clone }
-    requires values { IsExact V.is_clone }
-    ensures { All (λ p. p.ledger ≡ result.0.ledger.id) result.1.items }
-{
-    let opened = try_open(alloc, form, salt, capacity, clients);
-    opened.expect(rt, "a map")
-}
-
-/// The same with the salt 0.
-pub(crate) fn open<
-    K: HashKey + Drop,
-    V: Clone + Eq + Drop,
-    F: Remap<K, V> + Clone + Drop,
-    A: Allocator + Clone,
->(rt: &impl Abort, alloc: A, form: Form, capacity: usize, clients: u32) -> Opened<K, V, F, A>
-    requires keys { IsExact K.is_clone }
-    requires values { IsExact V.is_clone }
-    ensures { All (λ p. p.ledger ≡ result.0.ledger.id) result.1.items }
-{
-    open_salted(rt, alloc, form, Salt(0), capacity, clients)
-}
-
-/// Takes the pass of the last client out.
-pub(crate) fn one_client<A: Allocator>(
-    rt: &impl Abort,
-    opened: Opened<Key, u64, Plus, A>,
-) -> Single<A>
-    requires { All (λ p. p.ledger ≡ opened.0.ledger.id) opened.1.items }
-    ensures pass { result.pass.ledger ≡ result.map.ledger.id }
-    ensures place { All (λ p. p.ledger ≡ result.map.ledger.id) result.place.items }
-{
-    let (map, mut place) = opened;
-    let pass = place.pop().expect(rt, "a pass");
-    Single { map, pass, place }
-}
-
-/// Closes a map, with the passes of all clients.
-pub(crate) fn close_all<
-    R: Wait + Abort,
-    K: HashKey + Drop,
-    V: Clone + Eq + Drop,
-    F: Remap<K, V> + Clone + Drop,
-    A: Allocator + Clone,
->(rt: &R, map: Map<K, V, F, A>, passes: Vec<Pass<K, V, F>, A>) -> Quiet<K, V, F, A>
-    requires { All (λ p. p.ledger ≡ map.ledger.id) passes.items }
-{
-    match map.close(rt, passes) {
-        Ok(quiet) => quiet,
-        Err(
-            NotClosed {
-                fault,
-                map: _,
-                passes,
-            },
-        ) => {
-            retire_all(passes);
-            assert!(rt; false, "the map closes: {fault}");
-            unreachable!()
-        }
-    }
-}
-
-/// Puts a pass back in its place.
-pub(crate) fn put_back<
-    K: HashKey + Drop,
-    V: Clone + Eq + Drop,
-    F: Remap<K, V> + Clone + Drop,
-    A: Allocator + Clone,
->(rt: &impl Abort, map: &Map<K, V, F, A>, pass: Pass<K, V, F>, place: &mut Vec<Pass<K, V, F>, A>)
-    requires pass { pass.ledger ≡ map.now.ledger.id }
-    requires place { All (λ p. p.ledger ≡ map.now.ledger.id) place.old.items }
-    ensures { All (λ p. p.ledger ≡ map.now.ledger.id) place.new.items }
-{
-    assert!(rt; place.len() < place.capacity());
-    place.push_reserved(pass);
-}
-
-/// Closes the map of one client.
-pub(crate) fn close<R: Wait + Abort, A: Allocator + Clone>(
-    rt: &R,
-    map: KeyMap<A>,
-    pass: KeyPass,
-    mut place: Vec<KeyPass, A>,
-) -> KeyQuiet<A>
-    requires pass { pass.ledger ≡ map.ledger.id }
-    requires place { All (λ p. p.ledger ≡ map.ledger.id) place.items }
-{
-    put_back(rt, &map, pass, &mut place);
-    close_all(rt, map, place)
+    key(rt, &numbered_text(number))
 }
 
 /// How many keys the passes of all clients count.
@@ -303,9 +159,9 @@ pub(crate) fn filled<R: Wait + Abort, A: Allocator + Clone>(
         map,
         mut pass,
         place,
-    } = one_client(rt, open(rt, alloc, form, capacity, 1));
+    } = open_single(alloc, form, capacity).expect(rt, "a map");
     put_numbers(rt, &map, &mut pass, 0, count);
-    close(rt, map, pass, place)
+    close_single(rt, map, pass, place).expect(rt, "a closed map")
 }
 
 /// Asserts that what was found is what is wanted. A call of it is one step of the caller, which
@@ -343,13 +199,7 @@ pub(crate) fn opening_fault<A: Allocator + Clone>(
     capacity: usize,
     clients: u32,
 ) -> Option<Fault> {
-    let opened: Result<Opened<Key, u64, Plus, A>, Fault> = try_open(
-        alloc,
-        form,
-        Salt(0),
-        capacity,
-        clients,
-    );
+    let opened: Result<Opened<Key, u64, Plus, A>, Fault> = open(alloc, form, capacity, clients);
     match opened {
         Ok((map, passes)) => {
             retire_all(passes);

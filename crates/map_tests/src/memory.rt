@@ -1,11 +1,9 @@
 //! Calls that ask for no memory.
 ghost use Rattle.std.specs.Prelude.{◌≡◌};
 
-use crate::maps::{
-    KeyMap, KeyPass, Plus, Single, assert_same, close, key, numbered, one_client, open,
-    put_numbers, put_texts,
-};
+use crate::maps::{KeyMap, KeyPass, Plus, assert_same, key, numbered, put_numbers, put_texts};
 use bin_history::{Form, Reply};
+use map_samples::{Single, close_single, open_single};
 use refusing_alloc::Refusing;
 use std::alloc::{Allocator, Global};
 use std::process::Abort;
@@ -67,7 +65,7 @@ fn asked_for<R: Wait + Abort>(rt: &R, alloc: &Refusing<Global>) -> ((u64, u64), 
         map,
         mut pass,
         place,
-    } = one_client(rt, open(rt, alloc, Form::Lean, 4096, 1));
+    } = open_single(alloc, Form::Lean, 4096).expect(rt, "a map");
     put_texts(rt, &map, &mut pass, &[(b"a", 0)]);
     put_numbers(rt, &map, &mut pass, 0, 1000);
     alloc.refuse_after(0);
@@ -75,7 +73,9 @@ fn asked_for<R: Wait + Abort>(rt: &R, alloc: &Refusing<Global>) -> ((u64, u64), 
     let again = put_again(rt, &map, &mut pass, 100);
     let asked = alloc.has_refused();
     alloc.refuse_after(u64::MAX);
-    let keys = close(rt, map, pass, place).mapping_count();
+    let keys = close_single(rt, map, pass, place)
+        .expect(rt, "a closed map")
+        .mapping_count();
     ((called, again), asked, keys)
 }
 

@@ -1,8 +1,9 @@
 //! Moves whose requests are refused, and later calls that go on with them.
 ghost use Rattle.std.specs.Prelude.{◌≡◌};
 
-use crate::maps::{KeyMap, KeyPass, Single, close, numbered, one_client, open};
+use crate::maps::{KeyMap, KeyPass, numbered};
 use bin_history::Form;
+use map_samples::{Single, close_single, open_single};
 use refusing_alloc::Refusing;
 use std::alloc::{Allocator, Global};
 use std::process::Abort;
@@ -45,14 +46,14 @@ fn two_puts<R: Wait + Abort>(
         map,
         mut pass,
         place,
-    } = one_client(rt, open(rt, alloc, Form::Lean, 1, 1));
+    } = open_single(alloc, Form::Lean, 1).expect(rt, "a map");
     alloc.refuse_after(granted);
     let first = put_one(rt, &map, &mut pass, 0);
     alloc.refuse_after(u64::MAX);
     let before = count_bins(rt, &map, &mut pass);
     let second = put_one(rt, &map, &mut pass, 1);
     let after = count_bins(rt, &map, &mut pass);
-    drop(close(rt, map, pass, place));
+    drop(close_single(rt, map, pass, place).expect(rt, "a closed map"));
     [(first, before), (second, after)]
 }
 

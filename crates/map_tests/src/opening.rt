@@ -2,12 +2,12 @@
 ghost use Rattle.std.specs.Prelude.{◌≡◌, All};
 
 use crate::maps::{
-    BOTH, KeyMap, KeyPass, Plus, Single, assert_entries, assert_same, close_all, count_all,
-    one_client, open, opening_fault, put_back, put_texts,
+    KeyMap, KeyPass, Plus, assert_entries, assert_same, count_all, opening_fault, put_texts,
 };
 use bin_history::Form;
 use chm::{Fault, NotClosed, Opened};
 use hashkeys::Key;
+use map_samples::{BOTH, Single, close, open, put_back, take_pass};
 use std::alloc::{Allocator, Global};
 use std::process::Abort;
 use std::sync::Wait;
@@ -21,14 +21,13 @@ fn of_three<R: Wait + Abort>(
     form: Form,
 ) -> ((Form, u32, usize), (Form, usize)) {
     let (map, passes): Opened<Key, u64, Plus, Global> = open(
-        rt,
         alloc,
         form,
         KeyMap::<Global>::DEFAULT_CAPACITY,
         3,
-    );
+    ).expect(rt, "a map");
     let told = (map.form(), map.clients(), passes.len());
-    let closed = close_all(rt, map, passes);
+    let closed = close(rt, map, passes).expect(rt, "a closed map");
     (told, (closed.form(), closed.bins().len()))
 }
 
@@ -83,12 +82,12 @@ fn close_twice<R: Wait + Abort>(rt: &R, alloc: Global, form: Form) -> u64 {
         map,
         mut pass,
         place,
-    } = one_client(rt, open(rt, alloc, form, 16, 2));
+    } = take_pass(open(alloc, form, 16, 2).expect(rt, "a map")).expect(rt, "a pass");
     put_texts(rt, &map, &mut pass, &[(b"a", 1)]);
     let (map, mut passes) = close_early(rt, map, place);
-    put_back(rt, &map, pass, &mut passes);
+    put_back(&map, pass, &mut passes);
     let count = count_all(rt, &map, &mut passes);
-    let closed = close_all(rt, map, passes);
+    let closed = close(rt, map, passes).expect(rt, "a closed map");
     assert_entries(rt, closed.entries(), &[(b"a", 1)]);
     count
 }

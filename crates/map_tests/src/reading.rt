@@ -2,12 +2,13 @@
 ghost use Rattle.std.specs.Prelude.{◌≡◌, All};
 
 use crate::maps::{
-    BOTH, KeyQuiet, Plus, Single, assert_entries, assert_pairs, assert_same, close, close_all, key,
-    one_client, open, open_salted, put_numbers, put_texts, records_of,
+    KeyQuiet, Plus, assert_entries, assert_pairs, assert_same, key, put_numbers, put_texts,
+    records_of,
 };
 use bin_history::{Form, Reply};
 use chm::{Fault, Opened, Visit};
 use hashkeys::{Key, Salt};
+use map_samples::{BOTH, Single, close, close_single, open_salted, open_single, take_pass};
 use std::alloc::{Allocator, Global};
 use std::process::Abort;
 use std::sync::Wait;
@@ -41,13 +42,13 @@ fn walk_twice<R: Wait + Abort>(rt: &R, alloc: Global, form: Form) {
         map,
         mut pass,
         place,
-    } = one_client(rt, open(rt, alloc, form, 16, 1));
+    } = open_single(alloc, form, 16).expect(rt, "a map");
     put_texts(rt, &map, &mut pass, &FOUR);
     let before = map.walk(rt, &mut pass);
     let removed = map.remove(rt, &mut pass, key(rt, b"q"));
     put_texts(rt, &map, &mut pass, &[(b"q", 5)]);
     let after = map.walk(rt, &mut pass);
-    let closed = close(rt, map, pass, place);
+    let closed = close_single(rt, map, pass, place).expect(rt, "a closed map");
     assert_entries(
         rt,
         closed.entries(),
@@ -79,10 +80,10 @@ fn four_and_more<R: Wait + Abort>(
         map,
         mut pass,
         place,
-    } = one_client(rt, open_salted(rt, alloc, form, salt, 16, 1));
+    } = take_pass(open_salted(alloc, form, salt, 16, 1).expect(rt, "a map")).expect(rt, "a pass");
     put_texts(rt, &map, &mut pass, &FOUR);
     put_numbers(rt, &map, &mut pass, 0, more);
-    close(rt, map, pass, place)
+    close_single(rt, map, pass, place).expect(rt, "a closed map")
 }
 
 /// The four keys in walk order, in this many bins of the form under this salt.
@@ -102,7 +103,7 @@ fn again<R: Wait + Abort>(rt: &R, opened: Opened<Key, u64, Plus, Global>) -> Key
     requires { All (λ p. p.ledger ≡ opened.0.ledger.id) opened.1.items }
 {
     let (map, passes) = opened;
-    close_all(rt, map, passes)
+    close(rt, map, passes).expect(rt, "a closed map")
 }
 
 /// The walk order of 16 bins, and of 32.
@@ -156,7 +157,7 @@ fn glances<R: Wait + Abort>(
         map,
         mut pass,
         place,
-    } = one_client(rt, open(rt, alloc, form, 16, 1));
+    } = open_single(alloc, form, 16).expect(rt, "a map");
     let first = map.glance(rt, &key(rt, b"a"));
     put_texts(rt, &map, &mut pass, &[(b"a", 7)]);
     let before = map.glance(rt, &key(rt, b"a"));
@@ -164,7 +165,7 @@ fn glances<R: Wait + Abort>(
     let after = map.glance(rt, &key(rt, b"a"));
     let absent = map.glance(rt, &key(rt, b"q"));
     let made = pass.made();
-    let closed = close(rt, map, pass, place);
+    let closed = close_single(rt, map, pass, place).expect(rt, "a closed map");
     ([first, before, after, absent], made, closed.bins().len())
 }
 
@@ -189,11 +190,11 @@ fn clear_three<R: Wait + Abort>(
         map,
         mut pass,
         place,
-    } = one_client(rt, open(rt, alloc, form, 16, 1));
+    } = open_single(alloc, form, 16).expect(rt, "a map");
     put_texts(rt, &map, &mut pass, &[(b"a", 1), (b"q", 2), (b"Aa", 3)]);
     let cleared = map.clear(rt, &mut pass);
     let made = pass.made();
-    let closed = close(rt, map, pass, place);
+    let closed = close_single(rt, map, pass, place).expect(rt, "a closed map");
     (cleared, made, closed.mapping_count(), records_of(&closed))
 }
 

@@ -2,11 +2,12 @@
 ghost use Rattle.std.specs.Prelude.{◌≡◌, All};
 
 use crate::maps::{
-    Single, assert_entries, assert_pairs, assert_same, close, close_all, get_often, key, numbered,
-    one_client, open, opening_fault, put_back, put_numbers, put_texts,
+    KeySingle, assert_entries, assert_pairs, assert_same, get_often, key, numbered, opening_fault,
+    put_numbers, put_texts,
 };
 use bin_history::{Form, Reply};
 use chm::{Fault, NotClosed};
+use map_samples::{Single, close, close_single, open_single, put_back};
 use refusing_alloc::Refusing;
 use std::alloc::Global;
 use std::process::Abort;
@@ -36,7 +37,7 @@ fn three_keys<'a, R: Wait + Abort>(
     rt: &R,
     alloc: &'a Refusing<Global>,
     form: Form,
-) -> Single<&'a Refusing<Global>>
+) -> KeySingle<&'a Refusing<Global>>
     ensures pass { result.pass.ledger ≡ result.map.ledger.id }
     ensures place { All (λ p. p.ledger ≡ result.map.ledger.id) result.place.items }
 {
@@ -44,7 +45,7 @@ fn three_keys<'a, R: Wait + Abort>(
         map,
         mut pass,
         place,
-    } = one_client(rt, open(rt, alloc, form, 16, 1));
+    } = open_single(alloc, form, 16).expect(rt, "a map");
     put_texts(rt, &map, &mut pass, &THREE);
     Single { map, pass, place }
 }
@@ -69,7 +70,7 @@ fn put_the_twelfth<R: Wait + Abort>(
     let refused = alloc.has_refused();
     alloc.refuse_after(u64::MAX);
     let live = (map.mapping_count(), pass.made());
-    let closed = close(rt, map, pass, place);
+    let closed = close_single(rt, map, pass, place).expect(rt, "a closed map");
     assert_entries(rt, closed.entries(), &IN_ORDER);
     let left = (closed.bins().len(), closed.mapping_count());
     (reply, refused, live, left)
@@ -116,7 +117,7 @@ fn clear_twice<R: Wait + Abort>(
     alloc.refuse_after(u64::MAX);
     let between = (map.mapping_count(), pass.made());
     let again = map.clear(rt, &mut pass);
-    let closed = close(rt, map, pass, place);
+    let closed = close_single(rt, map, pass, place).expect(rt, "a closed map");
     let keys = closed.mapping_count();
     drop(closed);
     assert_same(rt, &again, &Ok(()));
@@ -159,7 +160,7 @@ fn refuse_walk<R: Wait + Abort>(
     let refused = alloc.has_refused();
     alloc.refuse_after(u64::MAX);
     let made = pass.made();
-    let closed = close(rt, map, pass, place);
+    let closed = close_single(rt, map, pass, place).expect(rt, "a closed map");
     assert_entries(rt, closed.entries(), &IN_ORDER);
     drop(closed);
     let wanted = if refused {
@@ -190,7 +191,7 @@ fn refuse_close<R: Wait + Abort>(
         pass,
         mut place,
     } = three_keys(rt, alloc, form);
-    put_back(rt, &map, pass, &mut place);
+    put_back(&map, pass, &mut place);
     alloc.refuse_after(granted);
     let result = map.close(rt, place);
     let refused = alloc.has_refused();
@@ -199,7 +200,10 @@ fn refuse_close<R: Wait + Abort>(
         Ok(closed) => (closed, None),
         Err(NotClosed { fault, map, passes }) => {
             let map = map.expect(rt, "the map comes back");
-            (close_all(rt, map, passes), Some(fault))
+            (
+                close(rt, map, passes).expect(rt, "a closed map"),
+                Some(fault),
+            )
         }
     };
     assert_entries(rt, closed.entries(), &IN_ORDER);
@@ -217,7 +221,7 @@ fn refuse_reopening<R: Wait + Abort>(
     granted: u64,
 ) -> bool {
     let Single { map, pass, place } = three_keys(rt, alloc, form);
-    let first = close(rt, map, pass, place);
+    let first = close_single(rt, map, pass, place).expect(rt, "a closed map");
     alloc.refuse_after(granted);
     let result = first.reopen(2);
     let refused = alloc.has_refused();
@@ -227,7 +231,7 @@ fn refuse_reopening<R: Wait + Abort>(
         Err(fault) => (first.reopen(2).expect(rt, "a map"), Some(fault)),
     };
     let (map, passes) = opened;
-    let closed = close_all(rt, map, passes);
+    let closed = close(rt, map, passes).expect(rt, "a closed map");
     assert_entries(rt, first.entries(), &IN_ORDER);
     drop(first);
     assert_entries(rt, closed.entries(), &IN_ORDER);
@@ -245,7 +249,7 @@ fn refuse_taking<R: Wait + Abort>(
     granted: u64,
 ) -> bool {
     let Single { map, pass, place } = three_keys(rt, alloc, form);
-    let closed = close(rt, map, pass, place);
+    let closed = close_single(rt, map, pass, place).expect(rt, "a closed map");
     alloc.refuse_after(granted);
     let result = closed.into_entries();
     let refused = alloc.has_refused();

@@ -1,12 +1,10 @@
 //! When tables grow, and what a put leaves whose requests are refused.
 ghost use Rattle.std.specs.Prelude.{◌≡◌, All};
 
-use crate::maps::{
-    BOTH, KeyMap, KeyPass, Single, close, filled, key, numbered, one_client, open, put_numbers,
-    put_texts,
-};
+use crate::maps::{KeyMap, KeyPass, KeySingle, filled, key, numbered, put_numbers, put_texts};
 use bin_history::{Form, Reply};
 use chm::Fault;
+use map_samples::{BOTH, Single, close_single, open_single};
 use refusing_alloc::Refusing;
 use std::alloc::{Allocator, Global};
 use std::process::Abort;
@@ -44,7 +42,7 @@ fn eleven<'a, R: Wait + Abort>(
     rt: &R,
     alloc: &'a Refusing<Global>,
     form: Form,
-) -> Single<&'a Refusing<Global>>
+) -> KeySingle<&'a Refusing<Global>>
     ensures pass { result.pass.ledger ≡ result.map.ledger.id }
     ensures place { All (λ p. p.ledger ≡ result.map.ledger.id) result.place.items }
 {
@@ -52,7 +50,7 @@ fn eleven<'a, R: Wait + Abort>(
         map,
         mut pass,
         place,
-    } = one_client(rt, open(rt, alloc, form, 16, 1));
+    } = open_single(alloc, form, 16).expect(rt, "a map");
     put_texts(rt, &map, &mut pass, &THREE);
     put_numbers(rt, &map, &mut pass, 0, 8);
     Single { map, pass, place }
@@ -142,7 +140,10 @@ fn put_the_twelfth<R: Wait + Abort>(
     let before = count_found(rt, &map, &mut pass);
     put_numbers(rt, &map, &mut pass, 9, 1);
     let after = count_found(rt, &map, &mut pass);
-    let bins = close(rt, map, pass, place).bins().len();
+    let bins = close_single(rt, map, pass, place)
+        .expect(rt, "a closed map")
+        .bins()
+        .len();
     Told {
         reply,
         refused,

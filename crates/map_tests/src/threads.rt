@@ -2,12 +2,13 @@
 ghost use Rattle.std.specs.Prelude.{◌≡◌, All};
 
 use crate::maps::{
-    BOTH, KeyMap, KeyPass, KeyQuiet, Plus, assert_entries, assert_same, assert_slot_1, close_all,
-    key, numbered, open, put_numbers, put_texts,
+    KeyMap, KeyPass, KeyQuiet, Plus, assert_entries, assert_same, assert_slot_1, key, numbered,
+    put_numbers, put_texts,
 };
 use bin_history::{Form, Reply};
 use chm::Visit;
 use hashkeys::Key;
+use map_samples::{BOTH, close, open};
 use std::alloc::{AllocError, Allocator, Global};
 use std::process::Abort;
 use std::sync::Wait;
@@ -21,7 +22,7 @@ use std::thread::{self, Threads};
 fn put_once<R: Threads + Wait + Abort + Sync>(rt: &R, alloc: Global, form: Form) -> [u64; 3] {
     let none = AtomicU64::new(0);
     let some = AtomicU64::new(0);
-    let (map, mut passes) = open(rt, alloc, form, 16, 32);
+    let (map, mut passes) = open(alloc, form, 16, 32).expect(rt, "a map");
     let work = |_number: usize, pass: &mut KeyPass|
         requires pass { pass.now.ledger ≡ map.ledger.id }
         ensures { pass.exit.now.ledger ≡ map.ledger.id }
@@ -33,7 +34,7 @@ fn put_once<R: Threads + Wait + Abort + Sync>(rt: &R, alloc: Global, form: Form)
         };
     };
     thread::for_each_mut(rt, &mut passes, 32, &work);
-    let closed = close_all(rt, map, passes);
+    let closed = close(rt, map, passes).expect(rt, "a closed map");
     assert_entries(rt, closed.entries(), &[(b"a", 1)]);
     [none.load(SeqCst), some.load(SeqCst), closed.mapping_count()]
 }
@@ -85,13 +86,13 @@ fn merge_together<R: Threads + Wait + Abort + Sync>(
     clients: u32,
     replies: &[AtomicU64],
 ) -> KeyQuiet<Global> {
-    let (map, mut passes) = open(rt, alloc, form, 16, clients);
+    let (map, mut passes) = open(alloc, form, 16, clients).expect(rt, "a map");
     let work = |_number: usize, pass: &mut KeyPass|
         requires pass { pass.now.ledger ≡ map.ledger.id }
         ensures { pass.exit.now.ledger ≡ map.ledger.id }
     { merge_often(rt, &map, pass, replies) };
     thread::for_each_mut(rt, &mut passes, 32, &work);
-    close_all(rt, map, passes)
+    close(rt, map, passes).expect(rt, "a closed map")
 }
 
 /// Asserts that each sum from 1 on was replied once, and 0 never.
@@ -147,7 +148,7 @@ fn grow_together<R: Threads + Wait + Abort + Sync>(
     clients: u32,
     puts: u32,
 ) -> KeyQuiet<Global> {
-    let (map, mut passes) = open(rt, alloc, form, 1, clients);
+    let (map, mut passes) = open(alloc, form, 1, clients).expect(rt, "a map");
     let work = |number: usize, pass: &mut KeyPass|
         requires pass { pass.now.ledger ≡ map.ledger.id }
         ensures { pass.exit.now.ledger ≡ map.ledger.id }
@@ -157,7 +158,7 @@ fn grow_together<R: Threads + Wait + Abort + Sync>(
         put_numbers(rt, &map, pass, first, puts)
     };
     thread::for_each_mut(rt, &mut passes, 16, &work);
-    close_all(rt, map, passes)
+    close(rt, map, passes).expect(rt, "a closed map")
 }
 
 #[test]
@@ -177,7 +178,7 @@ fn walk_after_two<R: Threads + Wait + Abort + Sync>(
     alloc: Global,
     form: Form,
 ) -> Option<Visit<Key, u64, Global>> {
-    let (map, mut passes) = open(rt, alloc, form, 16, 2);
+    let (map, mut passes) = open(alloc, form, 16, 2).expect(rt, "a map");
     let work = |number: usize, pass: &mut KeyPass|
         requires pass { pass.now.ledger ≡ map.ledger.id }
         ensures { pass.exit.now.ledger ≡ map.ledger.id }
@@ -188,7 +189,7 @@ fn walk_after_two<R: Threads + Wait + Abort + Sync>(
     thread::for_each_mut(rt, &mut passes, 2, &work);
     assert!(rt; passes.len() == 2);
     let visits = map.walk(rt, &mut passes[0]);
-    let closed = close_all(rt, map, passes);
+    let closed = close(rt, map, passes).expect(rt, "a closed map");
     assert_same(rt, &closed.mapping_count(), &2);
     drop(closed);
     visits.expect(rt, "memory").into_iter().nth(1)
