@@ -1,5 +1,5 @@
 -- What an option says.
-use Rattle.std.proofs.Common.{◌≡◌, ℕ, Option, Some, None, Result, Ok, IfSome, sym, refl, subst}
+use Rattle.std.proofs.Common.{◌≡◌, ℕ, ◌<◌, ◌^◌, Option, Some, None, Result, Ok, Err, IfSome, IsSome, sym, refl, subst}
 use Rattle.std.specs.Str.Parse.{ParsesUnsigned}
 use Rattle.clap.specs.Words.{ReadsOne, Text}
 use Rattle.facing_cli.specs.CommandLine.{SaysNumber}
@@ -14,3 +14,13 @@ module _ {E : Type 0} (bits : ℕ) (gives : Text → Result ℕ E → Type 0) (p
   says_number (Some t) (Some n) none value =
       let p = parses t (Ok n) (value t refl) in
       (p.0.0, p.1)
+
+  -- a text of a number that fits is read
+  pub number_read : (text : Option Text) (read : Option ℕ) (n : ℕ) →
+      ((t : Text) → text ≡ Some t → ReadsOne gives t read)
+      → SaysNumber text n → n < 2 ^ bits → IsSome read
+  number_read None read n value says fits = elim says [ ]
+  number_read (Some t) (Some m) n value says fits = refl
+  number_read (Some t) None n value says fits =
+      let failed = value t refl in
+      absurd (parses t (Err failed.0) failed.1 (says.0, subst (λ (m : ℕ). m < 2 ^ bits) says.1 fits))

@@ -1,10 +1,12 @@
 -- The program's command line, and what words on it say.
-use Rattle.std.specs.Prelude.{◌≡◌, ℕ, true, Option, Some, None, List, [], ◌∷◌, pos, codes}
+use Rattle.std.specs.Prelude.{◌≡◌, ℕ, ◌<◌, ◌^◌, true, Option, Some, None, List, [], ◌∷◌, pos, codes}
 use Rattle.std.specs.Str.Parse.{IsNumeral, digits_value, without_leading_plus}
 use Rattle.clap.specs.Words.{App, Row, Rule, Text, first_of, matches_of, new_app, new_rule, one_of, with_rule}
 use Rattle.clap.specs.declared.builder.action.ArgAction.TheVariants.{Set}
 use Rattle.clap.specs.declared.builder.value_parser.ValueParser.{ValueParser}
 use Rattle.clap.specs.declared.builder.value_parser.ValueParser.TheVariants as parser
+use Rattle.chm.specs.Refusals.{IsCapacity}
+use Rattle.bulk_tasks.specs.Plans.{AreWorkers}
 use Rattle.steal_pool.specs.Limits.{most_workers}
 use Rattle.facing_cli.specs.Options.{OptionsView}
 
@@ -48,6 +50,23 @@ pub record AreRead (rows : List Row) (options : OptionsView) (path : Text) : Typ
   pub salt : SaysNumber (one_of (codes "salt") rows) options.salt.0
   pub file : first_of (codes "FILE") rows ≡ Some path
 
+-- the program's name, and the words after it
+abbrev pub command_line : List Text → List Text
+command_line words = codes "mapcli" ∷ words
+
 -- the words after the program's name say these options and this FILE
 abbrev pub AreSaid : List Text → OptionsView → Text → Type 0
-AreSaid words = AreRead (matches_of program (codes "mapcli" ∷ words))
+AreSaid words = AreRead (matches_of program (command_line words))
+
+-- the options are in their ranges
+pub record AreInRange (o : OptionsView) : Type 0 where
+  pub workers : AreWorkers o.workers
+  pub capacity : IsCapacity o.capacity
+  pub salt : o.salt.0 < 2 ^ 32
+
+-- the matches of a command line say options in their ranges, and a FILE
+pub record AreWhole (rows : List Row) : Type 0 where
+  pub options : OptionsView
+  pub path : Text
+  pub read : AreRead rows options path
+  pub in_range : AreInRange options

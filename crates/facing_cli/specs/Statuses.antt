@@ -28,6 +28,12 @@ EndsWords BadWorkers = ⊥
 EndsWords Device = ⊥
 EndsWords BinMissing = ⊥
 
+-- help ends it, or where memory runs out
+abbrev pub EndsInHelp : Fault → Type 0
+EndsInHelp (Help text) = Unit {0}
+EndsInHelp NoMemory = Unit {0}
+EndsInHelp _ = ⊥
+
 -- what is told of an end: a command line's own text as it stands, and else one line
 abbrev pub line_of : Fault → List ℕ
 line_of (Usage text) = string_bytes text

@@ -1,9 +1,14 @@
 //! The words of the command line.
-ghost use Rattle.std.specs.Prelude.{◌≡◌, ◌∷◌, false, map, codes, string_bytes, IfOk, IfErr, IfSome};
-ghost use Rattle.clap.specs.Words.{app_of, found_of, matches_of, one_of, rows_of, rule_of};
+ghost use Rattle.std.specs.Prelude.{◌≡◌, ◌<◌, ◌^◌, [], ◌∷◌, ℕ, true, false, map, string_bytes};
+ghost use Rattle.std.specs.Prelude.{IfOk, IfErr, IfSome, IsErrAnd, IsSome};
+ghost use Rattle.clap.specs.Words.{app_of, fault_of, found_of, kind_of, matches_of, one_of, rows_of};
+ghost use Rattle.clap.specs.Words.{rule_of, takes, IsAmong};
+ghost use Rattle.clap.specs.declared.error.kind.ErrorKind.TheVariants.{DisplayHelp, OutOfMemory};
 ghost use Rattle.facing_cli.specs.CommandLine.{workers_rule, capacity_rule, salt_rule, file_rule};
-ghost use Rattle.facing_cli.specs.CommandLine.{program, SaysNumber, AreRead, AreSaid};
-ghost use Rattle.facing_cli.specs.Statuses.{EndsWords};
+ghost use Rattle.facing_cli.specs.CommandLine.{program, command_line, SaysNumber, AreRead, AreSaid};
+ghost use Rattle.facing_cli.specs.CommandLine.{AreWhole};
+ghost use Rattle.facing_cli.specs.Statuses.{EndsInHelp, EndsWords, is_help};
+ghost use Rattle.facing_cli.specs.declared.fault.Fault.TheVariants.{NoMemory};
 
 use crate::fault::Fault;
 use crate::options::Options;
@@ -19,9 +24,17 @@ const NOT_SAID: &str = "mapcli: an option or FILE is not given\n";
 
 /// The options and FILE that the words after the program's name say: of each option the number on
 /// the line, and where the line has none its default. Wrong words, and words that ask for help, end
-/// with the text that tells so.
+/// with the text that tells so: help where help is asked for. Words that the command takes, and that
+/// say options in their ranges and a FILE, are refused for want of memory alone.
 pub fn words(alloc: Global, words: &[String]) -> Result<(Options, String), Fault>
     ensures said { IfOk result (λ r. AreSaid (map string_bytes words.now) r.0 (string_bytes r.1)) }
+    ensures taken { takes program (command_line (map string_bytes words.now)) ≡ true →
+        AreWhole (matches_of program (command_line (map string_bytes words.now)))
+        → IfErr result (λ fault. fault ≡ NoMemory) }
+    ensures asked { fault_of program (command_line (map string_bytes words.now)) ≡ DisplayHelp ∷ []
+        → IsErrAnd result EndsInHelp }
+    ensures help { IfErr result (λ fault. is_help fault ≡ true →
+        IsAmong DisplayHelp (fault_of program (command_line (map string_bytes words.now)))) }
     ensures ended { IfErr result EndsWords }
 {
     let line = whole_line(alloc, words)?;
@@ -31,7 +44,7 @@ pub fn words(alloc: Global, words: &[String]) -> Result<(Options, String), Fault
 /// The words with the program's name before them.
 fn whole_line<'a>(alloc: Global, words: &'a [String]) -> Result<Vec<&'a str>, AllocError>
     ensures { IfOk result
-        (λ line. map (λ s. s.now) line.items ≡ codes "mapcli" ∷ map string_bytes words.now) }
+        (λ line. map (λ s. s.now) line.items ≡ command_line (map string_bytes words.now)) }
 {
     let mut line: Vec<&str> = Vec::with_capacity(alloc, words.len().saturating_add(1))?;
     line.push("mapcli")?;
@@ -44,6 +57,13 @@ fn whole_line<'a>(alloc: Global, words: &'a [String]) -> Result<Vec<&'a str>, Al
 fn read_words<'a>(alloc: Global, line: &'a [&'a str]) -> Result<(Options, String), Fault>
     ensures said { IfOk result (λ r. AreRead (matches_of program (map (λ s. s.now) line.now)) r.0
         (string_bytes r.1)) }
+    ensures taken { takes program (map (λ s. s.now) line.now) ≡ true →
+        AreWhole (matches_of program (map (λ s. s.now) line.now))
+        → IfErr result (λ fault. fault ≡ NoMemory) }
+    ensures asked { fault_of program (map (λ s. s.now) line.now) ≡ DisplayHelp ∷ [] →
+        IsErrAnd result EndsInHelp }
+    ensures help { IfErr result (λ fault. is_help fault ≡ true →
+        IsAmong DisplayHelp (fault_of program (map (λ s. s.now) line.now))) }
     ensures ended { IfErr result EndsWords }
 {
     match command(alloc)?.try_get_matches_from(line) {
@@ -56,6 +76,9 @@ fn read_words<'a>(alloc: Global, line: &'a [&'a str]) -> Result<(Options, String
 fn read_matches(alloc: Global, matches: &ArgMatches<'_>) -> Result<(Options, String), Fault>
     ensures said { IfOk result
         (λ r. AreRead (rows_of (found_of matches.now)) r.0 (string_bytes r.1)) }
+    ensures whole { AreWhole (rows_of (found_of matches.now)) →
+        IfErr result (λ fault. fault ≡ NoMemory) }
+    ensures no_help { IfErr result (λ fault. is_help fault ≡ false) }
     ensures ended { IfErr result EndsWords }
 {
     let Some(workers) = number(matches, "workers") else {
@@ -78,14 +101,17 @@ fn read_matches(alloc: Global, matches: &ArgMatches<'_>) -> Result<(Options, Str
 
 /// The number that an option says.
 fn number(matches: &ArgMatches<'_>, id: &str) -> Option<u32>
-    ensures { IfSome result (SaysNumber (one_of id.now (rows_of (found_of matches.now)))) }
+    ensures says { IfSome result (SaysNumber (one_of id.now (rows_of (found_of matches.now)))) }
+    ensures found { (n : ℕ) → SaysNumber (one_of id.now (rows_of (found_of matches.now))) n →
+        n < 2 ^ 32 → IsSome result }
 {
     matches.get_one::<u32>(id)
 }
 
 /// The fault that options out of their ranges are, which the ranges of the command rule out before.
 fn wrong_options(alloc: Global, fault: &Fault) -> Fault
-    ensures { EndsWords result }
+    ensures ended { EndsWords result }
+    ensures no_help { is_help result ≡ false }
 {
     match line(alloc, fault) {
         Ok(text) => Fault::Usage(text),
@@ -95,7 +121,8 @@ fn wrong_options(alloc: Global, fault: &Fault) -> Fault
 
 /// The fault that this text tells of.
 fn usage(alloc: Global, text: &str) -> Fault
-    ensures { EndsWords result }
+    ensures ended { EndsWords result }
+    ensures no_help { is_help result ≡ false }
 {
     match String::from_str(alloc, text) {
         Ok(text) => Fault::Usage(text),
@@ -105,7 +132,10 @@ fn usage(alloc: Global, text: &str) -> Fault
 
 /// The fault that a refused command line is.
 fn refusal(alloc: Global, error: &clap::Error) -> Fault
-    ensures { EndsWords result }
+    ensures ended { EndsWords result }
+    ensures memory { kind_of error.now ≡ OutOfMemory → result ≡ NoMemory }
+    ensures asked { kind_of error.now ≡ DisplayHelp → EndsInHelp result }
+    ensures help { is_help result ≡ true → kind_of error.now ≡ DisplayHelp }
 {
     let kind = error.kind();
     match error.to_string(alloc) {
