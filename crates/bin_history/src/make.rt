@@ -52,13 +52,13 @@ impl<K: HashKey, V: Clone + Eq, F: Remap<K, V> + Clone, A: Allocator + Clone> Bi
                 Op::Get => {
                     let value = self.value(key);
                     let reply = Reply::Value(copy_of_option(value)?);
-                    let seen = Seen::left(key, op, value);
+                    let seen = Seen::of(key, op, value, value);
                     Ok(Some((reply, Trace::seen(client, ordinal, seen))))
                 }
                 Op::Contains => {
                     let value = self.value(key);
                     let reply = Reply::Truth(value.is_some());
-                    let seen = Seen::left(key, op, value);
+                    let seen = Seen::of(key, op, value, value);
                     Ok(Some((reply, Trace::seen(client, ordinal, seen))))
                 }
                 _ => Ok(None),

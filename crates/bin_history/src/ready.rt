@@ -16,12 +16,11 @@ use crate::effect::{Answer, Effect};
 use crate::form::Form;
 use crate::given::Given;
 use crate::op::Op;
-use crate::seen::{Seen, SeenCall, value_seen};
+use crate::seen::Seen;
 use crate::work::work_of;
 use hashkeys::HashKey;
 use std::alloc::AllocError;
 use std::marker::Model;
-use std::snapshot::Snapshot;
 
 /// What a recorded bin keeps of a call: the call, and the values just before it and just after it.
 #[derive(Drop)]
@@ -93,6 +92,36 @@ fn recorded<K: Clone + Drop, V: Clone + Drop, F: Drop>(
     ))
 }
 
+/// What a bin of this form does for a call of this effect, and keeps of it.
+fn planned<K: Clone + Drop, V: Clone + Drop, F: Drop>(
+    form: Form,
+    found: Option<usize>,
+    key: Given<'_, K>,
+    op: Op<V, F>,
+    effect: Effect<V>,
+    before: Option<&V>,
+) -> Result<(Change<K, V>, Option<Kept<K, V, F>>), AllocError>
+    requires keys { IsExact K.is_clone }
+    requires values { IsExact V.is_clone }
+    ensures change { IfOk result (λ r. (value : Option V) × (effect ≡ Give → value ≡ value_of op)
+        × (r.0 ≡ change_by found (key_in key.entry) effect value)) }
+    ensures kept { IfOk result (λ r. r.1 ≡ kept_in form (call_on (key_in key.entry) op)
+        (option_copied before.entry) (left_by op effect (option_copied before.entry))) }
+    ensures succeeds { K.is_infallible (key_in key.entry) → IsNeverRefused V.is_infallible
+        → IsOk result }
+{
+    match form {
+        Form::Recorded => {
+            let (change, kept) = recorded(found, key, op, effect, before)?;
+            Ok((change, Some(kept)))
+        }
+        Form::Lean => {
+            let value = op.into_value();
+            Ok((Change::by(key, found, effect, value)?, None))
+        }
+    }
+}
+
 /// Works out all that a call does to the entries of a bin of this form, in which its key was looked
 /// for.
 pub(crate) fn work_out<K: HashKey, V: Clone + Eq, F: Remap<K, V> + Drop>(
@@ -117,21 +146,8 @@ pub(crate) fn work_out<K: HashKey, V: Clone + Eq, F: Remap<K, V> + Drop>(
     let before = value_at(entries, key.get(), found);
     let work = work_of(key.get(), &op, before)?;
     let after = work.effect.left(&op, before);
-    let seen = Seen {
-        call: SeenCall::Parts(Snapshot::of(key.get()), Snapshot::of(&op)),
-        before: value_seen(before),
-        after: value_seen(after),
-    };
-    let (change, kept) = match form {
-        Form::Recorded => {
-            let (change, kept) = recorded(found, key, op, work.effect, before)?;
-            (change, Some(kept))
-        }
-        Form::Lean => {
-            let value = op.into_value();
-            (Change::by(key, found, work.effect, value)?, None)
-        }
-    };
+    let seen = Seen::of(key.get(), &op, before, after);
+    let (change, kept) = planned(form, found, key, op, work.effect, before)?;
     Ok(Ready {
         seen,
         answer: work.answer,

@@ -34,16 +34,16 @@ pub(crate) fn value_seen<V>(value: Option<&V>) -> Option<Snapshot<V>>
 }
 
 impl<K, V, F> Seen<K, V, F> {
-    /// A call on a key that leaves the value that it finds.
-    pub(crate) fn left(key: &K, op: &Op<V, F>, value: Option<&V>) -> Seen<K, V, F>
+    /// A call on a key, and the values before and after it.
+    pub(crate) fn of(key: &K, op: &Op<V, F>, before: Option<&V>, after: Option<&V>) -> Seen<K, V, F>
         ensures call { call_seen result.call ≡ call_on key.now op.now }
-        ensures before { value_seen result.before ≡ option_copied value.entry }
-        ensures after { value_seen result.after ≡ option_copied value.entry }
+        ensures before { value_seen result.before ≡ option_copied before.entry }
+        ensures after { value_seen result.after ≡ option_copied after.entry }
     {
         Seen {
             call: SeenCall::Parts(Snapshot::of(key), Snapshot::of(op)),
-            before: value_seen(value),
-            after: value_seen(value),
+            before: value_seen(before),
+            after: value_seen(after),
         }
     }
 }

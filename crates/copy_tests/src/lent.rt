@@ -8,18 +8,16 @@ use count_ledger::Pass;
 use hashkeys::ByteString;
 use map_samples::{BOTH, Single, close_single, open_single};
 use refusing_alloc::Refusing;
-use std::alloc::{AllocError, Global};
+use std::alloc::{AllocError, Allocator, Global};
 use std::process::Abort;
 use std::sync::Wait;
 use std::test::Fail;
 
-type Alloc<'a> = &'a Refusing<Global>;
+type Text<A> = ByteString<A>;
 
-type Text<'a> = ByteString<Alloc<'a>>;
+type TextMap<A> = Map<Text<A>, Text<A>, TakesAway, A>;
 
-type TextMap<'a> = Map<Text<'a>, Text<'a>, TakesAway, Alloc<'a>>;
-
-type TextPass<'a> = Pass<Text<'a>, Text<'a>, TakesAway>;
+type TextPass<A> = Pass<Text<A>, Text<A>, TakesAway>;
 
 /// The function that takes each value away.
 #[derive(Drop)]
@@ -35,7 +33,7 @@ impl Clone for TakesAway {
     }
 }
 
-impl<'a> Remap<Text<'a>, Text<'a>> for TakesAway {
+impl<A: Allocator> Remap<Text<A>, Text<A>> for TakesAway {
     ghost use Rattle.std.specs.Prelude.{None};
 
     ghost remapped = { λ f k v. None };
@@ -44,13 +42,13 @@ impl<'a> Remap<Text<'a>, Text<'a>> for TakesAway {
 
     fn remap(
         &self,
-        _key: &Text<'a>,
-        _value: Option<&Text<'a>>,
-    ) -> Result<Option<Text<'a>>, AllocError> {
+        _key: &Text<A>,
+        _value: Option<&Text<A>>,
+    ) -> Result<Option<Text<A>>, AllocError> {
         Ok(None)
     }
 
-    fn merge(&self, _old: &Text<'a>, _given: &Text<'a>) -> Result<Option<Text<'a>>, AllocError> {
+    fn merge(&self, _old: &Text<A>, _given: &Text<A>) -> Result<Option<Text<A>>, AllocError> {
         Ok(None)
     }
 }
@@ -66,18 +64,19 @@ enum Lent {
 
 const ALL: [Lent; 4] = [Lent::Get, Lent::Contains, Lent::Remove, Lent::Replace];
 
-type Texts<'a> = Single<Text<'a>, Text<'a>, TakesAway, Alloc<'a>>;
+type Texts<A> = Single<Text<A>, Text<A>, TakesAway, A>;
 
-fn text<'a>(rt: &impl Abort, alloc: Alloc<'a>, bytes: &[u8]) -> Text<'a> {
+fn text<A: Allocator + Clone>(rt: &impl Abort, alloc: &A, bytes: &[u8]) -> Text<A> {
+    let alloc = alloc.clone().expect(rt, "an allocator");
     ByteString::new(bytes.to_vec(alloc).expect(rt, "memory"))
 }
 
 /// Puts `one` at `a`, which has no value.
-fn put_one<'a, R: Wait + Abort>(
+fn put_one<R: Wait + Abort, A: Allocator + Clone>(
     rt: &R,
-    alloc: Alloc<'a>,
-    map: &TextMap<'a>,
-    pass: &mut TextPass<'a>,
+    alloc: &A,
+    map: &TextMap<A>,
+    pass: &mut TextPass<A>,
 )
     requires { pass.old.ledger ≡ map.now.ledger.id }
     ensures { pass.new.ledger ≡ map.now.ledger.id }
@@ -87,21 +86,22 @@ fn put_one<'a, R: Wait + Abort>(
 }
 
 /// A map of one client in which `a` has the value `one`.
-fn one_text<'a, R: Wait + Abort>(rt: &R, alloc: Alloc<'a>, form: Form) -> Texts<'a>
+fn one_text<R: Wait + Abort, A: Allocator + Clone>(rt: &R, alloc: &A, form: Form) -> Texts<A>
     ensures pass { result.pass.ledger ≡ result.map.ledger.id }
     ensures place { All (λ p. p.ledger ≡ result.map.ledger.id) result.place.items }
 {
+    let own = alloc.clone().expect(rt, "an allocator");
     let Single {
         map,
         mut pass,
         place,
-    } = open_single(alloc, form, 16).expect(rt, "a map");
+    } = open_single(own, form, 16).expect(rt, "a map");
     put_one(rt, alloc, &map, &mut pass);
     Single { map, pass, place }
 }
 
 /// A reply, with the length of its value.
-fn told(reply: Result<Reply<Text<'_>>, Fault>) -> Result<Reply<usize>, Fault> {
+fn told<A: Allocator>(reply: Result<Reply<Text<A>>, Fault>) -> Result<Reply<usize>, Fault> {
     match reply {
         Ok(Reply::Value(Some(value))) => Ok(Reply::Value(Some(value.bytes().len()))),
         Ok(Reply::Value(None)) => Ok(Reply::Value(None)),
@@ -111,13 +111,13 @@ fn told(reply: Result<Reply<Text<'_>>, Fault>) -> Result<Reply<usize>, Fault> {
 }
 
 /// Makes a call that takes no value.
-fn make_plain<'a, R: Wait>(
+fn make_plain<R: Wait, A: Allocator + Clone>(
     rt: &R,
-    map: &TextMap<'a>,
-    pass: &mut TextPass<'a>,
+    map: &TextMap<A>,
+    pass: &mut TextPass<A>,
     call: Lent,
-    key: &Text<'a>,
-) -> Result<Reply<Text<'a>>, Fault>
+    key: &Text<A>,
+) -> Result<Reply<Text<A>>, Fault>
     requires { pass.old.ledger ≡ map.now.ledger.id }
     ensures { pass.new.ledger ≡ map.now.ledger.id }
 {
@@ -129,22 +129,22 @@ fn make_plain<'a, R: Wait>(
 }
 
 /// Makes a call; a replace is by this value.
-fn make<'a, R: Wait>(
+fn make<R: Wait, A: Allocator + Clone>(
     rt: &R,
-    map: &TextMap<'a>,
-    pass: &mut TextPass<'a>,
+    map: &TextMap<A>,
+    pass: &mut TextPass<A>,
     call: Lent,
-    key: &Text<'a>,
-    value: Text<'a>,
-) -> Result<Reply<Text<'a>>, Fault>
+    key: &Text<A>,
+    value: Text<A>,
+) -> Result<Reply<usize>, Fault>
     requires { pass.old.ledger ≡ map.now.ledger.id }
     ensures { pass.new.ledger ≡ map.now.ledger.id }
 {
     if let Lent::Replace = call {
-        return map.replace_by(rt, pass, key, value);
+        return told(map.replace_by(rt, pass, key, value));
     }
     drop(value);
-    make_plain(rt, map, pass, call, key)
+    told(make_plain(rt, map, pass, call, key))
 }
 
 /// The reply of a call, whether a request of it was refused, how many calls were made with the put
@@ -156,9 +156,9 @@ fn assert_made(rt: &impl Abort, call: Lent, found: &Made, wanted: &Made) {
 }
 
 /// Makes a call on `a` or `b`, with the request after so many refused; a replace is by `other`.
-fn make_refused<R: Wait + Abort>(
+fn make_refused<R: Wait + Abort, A: Allocator + Clone>(
     rt: &R,
-    alloc: &Refusing<Global>,
+    (switch, alloc): (&Refusing<Global>, &A),
     form: Form,
     (call, present): (Lent, bool),
     granted: u64,
@@ -170,10 +170,10 @@ fn make_refused<R: Wait + Abort>(
     } = one_text(rt, alloc, form);
     let key = text(rt, alloc, if present { b"a" } else { b"b" });
     let other = text(rt, alloc, b"other");
-    alloc.refuse_after(granted);
-    let reply = told(make(rt, &map, &mut pass, call, &key, other));
-    let refused = alloc.has_refused();
-    alloc.refuse_after(u64::MAX);
+    switch.refuse_after(granted);
+    let reply = make(rt, &map, &mut pass, call, &key, other);
+    let refused = switch.has_refused();
+    switch.refuse_after(u64::MAX);
     let made = pass.made();
     let closed = close_single(rt, map, pass, place).expect(rt, "a closed map");
     let left = match closed.get(&text(rt, alloc, b"a")) {
@@ -204,7 +204,7 @@ fn calls_that_borrow_their_key_reply_as_those_that_take_it(rt: HostRuntime) -> R
             for present in [true, false] {
                 let alloc = Refusing::new(rt.alloc());
                 let (reply, left) = wanted(call, present);
-                let found = make_refused(&rt, &alloc, form, (call, present), u64::MAX);
+                let found = make_refused(&rt, (&alloc, &&alloc), form, (call, present), u64::MAX);
                 assert_made(&rt, call, &found, &(Ok(reply), false, 2, left));
             }
         }
@@ -232,12 +232,12 @@ fn refuse_each<R: Wait + Abort>(rt: &R, memory: Global, form: Form, call: Lent, 
     let requests = requests_of(form, call, present);
     for granted in 0..requests {
         let alloc = Refusing::new(memory);
-        let found = make_refused(rt, &alloc, form, (call, present), granted);
+        let found = make_refused(rt, (&alloc, &&alloc), form, (call, present), granted);
         assert_made(rt, call, &found, &(Err(Fault::NoMemory), true, 1, Some(3)));
     }
     let alloc = Refusing::new(memory);
     let (reply, left) = wanted(call, present);
-    let found = make_refused(rt, &alloc, form, (call, present), requests);
+    let found = make_refused(rt, (&alloc, &&alloc), form, (call, present), requests);
     assert_made(rt, call, &found, &(Ok(reply), false, 2, left));
 }
 
@@ -255,11 +255,12 @@ fn a_refused_call_that_borrows_its_key_leaves_the_map(rt: HostRuntime) -> Result
 /// Puts, replaces and removes at `a`, which has the value `one`, by value and by reference, and
 /// puts `one` there again. Answers whether each call replied the value before it, and none of them
 /// but the last asked for memory.
-fn change_often<'a, R: Wait + Abort>(
+fn change_often<R: Wait + Abort, A: Allocator + Clone>(
     rt: &R,
-    alloc: Alloc<'a>,
-    map: &TextMap<'a>,
-    pass: &mut TextPass<'a>,
+    switch: &Refusing<Global>,
+    alloc: &A,
+    map: &TextMap<A>,
+    pass: &mut TextPass<A>,
 ) -> bool
     requires { pass.old.ledger ≡ map.now.ledger.id }
     ensures { pass.new.ledger ≡ map.now.ledger.id }
@@ -268,14 +269,14 @@ fn change_often<'a, R: Wait + Abort>(
     let (first, second) = (text(rt, alloc, b"a"), text(rt, alloc, b"a"));
     let (four, fives) = (text(rt, alloc, b"four"), text(rt, alloc, b"fives"));
     let sixths = text(rt, alloc, b"sixths");
-    alloc.refuse_after(0);
+    switch.refuse_after(0);
     let put = told(map.put(rt, pass, first, four));
     let replaced = told(map.replace(rt, pass, second, fives));
     let again = told(map.replace_by(rt, pass, &key, sixths));
     let has = told(map.contains_key_by(rt, pass, &key));
     let removed = told(map.remove_by(rt, pass, &key));
-    let asked = alloc.has_refused();
-    alloc.refuse_after(u64::MAX);
+    let asked = switch.has_refused();
+    switch.refuse_after(u64::MAX);
     let last = told(map.put(rt, pass, key, text(rt, alloc, b"one")));
     let replies = put == Ok(Reply::Value(Some(3)))
         && replaced == Ok(Reply::Value(Some(4)))
@@ -286,11 +287,12 @@ fn change_often<'a, R: Wait + Abort>(
 }
 
 /// How many of so many rounds of changes are right.
-fn right_rounds<'a, R: Wait + Abort>(
+fn right_rounds<R: Wait + Abort, A: Allocator + Clone>(
     rt: &R,
-    alloc: Alloc<'a>,
-    map: &TextMap<'a>,
-    pass: &mut TextPass<'a>,
+    switch: &Refusing<Global>,
+    alloc: &A,
+    map: &TextMap<A>,
+    pass: &mut TextPass<A>,
     rounds: u64,
 ) -> u64
     requires { pass.old.ledger ≡ map.now.ledger.id }
@@ -298,7 +300,7 @@ fn right_rounds<'a, R: Wait + Abort>(
 {
     let mut right = 0u64;
     for _round in 0..rounds {
-        if change_often(rt, alloc, map, pass) {
+        if change_often(rt, switch, alloc, map, pass) {
             right = right.wrapping_add(1);
         }
     }
@@ -307,13 +309,17 @@ fn right_rounds<'a, R: Wait + Abort>(
 
 /// Makes a thousand rounds of changes on a lean map. Answers how many were right, and how many keys
 /// there are.
-fn change_lean<R: Wait + Abort>(rt: &R, alloc: &Refusing<Global>) -> (u64, u64) {
+fn change_lean<R: Wait + Abort, A: Allocator + Clone>(
+    rt: &R,
+    switch: &Refusing<Global>,
+    alloc: &A,
+) -> (u64, u64) {
     let Single {
         map,
         mut pass,
         place,
     } = one_text(rt, alloc, Form::Lean);
-    let right = right_rounds(rt, alloc, &map, &mut pass, 1000);
+    let right = right_rounds(rt, switch, alloc, &map, &mut pass, 1000);
     let closed = close_single(rt, map, pass, place).expect(rt, "a closed map");
     (right, closed.mapping_count())
 }
@@ -321,7 +327,7 @@ fn change_lean<R: Wait + Abort>(rt: &R, alloc: &Refusing<Global>) -> (u64, u64) 
 #[test]
 fn changes_of_a_lean_map_move_their_values(rt: HostRuntime) -> Result<(), Fail> {
     let alloc = Refusing::new(rt.alloc());
-    let told = change_lean(&rt, &alloc);
+    let told = change_lean(&rt, &alloc, &&alloc);
     assert_same(&rt, &told, &(1000, 1));
     Ok(())
 }

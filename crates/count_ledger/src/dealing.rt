@@ -109,6 +109,19 @@ fn deal_roles<K: HashKey, V, F, A: Allocator>(
     }
 }
 
+/// Empty lists with room for so many passes and roles.
+fn make_lists<K: HashKey, V, F, A: Allocator + Clone>(
+    alloc: A,
+    clients: usize,
+    bins: usize,
+) -> Result<(Vec<Pass<K, V, F>, A>, Vec<BinRole<K, V, F>, A>), AllocError>
+    ensures passes { IfOk result (λ r. (r.0.items ≡ []) × (clients ≤ vec_capacity r.0)) }
+    ensures roles { IfOk result (λ r. (r.1.items ≡ []) × (bins ≤ vec_capacity r.1)) }
+{
+    let roles = Vec::with_capacity(alloc.clone()?, bins)?;
+    Ok((Vec::with_capacity(alloc, clients)?, roles))
+}
+
 impl<K: HashKey, V, F, A: Allocator + Clone> Ledger<K, V, F, A> {
     /// A ledger of bins of the form over the pairs of the bases, a pass for each client, and a role
     /// for each class of as many as there are bases. The bases are 1 to 65,536, a power of two, and
@@ -147,9 +160,8 @@ impl<K: HashKey, V, F, A: Allocator + Clone> Ledger<K, V, F, A> {
             clients,
             bases: Snapshot::of(bases),
         };
-        let mut roles = Vec::with_capacity(alloc.clone()?, n as usize)?;
         let (table, seat) = open_table(alloc.clone()?, &terms)?;
-        let mut passes = Vec::with_capacity(alloc, clients as usize)?;
+        let (mut passes, mut roles) = make_lists(alloc, clients as usize, n as usize)?;
         let mut all = seat.into_badge();
         deal_passes(&table.shared, &mut all, &mut passes, clients);
         deal_roles(&table.shared, &mut all, &mut roles, n);

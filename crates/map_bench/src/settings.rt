@@ -98,52 +98,70 @@ fn number<'a>(alloc: Global, name: &'a str, help: &'a str, default: &'a str) -> 
         .default_value(default)
 }
 
-/// The command line that the program takes.
-pub(crate) fn command<'a>(alloc: Global) -> Result<Command<'a>, AllocError> {
-    let threads = number(
+fn threads_arg<'a>(alloc: Global) -> Arg<'a> {
+    number(
         alloc,
         "threads",
         "How many threads make calls, 1 to 31",
         "4",
     )
-    .value_parser(clap::value_parser!(u8).range(1..=31));
-    let calls = number(
+    .value_parser(clap::value_parser!(u8).range(1..=31))
+}
+
+fn calls_arg<'a>(alloc: Global) -> Arg<'a> {
+    number(
         alloc,
         "calls",
         "How many calls each makes, 1 to 100000000; of a recorded map 1000000",
         "1000000",
     )
-    .value_parser(clap::value_parser!(u32).range(1..=100_000_000));
-    let keys = number(alloc, "keys", "On how many keys, 1 to 10000000", "20000").value_parser(
+    .value_parser(clap::value_parser!(u32).range(1..=100_000_000))
+}
+
+fn keys_arg<'a>(alloc: Global) -> Arg<'a> {
+    number(alloc, "keys", "On how many keys, 1 to 10000000", "20000").value_parser(
         clap::value_parser!(u32).range(1..=10_000_000),
-    );
-    let capacity = number(
+    )
+}
+
+fn capacity_arg<'a>(alloc: Global) -> Arg<'a> {
+    number(
         alloc,
         "capacity",
         "How many bins the map opens with at least, 1 to 4096",
         "16",
     )
-    .value_parser(clap::value_parser!(u16).range(1..=4096));
-    let mode = Arg::new(alloc, "mode")
+    .value_parser(clap::value_parser!(u16).range(1..=4096))
+}
+
+fn mode_arg<'a>(alloc: Global) -> Arg<'a> {
+    Arg::new(alloc, "mode")
         .long("mode")
         .value_name("MODE")
         .help("mix: 80 gets, 15 puts and 5 removes of a hundred; get; merge; glance")
         .action(ArgAction::Set)
         .value_parser(["mix", "get", "merge", "glance"].as_slice())
-        .default_value("mix");
-    let form = Arg::new(alloc, "form")
+        .default_value("mix")
+}
+
+fn form_arg<'a>(alloc: Global) -> Arg<'a> {
+    Arg::new(alloc, "form")
         .long("form")
         .value_name("FORM")
         .help("lean, or recorded: a map that stores a record of each call")
         .action(ArgAction::Set)
         .value_parser(["lean", "recorded"].as_slice())
-        .default_value("lean");
+        .default_value("lean")
+}
+
+/// The command line that the program takes.
+pub(crate) fn command<'a>(alloc: Global) -> Result<Command<'a>, AllocError> {
     Command::new(alloc, "map_bench")
         .about("Measures how many million calls a second threads make of one map")
-        .arg(threads)?
-        .arg(calls)?
-        .arg(keys)?
-        .arg(capacity)?
-        .arg(mode)?
-        .arg(form)
+        .arg(threads_arg(alloc))?
+        .arg(calls_arg(alloc))?
+        .arg(keys_arg(alloc))?
+        .arg(capacity_arg(alloc))?
+        .arg(mode_arg(alloc))?
+        .arg(form_arg(alloc))
 }

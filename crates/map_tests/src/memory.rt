@@ -60,7 +60,11 @@ fn put_again<R: Wait + Abort, A: Allocator + Clone>(
 
 /// Makes calls on keys of a lean map that have been there. Answers how many calls replied as they
 /// should, and whether one asked for memory.
-fn asked_for<R: Wait + Abort>(rt: &R, alloc: &Refusing<Global>) -> ((u64, u64), bool, u64) {
+fn asked_for<R: Wait + Abort, A: Allocator + Clone>(
+    rt: &R,
+    switch: &Refusing<Global>,
+    alloc: A,
+) -> ((u64, u64), bool, u64) {
     let Single {
         map,
         mut pass,
@@ -68,11 +72,11 @@ fn asked_for<R: Wait + Abort>(rt: &R, alloc: &Refusing<Global>) -> ((u64, u64), 
     } = open_single(alloc, Form::Lean, 4096).expect(rt, "a map");
     put_texts(rt, &map, &mut pass, &[(b"a", 0)]);
     put_numbers(rt, &map, &mut pass, 0, 1000);
-    alloc.refuse_after(0);
+    switch.refuse_after(0);
     let called = call_often(rt, &map, &mut pass, 100_000);
     let again = put_again(rt, &map, &mut pass, 100);
-    let asked = alloc.has_refused();
-    alloc.refuse_after(u64::MAX);
+    let asked = switch.has_refused();
+    switch.refuse_after(u64::MAX);
     let keys = close_single(rt, map, pass, place)
         .expect(rt, "a closed map")
         .mapping_count();
@@ -82,7 +86,7 @@ fn asked_for<R: Wait + Abort>(rt: &R, alloc: &Refusing<Global>) -> ((u64, u64), 
 #[test]
 fn calls_on_keys_of_a_lean_map_ask_for_no_memory(rt: HostRuntime) -> Result<(), Fail> {
     let alloc = Refusing::new(rt.alloc());
-    let told = asked_for(&rt, &alloc);
+    let told = asked_for(&rt, &alloc, &alloc);
     assert_same(&rt, &told, &((100_000, 100_000), false, 1001));
     Ok(())
 }

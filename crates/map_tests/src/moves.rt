@@ -37,9 +37,10 @@ fn put_one<R: Wait + Abort, A: Allocator + Clone>(
 
 /// Puts two keys into a map of one bin, the first with the requests after so many refused. Answers
 /// for each whether it was put, and how many bins there were then.
-fn two_puts<R: Wait + Abort>(
+fn two_puts<R: Wait + Abort, A: Allocator + Clone>(
     rt: &R,
-    alloc: &Refusing<Global>,
+    switch: &Refusing<Global>,
+    alloc: A,
     granted: u64,
 ) -> [(bool, Option<usize>); 2] {
     let Single {
@@ -47,9 +48,9 @@ fn two_puts<R: Wait + Abort>(
         mut pass,
         place,
     } = open_single(alloc, Form::Lean, 1).expect(rt, "a map");
-    alloc.refuse_after(granted);
+    switch.refuse_after(granted);
     let first = put_one(rt, &map, &mut pass, 0);
-    alloc.refuse_after(u64::MAX);
+    switch.refuse_after(u64::MAX);
     let before = count_bins(rt, &map, &mut pass);
     let second = put_one(rt, &map, &mut pass, 1);
     let after = count_bins(rt, &map, &mut pass);
@@ -75,7 +76,7 @@ fn a_later_call_goes_on_with_a_refused_move(rt: HostRuntime) -> Result<(), Fail>
         ((true, 2), 4),
     ];
     for (granted, ((put, before), after)) in rows.iter().enumerate() {
-        let made = two_puts(&rt, &alloc, granted as u64);
+        let made = two_puts(&rt, &alloc, &alloc, granted as u64);
         assert_eq!(rt;
             made,
             [(*put, Some(*before)), (true, Some(*after))],

@@ -9,7 +9,7 @@ use bin_history::{Form, Reply};
 use chm::{Fault, NotClosed};
 use map_samples::{Single, close, close_single, open_single, put_back};
 use refusing_alloc::Refusing;
-use std::alloc::Global;
+use std::alloc::{Allocator, Global};
 use std::process::Abort;
 use std::sync::Wait;
 use std::test::Fail;
@@ -33,11 +33,7 @@ const THREE: [(&[u8], u64); 3] = [(b"a", 1), (b"q", 2), (b"Aa", 3)];
 const IN_ORDER: [(&[u8], u64); 3] = [(b"Aa", 3), (b"a", 1), (b"q", 2)];
 
 /// A map of one client that put the three keys.
-fn three_keys<'a, R: Wait + Abort>(
-    rt: &R,
-    alloc: &'a Refusing<Global>,
-    form: Form,
-) -> KeySingle<&'a Refusing<Global>>
+fn three_keys<R: Wait + Abort, A: Allocator + Clone>(rt: &R, alloc: A, form: Form) -> KeySingle<A>
     ensures pass { result.pass.ledger ≡ result.map.ledger.id }
     ensures place { All (λ p. p.ledger ≡ result.map.ledger.id) result.place.items }
 {
@@ -53,9 +49,10 @@ fn three_keys<'a, R: Wait + Abort>(
 /// Puts a twelfth key, with the request after so many refused. Answers whether it was put, whether
 /// there was such a request, how many keys and calls there are then, and how many bins and keys the
 /// closed map has.
-fn put_the_twelfth<R: Wait + Abort>(
+fn put_the_twelfth<R: Wait + Abort, A: Allocator + Clone>(
     rt: &R,
-    alloc: &Refusing<Global>,
+    switch: &Refusing<Global>,
+    alloc: A,
     form: Form,
     granted: u64,
 ) -> (Result<Reply<u64>, Fault>, bool, (u64, u64), (usize, u64)) {
@@ -65,10 +62,10 @@ fn put_the_twelfth<R: Wait + Abort>(
         place,
     } = three_keys(rt, alloc, form);
     put_numbers(rt, &map, &mut pass, 0, 8);
-    alloc.refuse_after(granted);
+    switch.refuse_after(granted);
     let reply = map.put(rt, &mut pass, numbered(rt, 8), 8);
-    let refused = alloc.has_refused();
-    alloc.refuse_after(u64::MAX);
+    let refused = switch.has_refused();
+    switch.refuse_after(u64::MAX);
     let live = (map.mapping_count(), pass.made());
     let closed = close_single(rt, map, pass, place).expect(rt, "a closed map");
     assert_entries(rt, closed.entries(), &IN_ORDER);
@@ -79,8 +76,14 @@ fn put_the_twelfth<R: Wait + Abort>(
 /// Puts a twelfth key, which asks for room for its entry, the first of its bin, and in a recorded
 /// map for room for the record. Where a request of these is refused there are eleven keys as
 /// before; where one of the move is, there are twelve.
-fn refuse_put<R: Wait + Abort>(rt: &R, alloc: &Refusing<Global>, form: Form, granted: u64) -> bool {
-    let (reply, refused, live, (bins, keys)) = put_the_twelfth(rt, alloc, form, granted);
+fn refuse_put<R: Wait + Abort, A: Allocator + Clone>(
+    rt: &R,
+    switch: &Refusing<Global>,
+    alloc: A,
+    form: Form,
+    granted: u64,
+) -> bool {
+    let (reply, refused, live, (bins, keys)) = put_the_twelfth(rt, switch, alloc, form, granted);
     let own = match form {
         Form::Recorded => 2,
         Form::Lean => 1,
@@ -99,9 +102,10 @@ fn refuse_put<R: Wait + Abort>(rt: &R, alloc: &Refusing<Global>, form: Form, gra
 /// Clears, with the request after so many refused, and clears again. Answers what the first clear
 /// answered, whether there was such a request, how many keys and calls there were between the two,
 /// and how many keys there are in the end.
-fn clear_twice<R: Wait + Abort>(
+fn clear_twice<R: Wait + Abort, A: Allocator + Clone>(
     rt: &R,
-    alloc: &Refusing<Global>,
+    switch: &Refusing<Global>,
+    alloc: A,
     form: Form,
     granted: u64,
 ) -> (Result<(), Fault>, bool, (u64, u64), u64) {
@@ -111,10 +115,10 @@ fn clear_twice<R: Wait + Abort>(
         place,
     } = three_keys(rt, alloc, form);
     get_often(rt, &map, &mut pass, 2, 1);
-    alloc.refuse_after(granted);
+    switch.refuse_after(granted);
     let cleared = map.clear(rt, &mut pass);
-    let refused = alloc.has_refused();
-    alloc.refuse_after(u64::MAX);
+    let refused = switch.has_refused();
+    switch.refuse_after(u64::MAX);
     let between = (map.mapping_count(), pass.made());
     let again = map.clear(rt, &mut pass);
     let closed = close_single(rt, map, pass, place).expect(rt, "a closed map");
@@ -126,13 +130,14 @@ fn clear_twice<R: Wait + Abort>(
 
 /// Clears. The one request is that of the full list of the four records of `a` and `q`: where it is
 /// refused, `Aa` is away by a call that stands, and the next clear takes the others.
-fn refuse_clear<R: Wait + Abort>(
+fn refuse_clear<R: Wait + Abort, A: Allocator + Clone>(
     rt: &R,
-    alloc: &Refusing<Global>,
+    switch: &Refusing<Global>,
+    alloc: A,
     form: Form,
     granted: u64,
 ) -> bool {
-    let (cleared, refused, between, keys) = clear_twice(rt, alloc, form, granted);
+    let (cleared, refused, between, keys) = clear_twice(rt, switch, alloc, form, granted);
     let wanted = if refused {
         (Err(Fault::NoMemory), (2, 6), 0)
     } else {
@@ -143,9 +148,10 @@ fn refuse_clear<R: Wait + Abort>(
 }
 
 /// Walks and glances. Where a request is refused all stays as it was.
-fn refuse_walk<R: Wait + Abort>(
+fn refuse_walk<R: Wait + Abort, A: Allocator + Clone>(
     rt: &R,
-    alloc: &Refusing<Global>,
+    switch: &Refusing<Global>,
+    alloc: A,
     form: Form,
     granted: u64,
 ) -> bool {
@@ -154,11 +160,11 @@ fn refuse_walk<R: Wait + Abort>(
         mut pass,
         place,
     } = three_keys(rt, alloc, form);
-    alloc.refuse_after(granted);
+    switch.refuse_after(granted);
     let shown = map.glance(rt, &key(rt, b"q"));
     let walked = map.walk(rt, &mut pass).map(|visits| visits.len());
-    let refused = alloc.has_refused();
-    alloc.refuse_after(u64::MAX);
+    let refused = switch.has_refused();
+    switch.refuse_after(u64::MAX);
     let made = pass.made();
     let closed = close_single(rt, map, pass, place).expect(rt, "a closed map");
     assert_entries(rt, closed.entries(), &IN_ORDER);
@@ -180,9 +186,10 @@ fn assert_fault(rt: &impl Abort, fault: Option<Fault>, refused: bool) {
 }
 
 /// Closes. Where a request is refused map and passes come back, and the next close closes the map.
-fn refuse_close<R: Wait + Abort>(
+fn refuse_close<R: Wait + Abort, A: Allocator + Clone>(
     rt: &R,
-    alloc: &Refusing<Global>,
+    switch: &Refusing<Global>,
+    alloc: A,
     form: Form,
     granted: u64,
 ) -> bool {
@@ -192,10 +199,10 @@ fn refuse_close<R: Wait + Abort>(
         mut place,
     } = three_keys(rt, alloc, form);
     put_back(&map, pass, &mut place);
-    alloc.refuse_after(granted);
+    switch.refuse_after(granted);
     let result = map.close(rt, place);
-    let refused = alloc.has_refused();
-    alloc.refuse_after(u64::MAX);
+    let refused = switch.has_refused();
+    switch.refuse_after(u64::MAX);
     let (closed, fault) = match result {
         Ok(closed) => (closed, None),
         Err(NotClosed { fault, map, passes }) => {
@@ -214,24 +221,27 @@ fn refuse_close<R: Wait + Abort>(
 
 /// Opens a map again. Where a request is refused the closed map is as before, and the next try
 /// opens it.
-fn refuse_reopening<R: Wait + Abort>(
+fn refuse_reopening<R: Wait + Abort, A: Allocator + Clone>(
     rt: &R,
-    alloc: &Refusing<Global>,
+    switch: &Refusing<Global>,
+    alloc: A,
     form: Form,
     granted: u64,
 ) -> bool {
     let Single { map, pass, place } = three_keys(rt, alloc, form);
     let first = close_single(rt, map, pass, place).expect(rt, "a closed map");
-    alloc.refuse_after(granted);
+    switch.refuse_after(granted);
     let result = first.reopen(2);
-    let refused = alloc.has_refused();
-    alloc.refuse_after(u64::MAX);
-    let (opened, fault) = match result {
-        Ok(opened) => (opened, None),
-        Err(fault) => (first.reopen(2).expect(rt, "a map"), Some(fault)),
+    let refused = switch.has_refused();
+    switch.refuse_after(u64::MAX);
+    let (closed, fault) = match result {
+        Ok((map, passes)) => (close(rt, map, passes), None),
+        Err(fault) => {
+            let (map, passes) = first.reopen(2).expect(rt, "a map");
+            (close(rt, map, passes), Some(fault))
+        }
     };
-    let (map, passes) = opened;
-    let closed = close(rt, map, passes).expect(rt, "a closed map");
+    let closed = closed.expect(rt, "a closed map");
     assert_entries(rt, first.entries(), &IN_ORDER);
     drop(first);
     assert_entries(rt, closed.entries(), &IN_ORDER);
@@ -242,18 +252,19 @@ fn refuse_reopening<R: Wait + Abort>(
 
 /// Takes the pairs out by value. Where the request of their list is refused the closed map comes
 /// back as it was, and the next try takes them.
-fn refuse_taking<R: Wait + Abort>(
+fn refuse_taking<R: Wait + Abort, A: Allocator + Clone>(
     rt: &R,
-    alloc: &Refusing<Global>,
+    switch: &Refusing<Global>,
+    alloc: A,
     form: Form,
     granted: u64,
 ) -> bool {
     let Single { map, pass, place } = three_keys(rt, alloc, form);
     let closed = close_single(rt, map, pass, place).expect(rt, "a closed map");
-    alloc.refuse_after(granted);
+    switch.refuse_after(granted);
     let result = closed.into_entries();
-    let refused = alloc.has_refused();
-    alloc.refuse_after(u64::MAX);
+    let refused = switch.has_refused();
+    switch.refuse_after(u64::MAX);
     let pairs = match result {
         Ok(pairs) => {
             assert!(rt; !refused);
@@ -271,31 +282,38 @@ fn refuse_taking<R: Wait + Abort>(
 }
 
 /// Makes a map of two bins and two clients.
-fn refuse_opening(rt: &impl Abort, alloc: &Refusing<Global>, form: Form, granted: u64) -> bool {
-    alloc.refuse_after(granted);
+fn refuse_opening<A: Allocator + Clone>(
+    rt: &impl Abort,
+    switch: &Refusing<Global>,
+    alloc: A,
+    form: Form,
+    granted: u64,
+) -> bool {
+    switch.refuse_after(granted);
     let fault = opening_fault(alloc, form, 2, 2);
-    let refused = alloc.has_refused();
+    let refused = switch.has_refused();
     let wanted = if refused { Some(Fault::NoMemory) } else { None };
     assert_same(rt, &fault, &wanted);
     refused
 }
 
 /// Makes the call with the request after so many refused, and answers whether there was one.
-fn refuse<R: Wait + Abort>(
+fn refuse<R: Wait + Abort, A: Allocator + Clone>(
     rt: &R,
-    alloc: &Refusing<Global>,
+    switch: &Refusing<Global>,
+    alloc: A,
     form: Form,
     call: Refused,
     granted: u64,
 ) -> bool {
     match call {
-        Refused::Opening => refuse_opening(rt, alloc, form, granted),
-        Refused::Put => refuse_put(rt, alloc, form, granted),
-        Refused::Clear => refuse_clear(rt, alloc, form, granted),
-        Refused::Walk => refuse_walk(rt, alloc, form, granted),
-        Refused::Close => refuse_close(rt, alloc, form, granted),
-        Refused::Reopening => refuse_reopening(rt, alloc, form, granted),
-        Refused::Taking => refuse_taking(rt, alloc, form, granted),
+        Refused::Opening => refuse_opening(rt, switch, alloc, form, granted),
+        Refused::Put => refuse_put(rt, switch, alloc, form, granted),
+        Refused::Clear => refuse_clear(rt, switch, alloc, form, granted),
+        Refused::Walk => refuse_walk(rt, switch, alloc, form, granted),
+        Refused::Close => refuse_close(rt, switch, alloc, form, granted),
+        Refused::Reopening => refuse_reopening(rt, switch, alloc, form, granted),
+        Refused::Taking => refuse_taking(rt, switch, alloc, form, granted),
     }
 }
 
@@ -303,7 +321,7 @@ fn refuse<R: Wait + Abort>(
 fn requests_of<R: Wait + Abort>(rt: &R, memory: Global, form: Form, call: Refused) -> u64 {
     for granted in 0..1000u64 {
         let alloc = Refusing::new(memory);
-        if !refuse(rt, &alloc, form, call, granted) {
+        if !refuse(rt, &alloc, &alloc, form, call, granted) {
             return granted;
         }
     }

@@ -38,11 +38,7 @@ fn a_table_grows_at_three_quarters_of_its_bins(rt: HostRuntime) -> Result<(), Fa
 const THREE: [(&[u8], u64); 3] = [(b"a", 100), (b"q", 200), (b"Aa", 300)];
 
 /// A map of 16 bins with eleven keys: the three, and the numbered ones from 0 to 7.
-fn eleven<'a, R: Wait + Abort>(
-    rt: &R,
-    alloc: &'a Refusing<Global>,
-    form: Form,
-) -> KeySingle<&'a Refusing<Global>>
+fn eleven<R: Wait + Abort, A: Allocator + Clone>(rt: &R, alloc: A, form: Form) -> KeySingle<A>
     ensures pass { result.pass.ledger ≡ result.map.ledger.id }
     ensures place { All (λ p. p.ledger ≡ result.map.ledger.id) result.place.items }
 {
@@ -122,9 +118,10 @@ struct Told {
 
 /// Puts a twelfth key into a map of eleven, with the request after so many refused, and then one
 /// more.
-fn put_the_twelfth<R: Wait + Abort>(
+fn put_the_twelfth<R: Wait + Abort, A: Allocator + Clone>(
     rt: &R,
-    alloc: &Refusing<Global>,
+    switch: &Refusing<Global>,
+    alloc: A,
     form: Form,
     granted: u64,
 ) -> Told {
@@ -133,10 +130,10 @@ fn put_the_twelfth<R: Wait + Abort>(
         mut pass,
         place,
     } = eleven(rt, alloc, form);
-    alloc.refuse_after(granted);
+    switch.refuse_after(granted);
     let reply = map.put(rt, &mut pass, numbered(rt, 8), 8);
-    let refused = alloc.has_refused();
-    alloc.refuse_after(u64::MAX);
+    let refused = switch.has_refused();
+    switch.refuse_after(u64::MAX);
     let before = count_found(rt, &map, &mut pass);
     put_numbers(rt, &map, &mut pass, 9, 1);
     let after = count_found(rt, &map, &mut pass);
@@ -159,7 +156,7 @@ fn put_the_twelfth<R: Wait + Abort>(
 fn refuse_each<R: Wait + Abort>(rt: &R, memory: Global, form: Form, own: u64) -> u64 {
     for granted in 0..1000u64 {
         let alloc = Refusing::new(memory);
-        let told = put_the_twelfth(rt, &alloc, form, granted);
+        let told = put_the_twelfth(rt, &alloc, &alloc, form, granted);
         let (reply, found) = if granted < own {
             (Err(Fault::NoMemory), [11, 12])
         } else {

@@ -2,8 +2,7 @@ use Rattle.std.proofs.Common.{◌≡◌, ◌+◌, ◌≤◌, ◌++◌, ◌∷◌
 use Rattle.std.proofs.Common.{vec_capacity, append_assoc}
 use Rattle.std.proofs.lemmas.List.{take-append-drop}
 use Rattle.std.specs.Vec.Iter.{drain_items}
-use Rattle.bin_history.specs.Births.{is_birth, births_in}
-use Rattle.bin_history.specs.Calls.{key_of}
+use Rattle.bin_history.specs.Births.{births_in}
 use Rattle.bin_history.specs.Entries.{lookup, replay}
 use Rattle.bin_history.specs.Plain.{IsLegal}
 use Rattle.bin_history.specs.Records.{RecordView}

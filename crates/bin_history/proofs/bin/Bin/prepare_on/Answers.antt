@@ -1,7 +1,7 @@
 use Rattle.std.proofs.Common.{◌≡◌, ◌-◌, ℕ, Option, List, vec_len, vec_capacity, subst, sym, ◌∙◌, arith}
 use Rattle.std.proofs.lemmas.Bool.{true≢false}
 use Rattle.bin_history.specs.Calls.{after}
-use Rattle.bin_history.specs.Logs.{form_of, base_of, records_of, AreCallsOn, IsKeptOrFolded}
+use Rattle.bin_history.specs.Logs.{form_of, base_of, records_of, IsKeptOrFolded}
 use Rattle.bin_history.specs.Ops.{key_in}
 use Rattle.bin_history.specs.declared.form.Form.TheVariants.{Recorded}
 use Rattle.bin_history.specs.Changes.{IsIndexOf}

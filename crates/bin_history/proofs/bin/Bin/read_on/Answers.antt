@@ -22,9 +22,9 @@ returns-in_ok-copy_of_option-in-Get-clause-made g c =
     (sym c.form.ensures ∙ c.in-Lean.is)
     c.lawful.ensures.lawful.stored c.value-value.ensures refl (ap (λ (r : RecordView _ _ _). r.client) told)
     (ap (λ (r : RecordView _ _ _). r.ordinal) told)
-    (ap (λ (r : RecordView _ _ _). r.call) told ∙ c.left-seen.ensures.call ∙ ap (call_on c.args.key.now) c.in-Get.is)
-    (ap (λ (r : RecordView _ _ _). r.before) told ∙ c.left-seen.ensures.before)
-    (ap (λ (r : RecordView _ _ _). r.after) told ∙ c.left-seen.ensures.after)
+    (ap (λ (r : RecordView _ _ _). r.call) told ∙ c.of-seen.ensures.call ∙ ap (call_on c.args.key.now) c.in-Get.is)
+    (ap (λ (r : RecordView _ _ _). r.before) told ∙ c.of-seen.ensures.before)
+    (ap (λ (r : RecordView _ _ _). r.after) told ∙ c.of-seen.ensures.after)
     (ap Value c.in_ok-copy_of_option-in-Get.ensures.copy))
 
 pub returns-in-Contains-clause-made : goal.returns-in-Contains-clause-made
@@ -38,8 +38,8 @@ returns-in-Contains-clause-made g c =
     _ c.seen-in-Contains.result
     (sym c.form.ensures ∙ c.in-Lean.is) c.lawful.ensures.lawful.stored c.value-value-in-Contains.ensures refl
     (ap (λ (r : RecordView _ _ _). r.client) told) (ap (λ (r : RecordView _ _ _). r.ordinal) told)
-    (ap (λ (r : RecordView _ _ _). r.call) told ∙ c.left-seen-in-Contains.ensures.call
+    (ap (λ (r : RecordView _ _ _). r.call) told ∙ c.of-seen-in-Contains.ensures.call
     ∙ ap (call_on c.args.key.now) c.in-Contains.is)
-    (ap (λ (r : RecordView _ _ _). r.before) told ∙ c.left-seen-in-Contains.ensures.before)
-    (ap (λ (r : RecordView _ _ _). r.after) told ∙ c.left-seen-in-Contains.ensures.after)
+    (ap (λ (r : RecordView _ _ _). r.before) told ∙ c.of-seen-in-Contains.ensures.before)
+    (ap (λ (r : RecordView _ _ _). r.after) told ∙ c.of-seen-in-Contains.ensures.after)
     (ap Truth (c.is_some.ensures ∙ copied-is_some c.value-value-in-Contains.result)))
