@@ -1,6 +1,8 @@
 //! Maps and the passes of their clients.
-ghost use Rattle.std.specs.Prelude.{◌≡◌, All, IfOk, IfSome};
+ghost use Rattle.std.specs.Prelude.{◌≡◌, [], ◌∷◌, ◌++◌, All, IfOk, IfSome};
 ghost use Rattle.bin_history.specs.Copies.{IsExact};
+ghost use Rattle.chm.specs.Opened.{IsLimited, IsNew};
+ghost use Rattle.chm.specs.Refusals.{IsCapacity};
 
 use bin_history::{Form, Remap};
 use chm::{Fault, Map, NotClosed, Opened, Quiet};
@@ -49,7 +51,9 @@ pub fn open_salted<
 ) -> Result<Opened<K, V, F, A>, Fault>
     requires keys { IsExact K.is_clone }
     requires values { IsExact V.is_clone }
-    ensures { IfOk result (λ r. All (λ p. p.ledger ≡ r.0.ledger.id) r.1.items) }
+    ensures new { IfOk result (λ r. IsNew form salt capacity clients r.0 r.1.items) }
+    ensures limits { IsLimited (IsCapacity capacity) clients result }
+    ensures own { IfOk result (λ r. All (λ p. p.ledger ≡ r.0.ledger.id) r.1.items) }
 {
     match form {
         Form::Recorded => Map::with_salt(alloc, capacity, clients, salt),
@@ -66,7 +70,9 @@ pub fn open<
 >(alloc: A, form: Form, capacity: usize, clients: u32) -> Result<Opened<K, V, F, A>, Fault>
     requires keys { IsExact K.is_clone }
     requires values { IsExact V.is_clone }
-    ensures { IfOk result (λ r. All (λ p. p.ledger ≡ r.0.ledger.id) r.1.items) }
+    ensures new { IfOk result (λ r. IsNew form (record { 0 = 0 }) capacity clients r.0 r.1.items) }
+    ensures limits { IsLimited (IsCapacity capacity) clients result }
+    ensures own { IfOk result (λ r. All (λ p. p.ledger ≡ r.0.ledger.id) r.1.items) }
 {
     open_salted(alloc, form, Salt(0), capacity, clients)
 }
@@ -79,6 +85,8 @@ pub fn take_pass<
     A: Allocator + Clone,
 >(opened: Opened<K, V, F, A>) -> Option<Single<K, V, F, A>>
     requires { All (λ p. p.ledger ≡ opened.0.ledger.id) opened.1.items }
+    ensures map { IfSome result (λ s. s.map ≡ opened.0) }
+    ensures passes { IfSome result (λ s. s.place.items ++ (s.pass ∷ []) ≡ opened.1.items) }
     ensures pass { IfSome result (λ s. s.pass.ledger ≡ s.map.ledger.id) }
     ensures place { IfSome result (λ s. All (λ p. p.ledger ≡ s.map.ledger.id) s.place.items) }
 {
@@ -101,6 +109,8 @@ pub fn open_single<
 >(alloc: A, form: Form, capacity: usize) -> Option<Single<K, V, F, A>>
     requires keys { IsExact K.is_clone }
     requires values { IsExact V.is_clone }
+    ensures new { IfSome result (λ s. IsNew form (record { 0 = 0 }) capacity 1 s.map
+        (s.place.items ++ (s.pass ∷ []))) }
     ensures pass { IfSome result (λ s. s.pass.ledger ≡ s.map.ledger.id) }
     ensures place { IfSome result (λ s. All (λ p. p.ledger ≡ s.map.ledger.id) s.place.items) }
 {
