@@ -20,11 +20,12 @@ use Rattle.bin_history.specs.Records.{RecordView}
 use Rattle.bin_history.specs.declared.call.Reply.{Reply}
 use Rattle.count_ledger.specs.Views.{LedgerView, PassView}
 use Rattle.count_ledger.proofs.Filters.{filter_none}
-use Rattle.chm.specs.Histories.{IsCalledOn}
-use Rattle.chm.specs.Cleared.{HasLeft, HasOwnLeft, HasRemoved, HasRemovedIn, IsRemoval}
-use Rattle.chm.specs.Headline.{IsHistory}
+use Rattle.count_ledger.specs.Fronts.{BeginsWith, IsFront, HasSeen, HasSeenMore}
+use Rattle.count_ledger.proofs.Fronts.{BeginsWith-all, BeginsWith-push, BeginsWith-more}
+use Rattle.chm.specs.Cleared.{AreCleared, HasLeft, HasMade, HasOwnLeft, HasRemoved, HasRemovedIn, IsEmptyIn, IsRemoval}
+use Rattle.chm.specs.Headline.{IsMade}
 use Rattle.chm.specs.Views.{opening_in}
-use Rattle.chm.specs.Visits.{VisitView, classes_of_visits, IsVisit}
+use Rattle.chm.specs.Visits.{VisitView, IsVisit}
 use Rattle.chm.proofs.Visiting.{IsOwn-visit}
 
 module _ {K V F : Type 0} (same : K → K → Bool) (tells : (x y : K) → Decides (same x y) (x ≡ y)) (code : K → ℕ)
@@ -44,12 +45,14 @@ module _ {K V F : Type 0} (same : K → K → Bool) (tells : (x y : K) → Decid
   -- a remove of the first entry takes it away
   pub removed-first : (entries others : List (K × V)) (first : K × V) (d : K × V) (key : K) (salt : Salt)
       (class : ClassView) (old new : PassView K V F)
-      (answer : Reply V)
+      (answer : Reply V) (front : List (RecordView K V F)) (r : RecordView K V F)
       → entries ≢ [] → first ≡ slice_index_or entries 0 d → key ≡ first.0 → is_of code salt class key ≡ true
-      → IsCalledOn same code same_value remapped merged entries others (Remove key) old new answer
+      → BeginsWith front old.seen → IsMade same_value remapped merged (Remove key) old new answer front r
+      → r.before ≡ lookup same entries key → others ≡ store same entries key r.after
       → HasRemovedIn code salt class old new × (length others < length entries)
-  removed-first [] others first d key salt class old new answer some at is of called = absurd (some refl)
-  removed-first (e ∷ es) others first d key salt class old new answer some at is of (r, made, before, stored) =
+  removed-first [] others first d key salt class old new answer front r some at is of begins made before stored =
+      absurd (some refl)
+  removed-first (e ∷ es) others first d key salt class old new answer front r some at is of begins made before stored =
       let same_key : key ≡ e.0 = is ∙ ap (λ (x : K × V). x.0) at in
       let found : r.before ≡ Some e.1 = before ∙ ap (lookup same (e ∷ es)) same_key ∙ found_here e es in
       let none : r.after ≡ None = made.left in
@@ -64,24 +67,45 @@ module _ {K V F : Type 0} (same : K → K → Bool) (tells : (x y : K) → Decid
       let R : RecordView K V F → Type 0 = IsRemoval in
       let C : RecordView K V F → Type 0 = λ x. is_of code salt class (key_of x.call) ≡ true in
       let shorter : length others ≡ length es = ap (λ (l : List (K × V)). length l) left in
-      ((r ∷ [], All-cons R r [] removal (All-nil R), All-cons C r [] its_class (All-nil C), made.pass), omega arith)
+      let has : HasMade (r ∷ []) old new = record {
+        seen = subst (λ (p : PassView K V F). BeginsWith p.seen old.seen) (sym made.pass)
+            (BeginsWith-push front old.seen r begins);
+        pass = made.pass
+            ∙ ap (λ (s : List (RecordView K V F)). record old { made = old.made ++ r ∷ []; seen = s })
+            (sym (ap (λ (p : PassView K V F). p.seen) made.pass));
+      } in
+      ((r ∷ [], All-cons R r [] removal (All-nil R), All-cons C r [] its_class (All-nil C), has), omega arith)
 
 module _ {K V F : Type 0} where
+  made_none : (old new : PassView K V F) → new ≡ old → HasMade [] old new
+  made_none old new is = subst (λ (p : PassView K V F). HasMade [] old p) (sym is) (record {
+    seen = BeginsWith-all old.seen;
+    pass = ap (λ (l : List (RecordView K V F)). record old { made = l }) (sym (append-nil old.made));
+  })
+
+  made_more : (rs ss : List (RecordView K V F)) (old mid new : PassView K V F) → HasMade rs old mid →
+      HasMade ss mid new → HasMade (rs ++ ss) old new
+  made_more rs ss old mid new a b = record {
+    seen = BeginsWith-more new.seen mid.seen old.seen b.seen a.seen;
+    pass = b.pass
+        ∙ ap (λ (p : PassView K V F). record p { made = p.made ++ ss; seen = new.seen }) a.pass
+        ∙ ap (λ (l : List (RecordView K V F)). record old { made = l; seen = new.seen })
+        (append_assoc old.made rs ss);
+  }
+
+  pub made_seen : (rs : List (RecordView K V F)) (old mid new : PassView K V F) → HasMade rs old mid →
+      HasSeenMore mid new → HasMade rs old new
+  made_seen rs old mid new a b = record {
+    seen = BeginsWith-more new.seen mid.seen old.seen b.seen a.seen;
+    pass = b.pass ∙ ap (λ (p : PassView K V F). record p { seen = new.seen }) a.pass;
+  }
+
   pub unchanged : (old new : PassView K V F) → new ≡ old → HasRemoved old new
-  unchanged old new is = (
-    [],
-    All-nil IsRemoval,
-    is ∙ ap (λ (l : List (RecordView K V F)). record old { made = l })
-        (sym (append-nil old.made)),
-  )
+  unchanged old new is = ([], All-nil IsRemoval, made_none old new is)
 
   pub removed-more : (old mid new : PassView K V F) → HasRemoved old mid → HasRemoved mid new → HasRemoved old new
-  removed-more old mid new (rs, each, is) (ss, each', is') = (
-    rs ++ ss,
-    All-append IsRemoval rs ss each each',
-    is' ∙ ap (λ (p : PassView K V F). record p { made = p.made ++ ss }) is
-        ∙ ap (λ (l : List (RecordView K V F)). record old { made = l }) (append_assoc old.made rs ss),
-  )
+  removed-more old mid new (rs, each, is) (ss, each', is') =
+      (rs ++ ss, All-append IsRemoval rs ss each each', made_more rs ss old mid new is is')
 
   module _ (code : K → ℕ) (salt : Salt) (class : ClassView) where
     pub unchanged_in : (old new : PassView K V F) → new ≡ old → HasRemovedIn code salt class old new
@@ -89,8 +113,7 @@ module _ {K V F : Type 0} where
       [],
       All-nil IsRemoval,
       All-nil (λ (r : RecordView K V F). is_of code salt class (key_of r.call) ≡ true),
-      is
-          ∙ ap (λ (l : List (RecordView K V F)). record old { made = l }) (sym (append-nil old.made)),
+      made_none old new is,
     )
 
     pub removed_in-more : (old mid new : PassView K V F) → HasRemovedIn code salt class old mid →
@@ -100,33 +123,39 @@ module _ {K V F : Type 0} where
       rs ++ ss,
       All-append IsRemoval rs ss each each',
       All-append (λ (r : RecordView K V F). is_of code salt class (key_of r.call) ≡ true) rs ss of of',
-      is'
-          ∙ ap (λ (p : PassView K V F). record p { made = p.made ++ ss }) is
-          ∙ ap (λ (l : List (RecordView K V F)). record old { made = l }) (append_assoc old.made rs ss),
+      made_more rs ss old mid new is is',
     )
 
--- a class that is passed last has no hash of those that were passed before, where each hash is passed at most once
-pub apart : (classes : List ClassView) (class : ClassView) (hash : ℕ) → covering (classes ++ class ∷ []) hash ≤ 1 →
-    covers class hash ≡ true
-    → All (λ c. covers c hash ≡ false) classes
-apart [] class hash once its = All-nil (λ (c : ClassView). covers c hash ≡ false)
-apart (c ∷ cs) class hash once its = go (λ few. apart cs class hash few its) (covers c hash) refl where
-  none_of : (cs : List ClassView) → 1 ≤ covering (cs ++ class ∷ []) hash
-  none_of [] = let last = sum_by-cons (λ (x : ClassView). cond (covers x hash) 1 0) class [] in
-      let one : ◌≡◌ {A = ℕ} (cond (covers class hash) 1 0) 1 = ap (λ (b : Bool). cond b 1 0) its in omega arith
-  none_of (x ∷ xs) = let rest = none_of xs in
-      let more = sum_by-cons (λ (y : ClassView). cond (covers y hash) 1 0) x (xs ++ class ∷ []) in omega arith
+    pub removed_in-seen : (old mid new : PassView K V F) → HasRemovedIn code salt class old mid →
+        HasSeenMore mid new → HasRemovedIn code salt class old new
+    removed_in-seen old mid new (rs, each, of, is) seen = (rs, each, of, made_seen rs old mid new is seen)
 
-  go : (covering (cs ++ class ∷ []) hash ≤ 1 → All (λ c. covers c hash ≡ false) cs) → (b : Bool) → covers c hash ≡ b →
-      All (λ c. covers c hash ≡ false) (c ∷ cs)
-  go rest_apart true is =
-      (let rest = none_of cs in
-      let more = sum_by-cons (λ (y : ClassView). cond (covers y hash) 1 0) c (cs ++ class ∷ []) in
-      let one : ◌≡◌ {A = ℕ} (cond (covers c hash) 1 0) 1 = ap (λ (b : Bool). cond b 1 0) is in absurd (omega arith))
-  go rest_apart false is = (let more = sum_by-cons (λ (y : ClassView). cond (covers y hash) 1 0) c (cs ++ class ∷ []) in
-      let none : ◌≡◌ {A = ℕ}
-      (cond (covers c hash) 1 0) 0 = ap (λ (b : Bool). cond b 1 0) is in
-      All-cons (λ (c : ClassView). covers c hash ≡ false) c cs is (rest_apart (omega arith)))
+    pub removed_in : (old new : PassView K V F) → HasRemovedIn code salt class old new → HasRemoved old new
+    removed_in old new (rs, each, of, is) = (rs, each, is)
+
+-- classes with each hash at most once
+without_first : (c : ClassView) (cs : List ClassView) (hash : ℕ) → covering (c ∷ cs) hash ≤ 1 → covering cs hash ≤ 1
+without_first c cs hash once =
+    let all = sum_by-cons (λ (x : ClassView). cond (covers x hash) 1 0) c cs in omega arith
+
+without_second : (c d : ClassView) (ds : List ClassView) (hash : ℕ) → covering (c ∷ d ∷ ds) hash ≤ 1 →
+    covering (c ∷ ds) hash ≤ 1
+without_second c d ds hash once =
+    let one = sum_by-cons (λ (x : ClassView). cond (covers x hash) 1 0) c (d ∷ ds) in
+    let two = sum_by-cons (λ (x : ClassView). cond (covers x hash) 1 0) d ds in
+    let three = sum_by-cons (λ (x : ClassView). cond (covers x hash) 1 0) c ds in omega arith
+
+first_alone : (c d : ClassView) (ds : List ClassView) (hash : ℕ) → covering (c ∷ d ∷ ds) hash ≤ 1 →
+    covers d hash ≡ true → covers c hash ≡ false
+first_alone c d ds hash once its = go (covers c hash) refl where
+  go : (b : Bool) → covers c hash ≡ b → covers c hash ≡ false
+  go true is =
+      (let one = sum_by-cons (λ (x : ClassView). cond (covers x hash) 1 0) c (d ∷ ds) in
+      let two = sum_by-cons (λ (x : ClassView). cond (covers x hash) 1 0) d ds in
+      let here : ◌≡◌ {A = ℕ} (cond (covers c hash) 1 0) 1 = ap (λ (b : Bool). cond b 1 0) is in
+      let there : ◌≡◌ {A = ℕ} (cond (covers d hash) 1 0) 1 = ap (λ (b : Bool). cond b 1 0) its in
+      absurd (omega arith))
+  go false is = is
 
 -- what a `?` passes on is the error that it met
 pub passed_on : {S T E : Type 0} (r : Result S E) (e f : E) → IsErrAnd r (λ y. y ≡ e) → IsErrOf r f →
@@ -134,95 +163,79 @@ pub passed_on : {S T E : Type 0} (r : Result S E) (e f : E) → IsErrAnd r (λ y
 passed_on {S} {T} {E} r e f same is = let its : f ≡ e = subst (λ (x : Result S E). IsErrAnd x (λ y. y ≡ e)) is same in
     ap (λ (x : E). Err x) (sym its)
 
-module _ {K V F : Type 0} (same : K → K → Bool) (code : K → ℕ) (after : Call K V F → Option V → Option V)
-    (ledger : LedgerView K V) where
-  -- a visit still shows the bin after removals of keys of a class that has none of its hashes
-  pub IsVisit-later : (old new : PassView K V F) (class : ClassView) (v : VisitView K V) →
-      HasRemovedIn code ledger.salt class old new
-      → ((hash : ℕ) → covers class hash ≡ true → covers v.class hash ≡ false)
-      → IsVisit same code after ledger old v → IsVisit same code after ledger new v
-  IsVisit-later old new class v (rs, each, of, is) other visit =
-      let (kept, history, entries) = visit.history in
-      let In : RecordView K V F → Type 0 = λ r. is_of code ledger.salt class (key_of r.call) ≡ true in
-      let Out : RecordView K V F → Type 0 = λ r. is_of code ledger.salt v.class (key_of r.call) ≡ false in
-      let none : part_of_records (is_of code ledger.salt v.class) rs ≡ [] =
-      filter_none (λ (r : RecordView K V F). is_of code ledger.salt v.class
-      (key_of r.call)) rs (All-weaker In Out (λ r i. other (hash_of ledger.salt (code (key_of r.call))) i) rs of) in
-      let grown : part_of_records (is_of code ledger.salt v.class) (old.made ++ rs) ≡ part_of_records
-      (is_of code ledger.salt v.class) old.made =
-      filter-append (λ (r : RecordView K V F). is_of code ledger.salt v.class (key_of r.call)) old.made rs
-      ∙ ap (λ (l : List (RecordView K V F)).
-      part_of_records (is_of code ledger.salt v.class) old.made ++ l) none
-      ∙ append-nil (part_of_records (is_of code ledger.salt v.class) old.made)
-      in
-      let later : IsHistory same code after ledger (record old { made = old.made ++ rs }) v.class kept =
-      record {
-        client = history.client;
-        legal = history.legal;
-        clients = history.clients;
-        of_class = history.of_class;
-        own = history.own ∙ sym grown;
-      } in
-      record {
-        distinct = visit.distinct;
-        of_class = visit.of_class;
-        history = (
-          kept,
-          subst (λ (p : PassView K V F). IsHistory same code after ledger p v.class kept) (sym is) later,
-          entries,
-        );
-      }
+module _ {K V F : Type 0} (same : K → K → Bool) (after : Call K V F → Option V → Option V) (ledger : LedgerView K V)
+    where
+  -- what a pass has seen is a front for it
+  pub IsFront-seen : (old new : PassView K V F) → HasSeen same after ledger old new →
+      IsFront same after ledger new new.seen
+  IsFront-seen old new s = subst (λ (p : PassView K V F). IsFront same after ledger p new.seen) (sym s.pass) (record {
+    client = s.front.client;
+    seen = BeginsWith-all new.seen;
+    own = s.front.own;
+    legal = s.front.legal;
+    clients = s.front.clients;
+  })
 
-  -- the same of all visits of a walk that goes on by that class
-  pub visits-later : (old new : PassView K V F) (class : ClassView) (vs : List (VisitView K V)) →
-      HasRemovedIn code ledger.salt class old new
-      → ((hash : ℕ) → covering (classes_of_visits vs ++ class ∷ []) hash ≤ 1)
-      → All (IsVisit same code after ledger old) vs → All (IsVisit same code after ledger new) vs
-  visits-later old new class [] removed once visits = All-nil (IsVisit same code after ledger new)
-  visits-later old new class (v ∷ vs) removed once visits =
-      let P = IsVisit same code after ledger old in
-      let N : ℕ → ClassView → Type 0 = λ hash c. covers c hash ≡ false in
-      let rest : (hash : ℕ) → covering (classes_of_visits vs ++ class ∷ []) hash ≤ 1 = λ hash. (let all = once hash in
-      let more = sum_by-cons (λ (y : ClassView). cond (covers y hash) 1 0) v.class
-      (classes_of_visits vs ++ class ∷ []) in omega arith) in
-      All-cons (IsVisit same code after ledger new) v vs
-      (IsVisit-later old new class v removed
-      (λ hash its. All-head (N hash) v.class (classes_of_visits vs)
-      (apart (classes_of_visits (v ∷ vs)) class hash (once hash) its)) (All-head P v vs visits))
-      (visits-later old new class vs removed rest (All-tail P v vs visits))
+  module _ (code : K → ℕ) where
+    -- one bin more
+    pub AreCleared-push : (old mid new : PassView K V F) (cs : List ClassView) (c : ClassView) →
+        AreCleared same code after ledger old cs mid → HasRemovedIn code ledger.salt c mid new →
+        IsEmptyIn same code after ledger new c → AreCleared same code after ledger old (cs ++ c ∷ []) new
+    AreCleared-push old mid new [] c are removed empty =
+        (new, subst (λ (p : PassView K V F). HasRemovedIn code ledger.salt c p new) are removed, empty, refl)
+    AreCleared-push old mid new (d ∷ ds) c (m, r, e, rest) removed empty =
+        (m, r, e, AreCleared-push m mid new ds c rest removed empty)
 
-  -- and of one visit more, without entries
-  pub visits-more : (old new : PassView K V F) (class : ClassView) (vs : List (VisitView K V)) →
-      HasRemovedIn code ledger.salt class old new
-      → ((hash : ℕ) → covering (classes_of_visits vs ++ class ∷ []) hash ≤ 1)
-      → All (IsVisit same code after ledger old) vs → All (λ v. v.entries ≡ []) vs →
-      IsVisit same code after ledger new (record { class = class; entries = [] })
-      → All (IsVisit same code after ledger new) (vs ++ record { class = class; entries = [] } ∷ [])
-      × All (λ v. v.entries ≡ []) (vs ++ record { class = class; entries = [] } ∷ [])
-  visits-more old new class vs removed once visits empty last = (
-    All-push (IsVisit same code after ledger new) vs (record { class = class; entries = [] })
-        (visits-later old new class vs removed once visits) last,
-    All-push (λ (v : VisitView K V). v.entries ≡ []) vs (record { class = class; entries = [] }) empty refl,
-  )
+    -- of the calls on keys of a class there are no more after removals in classes that have none of its hashes
+    kept-part : (old new : PassView K V F) (class : ClassView) (cs : List ClassView) →
+        ((hash : ℕ) → covering (class ∷ cs) hash ≤ 1) → AreCleared same code after ledger old cs new
+        → part_of_records (is_of code ledger.salt class) new.made
+        ≡ part_of_records (is_of code ledger.salt class) old.made
+    kept-part old new class [] once are =
+        ap (λ (p : PassView K V F). part_of_records (is_of code ledger.salt class) p.made) are
+    kept-part old new class (d ∷ ds) once (m, (rs, each, of, is), e, rest) =
+        let In : RecordView K V F → Type 0 = λ r. is_of code ledger.salt d (key_of r.call) ≡ true in
+        let Out : RecordView K V F → Type 0 = λ r. is_of code ledger.salt class (key_of r.call) ≡ false in
+        let none : part_of_records (is_of code ledger.salt class) rs ≡ [] =
+        filter_none (λ (r : RecordView K V F). is_of code ledger.salt class (key_of r.call)) rs
+        (All-weaker In Out (λ r i. first_alone class d ds (hash_of ledger.salt (code (key_of r.call)))
+        (once (hash_of ledger.salt (code (key_of r.call)))) i) rs of) in
+        kept-part m new class ds (λ hash. without_second class d ds hash (once hash)) rest
+        ∙ ap (λ (p : PassView K V F). part_of_records (is_of code ledger.salt class) p.made) is.pass
+        ∙ filter-append (λ (r : RecordView K V F). is_of code ledger.salt class (key_of r.call)) old.made rs
+        ∙ ap (λ (l : List (RecordView K V F)). part_of_records (is_of code ledger.salt class) old.made ++ l) none
+        ∙ append-nil (part_of_records (is_of code ledger.salt class) old.made)
 
-  -- with one client, classes of visits without entries have no pair by its own calls
-  pub emptied : (pass : PassView K V F) (vs : List (VisitView K V)) → ledger.clients ≡ 1 →
-      All (IsVisit same code after ledger pass) vs
-      → All (λ v. v.entries ≡ []) vs
-      → All (λ c. replay same (opening_in code ledger c) (part_of_records (is_of code ledger.salt c) pass.made) ≡ [])
-      (classes_of_visits vs)
-  emptied pass [] one visits empty =
-      All-nil (λ c. replay same (opening_in code ledger c) (part_of_records (is_of code ledger.salt c) pass.made) ≡ [])
-  emptied pass (v ∷ vs) one visits empty =
-      let P = IsVisit same code after ledger pass in
-      let E : VisitView K V → Type 0 = λ v. v.entries ≡ [] in
-      All-cons (λ c. replay same (opening_in code ledger c) (part_of_records (is_of code ledger.salt c) pass.made) ≡ [])
-      v.class (classes_of_visits vs)
-      (sym (IsOwn-visit same code after ledger pass v one (All-head P v vs visits)) ∙ All-head E v vs empty)
-      (emptied pass vs one (All-tail P v vs visits) (All-tail E v vs empty))
+    module _ (tells : (x y : K) → Decides (same x y) (x ≡ y)) where
+      -- with one client, a class that was seen empty has no pair by its own calls
+      own_empty : (pass : PassView K V F) (class : ClassView) → ledger.clients ≡ 1 →
+          IsEmptyIn same code after ledger pass class
+          → replay same (opening_in code ledger class) (part_of_records (is_of code ledger.salt class) pass.made) ≡ []
+      own_empty pass class one empty =
+          sym (IsOwn-visit same after ledger tells code pass pass.seen (record { class = class; entries = [] }) one
+          empty.front (record {
+            distinct = tt;
+            of_class = All-nil (λ (e : K × V). is_of code ledger.salt class e.0 ≡ true);
+            entries = sym empty.empty;
+          }))
 
-  -- with one client, a bin that has entries left has them by its own calls
-  pub own_left : (pass : PassView K V F) → ledger.clients ≡ 1 → HasLeft same code after ledger pass →
-      HasOwnLeft same code ledger pass
-  own_left pass one (v, visit, some) =
-      (v.class, λ none. some (IsOwn-visit same code after ledger pass v one visit ∙ none))
+      -- with one client, no class that was cleared has a pair by its own calls
+      pub emptied : (old new : PassView K V F) (cs : List ClassView) → ledger.clients ≡ 1 →
+          ((hash : ℕ) → covering cs hash ≤ 1) → AreCleared same code after ledger old cs new
+          → All (λ c. replay same (opening_in code ledger c) (part_of_records (is_of code ledger.salt c) new.made) ≡ [])
+          cs
+      emptied old new [] one once are =
+          All-nil (λ c. replay same (opening_in code ledger c) (part_of_records (is_of code ledger.salt c) new.made)
+          ≡ [])
+      emptied old new (c ∷ cs) one once (m, r, e, rest) =
+          All-cons (λ c. replay same (opening_in code ledger c) (part_of_records (is_of code ledger.salt c) new.made)
+          ≡ []) c cs
+          (ap (λ (l : List (RecordView K V F)). replay same (opening_in code ledger c) l)
+          (kept-part m new c cs once rest) ∙ own_empty m c one e)
+          (emptied m new cs one (λ hash. without_first c cs hash (once hash)) rest)
+
+      -- with one client, a bin that has entries left has them by its own calls
+      pub own_left : (pass : PassView K V F) → ledger.clients ≡ 1 → HasLeft same code after ledger pass →
+          HasOwnLeft same code ledger pass
+      own_left pass one (v, front, visit, some) =
+          (v.class, λ none. some (IsOwn-visit same after ledger tells code pass pass.seen v one front visit ∙ none))

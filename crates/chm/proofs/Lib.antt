@@ -13,3 +13,4 @@ pub mod Shared
 pub mod Finding
 pub mod Passes
 pub mod Limits
+pub mod Hearing

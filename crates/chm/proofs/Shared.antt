@@ -29,13 +29,13 @@ module _ (K V F A : RattleType) (hash : HashKey.Ghosts K.Denot) (key_eq : Eq.Gho
     (sk : IsSend K) (sv : IsSend V) (sf : IsSend F) (sa : IsSend A) (yk : IsSync K) (yv : IsSync V) (yf : IsSync F)
     (ya : IsSync A)
     (frees : Frees alloc alloc.dealloc_token) where
-  ledger_fields : AllSync (shape (LedgerInside.the_type K V F A hash key_eq key_same key_clone alloc)).fields
+  ledger_fields : AllSync (shape (LedgerInside.the_type K V F A hash key_eq key_same key_clone value_eq value_same remap alloc)).fields
   ledger_fields = (
     search (sendable, the_words.the_sync, the_lease.the_sync) depth 20,
     (search sendable depth 20, (search sendable depth 20, tt)),
   )
 
-  ledger_sync : IsSync (Ledger.the_row K V F A hash key_eq key_same key_clone alloc)
+  ledger_sync : IsSync (Ledger.the_row K V F A hash key_eq key_same key_clone value_eq value_same remap alloc)
   ledger_sync = search (sendable, ledger_fields) depth 20
 
   fields : AllSync

@@ -1,7 +1,9 @@
 -- What is promised of a map, in one reading.
 --
--- A call of a client answers what a map of one thread answers to it, on what calls before it left at its key
--- (`IsAnswered`). When all clients are done the map is closed, and its bins, their roles and the passes fit together
+-- There is one order of all calls of all clients, and a pass knows a front of it: what its client has seen. A call stands
+-- behind all that its client had seen, and answers what a map of one thread answers to it on what all calls before it
+-- left (`IsAnswered`); so does a look-up, and a walk shows each bin at such a front. A moment is a front that one client
+-- hands to another. When all clients are done the map is closed, and its bins, their roles and the passes fit together
 -- (`IsQuiet`). Then there is one order of all calls, with each client's calls in that client's order: a map of one
 -- thread gives these answers in it, and ends as the closed map (`IsOneOrder`).
 --
@@ -21,6 +23,7 @@ use Rattle.bin_history.specs.Plain.{run, IsLegal}
 use Rattle.bin_history.specs.Records.{RecordView}
 use Rattle.bin_history.specs.declared.call.Call.{Call}
 use Rattle.bin_history.specs.declared.call.Reply.{Reply}
+use Rattle.count_ledger.specs.Fronts.{IsFront}
 use Rattle.count_ledger.specs.Limits.{most_calls}
 use Rattle.count_ledger.specs.Settled.{AreReconciled, IsOrder}
 use Rattle.count_ledger.specs.Views.{LedgerView, PassView, RoleView}
@@ -33,48 +36,31 @@ use Rattle.chm.specs.declared.fault.Fault.TheVariants.{PassFull}
 
 -- == A call ==
 
-module _ {K V F : Type 0} (same_key : K → K → Bool) (code : K → ℕ) (after : Call K V F → Option V → Option V) where
-  -- records of calls on keys of a class: legal on the opening map's part, all of clients of the map, and those of the
-  -- pass's client just the calls that it made on keys of the class, in its order
-  pub record IsHistory (ledger : LedgerView K V) (pass : PassView K V F) (class : ClassView)
-      (kept : List (RecordView K V F)) : Type 0 where
-    pub client : pass.client < ledger.clients
-    pub legal : IsLegal same_key after (lookup same_key (opening_in code ledger class)) kept
-    pub clients : All (λ r. r.client < ledger.clients) kept
-    pub of_class : All (λ r. is_of code ledger.salt class (key_of r.call) ≡ true) kept
-    pub own : by_client pass.client kept ≡ part_of_records (is_of code ledger.salt class) pass.made
-
-  -- the value that the key had at the end of a history of a class that its hash is in
-  abbrev pub IsFound : LedgerView K V → PassView K V F → K → Option V → Type 0
-  IsFound ledger pass key value =
-      (class : ClassView) × (kept : List (RecordView K V F))
-      × IsClass class × (is_of code ledger.salt class key ≡ true)
-      × IsHistory ledger pass class kept
-      × (value ≡ run same_key (lookup same_key (opening_in code ledger class)) kept key)
-
 module _ {K V F : Type 0} (same_value : V → V → Bool) (remapped : F → K → Option V → Option V) (merged : F → V → V →
     Option V) where
-  -- the pass made one call more, the given one: it left what the call makes of the value that it found, and this is its
-  -- reply
+  -- the pass made one call more, the given one, behind a front: it left what the call makes of the value that it found,
+  -- and this is its reply
   pub record IsMade (call : Call K V F) (old new : PassView K V F) (answer : Reply V)
-      (r : RecordView K V F) : Type 0 where
-    pub pass : new ≡ record old { made = old.made ++ r ∷ [] }
+      (front : List (RecordView K V F)) (r : RecordView K V F) : Type 0 where
+    pub pass : new ≡ record old { made = old.made ++ r ∷ []; seen = front ++ r ∷ [] }
     pub call_is : r.call ≡ call
     pub client : r.client ≡ old.client
     pub ordinal : r.ordinal ≡ length old.made
     pub left : r.after ≡ after same_value remapped merged call r.before
     pub reply_is : answer ≡ reply same_value call r.before r.after
 
-module _ {K V F : Type 0} (same_key : K → K → Bool) (code : K → ℕ) (same_value : V → V → Bool) (remapped : F → K →
+module _ {K V F : Type 0} (same_key : K → K → Bool) (same_value : V → V → Bool) (remapped : F → K →
     Option V → Option V)
     (merged : F → V → V → Option V) where
-  -- the pass made the call, which found the value that the key had in the map
+  -- the pass made the call, which found the value that all calls before it left at the key
   abbrev pub IsCalled : LedgerView K V → Call K V F → PassView K V F → PassView K V F → Reply V → Type 0
   IsCalled ledger call old new answer =
-      (r : RecordView K V F) × IsMade same_value remapped merged call old new answer r
-      × IsFound same_key code (after same_value remapped merged) ledger old (key_of call) r.before
+      (front : List (RecordView K V F)) × (r : RecordView K V F)
+      × IsFront same_key (after same_value remapped merged) ledger old front
+      × IsMade same_value remapped merged call old new answer front r
+      × (r.before ≡ run same_key (lookup same_key ledger.opening) front (key_of call))
 
-module _ {K V F : Type 0} (same_key : K → K → Bool) (code : K → ℕ) (same_value : V → V → Bool) (remapped : F → K →
+module _ {K V F : Type 0} (same_key : K → K → Bool) (same_value : V → V → Bool) (remapped : F → K →
     Option V → Option V)
     (merged : F → V → V → Option V) where
   -- the pass made the call, whose reply the answer stands for, or the call was refused
@@ -82,7 +68,7 @@ module _ {K V F : Type 0} (same_key : K → K → Bool) (code : K → ℕ) (same
   pub record IsAnsweredAs {T : Type 0} (reply : T → Reply V) (ledger : LedgerView K V) (call : Call K V F)
       (old new : PassView K V F)
       (result : Result T Fault) : Type 0 where
-    pub called : IfOk result (λ answer. IsCalled same_key code same_value remapped merged ledger call old new
+    pub called : IfOk result (λ answer. IsCalled same_key same_value remapped merged ledger call old new
         (reply answer))
     pub refused : OnErr result (new ≡ old)
     pub full : IsErrOf result PassFull ↔ (most_calls ledger.form ≤ length old.made)

@@ -8,3 +8,4 @@ pub mod Visits
 pub mod Closing
 pub mod Cleared
 pub mod Reopened
+pub mod Passed

@@ -39,7 +39,7 @@ impl<
         requires pass { pass.old.ledger ≡ self.now.ledger.id }
         requires room { length pass.old.made < most_calls self.now.ledger.form }
         ensures called { IfOk result
-            (λ r. IsCalled K.eq K.code V.eq F.remapped F.merged self.now.ledger
+            (λ r. IsCalled K.eq V.eq F.remapped F.merged self.now.ledger
             (call_on (key_in key.entry) op) pass.old pass.new r.0) }
         ensures refused { OnErr result (pass.new ≡ pass.old) }
     {
@@ -68,7 +68,7 @@ impl<
     ) -> Result<Reply<V>, Fault>
         requires exact { AreExact K.is_clone V.is_clone F.is_clone }
         requires pass { pass.old.ledger ≡ self.now.ledger.id }
-        ensures { IsAnswered K.eq K.code V.eq F.remapped F.merged self.now.ledger call pass.old
+        ensures { IsAnswered K.eq V.eq F.remapped F.merged self.now.ledger call pass.old
             pass.new result }
     {
         let (key, op) = call.into_parts();
@@ -90,7 +90,7 @@ impl<
     ) -> Result<Reply<V>, Fault>
         requires exact { AreExact K.is_clone V.is_clone F.is_clone }
         requires pass { pass.old.ledger ≡ self.now.ledger.id }
-        ensures { IsAnswered K.eq K.code V.eq F.remapped F.merged self.now.ledger
+        ensures { IsAnswered K.eq V.eq F.remapped F.merged self.now.ledger
             (call_on (key_in key.entry) op) pass.old pass.new result }
     {
         if pass.made() >= self.ledger.most_calls() {
@@ -109,7 +109,7 @@ impl<
     pub fn get<R: Wait>(&self, rt: &R, pass: &mut Pass<K, V, F>, key: K) -> Result<Reply<V>, Fault>
         requires exact { AreExact K.is_clone V.is_clone F.is_clone }
         requires pass { pass.old.ledger ≡ self.now.ledger.id }
-        ensures { IsAnswered K.eq K.code V.eq F.remapped F.merged self.now.ledger
+        ensures { IsAnswered K.eq V.eq F.remapped F.merged self.now.ledger
             (Get key) pass.old pass.new result }
     {
         self.call(rt, pass, Call::Get(key))
@@ -128,7 +128,7 @@ impl<
     ) -> Result<Reply<V>, Fault>
         requires exact { AreExact K.is_clone V.is_clone F.is_clone }
         requires pass { pass.old.ledger ≡ self.now.ledger.id }
-        ensures { IsAnswered K.eq K.code V.eq F.remapped F.merged self.now.ledger
+        ensures { IsAnswered K.eq V.eq F.remapped F.merged self.now.ledger
             (Contains key) pass.old pass.new result }
     {
         self.call(rt, pass, Call::Contains(key))
@@ -148,7 +148,7 @@ impl<
     ) -> Result<Reply<V>, Fault>
         requires exact { AreExact K.is_clone V.is_clone F.is_clone }
         requires pass { pass.old.ledger ≡ self.now.ledger.id }
-        ensures { IsAnswered K.eq K.code V.eq F.remapped F.merged self.now.ledger
+        ensures { IsAnswered K.eq V.eq F.remapped F.merged self.now.ledger
             (Put key value) pass.old pass.new result }
     {
         self.call(rt, pass, Call::Put(key, value))
@@ -168,7 +168,7 @@ impl<
     ) -> Result<Reply<V>, Fault>
         requires exact { AreExact K.is_clone V.is_clone F.is_clone }
         requires pass { pass.old.ledger ≡ self.now.ledger.id }
-        ensures { IsAnswered K.eq K.code V.eq F.remapped F.merged self.now.ledger
+        ensures { IsAnswered K.eq V.eq F.remapped F.merged self.now.ledger
             (PutIfAbsent key value) pass.old pass.new result }
     {
         self.call(rt, pass, Call::PutIfAbsent(key, value))
@@ -187,7 +187,7 @@ impl<
     ) -> Result<Reply<V>, Fault>
         requires exact { AreExact K.is_clone V.is_clone F.is_clone }
         requires pass { pass.old.ledger ≡ self.now.ledger.id }
-        ensures { IsAnswered K.eq K.code V.eq F.remapped F.merged self.now.ledger
+        ensures { IsAnswered K.eq V.eq F.remapped F.merged self.now.ledger
             (Remove key) pass.old pass.new result }
     {
         self.call(rt, pass, Call::Remove(key))
@@ -207,7 +207,7 @@ impl<
     ) -> Result<Reply<V>, Fault>
         requires exact { AreExact K.is_clone V.is_clone F.is_clone }
         requires pass { pass.old.ledger ≡ self.now.ledger.id }
-        ensures { IsAnswered K.eq K.code V.eq F.remapped F.merged self.now.ledger
+        ensures { IsAnswered K.eq V.eq F.remapped F.merged self.now.ledger
             (RemoveIf key value) pass.old pass.new result }
     {
         self.call(rt, pass, Call::RemoveIf(key, value))
@@ -227,7 +227,7 @@ impl<
     ) -> Result<Reply<V>, Fault>
         requires exact { AreExact K.is_clone V.is_clone F.is_clone }
         requires pass { pass.old.ledger ≡ self.now.ledger.id }
-        ensures { IsAnswered K.eq K.code V.eq F.remapped F.merged self.now.ledger
+        ensures { IsAnswered K.eq V.eq F.remapped F.merged self.now.ledger
             (Replace key value) pass.old pass.new result }
     {
         self.call(rt, pass, Call::Replace(key, value))
@@ -248,7 +248,7 @@ impl<
     ) -> Result<Reply<V>, Fault>
         requires exact { AreExact K.is_clone V.is_clone F.is_clone }
         requires pass { pass.old.ledger ≡ self.now.ledger.id }
-        ensures { IsAnswered K.eq K.code V.eq F.remapped F.merged self.now.ledger
+        ensures { IsAnswered K.eq V.eq F.remapped F.merged self.now.ledger
             (ReplaceIf key old new) pass.old pass.new result }
     {
         self.call(rt, pass, Call::ReplaceIf(key, old, new))
@@ -268,7 +268,7 @@ impl<
     ) -> Result<Reply<V>, Fault>
         requires exact { AreExact K.is_clone V.is_clone F.is_clone }
         requires pass { pass.old.ledger ≡ self.now.ledger.id }
-        ensures { IsAnswered K.eq K.code V.eq F.remapped F.merged self.now.ledger
+        ensures { IsAnswered K.eq V.eq F.remapped F.merged self.now.ledger
             (ComputeIfAbsent key function) pass.old pass.new result }
     {
         self.call(rt, pass, Call::ComputeIfAbsent(key, function))
@@ -289,7 +289,7 @@ impl<
     ) -> Result<Reply<V>, Fault>
         requires exact { AreExact K.is_clone V.is_clone F.is_clone }
         requires pass { pass.old.ledger ≡ self.now.ledger.id }
-        ensures { IsAnswered K.eq K.code V.eq F.remapped F.merged self.now.ledger
+        ensures { IsAnswered K.eq V.eq F.remapped F.merged self.now.ledger
             (ComputeIfPresent key function) pass.old pass.new result }
     {
         self.call(rt, pass, Call::ComputeIfPresent(key, function))
@@ -309,7 +309,7 @@ impl<
     ) -> Result<Reply<V>, Fault>
         requires exact { AreExact K.is_clone V.is_clone F.is_clone }
         requires pass { pass.old.ledger ≡ self.now.ledger.id }
-        ensures { IsAnswered K.eq K.code V.eq F.remapped F.merged self.now.ledger
+        ensures { IsAnswered K.eq V.eq F.remapped F.merged self.now.ledger
             (Compute key function) pass.old pass.new result }
     {
         self.call(rt, pass, Call::Compute(key, function))
@@ -330,7 +330,7 @@ impl<
     ) -> Result<Reply<V>, Fault>
         requires exact { AreExact K.is_clone V.is_clone F.is_clone }
         requires pass { pass.old.ledger ≡ self.now.ledger.id }
-        ensures { IsAnswered K.eq K.code V.eq F.remapped F.merged self.now.ledger
+        ensures { IsAnswered K.eq V.eq F.remapped F.merged self.now.ledger
             (Merge key value function) pass.old pass.new result }
     {
         self.call(rt, pass, Call::Merge(key, value, function))

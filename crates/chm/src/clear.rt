@@ -6,9 +6,9 @@ ghost use Rattle.bin_history.specs.Copies.{IsExact};
 ghost use Rattle.count_ledger.specs.Agreement.{BinAgrees};
 ghost use Rattle.count_ledger.specs.Limits.{most_calls};
 ghost use Rattle.chm.specs.Cleared.{HasLeft, HasOwnLeft, HasRemoved, HasRemovedIn, IsCleared};
-ghost use Rattle.chm.specs.Cleared.{IsEmptied};
+ghost use Rattle.chm.specs.Cleared.{IsEmptied, IsEmptyIn};
 ghost use Rattle.chm.specs.Refusals.{IsOfCall};
-ghost use Rattle.chm.specs.Visits.{IsFirstOf, IsVisit};
+ghost use Rattle.chm.specs.Visits.{IsFirstOf};
 
 use crate::fault::Fault;
 use crate::map::Map;
@@ -104,9 +104,8 @@ impl<
         ensures there { IfOk result
             (λ its. HasRemovedIn K.code self.now.ledger.salt its pass.old pass.new) }
         ensures first { IfOk result (λ its. IsFirstOf class its) }
-        ensures visit { IfOk result
-            (λ its. IsVisit K.eq K.code (after V.eq F.remapped F.merged) self.now.ledger pass.new
-            (record { class = its; entries = [] })) }
+        ensures empty { IfOk result
+            (IsEmptyIn K.eq K.code (after V.eq F.remapped F.merged) self.now.ledger pass.new) }
         ensures full { IsErrOf result Fault.PassFull →
             most_calls self.now.ledger.form ≤ length pass.new.made }
         ensures left { IsErrOf result Fault.PassFull →
@@ -139,7 +138,7 @@ impl<
         requires pass { pass.old.ledger ≡ self.now.ledger.id }
         ensures cleared { OnOk result
             (IsCleared K.eq K.code (after V.eq F.remapped F.merged) self.now.n
-            self.now.ledger pass.new) }
+            self.now.ledger pass.old pass.new) }
         ensures emptied { self.now.ledger.clients ≡ 1 →
             OnOk result (IsEmptied K.eq K.code self.now.n self.now.ledger pass.new) }
         ensures removed { HasRemoved pass.old pass.new }

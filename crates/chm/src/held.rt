@@ -1,10 +1,11 @@
 //! What is done with a bin while it is held.
-ghost use Rattle.std.specs.Prelude.{◌≡◌, ◌<◌, true, length, IfOk, OnOk, OnErr};
+ghost use Rattle.std.specs.Prelude.{◌≡◌, ◌<◌, true, length, IfOk, OnErr};
 ghost use Rattle.hashkeys.specs.Classes.{is_of};
 ghost use Rattle.bin_history.specs.Calls.{after};
 ghost use Rattle.bin_history.specs.Copies.{IsExact};
 ghost use Rattle.bin_history.specs.Ops.{call_on, key_in};
 ghost use Rattle.count_ledger.specs.Agreement.{BinAgrees};
+ghost use Rattle.count_ledger.specs.Fronts.{HasSeen};
 ghost use Rattle.count_ledger.specs.Limits.{most_calls};
 ghost use Rattle.chm.specs.Histories.{IsCalledOn, IsMet};
 
@@ -38,11 +39,8 @@ impl<
         requires agree { BinAgrees K.eq (after V.eq F.remapped F.merged) bin.old role.old }
         requires of_class { is_of K.code bin.old.salt bin.old.class (key_in key) ≡ true }
         ensures called { IfOk result
-            (λ r. IsCalledOn K.eq K.code V.eq F.remapped F.merged bin.old.entries bin.new.entries
+            (λ r. IsCalledOn K.eq K.code V.eq F.remapped F.merged self.now.ledger bin.old bin.new
             (call_on (key_in key.entry) op) pass.old pass.new r.0) }
-        ensures met { OnOk result
-            (IsMet K.eq K.code (after V.eq F.remapped F.merged) self.now.ledger pass.old
-            bin.old role.old) }
         ensures refused { OnErr result (pass.new ≡ pass.old) }
         ensures stayed { OnErr result (bin.new.entries ≡ bin.old.entries) }
         ensures form { bin.new.form ≡ bin.old.form }
@@ -57,8 +55,7 @@ impl<
         Ok((reply, trace.delta() == 1))
     }
 
-    /// Lets the pass and the role of a bin that is held tell what the bin's entries are. It changes
-    /// nothing.
+    /// The pass sees all calls so far, and the bin that is held has what they left in its class.
     pub(crate) fn meet_under(
         &self,
         pass: &mut Pass<K, V, F>,
@@ -68,9 +65,9 @@ impl<
         requires pass { pass.old.ledger ≡ self.now.ledger.id }
         requires role { role.old.ledger ≡ self.now.ledger.id }
         requires agree { BinAgrees K.eq (after V.eq F.remapped F.merged) bin.now role.old }
-        ensures met { IsMet K.eq K.code (after V.eq F.remapped F.merged) self.now.ledger pass.old
-            bin.now role.old }
-        ensures same_pass { pass.new ≡ pass.old }
+        ensures seen { HasSeen K.eq (after V.eq F.remapped F.merged) self.now.ledger pass.old
+            pass.new }
+        ensures met { IsMet K.eq K.code self.now.ledger pass.new.seen bin.now }
         ensures same_role { role.new ≡ role.old }
     {
         bin.lawful();

@@ -29,7 +29,7 @@ impl<
     ) -> Result<Reply<V>, Fault>
         requires exact { AreExact K.is_clone V.is_clone F.is_clone }
         requires pass { pass.old.ledger ≡ self.now.ledger.id }
-        ensures { IsAnswered K.eq K.code V.eq F.remapped F.merged self.now.ledger
+        ensures { IsAnswered K.eq V.eq F.remapped F.merged self.now.ledger
             (Get key.now) pass.old pass.new result }
     {
         self.call_on(rt, pass, Given::Lent(key), Op::Get)
@@ -47,7 +47,7 @@ impl<
     ) -> Result<Reply<V>, Fault>
         requires exact { AreExact K.is_clone V.is_clone F.is_clone }
         requires pass { pass.old.ledger ≡ self.now.ledger.id }
-        ensures { IsAnswered K.eq K.code V.eq F.remapped F.merged self.now.ledger
+        ensures { IsAnswered K.eq V.eq F.remapped F.merged self.now.ledger
             (Contains key.now) pass.old pass.new result }
     {
         self.call_on(rt, pass, Given::Lent(key), Op::Contains)
@@ -67,7 +67,7 @@ impl<
     ) -> Result<Reply<V>, Fault>
         requires exact { AreExact K.is_clone V.is_clone F.is_clone }
         requires pass { pass.old.ledger ≡ self.now.ledger.id }
-        ensures { IsAnswered K.eq K.code V.eq F.remapped F.merged self.now.ledger
+        ensures { IsAnswered K.eq V.eq F.remapped F.merged self.now.ledger
             (Remove key.now) pass.old pass.new result }
     {
         self.call_on(rt, pass, Given::Lent(key), Op::Remove)
@@ -88,7 +88,7 @@ impl<
     ) -> Result<Reply<V>, Fault>
         requires exact { AreExact K.is_clone V.is_clone F.is_clone }
         requires pass { pass.old.ledger ≡ self.now.ledger.id }
-        ensures { IsAnswered K.eq K.code V.eq F.remapped F.merged self.now.ledger
+        ensures { IsAnswered K.eq V.eq F.remapped F.merged self.now.ledger
             (Replace key.now value) pass.old pass.new result }
     {
         self.call_on(rt, pass, Given::Lent(key), Op::Replace(value))

@@ -3,8 +3,9 @@ ghost use Rattle.std.specs.Prelude.{◌≡◌, All, IfOk, IfErr, option_copied};
 ghost use Rattle.bin_history.specs.Calls.{after};
 ghost use Rattle.bin_history.specs.Copies.{IsExact};
 ghost use Rattle.generations.specs.Places.{AreAt};
-ghost use Rattle.chm.specs.Headline.{IsFound};
-ghost use Rattle.bin_history.specs.Entries.{HasDistinctKeys};
+ghost use Rattle.bin_history.specs.Entries.{HasDistinctKeys, lookup};
+ghost use Rattle.bin_history.specs.Plain.{run};
+ghost use Rattle.count_ledger.specs.Fronts.{HasSeen, HasSeenMore};
 ghost use Rattle.chm.specs.Visits.{AreVisits, IsFirstOf, IsOwn, IsShown, IsVisit, shown_by};
 
 use crate::fault::Fault;
@@ -70,10 +71,10 @@ impl<
         requires keys { IsExact K.is_clone }
         requires values { IsExact V.is_clone }
         requires pass { pass.old.ledger ≡ self.now.ledger.id }
-        ensures visit { IfOk result
-            (IsVisit K.eq K.code (after V.eq F.remapped F.merged) self.now.ledger pass.old) }
+        ensures seen { HasSeen K.eq (after V.eq F.remapped F.merged) self.now.ledger pass.old
+            pass.new }
+        ensures visit { IfOk result (IsVisit K.eq K.code self.now.ledger pass.new.seen) }
         ensures first { IfOk result (λ v. IsFirstOf class v.class) }
-        ensures same { pass.new ≡ pass.old }
     {
         let mut held = self.hold_first(rt, class);
         let lent = &mut held;
@@ -89,11 +90,11 @@ impl<
         })
     }
 
-    /// Shows the entries of each bin in walk order, one bin after the other, each as it was while
-    /// it was held. No key comes twice. Calls of others may come between two bins; calls of the
-    /// pass's own client do not, so with one client the walk shows the map. A walk does not promise
-    /// that other clients really made the calls it shows; `close` does. For want of memory nothing
-    /// is shown.
+    /// Shows the entries of each bin in walk order, one bin after the other, each as all calls
+    /// before that had left it: those that the pass had seen when the walk began, and others that
+    /// were made meanwhile. No key comes twice. Calls of others may come between two bins; calls of
+    /// the pass's own client do not, so with one client the walk shows the map. For want of memory
+    /// nothing is shown.
     ///
     ///     map.put(rt, pass, 1, 5)?;
     ///     let visits = map.walk(rt, pass)?;
@@ -108,11 +109,11 @@ impl<
         requires pass { pass.old.ledger ≡ self.now.ledger.id }
         ensures visits { IfOk result
             (λ v. AreVisits K.eq K.code (after V.eq F.remapped F.merged) self.now.n self.now.ledger
-            pass.old v.items) }
+            pass.old v.items pass.new) }
         ensures distinct { IfOk result (λ v. HasDistinctKeys K.eq (shown_by v.items)) }
         ensures own { self.now.ledger.clients ≡ 1 →
             IfOk result (λ v. All (IsOwn K.eq K.code self.now.ledger pass.old) v.items) }
-        ensures same { pass.new ≡ pass.old }
+        ensures seen { HasSeenMore pass.old pass.new }
         ensures faults { IfErr result (λ fault. fault ≡ Fault.NoMemory) }
     {
         walk_laws();
@@ -131,9 +132,9 @@ impl<
         unreachable!()
     }
 
-    /// A copy of the value at a key, which is the one that a call of the pass's client would find
-    /// now. It waits for the key's bin as a call does, but it is no call: nothing is posted, the
-    /// pass stays as it was, and a full pass may look as well. For want of memory nothing is told.
+    /// A copy of the value at a key, which is the one that all calls before it left there. The pass
+    /// has then seen them. It waits for the key's bin as a call does, but it is no call: nothing is
+    /// posted, and a full pass may look as well. For want of memory nothing is told.
     ///
     ///     map.put(rt, pass, 1, 5)?;
     ///     map.look_up(rt, pass, &1)? == Some(5)
@@ -146,9 +147,10 @@ impl<
     ) -> Result<Option<V>, Fault>
         requires values { IsExact V.is_clone }
         requires pass { pass.old.ledger ≡ self.now.ledger.id }
-        ensures found { IfOk result
-            (IsFound K.eq K.code (after V.eq F.remapped F.merged) self.now.ledger pass.old key.now) }
-        ensures same { pass.new ≡ pass.old }
+        ensures seen { HasSeen K.eq (after V.eq F.remapped F.merged) self.now.ledger pass.old
+            pass.new }
+        ensures found { IfOk result (λ value. value
+            ≡ run K.eq (lookup K.eq self.now.ledger.opening) pass.new.seen key.now) }
         ensures faults { IfErr result (λ fault. fault ≡ Fault.NoMemory) }
     {
         let mut held = self.bins.hold(rt, self.salt().hash_of(key));

@@ -8,10 +8,10 @@ use Rattle.bin_history.specs.Calls.{key_of}
 use Rattle.bin_history.specs.Part.{part_of_entries, part_of_records}
 use Rattle.bin_history.specs.Records.{RecordView}
 use Rattle.count_ledger.specs.declared.books.Book.{Book}
-use Rattle.count_ledger.specs.declared.books.Book.TheVariants.{Pass, Role}
+use Rattle.count_ledger.specs.declared.books.Book.TheVariants.{Moment, Pass, Role}
 use Rattle.count_ledger.specs.Terms.{TermsView}
 use Rattle.count_ledger.specs.Rule.{Among, Across, IsSound, AreTogether}
-use Rattle.count_ledger.specs.Steps.{half_book, books_with_halves}
+use Rattle.count_ledger.specs.Steps.{half_book, with_halves}
 use Rattle.count_ledger.proofs.Together.{Each-weaker}
 use Rattle.count_ledger.proofs.Filters.{filter_within}
 
@@ -49,7 +49,8 @@ module _ {K V F : Type 0} (code : K → ℕ) (t : TermsView K V) (words : List �
     )
 
     half_beside : (b : Book K V F) → AreTogether code whole b → AreTogether code (half_book code salt half pairs kept) b
-    half_beside (Pass c made) a = tt
+    half_beside (Pass c made seen) a = tt
+    half_beside (Moment seen) a = tt
     half_beside (Role s k o l) apart = λ h. neither (covers class h) (covers k h) (covers half h) (within h) (apart h)
 
   module _ (one : (h : ℕ) → covers class h ≡ (covers (low_half class) h || covers (high_half class) h))
@@ -61,11 +62,11 @@ module _ {K V F : Type 0} (code : K → ℕ) (t : TermsView K V) (words : List �
     high h = in_high _ _ _ (one h)
 
     pub divided_fit : Among (IsSound code t words calls) (AreTogether code) (whole ∷ [])
-        → Among (IsSound code t words calls) (AreTogether code) (books_with_halves code (whole ∷ []))
+        → Among (IsSound code t words calls) (AreTogether code) (with_halves code (whole ∷ []))
     divided_fit a = (half_sound (low_half class) low a.0, (apart, tt), (half_sound (high_half class) high a.0, tt, tt))
 
     pub divided_others : (u : List (Book K V F)) → Across (AreTogether code) (whole ∷ []) u →
-        Across (AreTogether code) (books_with_halves code (whole ∷ [])) u
+        Across (AreTogether code) (with_halves code (whole ∷ [])) u
     divided_others u x = (
       Each-weaker (AreTogether code whole) (AreTogether code (half_book code salt (low_half class) pairs kept))
           (half_beside (low_half class) low) u x.0,

@@ -38,7 +38,7 @@ module _ {A : Type 0} (R : A → A → Type 0) (turn : (x y : A) → R x y → R
       }
 
   module _ (P : A → Type 0) where
-    AmongSeats-more : (seats : List (List A)) (w : List A) → AmongSeats P R seats → Among P R w
+    pub AmongSeats-more : (seats : List (List A)) (w : List A) → AmongSeats P R seats → Among P R w
         → ((i : ℕ) (u : List A) → get_elem? seats i ≡ some u → Across R w u) → AmongSeats P R (seats ++ w ∷ [])
     AmongSeats-more seats w h fit others = record {
       within = λ i u e. ⊎_elim (λ old. h.within i u old) (λ new. subst (Among P R) new.1 fit) (at_push seats w u i e);

@@ -1,7 +1,8 @@
 -- The steps of a ledger keep its rule.
 use Rattle.std.proofs.Common.{◌≡◌, ℕ, ◌+◌, ◌*◌, ◌%◌, ◌^◌, ◌<◌, ◌&&◌, ◌||◌, Bool, true, false, List, [], ◌∷◌, ◌++◌}
-use Rattle.std.proofs.Common.{length, set, sym, refl, ap, subst, ◌∙◌}
+use Rattle.std.proofs.Common.{length, set, sym, refl, ap, subst, ◌∙◌, Option, Decides}
 use Rattle.std.proofs.Common.{arith}
+use Rattle.std.proofs.lemmas.List.Elements.{All-push}
 use Rattle.std.specs.Prelude.{Some, slice_index}
 use Rattle.std.proofs.lemmas.List.{length-set, set-get_or}
 use Rattle.std.proofs.Math.Nat.{mod-eq_of_lt}
@@ -12,15 +13,21 @@ use Rattle.hashkeys.specs.Classes.{ClassView, covers, is_of, AreApart, low_half,
 use Rattle.hashkeys.specs.declared.hashing.Salt.{Salt}
 use Rattle.bin_history.specs.Calls.{key_of}
 use Rattle.bin_history.specs.Deltas.{delta}
+use Rattle.bin_history.specs.Entries.{lookup}
+use Rattle.bin_history.specs.Plain.{run, IsLegalStep}
+use Rattle.bin_history.specs.declared.call.Call.{Call}
 use Rattle.bin_history.specs.Records.{RecordView}
 use Rattle.count_ledger.specs.declared.books.Book.{Book}
-use Rattle.count_ledger.specs.declared.books.Book.TheVariants.{Pass, Role}
+use Rattle.count_ledger.specs.declared.books.Book.TheVariants.{Moment, Pass, Role}
 use Rattle.count_ledger.specs.Limits.{most_calls}
-use Rattle.count_ledger.specs.Terms.{TermsView}
+use Rattle.count_ledger.specs.Terms.{TermsView, opening_of}
 use Rattle.count_ledger.specs.Words.{word_of}
-use Rattle.count_ledger.specs.Rule.{IsSound, AreTogether, Holds}
-use Rattle.count_ledger.specs.Steps.{Keeps, Tells, books_with_record, books_with_halves, first_of, rest_of, only_view}
-use Rattle.count_ledger.proofs.Holding.{AmongSeats-changed, AmongSeats-parted, AmongSeats-joined}
+use Rattle.count_ledger.specs.Rule.{AmongSeats, IsSound, AreTogether, Holds}
+use Rattle.count_ledger.specs.Steps.{Keeps, Tells, books_with_record, books_with_halves, with_halves, books_seeing}
+use Rattle.count_ledger.specs.Steps.{first_of, rest_of, only_view, seen_by}
+use Rattle.count_ledger.proofs.Fronts.{IsLegal-posted}
+use Rattle.count_ledger.proofs.Seeing.{seen_fit, seen_others, shown_fit, shown_others}
+use Rattle.count_ledger.proofs.Holding.{AmongSeats-changed, AmongSeats-more, AmongSeats-parted, AmongSeats-joined}
 use Rattle.count_ledger.proofs.Posting.{words_after, posted_fit, posted_others}
 use Rattle.count_ledger.proofs.Division.{divided_fit, divided_others}
 
@@ -36,102 +43,179 @@ first-rest (x ∷ xs) = refl
 
 module _ {K V F : Type 0} (code : K → ℕ) where
   together_turn : (x y : Book K V F) → AreTogether code x y → AreTogether code y x
-  together_turn (Pass c m) (Pass d n) ne = λ e. ne (sym e)
-  together_turn (Pass c m) (Role s k p l) a = tt
-  together_turn (Role s k p l) (Pass c m) a = tt
+  together_turn (Pass c m n) (Pass d k l) ne = λ e. ne (sym e)
+  together_turn (Pass c m n) (Role s k p l) a = tt
+  together_turn (Pass c m n) (Moment l) a = tt
+  together_turn (Role s k p l) (Pass c m n) a = tt
   together_turn (Role s k p l) (Role s' k' p' l') apart = λ h. and_turn (covers k h) (covers k' h) (apart h)
+  together_turn (Role s k p l) (Moment n) a = tt
+  together_turn (Moment n) (Pass c m l) a = tt
+  together_turn (Moment n) (Role s k p l) a = tt
+  together_turn (Moment n) (Moment l) a = tt
 
-  module _ (t : TermsView K V) (id : ℕ) where
-    pub Splits-parted : (v : List (Book K V F)) → Splits (Holds code t) id v (first_of v) (rest_of v)
+  module _ (same : K → K → Bool) (after : Call K V F → Option V → Option V) (t : TermsView K V) (id : ℕ) where
+    pub Splits-parted : (v : List (Book K V F)) → Splits (Holds code same after t) id v (first_of v) (rest_of v)
     Splits-parted v s h at = record {
       sized = h.sized;
       calls = h.calls;
+      legal = h.legal;
+      clients = h.clients;
       books = AmongSeats-parted (AreTogether code) together_turn (IsSound code t s.words h.calls) s.views id
           (first_of v) (rest_of v) h.books
           (at ∙ ap some (first-rest v));
     }
 
+    -- a new seat is shown what the first book has seen
+    pub Splits-shown : (v : List (Book K V F)) → Splits (Holds code same after t) id v v (seen_by v)
+    Splits-shown v s h at = record {
+      sized = h.sized;
+      calls = h.calls;
+      legal = h.legal;
+      clients = h.clients;
+      books = AmongSeats-more (AreTogether code) together_turn (IsSound code t s.words h.calls) (set s.views id v)
+          (seen_by v)
+          (subst (λ (vs : List (List (Book K V F))). AmongSeats (IsSound code t s.words h.calls) (AreTogether code) vs)
+          (sym (set_again s.views id v at)) h.books)
+          (shown_fit code t s.words h.calls v (h.books.within id v at)) (λ i u e. shown_others code v u);
+    }
+
     pub Joins-joined : (v : List (Book K V F)) (other : ℕ) (w : List (Book K V F)) →
-        Joins (Holds code t) id v other w (v ++ w) []
+        Joins (Holds code same after t) id v other w (v ++ w) []
     Joins-joined v other w s h at ne at' = record {
       sized = h.sized;
       calls = h.calls;
+      legal = h.legal;
+      clients = h.clients;
       books = AmongSeats-joined (AreTogether code) together_turn (IsSound code t s.words h.calls) s.views id other v w
           h.books at ne at';
     }
 
     -- a look changes nothing
-    pub Keeps-looked : (word : ℕ) (v : List (Book K V F)) → Keeps (Holds code t) id v word (λ n. n) v
+    pub Keeps-looked : (word : ℕ) (v : List (Book K V F)) →
+        Keeps code same after t id v word (λ n. n) (λ calls books. books)
     Keeps-looked word v s h at fits =
-        subst (λ (ws : List ℕ). Holds code t record { words = ws; homes = s.homes; views = set s.views id v })
+        subst (λ (ws : List ℕ). Holds code same after t record {
+          words = ws;
+          homes = s.homes;
+          views = set s.views id v;
+        })
         (sym (set-get_or s.words word 0))
-        (subst (λ (vs : List (List (Book K V F))). Holds code t record { words = s.words; homes = s.homes; views = vs })
+        (subst (λ (vs : List (List (Book K V F))). Holds code same after t record {
+          words = s.words;
+          homes = s.homes;
+          views = vs;
+        })
         (sym (set_again s.views id v at)) h)
 
-    pub Keeps-books_with_halves : (word : ℕ) (salt : Salt) (class : ClassView) (pairs : List (K × V))
-        (kept : List (RecordView K V F))
-        → ((h : ℕ) → covers class h ≡ (covers (low_half class) h || covers (high_half class) h)) →
-        AreApart (low_half class) (high_half class)
-        → Keeps (Holds code t) id (Role salt class pairs kept ∷ []) word (λ n. n)
-        (books_with_halves code (Role salt class pairs kept ∷ []))
-    Keeps-books_with_halves word salt class pairs kept one apart s h at fits =
-        let v : List (Book K V F) = Role salt class pairs kept ∷ [] in
-        subst (λ (ws : List ℕ). Holds code t record {
+    -- or shows a pass all calls so far
+    pub Keeps-books_seeing : (word : ℕ) (v : List (Book K V F)) →
+        Keeps code same after t id v word (λ n. n) books_seeing
+    Keeps-books_seeing word v s h at fits =
+        subst (λ (ws : List ℕ). Holds code same after t record {
           words = ws;
           homes = s.homes;
           views =
-              set s.views id (books_with_halves code v);
+              set s.views id (books_seeing h.calls v);
         })
         (sym (set-get_or s.words word 0))
         (record {
           sized = h.sized;
           calls = h.calls;
+          legal = h.legal;
+          clients = h.clients;
           books = AmongSeats-changed (AreTogether code) together_turn (IsSound code t s.words h.calls)
               (IsSound code t s.words h.calls) s.views id v
-              (books_with_halves code v) h.books at
+              (books_seeing h.calls v) h.books at
+              (seen_fit code t s.words h.calls v (h.books.within id v at))
+              (λ u f a. (f, seen_others code t s.words h.calls v u a));
+        })
+
+    pub Keeps-books_with_halves : (word : ℕ) (salt : Salt) (class : ClassView) (pairs : List (K × V))
+        (kept : List (RecordView K V F))
+        → ((h : ℕ) → covers class h ≡ (covers (low_half class) h || covers (high_half class) h)) →
+        AreApart (low_half class) (high_half class)
+        → Keeps code same after t id (Role salt class pairs kept ∷ []) word (λ n. n) (books_with_halves code)
+    Keeps-books_with_halves word salt class pairs kept one apart s h at fits =
+        let v : List (Book K V F) = Role salt class pairs kept ∷ [] in
+        subst (λ (ws : List ℕ). Holds code same after t record {
+          words = ws;
+          homes = s.homes;
+          views =
+              set s.views id (with_halves code v);
+        })
+        (sym (set-get_or s.words word 0))
+        (record {
+          sized = h.sized;
+          calls = h.calls;
+          legal = h.legal;
+          clients = h.clients;
+          books = AmongSeats-changed (AreTogether code) together_turn (IsSound code t s.words h.calls)
+              (IsSound code t s.words h.calls) s.views id v
+              (with_halves code v) h.books at
               (divided_fit code t s.words h.calls salt class pairs kept one apart (h.books.within id v at))
               (λ u f a. (f, divided_others code t s.words h.calls salt class pairs kept one apart u a));
         })
 
-    pub Keeps-books_with_record : (c : ℕ) (made : List (RecordView K V F)) (salt : Salt) (class : ClassView)
+    pub Keeps-books_with_record : (tells : (x y : K) → Decides (same x y) (x ≡ y)) (c : ℕ)
+        (made seen : List (RecordView K V F)) (salt : Salt) (class : ClassView)
         (pairs : List (K × V))
         (kept : List (RecordView K V F)) (r : RecordView K V F)
         → r.client ≡ c → r.ordinal ≡ length made → length made < most_calls t.form →
         is_of code salt class (key_of r.call) ≡ true
-        → Keeps (Holds code t) id (Pass c made ∷ Role salt class pairs kept ∷ []) (8 * (c + 1))
-        (λ n. (n + word_of (delta r)) % 2 ^ 64)
-        (books_with_record r (Pass c made ∷ Role salt class pairs kept ∷ []))
-    Keeps-books_with_record c made salt class pairs kept r by next room on s h at fits =
-        let v : List (Book K V F) = Pass c made ∷ Role salt class pairs kept ∷ [] in
-        let ws = words_after code t s.words h.calls h.sized c made salt class pairs kept r by next room on in
+        → IsLegalStep same after (run same (lookup same pairs) kept) r
+        → Keeps code same after t id (Pass c made seen ∷ Role salt class pairs kept ∷ []) (8 * (c + 1))
+        (λ n. (n + word_of (delta r)) % 2 ^ 64) (books_with_record r)
+    Keeps-books_with_record tells c made seen salt class pairs kept r by next room on step s h at fits =
+        let v : List (Book K V F) = Pass c made seen ∷ Role salt class pairs kept ∷ [] in
+        let ws = words_after code t s.words h.calls h.sized c made seen salt class pairs kept r by next room on in
         let fit = h.books.within id v at in
+        let role = fit.2.0 in
+        let low : c < t.clients = fit.0.client in
         record {
           sized = length-set s.words (8 * (c + 1)) _ ∙ h.sized;
           calls = h.calls ++ r ∷ [];
+          legal = IsLegal-posted same tells (is_of code salt class) after (opening_of t) pairs h.calls kept r role.1
+              role.3 on step h.legal;
+          clients = All-push (λ (x : RecordView K V F). x.client < t.clients) h.calls r h.clients (omega arith);
           books = AmongSeats-changed (AreTogether code) together_turn (IsSound code t s.words h.calls)
               (IsSound code t ws (h.calls ++ r ∷ [])) s.views id v
-              (books_with_record r v) h.books at
-              (posted_fit code t s.words h.calls h.sized c made salt class pairs kept r by next room on fit)
-              (posted_others code t s.words h.calls h.sized c made salt class pairs kept r by next room on fit);
+              (books_with_record r h.calls v) h.books at
+              (posted_fit code t s.words h.calls h.sized c made seen salt class pairs kept r by next room on fit)
+              (posted_others code t s.words h.calls h.sized c made seen salt class pairs kept r by next room on fit);
         }
 
     -- a delta of 0 leaves the word as it is
-    pub Keeps-idle : (v w : List (Book K V F)) (word n : ℕ) → n ≡ 0 →
-        Keeps (Holds code t) id v word (λ m. (m + n) % 2 ^ 64) w
-        → Keeps (Holds code t) id v word (λ m. m) w
-    Keeps-idle v w word n is k s h at fits =
+    pub Keeps-idle : (v : List (Book K V F))
+        (change : List (RecordView K V F) → List (Book K V F) → List (Book K V F)) (word n : ℕ) → n ≡ 0 →
+        Keeps code same after t id v word (λ m. (m + n) % 2 ^ 64) change
+        → Keeps code same after t id v word (λ m. m) change
+    Keeps-idle v change word n is k s h at fits =
         let m = slice_index s.words word in
-        let same : (m + n) % 2 ^ 64 ≡ m = rw is (mod-eq_of_lt (omega arith) ∙ omega arith) in
-        subst (λ (x : ℕ). Holds code t record { words = set s.words word x; homes = s.homes; views = set s.views id w })
-        same (k s h at fits)
+        let still : (m + n) % 2 ^ 64 ≡ m = rw is (mod-eq_of_lt (omega arith) ∙ omega arith) in
+        subst (λ (x : ℕ). Holds code same after t record {
+          words = set s.words word x;
+          homes = s.homes;
+          views = set s.views id (change h.calls v);
+        })
+        still (k s h at fits)
 
     -- a step that keeps the rule tells what the rule says of the seat's books
-    pub Allows-told : (change : List (Book K V F) → List (Book K V F)) (slots word : ℕ)
+    pub Allows-told : (change : List (RecordView K V F) → List (Book K V F) → List (Book K V F)) (slots word : ℕ)
         (me : Me (Unit {0}) (List (Book K V F))) (f : ℕ → ℕ)
-        → Keeps (Holds code t) id me.0 word f (change me.0)
-        → Allows (Holds code t) slots id me word f (Tells code (Some t) change (step slots word 0 0 none) me)
-    Allows-told change slots word me f k s h len at fits =
-        (change me.0, keeps, tt, k s h at fits, (refl, (s.words, h.calls, refl, h.books.within id me.0 at)))
+        → Keeps code same after t id me.0 word f change
+        → Allows (Holds code same after t) slots id me word f
+        (Tells code same after (Some t) change (step slots word 0 0 none) me)
+    Allows-told change slots word me f k s h len at fits = (
+      change h.calls me.0,
+      keeps,
+      tt,
+      k s h at fits,
+      (
+        h.calls,
+        refl,
+        (s.words, refl, record { legal = h.legal; clients = h.clients; sound = h.books.within id me.0 at }),
+      ),
+    )
 
 -- the books of a pass's seat after a role's badge was joined to it
 pub both_books : {B : Type 0} (me joined : Me (Unit {0}) (List B)) (views : List (List B)) (x y : B) →

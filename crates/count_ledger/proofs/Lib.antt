@@ -2,6 +2,8 @@ pub mod Together
 pub mod Holding
 pub mod WordSums
 pub mod Filters
+pub mod Fronts
+pub mod Seeing
 pub mod Posting
 pub mod Division
 pub mod Keeping

@@ -1,5 +1,5 @@
 -- A new ledger's books: they are as the rule says, and are dealt out one by one.
-use Rattle.std.proofs.Common.{◌≡◌, ◌≢◌, ℕ, zero, suc, ◌+◌, ◌-◌, ◌*◌, ◌%◌, ◌<◌, ◌≤◌, ◌==◌, ◌&&◌, Bool, true, false, cond}
+use Rattle.std.proofs.Common.{◌≡◌, ◌≢◌, ℕ, zero, suc, ◌+◌, ◌-◌, ◌*◌, ◌%◌, ◌<◌, ◌≤◌, ◌==◌, ◌&&◌, Bool, true, false, cond, Option}
 use Rattle.std.proofs.Common.{List, [], ◌∷◌, ◌++◌, length, get_or}
 use Rattle.std.proofs.Common.{replicate, map, take, filter, ⊎_elim, sym, refl, ap, subst, ◌∙◌, arith, All}
 use Rattle.std.specs.Prelude.{slice_index, flat_map}
@@ -17,6 +17,7 @@ use Rattle.hashkeys.specs.Hashing.{hash_of}
 use Rattle.hashkeys.specs.declared.hashing.Salt.{Salt}
 use Rattle.bin_history.specs.Part.{part_of_entries}
 use Rattle.bin_history.specs.Records.{RecordView}
+use Rattle.bin_history.specs.declared.call.Call.{Call}
 use Rattle.count_ledger.specs.declared.books.Book.{Book}
 use Rattle.count_ledger.specs.declared.books.Book.TheVariants.{Pass}
 use Rattle.count_ledger.specs.Terms.{TermsView}
@@ -115,7 +116,15 @@ module _ {K V : Type 0} (F : Type 0) (code : K → ℕ) (t : TermsView K V) (wor
       Among-append (IsSound {F = F} code t words []) (AreTogether code) (map new_pass_book (range_with_len 0 t.clients))
       (map (new_role_book t) (range_with_len 0 n))
       (Among-range new_pass_book (IsSound {F = F} code t words []) (AreTogether code) 0 t.clients
-      (λ i lt. (omega arith, tt, omega arith, zeros (8 * (i + 1)), refl)) (λ i j lt lt' e. omega (arith, e)))
+      (λ i lt. record {
+        client = omega arith;
+        numbered = tt;
+        at_most = omega arith;
+        word = zeros (8 * (i + 1));
+        made_is = refl;
+        own = refl;
+        front = ([], refl);
+      }) (λ i j lt lt' e. omega (arith, e)))
       (Among-range (new_role_book t) (IsSound {F = F} code t words []) (AreTogether code) 0 n
       (λ i lt. (
         refl,
@@ -126,23 +135,25 @@ module _ {K V : Type 0} (F : Type 0) (code : K → ℕ) (t : TermsView K V) (wor
       (λ i j lt lt' h. only_one n h i j (λ e. omega (arith, e))))
       (Each-range new_pass_book (λ b. Each (AreTogether {F = F} code b) (map (new_role_book t) (range_with_len 0 n))) 0
       t.clients
-      (λ c low lt. Each-range (new_role_book t) (AreTogether {F = F} code (Pass c [])) 0 n (λ i low' lt'. tt)))
+      (λ c low lt. Each-range (new_role_book t) (AreTogether {F = F} code (Pass c [] [])) 0 n (λ i low' lt'. tt)))
 
-  pub Holds-first : (homes : List (Unit {0})) → length words ≡ 8 * (t.clients + 1) →
-      Holds {F = F} code t (opening words homes (first_books t))
-  Holds-first homes sized = record {
+  pub Holds-first : (same : K → K → Bool) (after : Call K V F → Option V → Option V) (homes : List (Unit {0})) →
+      length words ≡ 8 * (t.clients + 1) → Holds code same after t (opening words homes (first_books t))
+  Holds-first same after homes sized = record {
     sized = sized;
     calls = [];
+    legal = tt;
+    clients = All-nil (λ (r : RecordView K V F). r.client < t.clients);
     books = AmongSeats-one (IsSound {F = F} code t words []) (AreTogether code) (first_books t) first_fit;
   }
 
 -- a new pass
 pub IsPass-new : {K V F : Type 0} (words client : ℕ) (me : Me (Unit {0}) (List (Book K V F))) →
-    me ≡ (Pass client [] ∷ [], []) → 8 * (client + 1) < words
+    me ≡ (Pass client [] [] ∷ [], []) → 8 * (client + 1) < words
     → client < 32 → IsPass words client 0 me
 IsPass-new words client me is lt few =
     subst (IsPass words client 0) (sym is)
-    (record { word = lt; book = refl; counted = refl; at_most = omega arith; few = few })
+    (record { word = lt; book = refl; own = refl; counted = refl; at_most = omega arith; few = few })
 
 -- the words of a new ledger: the first of some zeros
 pub zeros-index : (n m i : ℕ) → slice_index (take n (replicate m 0)) i ≡ 0

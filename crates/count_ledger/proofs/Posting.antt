@@ -10,17 +10,19 @@ use Rattle.hashkeys.specs.Classes.{ClassView, is_of, AreApart}
 use Rattle.hashkeys.specs.Hashing.{hash_of}
 use Rattle.hashkeys.specs.declared.hashing.Salt.{Salt}
 use Rattle.bin_history.specs.Calls.{key_of}
+use Rattle.bin_history.specs.Clients.{by_client}
 use Rattle.bin_history.specs.Deltas.{delta, sum_of_deltas}
 use Rattle.bin_history.specs.Records.{RecordView}
 use Rattle.count_ledger.specs.declared.books.Book.{Book}
-use Rattle.count_ledger.specs.declared.books.Book.TheVariants.{Pass, Role}
+use Rattle.count_ledger.specs.declared.books.Book.TheVariants.{Moment, Pass, Role}
 use Rattle.count_ledger.specs.Limits.{most_calls}
 use Rattle.count_ledger.specs.Terms.{TermsView}
 use Rattle.count_ledger.specs.Words.{word_of}
 use Rattle.count_ledger.specs.Books.{AreNumbered}
-use Rattle.count_ledger.specs.Rule.{Among, Across, IsSound, AreTogether}
+use Rattle.count_ledger.specs.Rule.{Among, Across, IsSound, IsSoundPass, AreTogether}
 use Rattle.count_ledger.specs.Steps.{books_with_record}
 use Rattle.count_ledger.proofs.Filters.{filter_push_kept, filter_push_left}
+use Rattle.count_ledger.proofs.Fronts.{BeginsWith-all, BeginsWith-push}
 use Rattle.count_ledger.proofs.WordSums.{word_of-add, sum_of_deltas-push}
 
 AreNumbered-push : {K V F : Type 0} (c n : ℕ) (made : List (RecordView K V F)) (r : RecordView K V F) →
@@ -35,7 +37,7 @@ other_of false b e t = absurd cc
 
 module _ {K V F : Type 0} (code : K → ℕ) (t : TermsView K V) (words : List ℕ) (calls : List (RecordView K V F))
     (sized : length words ≡ 8 * (t.clients + 1))
-    (c : ℕ) (made : List (RecordView K V F)) (salt : Salt) (class : ClassView) (pairs : List (K × V))
+    (c : ℕ) (made seen : List (RecordView K V F)) (salt : Salt) (class : ClassView) (pairs : List (K × V))
     (kept : List (RecordView K V F)) (r : RecordView K V F)
     (by : r.client ≡ c) (next : r.ordinal ≡ length made) (room : length made < most_calls t.form)
     (on : is_of code salt class (key_of r.call) ≡ true) where
@@ -46,22 +48,28 @@ module _ {K V F : Type 0} (code : K → ℕ) (t : TermsView K V) (words : List �
   calls_after = calls ++ r ∷ []
 
   abbrev before : List (Book K V F)
-  before = Pass c made ∷ Role salt class pairs kept ∷ []
+  before = Pass c made seen ∷ Role salt class pairs kept ∷ []
 
-  pass_sound : IsSound code t words calls (Pass c made) →
-      IsSound code t words_after calls_after (Pass c (made ++ r ∷ []))
+  pass_sound : IsSoundPass t words calls c made seen →
+      IsSoundPass t words_after calls_after c (made ++ r ∷ []) calls_after
   pass_sound f =
-      let there : 8 * (c + 1) < length words = (let low = f.0 in omega arith) in
-      let long = length_push made r in (
-        f.0,
-        AreNumbered-push c 0 made r f.1 by (omega arith),
-        omega arith,
-        get_or-set_same words (8 * (c + 1)) _ 0 there ∙ ap (λ (n : ℕ). (n + word_of (delta r)) % 2 ^ 64) f.3
+      let there : 8 * (c + 1) < length words = (let low = f.client in omega arith) in
+      let long = length_push made r in
+      let all : by_client c calls_after ≡ made ++ r ∷ [] =
+      filter_push_kept (λ x. x.client == c) calls r (eq-eqb _ _ by)
+      ∙ ap (λ (l : List (RecordView K V F)). l ++ r ∷ []) f.made_is in
+      record {
+        client = f.client;
+        numbered = AreNumbered-push c 0 made r f.numbered by (omega arith);
+        at_most = omega arith;
+        word = get_or-set_same words (8 * (c + 1)) _ 0 there
+            ∙ ap (λ (n : ℕ). (n + word_of (delta r)) % 2 ^ 64) f.word
             ∙ sym (word_of-add (sum_of_deltas made) (delta r))
-            ∙ ap word_of (sym (sum_of_deltas-push made r)),
-        filter_push_kept (λ x. x.client == c) calls r (eq-eqb _ _ by)
-            ∙ ap (λ (l : List (RecordView K V F)). l ++ r ∷ []) f.4,
-      )
+            ∙ ap word_of (sym (sum_of_deltas-push made r));
+        made_is = all;
+        own = all;
+        front = BeginsWith-all calls_after;
+      }
 
   role_sound : c < t.clients → IsSound code t words calls (Role salt class pairs kept)
       → IsSound code t words_after calls_after (Role salt class pairs (kept ++ r ∷ []))
@@ -74,11 +82,11 @@ module _ {K V F : Type 0} (code : K → ℕ) (t : TermsView K V) (words : List �
   )
 
   pub posted_fit : Among (IsSound code t words calls) (AreTogether code) before
-      → Among (IsSound code t words_after calls_after) (AreTogether code) (books_with_record r before)
+      → Among (IsSound code t words_after calls_after) (AreTogether code) (books_with_record r calls before)
   posted_fit a = (
     pass_sound a.0,
     (tt, tt),
-    (role_sound a.0.0 a.2.0, tt, tt),
+    (role_sound a.0.client a.2.0, tt, tt),
   )
 
   -- another role's class does not have the key
@@ -88,33 +96,39 @@ module _ {K V F : Type 0} (code : K → ℕ) (t : TermsView K V) (words : List �
 
   -- another book is as sound as before: no other client's word has changed, and the call is of another client, or on a
   -- key of another class
-  other_sound : salt ≡ t.salt → (b : Book K V F) → AreTogether code (Pass c made) b →
+  other_sound : salt ≡ t.salt → (b : Book K V F) → AreTogether code (Pass c made seen) b →
       AreTogether code (Role salt class pairs kept) b
       → IsSound code t words calls b → IsSound code t words_after calls_after b
-  other_sound own (Pass d m) ne e f = (
-    f.0,
-    f.1,
-    f.2,
-    get_or-set_other words (8 * (c + 1)) (8 * (d + 1)) _ 0 (λ e. ne (omega arith)) ∙ f.3,
-    filter_push_left (λ x. x.client == d) calls r (ne_eqb _ _ (λ q. ne (sym by ∙ q))) ∙ f.4,
-  )
+  other_sound own (Pass d m n) ne e f = record {
+    client = f.client;
+    numbered = f.numbered;
+    at_most = f.at_most;
+    word = get_or-set_other words (8 * (c + 1)) (8 * (d + 1)) _ 0 (λ e. ne (omega arith)) ∙ f.word;
+    made_is = filter_push_left (λ x. x.client == d) calls r (ne_eqb _ _ (λ q. ne (sym by ∙ q))) ∙ f.made_is;
+    own = f.own;
+    front = BeginsWith-push calls n r f.front;
+  }
+  other_sound own (Moment n) a e f = BeginsWith-push calls n r f
   other_sound own (Role s k o l) a apart f =
       (f.0, f.1, f.2, filter_push_left (λ x. is_of code s k (key_of x.call)) calls r (not_on own s k f.0 apart) ∙ f.3)
 
-  pass_beside : (b : Book K V F) → AreTogether code (Pass c made) b → AreTogether code (Pass c (made ++ r ∷ [])) b
-  pass_beside (Pass d m) ne = ne
+  pass_beside : (b : Book K V F) → AreTogether code (Pass c made seen) b →
+      AreTogether code (Pass c (made ++ r ∷ []) calls_after) b
+  pass_beside (Pass d m n) ne = ne
   pass_beside (Role s k o l) e = tt
+  pass_beside (Moment n) e = tt
 
   role_beside : (b : Book K V F) → AreTogether code (Role salt class pairs kept) b →
       AreTogether code (Role salt class pairs (kept ++ r ∷ [])) b
-  role_beside (Pass d m) e = tt
+  role_beside (Pass d m n) e = tt
   role_beside (Role s k o l) apart = apart
+  role_beside (Moment n) e = tt
 
   others_fit : salt ≡ t.salt → (u : List (Book K V F)) → Among (IsSound code t words calls) (AreTogether code) u →
-      Each (AreTogether code (Pass c made)) u
+      Each (AreTogether code (Pass c made seen)) u
       → Each (AreTogether code (Role salt class pairs kept)) u
       → Among (IsSound code t words_after calls_after) (AreTogether code) u
-      × Across (AreTogether code) (books_with_record r before) u
+      × Across (AreTogether code) (books_with_record r calls before) u
   others_fit own [] a p q = (tt, (tt, (tt, tt)))
   others_fit own (b ∷ bs) a p q =
       let rest = others_fit own bs a.2 p.1 q.1 in (
@@ -125,5 +139,5 @@ module _ {K V F : Type 0} (code : K → ℕ) (t : TermsView K V) (words : List �
   pub posted_others : Among (IsSound code t words calls) (AreTogether code) before → (u : List (Book K V F))
       → Among (IsSound code t words calls) (AreTogether code) u → Across (AreTogether code) before u
       → Among (IsSound code t words_after calls_after) (AreTogether code) u
-      × Across (AreTogether code) (books_with_record r before) u
+      × Across (AreTogether code) (books_with_record r calls before) u
   posted_others f u a x = others_fit f.2.0.0 u a x.0 x.1.0

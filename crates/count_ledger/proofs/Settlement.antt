@@ -12,6 +12,7 @@ use Rattle.bin_history.specs.Records.{RecordView}
 use Rattle.count_ledger.specs.Terms.{TermsView}
 use Rattle.count_ledger.specs.Views.{LedgerId, PassView, RoleView}
 use Rattle.count_ledger.specs.Books.{BooksAgree, IsPassOf, IsRoleOf, classes_of_roles}
+use Rattle.count_ledger.specs.Fronts.{BeginsWith}
 use Rattle.count_ledger.specs.Rule.{Among, IsSound, AreTogether, ledger_of}
 use Rattle.count_ledger.specs.Settled.{AreReconciled}
 use Rattle.count_ledger.specs.Tokens.{pass_book, role_book, AreWide}
@@ -19,7 +20,7 @@ use Rattle.count_ledger.proofs.Filters.{eqb_turn, length_is_sum}
 use Rattle.count_ledger.proofs.Together.{Among-left, Among-right}
 use Rattle.count_ledger.proofs.Tallies.{upto, upto-same, upto-one, hit_once}
 use Rattle.count_ledger.proofs.Covering.{CoverOnce-wide}
-use Rattle.count_ledger.proofs.Ordering.{agree_by, each_call}
+use Rattle.count_ledger.proofs.Ordering.{agree_by}
 
 module _ {A B : Type 0} (f : A → B) where
   Each-of_map : (Q : B → Type 0) (xs : List A) → Each Q (map f xs) → Each (λ x. Q (f x)) xs
@@ -62,7 +63,7 @@ one_client c n lt = upto-same (λ k. cond (c == k) 1 0) (λ k. cond (k == c) 1 0
 module _ {K V F : Type 0} (code : K → ℕ) (id : LedgerId) (t : TermsView K V) (words : List ℕ)
     (calls : List (RecordView K V F)) where
   pub IsPassOf-sound : (p : PassView K V F) → IsSound code t words calls (pass_book p) → IsPassOf (ledger_of id t) p
-  IsPassOf-sound p s = record { client = s.0; numbered = s.1; at_most = s.2 }
+  IsPassOf-sound p s = record { client = s.client; numbered = s.numbered; at_most = s.at_most; own = s.own }
 
   pub IsRoleOf-sound : (r : RoleView K V F) → IsSound code t words calls (role_book r) →
       IsRoleOf code (ledger_of id t) r
@@ -75,17 +76,17 @@ module _ {K V F : Type 0} (code : K → ℕ) (id : LedgerId) (t : TermsView K V)
   }
 
   pub AreReconciled-settled : (ps : List (PassView K V F)) (rs : List (RoleView K V F)) → t.clients ≤ length ps →
-      AreWide (classes_of_roles rs)
+      AreWide (classes_of_roles rs) → All (λ x. x.client < t.clients) calls
       → Among (IsSound code t words calls) (AreTogether code) (map role_book rs ++ map pass_book ps) →
       AreReconciled code (ledger_of id t) ps rs
-  AreReconciled-settled ps rs enough wide a =
+  AreReconciled-settled ps rs enough wide clients a =
       let P = IsSound code t words calls in
       let R = AreTogether code in
       let passes = Among-of_map pass_book P R ps (Among-right P R (map role_book rs) (map pass_book ps) a) in
       let roles = Among-of_map role_book P R rs (Among-left P R (map role_book rs) (map pass_book ps) a) in
       let made = All-from_recursion (λ p. by_client p.client calls ≡ p.made) ps
       (Each-from_among (λ p. P (pass_book p)) (λ p q. R (pass_book p) (pass_book q))
-      (λ p. by_client p.client calls ≡ p.made) (λ p s. s.4) ps passes) in
+      (λ p. by_client p.client calls ≡ p.made) (λ p s. s.made_is) ps passes) in
       let kept = All-from_recursion (λ r. part_of_records (is_of code r.salt r.class) calls ≡ r.kept) rs
       (Each-from_among (λ r. P (role_book r))
       (λ r s. R (role_book r) (role_book s)) (λ r. part_of_records (is_of code r.salt r.class) calls ≡ r.kept)
@@ -101,7 +102,7 @@ module _ {K V F : Type 0} (code : K → ℕ) (id : LedgerId) (t : TermsView K V)
             (All-from_recursion (λ p. upto (λ k. cond (p.client == k) 1 0) t.clients ≡ 1) ps
             (Each-from_among (λ p. P (pass_book p)) (λ p q. R (pass_book p) (pass_book q))
             (λ p. upto (λ k. cond (p.client == k) 1 0) t.clients ≡ 1)
-            (λ p s. one_client p.client t.clients s.0) ps passes)) (let n = length_is_sum ps in omega arith);
+            (λ p s. one_client p.client t.clients s.client) ps passes)) (let n = length_is_sum ps in omega arith);
         each_role = All-from_recursion (IsRoleOf code (ledger_of id t)) rs
             (Each-from_among (λ r. P (role_book r)) (λ r s. R (role_book r) (role_book s))
             (IsRoleOf code (ledger_of id t)) IsRoleOf-sound rs roles);
@@ -115,19 +116,11 @@ module _ {K V F : Type 0} (code : K → ℕ) (id : LedgerId) (t : TermsView K V)
         order = (
           calls,
           record {
-            clients = each_call code t.salt t.clients rs calls
-                (CoverOnce-wide (λ _. Unit {0}) (classes_of_roles rs) wide
-                (Among-map (λ r. r.class) (λ r. P (role_book r)) AreApart rs roles))
-                (All-from_recursion (λ r. r.salt ≡ t.salt) rs
-                (Each-from_among (λ r. P (role_book r)) (λ r s. R (role_book r) (role_book s)) (λ r. r.salt ≡ t.salt)
-                (λ r s. s.0) rs roles))
-                (All-from_recursion
-                (λ r. All (λ x. x.client < t.clients) (part_of_records (is_of code r.salt r.class) calls)) rs
-                (Each-from_among (λ r. P (role_book r)) (λ r s. R (role_book r) (role_book s))
-                (λ r. All (λ x. x.client < t.clients)
-                (part_of_records (is_of code r.salt r.class) calls))
-                (λ r s. subst (All (λ x. x.client < t.clients)) (sym s.3) s.2) rs roles));
+            clients = clients;
             made = made;
+            seen = All-from_recursion (λ p. BeginsWith calls p.seen) ps
+                (Each-from_among (λ p. P (pass_book p)) (λ p q. R (pass_book p) (pass_book q))
+                (λ p. BeginsWith calls p.seen) (λ p s. s.front) ps passes);
             kept = kept;
           },
         );

@@ -23,11 +23,12 @@ module _ {K V F : Type 0} where
   abbrev pub BooksAgree : (K → ℕ) → PassView K V F → RoleView K V F → Type 0
   BooksAgree code p r = AgreeOn (is_of code r.salt r.class) p.client p.made r.kept
 
-  -- what a ledger's rule says of a pass by itself
+  -- what a ledger's rule says of a pass by itself: of the client's calls it has seen just those that it made
   pub record IsPassOf (ledger : LedgerView K V) (p : PassView K V F) : Type 0 where
     pub client : p.client < ledger.clients
     pub numbered : AreNumbered p.client 0 p.made
     pub at_most : length p.made ≤ most_calls ledger.form
+    pub own : by_client p.client p.seen ≡ p.made
 
   -- what a ledger's rule says of a role by itself: its opening pairs are those of its class, and it kept calls on keys
   -- of its class alone

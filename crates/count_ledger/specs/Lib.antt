@@ -1,4 +1,5 @@
 pub mod Views
+pub mod Fronts
 pub mod Names
 pub mod Limits
 pub mod Terms

@@ -23,9 +23,9 @@ abbrev pub AreOfTheirClasses : {K V : Type 0} → (K → ℕ) → Salt → List 
 AreOfTheirClasses code salt bases = (i : ℕ) → i < length bases →
     All (λ e. is_of code salt (class_at bases i) e.0 ≡ true) (base_at bases i)
 
--- a pass that made nothing
+-- a pass that made and saw nothing
 abbrev pub new_pass : {K V F : Type 0} → LedgerId → ℕ → PassView K V F
-new_pass id client = record { ledger = id; client = client; made = [] }
+new_pass id client = record { ledger = id; client = client; made = []; seen = [] }
 
 -- a pass for each of so many clients
 abbrev pub new_passes : {K V F : Type 0} → LedgerId → ℕ → List (PassView K V F)

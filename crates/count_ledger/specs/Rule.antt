@@ -1,6 +1,7 @@
 -- The rule of a ledger's table: there is one order of all calls; the books agree, and each client's word is the sum of
 -- its deltas.
-use Rattle.std.specs.Prelude.{◌≡◌, ◌≢◌, ℕ, ◌+◌, ◌*◌, ◌<◌, ◌≤◌, List, [], ◌∷◌, ◌++◌, length, map, slice_index, All}
+use Rattle.std.specs.Prelude.{◌≡◌, ◌≢◌, ℕ, ◌+◌, ◌*◌, ◌<◌, ◌≤◌, Bool, Option, List, [], ◌∷◌, ◌++◌, length, map}
+use Rattle.std.specs.Prelude.{slice_index, All}
 use Rattle.std.specs.List.{AllByRecursion, range_with_len}
 use mathlib.Core.Option.{some}
 use lib.ListN.{get_elem?}
@@ -8,16 +9,20 @@ use Rattle.atomic_table.specs.Table.{State}
 use Rattle.hashkeys.specs.Classes.{AreApart, is_of}
 use Rattle.bin_history.specs.Deltas.{sum_of_deltas}
 use Rattle.bin_history.specs.Clients.{by_client}
+use Rattle.bin_history.specs.Entries.{lookup}
 use Rattle.bin_history.specs.Part.{part_of_entries, part_of_records}
+use Rattle.bin_history.specs.Plain.{IsLegal}
+use Rattle.bin_history.specs.declared.call.Call.{Call}
 use Rattle.bin_history.specs.Records.{RecordView}
 use Rattle.count_ledger.specs.declared.books.Book.{Book}
-use Rattle.count_ledger.specs.declared.books.Book.TheVariants.{Pass, Role}
+use Rattle.count_ledger.specs.declared.books.Book.TheVariants.{Moment, Pass, Role}
 use Rattle.bin_history.specs.declared.form.Form.{Form}
 use Rattle.count_ledger.specs.Limits.{most_calls}
 use Rattle.count_ledger.specs.Terms.{TermsView, opening_of}
 use Rattle.count_ledger.specs.Views.{LedgerId, LedgerView}
 use Rattle.count_ledger.specs.Words.{word_of}
 use Rattle.count_ledger.specs.Books.{AreNumbered}
+use Rattle.count_ledger.specs.Fronts.{BeginsWith}
 use Rattle.count_ledger.specs.Opening.{class_at, base_at}
 
 module _ {A : Type 0} (P : A → Type 0) (R : A → A → Type 0) where
@@ -36,31 +41,46 @@ pub record AmongSeats {A : Type 0} (P : A → Type 0) (R : A → A → Type 0) (
   pub across : (i j : ℕ) (v w : List A) → i ≢ j → get_elem? seats i ≡ some v → get_elem? seats j ≡ some w → Across R v w
 
 module _ {K V F : Type 0} where
+  -- of a pass's book: it made those by its client, and has seen a front
+  pub record IsSoundPass (t : TermsView K V) (words : List ℕ) (calls : List (RecordView K V F)) (c : ℕ)
+      (made seen : List (RecordView K V F)) : Type 0 where
+    pub client : c < t.clients
+    pub numbered : AreNumbered c 0 made
+    pub at_most : length made ≤ most_calls t.form
+    pub word : slice_index words (8 * (c + 1)) ≡ word_of (sum_of_deltas made)
+    pub made_is : by_client c calls ≡ made
+    pub own : by_client c seen ≡ made
+    pub front : BeginsWith calls seen
+
   module _ (code : K → ℕ) where
     -- of one book, where the count words are these and all calls were made in this order: a
-    -- pass made those by its client, and a role kept those on keys of its class
+    -- pass made those by its client, a role kept those on keys of its class, and pass and moment have seen a front
     abbrev pub IsSound : TermsView K V → List ℕ → List (RecordView K V F) → Book K V F → Type 0
-    IsSound t words calls (Pass c made) = (c < t.clients) × AreNumbered c 0 made × (length made ≤ most_calls t.form)
-        × (slice_index words (8 * (c + 1)) ≡ word_of (sum_of_deltas made)) × (by_client c calls ≡ made)
+    IsSound t words calls (Pass c made seen) = IsSoundPass t words calls c made seen
+    IsSound t words calls (Moment seen) = BeginsWith calls seen
     IsSound t words calls (Role salt class pairs kept) =
         (salt ≡ t.salt) × (pairs ≡ part_of_entries (is_of code salt class) (opening_of t))
         × All (λ r. r.client < t.clients) kept × (part_of_records (is_of code salt class) calls ≡ kept)
 
     -- of two books: two passes have two clients, and two roles have no hash in common
     abbrev pub AreTogether : Book K V F → Book K V F → Type 0
-    AreTogether (Pass c made) (Pass d _) = c ≢ d
+    AreTogether (Pass c made seen) (Pass d _ _) = c ≢ d
     AreTogether (Role _ class _ _) (Role _ other _ _) = AreApart class other
     AreTogether _ _ = Unit {0}
 
-    -- the rule, over the words and what each seat knows: the calls in the one order in which they were posted
-    pub record Holds (t : TermsView K V) (s : State (Unit {0}) (List (Book K V F))) : Type 0 where
-      pub sized : length s.words ≡ 8 * (t.clients + 1)
-      pub calls : List (RecordView K V F)
-      pub books : AmongSeats (IsSound t s.words calls) AreTogether s.views
+    module _ (same_key : K → K → Bool) (after : Call K V F → Option V → Option V) where
+      -- the rule, over the words and what each seat knows: the calls in the one order in which they were posted, legal
+      -- for a map of one thread on the opening map
+      pub record Holds (t : TermsView K V) (s : State (Unit {0}) (List (Book K V F))) : Type 0 where
+        pub sized : length s.words ≡ 8 * (t.clients + 1)
+        pub calls : List (RecordView K V F)
+        pub legal : IsLegal same_key after (lookup same_key (opening_of t)) calls
+        pub clients : All (λ r. r.client < t.clients) calls
+        pub books : AmongSeats (IsSound t s.words calls) AreTogether s.views
 
   -- the books of a new ledger
   abbrev pub new_pass_book : ℕ → Book K V F
-  new_pass_book client = Pass client []
+  new_pass_book client = Pass client [] []
 
   abbrev pub new_role_book : TermsView K V → ℕ → Book K V F
   new_role_book t i = Role t.salt (class_at t.bases i) (base_at t.bases i) []

@@ -6,14 +6,16 @@ use Rattle.bin_history.specs.Part.{part_of_records}
 use Rattle.bin_history.specs.Records.{RecordView}
 use Rattle.count_ledger.specs.Views.{LedgerView, PassView, RoleView}
 use Rattle.count_ledger.specs.Books.{BooksAgree, IsPassOf, IsRoleOf, classes_of_roles}
+use Rattle.count_ledger.specs.Fronts.{BeginsWith}
 
--- all calls of all clients in one order: each client's are, in order, those that its pass
--- made, and those on keys of a role's class are, in order, those that the role kept
+-- all calls of all clients in one order, which begins with what each pass has seen: each client's are, in order, those
+-- that its pass made, and those on keys of a role's class are, in order, those that the role kept
 pub record IsOrder {K V F : Type 0} (code : K → ℕ) (ledger : LedgerView K V) (passes : List (PassView K V F))
     (roles : List (RoleView K V F))
     (calls : List (RecordView K V F)) : Type 0 where
   pub clients : All (λ x. x.client < ledger.clients) calls
   pub made : All (λ p. by_client p.client calls ≡ p.made) passes
+  pub seen : All (λ p. BeginsWith calls p.seen) passes
   pub kept : All (λ r. part_of_records (is_of code r.salt r.class) calls ≡ r.kept) roles
 
 -- the passes are those of all clients, each once; the roles' classes have every hash once;

@@ -16,11 +16,18 @@ pub record LedgerView (K V : Type 0) : Type 0 where
   pub clients : ℕ
   pub opening : List (K × V)
 
--- a pass: its client, and the calls that the client made
+-- a pass: its client, the calls that the client made, and the calls of all clients that it has seen, a front of the one
+-- order
 pub record PassView (K V F : Type 0) : Type 0 where
   pub ledger : LedgerId
   pub client : ℕ
   pub made : List (RecordView K V F)
+  pub seen : List (RecordView K V F)
+
+-- a moment: a front of the one order of all calls
+pub record MomentView (K V F : Type 0) : Type 0 where
+  pub ledger : LedgerId
+  pub seen : List (RecordView K V F)
 
 -- a role: its class, the opening pairs of that class, and the records of calls on its keys that were kept since
 pub record RoleView (K V F : Type 0) : Type 0 where

@@ -1,6 +1,6 @@
 //! What the seats of a ledger's table know, and the rule over all of it.
 use atomic_table::{Shared, TableRule};
-use bin_history::{Form, Record};
+use bin_history::{Form, Record, Remap};
 use hashkeys::{Class, HashKey, Salt};
 use std::alloc::Allocator;
 use std::collections::LinkedList;
@@ -12,12 +12,16 @@ pub(crate) enum Book<K, V, F> {
     Pass {
         client: u32,
         made: LinkedList<Record<K, V, F>>,
+        seen: LinkedList<Record<K, V, F>>,
     },
     Role {
         salt: Salt,
         class: Class,
         opening: LinkedList<(K, V)>,
         kept: LinkedList<Record<K, V, F>>,
+    },
+    Moment {
+        seen: LinkedList<Record<K, V, F>>,
     },
 }
 
@@ -48,14 +52,17 @@ impl<K, V, A: Allocator> Model for Terms<K, V, A> {
     } };
 }
 
-/// All calls stand in one list, in the order of their posts; each pass made those by its client,
-/// each role kept those on keys of its class; and each client's word is the sum of its deltas.
+/// All calls stand in one list, in the order of their posts, and are legal for a map of one thread;
+/// each pass made those by its client, each role kept those on keys of its class, each pass and
+/// moment has seen a front; and each client's word is the sum of its deltas.
 pub(crate) struct LedgerRule;
 
-impl<K: HashKey, V, F, A: Allocator> TableRule<(), View<K, V, F>, Terms<K, V, A>> for LedgerRule {
+impl<K: HashKey, V: Eq, F: Remap<K, V>, A: Allocator> TableRule<(), View<K, V, F>, Terms<K, V, A>>
+    for LedgerRule {
+    ghost use Rattle.bin_history.specs.Calls.{after};
     ghost use Rattle.count_ledger.specs.Rule.{Holds, first_books};
 
-    ghost holds = { Holds K.code };
+    ghost holds = { Holds K.code K.eq (after V.eq F.remapped F.merged) };
 
     ghost first = { first_books };
 }

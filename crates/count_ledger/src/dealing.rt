@@ -12,7 +12,7 @@ use crate::ledger::{Ledger, WORDS_PER_LINE, word_at};
 use crate::seats::part;
 use crate::tokens::{BinRole, Pass};
 use atomic_table::{Badge, Seat, Table};
-use bin_history::{Form, MOST_CLIENTS};
+use bin_history::{Form, MOST_CLIENTS, Remap};
 use hashkeys::{Class, HashKey, Salt};
 use std::alloc::{AllocError, Allocator};
 use std::mem;
@@ -21,7 +21,7 @@ use std::snapshot::Snapshot;
 type LedgerTable<K, V, F, A> = Table<(), View<K, V, F>, Terms<K, V, A>, LedgerRule, A>;
 
 /// A table whose words are 0, with all books in one seat.
-fn open_table<K: HashKey, V, F, A: Allocator>(
+fn open_table<K: HashKey, V: Eq, F: Remap<K, V>, A: Allocator>(
     alloc: A,
     terms: &Terms<K, V, A>,
 ) -> Result<(LedgerTable<K, V, F, A>, Seat<(), View<K, V, F>>), AllocError>
@@ -38,7 +38,7 @@ fn open_table<K: HashKey, V, F, A: Allocator>(
 }
 
 /// The seat of the first book, without the others, which stay.
-fn take_first<K: HashKey, V, F, A: Allocator>(
+fn take_first<K: HashKey, V: Eq, F: Remap<K, V>, A: Allocator>(
     shared: &Books<K, V, F, A>,
     all: &mut Badge<View<K, V, F>>,
 ) -> Seat<(), View<K, V, F>>
@@ -55,7 +55,7 @@ fn take_first<K: HashKey, V, F, A: Allocator>(
     seat
 }
 
-fn deal_passes<K: HashKey, V, F, A: Allocator>(
+fn deal_passes<K: HashKey, V: Eq, F: Remap<K, V>, A: Allocator>(
     shared: &Books<K, V, F, A>,
     all: &mut Badge<View<K, V, F>>,
     passes: &mut Vec<Pass<K, V, F>, A>,
@@ -84,7 +84,7 @@ fn deal_passes<K: HashKey, V, F, A: Allocator>(
     }
 }
 
-fn deal_roles<K: HashKey, V, F, A: Allocator>(
+fn deal_roles<K: HashKey, V: Eq, F: Remap<K, V>, A: Allocator>(
     shared: &Books<K, V, F, A>,
     all: &mut Badge<View<K, V, F>>,
     roles: &mut Vec<BinRole<K, V, F>, A>,
@@ -110,7 +110,7 @@ fn deal_roles<K: HashKey, V, F, A: Allocator>(
 }
 
 /// Empty lists with room for so many passes and roles.
-fn make_lists<K: HashKey, V, F, A: Allocator + Clone>(
+fn make_lists<K: HashKey, V: Eq, F: Remap<K, V>, A: Allocator + Clone>(
     alloc: A,
     clients: usize,
     bins: usize,
@@ -122,7 +122,7 @@ fn make_lists<K: HashKey, V, F, A: Allocator + Clone>(
     Ok((Vec::with_capacity(alloc, clients)?, roles))
 }
 
-impl<K: HashKey, V, F, A: Allocator + Clone> Ledger<K, V, F, A> {
+impl<K: HashKey, V: Eq, F: Remap<K, V>, A: Allocator + Clone> Ledger<K, V, F, A> {
     /// A ledger of bins of the form over the pairs of the bases, a pass for each client, and a role
     /// for each class of as many as there are bases. The bases are 1 to 65,536, a power of two, and
     /// the keys of each are of the class at its place. The passes made nothing; the roles keep

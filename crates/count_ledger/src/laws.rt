@@ -1,19 +1,21 @@
 //! Laws of agreement and of sums, as contracts. The functions do nothing when they run.
 ghost use Rattle.std.specs.Prelude.{◌≡◌, ℕ, ◌+◌, ◌%◌, ◌^◌, ◌<◌, ◌≤◌, ℤ, pos, ◌+ℤ◌, ◌≤ℤ◌, neg_ℤ};
-ghost use Rattle.std.specs.Prelude.{FitsSigned, List, [], ◌∷◌, ◌++◌, length, All};
+ghost use Rattle.std.specs.Prelude.{FitsSigned, Bool, true, List, [], ◌∷◌, ◌++◌, length, All};
 ghost use Rattle.std.specs.Int.{w64, cast_signed};
-ghost use Rattle.hashkeys.specs.Classes.{ClassView};
+ghost use Rattle.hashkeys.specs.Classes.{ClassView, is_of};
 ghost use Rattle.bin_history.specs.BinPart.{IsPartOf};
 ghost use Rattle.bin_history.specs.Calls.{after};
 ghost use Rattle.bin_history.specs.Deltas.{sum_of_deltas};
 ghost use Rattle.bin_history.specs.Entries.{lookup, HasDistinctKeys, replay};
 ghost use Rattle.bin_history.specs.Histories.{GoesOn};
 ghost use Rattle.bin_history.specs.Lawful.{BinView, IsLawful};
-ghost use Rattle.bin_history.specs.Plain.{IsLegal};
+ghost use Rattle.bin_history.specs.Part.{part_of_entries, part_of_records};
+ghost use Rattle.bin_history.specs.Plain.{run, IsLegal, IsLegalStep};
 ghost use Rattle.bin_history.specs.Readiness.{KeepsOrFolds};
 ghost use Rattle.bin_history.specs.Records.{RecordView};
 ghost use Rattle.count_ledger.specs.Agreement.{BinAgrees, part_of_role};
 ghost use Rattle.count_ledger.specs.Books.{IsPassOf};
+ghost use Rattle.count_ledger.specs.Fronts.{BeginsWith, IsFront, IsHistory};
 ghost use Rattle.count_ledger.specs.Settled.{AreReconciled};
 ghost use Rattle.count_ledger.specs.Views.{LedgerView, PassView, RoleView};
 ghost use Rattle.count_ledger.specs.Words.{word_of, total_of, total_made, total_kept};
@@ -56,6 +58,32 @@ pub fn agreement_laws<K: HashKey, V: Eq, F: Remap<K, V>>()
         → IsLawful K.eq K.code (after V.eq F.remapped F.merged) b
         → b.entries ≡ replay K.eq b.base b.records
         → pos (length b.entries) ≡ pos (length r.opening) +ℤ sum_of_deltas r.kept }
+{}
+
+/// What is known of a front. Its part in any class is a history of that class, in which each key of
+/// the class has the value that it has in the front. A client that made a call behind a front has
+/// seen a front with its call; and what begins with a front begins with what that begins with.
+pub fn laws_of_fronts<K: HashKey, V: Eq, F: Remap<K, V>>()
+    ensures history { (ledger : LedgerView K V) (pass : PassView K V F) (class : ClassView)
+        (front : List (RecordView K V F))
+        → IsFront K.eq (after V.eq F.remapped F.merged) ledger pass front
+        → IsHistory K.eq (after V.eq F.remapped F.merged) K.code ledger pass class
+        (part_of_records (is_of K.code ledger.salt class) front) }
+    ensures value { (opening : List (K × V)) (test : K → Bool) (front : List (RecordView K V F))
+        (key : K)
+        → test key ≡ true
+        → run K.eq (lookup K.eq (part_of_entries test opening)) (part_of_records test front) key
+        ≡ run K.eq (lookup K.eq opening) front key }
+    ensures called { (ledger : LedgerView K V) (old new : PassView K V F) (r : RecordView K V F)
+        (front : List (RecordView K V F))
+        → IsFront K.eq (after V.eq F.remapped F.merged) ledger old front
+        → r.client ≡ old.client
+        → IsLegalStep K.eq (after V.eq F.remapped F.merged)
+        (run K.eq (lookup K.eq ledger.opening) front) r
+        → new ≡ record old { made = old.made ++ r ∷ []; seen = front ++ r ∷ [] }
+        → IsFront K.eq (after V.eq F.remapped F.merged) ledger new new.seen }
+    ensures begins { (xs ys zs : List (RecordView K V F)) → BeginsWith xs ys → BeginsWith ys zs
+        → BeginsWith xs zs }
 {}
 
 /// Once all books are back, what all clients made and what all roles keep have one sum of deltas;

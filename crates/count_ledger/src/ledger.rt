@@ -1,22 +1,29 @@
 //! The ledger, and the calls on a pass or a role.
-ghost use Rattle.std.specs.Prelude.{◌≡◌, ℕ, ◌+◌, ◌*◌, ◌<◌, ◌≤◌, true, [], ◌∷◌, ◌++◌, length};
+ghost use Rattle.std.specs.Prelude.{◌≡◌, ℕ, ◌+◌, ◌*◌, ◌<◌, ◌≤◌, true, List, [], ◌∷◌, ◌++◌, length};
 ghost use Rattle.hashkeys.specs.Classes.{is_of, low_half, high_half};
 ghost use Rattle.hashkeys.specs.Limits.{most_bins};
-ghost use Rattle.bin_history.specs.Calls.{key_of};
+ghost use Rattle.bin_history.specs.Calls.{after, key_of};
 ghost use Rattle.bin_history.specs.Deltas.{sum_of_deltas};
+ghost use Rattle.bin_history.specs.Entries.{lookup};
+ghost use Rattle.bin_history.specs.Part.{part_of_records};
+ghost use Rattle.bin_history.specs.Plain.{run, IsLegalStep};
+ghost use Rattle.bin_history.specs.Records.{RecordView};
 ghost use Rattle.count_ledger.specs.Agreement.{part_of_role};
 ghost use Rattle.count_ledger.specs.Books.{BooksAgree, IsPassOf, IsRoleOf};
+ghost use Rattle.count_ledger.specs.Fronts.{BeginsWith, HasSeen, IsPosted};
 ghost use Rattle.count_ledger.specs.Limits.{most_calls};
 ghost use Rattle.count_ledger.specs.Words.{word_of};
 
 use crate::books::{LedgerRule, Terms, View};
-use crate::seats::{add_delta, join, look, part};
+use crate::moment::Moment;
+use crate::seats::{add_delta, join, look, part, show};
 use crate::tokens::{BinRole, Pass};
 use atomic_table::{Badge, Table};
-use bin_history::{Form, MOST_CALLS, MOST_LEAN_CALLS, Record, Trace};
+use bin_history::{Form, MOST_CALLS, MOST_LEAN_CALLS, Record, Remap, Trace};
 use hashkeys::HashKey;
 use std::alloc::Allocator;
 use std::marker::{Brand, Model};
+use std::mem;
 
 /// How many words fill a cache line.
 pub(crate) const WORDS_PER_LINE: usize = 8;
@@ -31,17 +38,18 @@ pub(crate) fn word_at(client: u32) -> usize
 
 /// The books of one map: a pass for each client, a role for each class of keys, and a count word
 /// for each client. Its rule holds between any two atomic steps: there is one list of all calls, in
-/// the order of their posts, of which each pass made just those by its client, and each role kept
-/// just those on keys of its class; no two roles have a hash in common; and each client's word is
-/// the sum of the deltas of its calls. No call but `new` takes memory, and none waits.
+/// the order of their posts, which is legal for a map of one thread, of which each pass made just
+/// those by its client, each role kept just those on keys of its class, and each pass and moment
+/// has seen a front; no two roles have a hash in common; and each client's word is the sum of the
+/// deltas of its calls. No call but `new` takes memory, and none waits.
 #[derive(Drop)]
-pub struct Ledger<K: HashKey, V, F, A: Allocator> {
+pub struct Ledger<K: HashKey, V: Eq, F: Remap<K, V>, A: Allocator> {
     pub(crate) table: Table<(), View<K, V, F>, Terms<K, V, A>, LedgerRule, A>,
     pub(crate) form: Form,
     pub(crate) clients: u32,
 }
 
-impl<K: HashKey, V, F, A: Allocator> Model for Ledger<K, V, F, A> {
+impl<K: HashKey, V: Eq, F: Remap<K, V>, A: Allocator> Model for Ledger<K, V, F, A> {
     ghost use Rattle.count_ledger.specs.Views.{LedgerView};
     ghost use Rattle.count_ledger.specs.Rule.{ledger_of, IsLedger};
 
@@ -52,7 +60,7 @@ impl<K: HashKey, V, F, A: Allocator> Model for Ledger<K, V, F, A> {
     ghost invariant = { λ l. IsLedger l.table.shared.table_id l.table.shared.key l.form l.clients };
 }
 
-impl<K: HashKey, V, F, A: Allocator> Ledger<K, V, F, A> {
+impl<K: HashKey, V: Eq, F: Remap<K, V>, A: Allocator> Ledger<K, V, F, A> {
     /// The number of clients: 1 to 32.
     pub fn clients(&self) -> u32
         ensures value { result ≡ self.now.clients }
@@ -92,7 +100,11 @@ impl<K: HashKey, V, F, A: Allocator> Ledger<K, V, F, A> {
         requires client { entry.now.client ≡ pass.old.client }
         requires ordinal { entry.now.ordinal ≡ length pass.old.made }
         requires class { is_of K.code role.old.salt role.old.class (key_of entry.now.call) ≡ true }
-        ensures pass { pass.new ≡ record pass.old { made = pass.old.made ++ entry.now ∷ [] } }
+        requires legal { IsLegalStep K.eq (after V.eq F.remapped F.merged)
+            (run K.eq (lookup K.eq role.old.opening) role.old.kept) entry.now }
+        ensures posted { (front : List (RecordView K V F))
+            × IsPosted K.eq (after V.eq F.remapped F.merged) K.code self.now pass.old pass.new
+            role.old entry.now front }
         ensures role { role.new ≡ record role.old { kept = role.old.kept ++ entry.now ∷ [] } }
         ensures agree { BooksAgree K.code pass.old role.old }
         ensures of_pass { IsPassOf self.now pass.old }
@@ -103,7 +115,9 @@ impl<K: HashKey, V, F, A: Allocator> Ledger<K, V, F, A> {
 
     /// Adds the record of a call to what the pass made and to what the role keeps, and its delta to
     /// the client's word, by one atomic step, which only reads the word where the delta is 0. It
-    /// tells what `meet` tells of the books just before that.
+    /// tells what `meet` tells of the books just before that. The call is to be one on the map that
+    /// the role's records leave; it is then one on the map that all calls before it leave, which
+    /// the pass has seen.
     pub fn post_trace(
         &self,
         pass: &mut Pass<K, V, F>,
@@ -116,7 +130,11 @@ impl<K: HashKey, V, F, A: Allocator> Ledger<K, V, F, A> {
         requires client { entry.now.client ≡ pass.old.client }
         requires ordinal { entry.now.ordinal ≡ length pass.old.made }
         requires class { is_of K.code role.old.salt role.old.class (key_of entry.now.call) ≡ true }
-        ensures pass { pass.new ≡ record pass.old { made = pass.old.made ++ entry.now ∷ [] } }
+        requires legal { IsLegalStep K.eq (after V.eq F.remapped F.merged)
+            (run K.eq (lookup K.eq role.old.opening) role.old.kept) entry.now }
+        ensures posted { (front : List (RecordView K V F))
+            × IsPosted K.eq (after V.eq F.remapped F.merged) K.code self.now pass.old pass.new
+            role.old entry.now front }
         ensures role { role.new ≡ record role.old { kept = role.old.kept ++ entry.now ∷ [] } }
         ensures agree { BooksAgree K.code pass.old role.old }
         ensures of_pass { IsPassOf self.now pass.old }
@@ -130,15 +148,18 @@ impl<K: HashKey, V, F, A: Allocator> Ledger<K, V, F, A> {
         pass.made += 1;
     }
 
-    /// Tells that the role has kept, in order, just those of the pass's calls that are on keys of
-    /// its class, and that all that it kept are calls of this ledger's clients. It changes nothing.
+    /// The pass has then seen all calls so far. It tells that of these the role has kept, in order,
+    /// just those on keys of its class, of the pass's calls too, and that all are calls of this
+    /// ledger's clients.
     pub fn meet(&self, pass: &mut Pass<K, V, F>, role: &mut BinRole<K, V, F>)
         requires pass { pass.old.ledger ≡ self.now.id }
         requires role { role.old.ledger ≡ self.now.id }
         ensures agree { BooksAgree K.code pass.old role.old }
         ensures of_pass { IsPassOf self.now pass.old }
         ensures of_role { IsRoleOf K.code self.now role.old }
-        ensures same_pass { pass.new ≡ pass.old }
+        ensures seen { HasSeen K.eq (after V.eq F.remapped F.merged) self.now pass.old pass.new }
+        ensures kept { role.old.kept ≡ part_of_records (is_of K.code role.old.salt role.old.class)
+            pass.new.seen }
         ensures same_role { role.new ≡ role.old }
     {
         let shared = &self.table.shared;
@@ -156,6 +177,44 @@ impl<K: HashKey, V, F, A: Allocator> Ledger<K, V, F, A> {
     {
         let word = word_at(pass.client);
         look::<K, V, F, A, Brand>(&self.table.shared, &mut pass.seat, word)
+    }
+
+    /// What the pass has seen, to be handed to other clients. The pass stays as it is.
+    pub fn moment(&self, pass: &mut Pass<K, V, F>) -> Moment<K, V, F>
+        requires { pass.old.ledger ≡ self.now.id }
+        ensures moment { result ≡ record { ledger = self.now.id; seen = pass.old.seen } }
+        ensures same { pass.new ≡ pass.old }
+    {
+        Moment {
+            badge: show(&self.table.shared, &mut pass.seat),
+        }
+    }
+
+    /// The same moment once more.
+    pub fn again(&self, moment: &mut Moment<K, V, F>) -> Moment<K, V, F>
+        requires { moment.old.ledger ≡ self.now.id }
+        ensures copy { result ≡ moment.old }
+        ensures same { moment.new ≡ moment.old }
+    {
+        let mut seat = mem::replace(&mut moment.badge, Badge::blank()).into_seat();
+        let badge = show(&self.table.shared, &mut seat);
+        moment.badge = seat.into_badge();
+        Moment { badge }
+    }
+
+    /// The pass has then seen all calls so far, those of the moment among them, which come first.
+    pub fn learn(&self, pass: &mut Pass<K, V, F>, moment: &mut Moment<K, V, F>)
+        requires pass { pass.old.ledger ≡ self.now.id }
+        requires moment { moment.old.ledger ≡ self.now.id }
+        ensures seen { HasSeen K.eq (after V.eq F.remapped F.merged) self.now pass.old pass.new }
+        ensures learned { BeginsWith pass.new.seen moment.old.seen }
+        ensures of_pass { IsPassOf self.now pass.old }
+        ensures same { moment.new ≡ moment.old }
+    {
+        let shared = &self.table.shared;
+        join(shared, &mut pass.seat, &mut moment.badge);
+        look::<K, V, F, A, Brand>(shared, &mut pass.seat, 0);
+        part(shared, &mut pass.seat, &mut moment.badge);
     }
 
     /// The roles of the low and the high half of the role's class, each with its part of the

@@ -6,6 +6,7 @@ mod books;
 mod dealing;
 mod laws;
 mod ledger;
+mod moment;
 mod name;
 mod seats;
 mod settling;
@@ -14,8 +15,9 @@ mod sums;
 mod tokens;
 
 pub use bin_history::{MOST_CALLS, MOST_CLIENTS, MOST_LEAN_CALLS};
-pub use laws::{agreement_laws, totals_of_all, words_of_sums};
+pub use laws::{agreement_laws, laws_of_fronts, totals_of_all, words_of_sums};
 pub use ledger::Ledger;
+pub use moment::Moment;
 pub use name::LedgerName;
 pub use settling::Unsettled;
 pub use tokens::{BinRole, Pass, retire_all};

@@ -1,22 +1,24 @@
 //! The steps of a ledger, on its seats.
 ghost use Rattle.std.specs.Prelude.{◌≡◌, ℕ, ◌+◌, ◌%◌, ◌^◌, ◌<◌, Some, List, [], ◌∷◌, ◌++◌};
 ghost use Rattle.std.specs.Prelude.{slice_index};
-ghost use Rattle.count_ledger.specs.Rule.{Holds, Among, IsSound, AreTogether};
-ghost use Rattle.count_ledger.specs.Steps.{Keeps, books_with_record, first_of, rest_of, only_view};
+ghost use Rattle.count_ledger.specs.Steps.{Keeps, IsTold, books_with_record, first_of, rest_of};
+ghost use Rattle.count_ledger.specs.Steps.{only_view, seen_by};
 ghost use Rattle.count_ledger.specs.Words.{word_of};
+ghost use Rattle.bin_history.specs.Calls.{after};
 ghost use Rattle.bin_history.specs.Deltas.{delta};
 ghost use Rattle.bin_history.specs.Records.{RecordView};
 
 use crate::books::{Books, View};
-use crate::steps::{KeepFirst, Tells, Together, Told};
+use crate::steps::{KeepFirst, KeepSeen, Tells, Together, Told};
 use atomic_table::{Badge, Seat};
-use bin_history::Trace;
+use bin_history::{Remap, Trace};
 use hashkeys::HashKey;
 use std::alloc::Allocator;
 use std::mem;
 
-/// Reads a word, and tells what the rule says of the seat's books. They may change with it.
-pub(crate) fn look<K: HashKey, V, F, A: Allocator, T: Told<K, V, F>>(
+/// Reads a word, and tells what the rule says of the seat's books. They may change with it, by the
+/// calls so far.
+pub(crate) fn look<K: HashKey, V: Eq, F: Remap<K, V>, A: Allocator, T: Told<K, V, F>>(
     shared: &Books<K, V, F, A>,
     seat: &mut Seat<(), View<K, V, F>>,
     word: usize,
@@ -24,20 +26,21 @@ pub(crate) fn look<K: HashKey, V, F, A: Allocator, T: Told<K, V, F>>(
     requires terms { T.terms ≡ Some shared.now.key }
     requires seat { seat.old.table_id ≡ shared.now.table_id }
     requires word { word < shared.now.table_id.words }
-    requires rule { Keeps (Holds K.code shared.now.key) seat.old.id seat.old.me.0 word (λ n. n)
-        (T.change seat.old.me.0) }
+    requires rule { Keeps K.code K.eq (after V.eq F.remapped F.merged) shared.now.key seat.old.id
+        seat.old.me.0 word (λ n. n) T.change }
     ensures seat { seat.new.table_id ≡ seat.old.table_id }
-    ensures books { seat.new.me ≡ (T.change seat.old.me.0, seat.old.me.1) }
     ensures told { (words : List ℕ) × (calls : List (RecordView K V F))
         × (result ≡ slice_index words word)
-        × Among (IsSound K.code shared.now.key words calls) (AreTogether K.code) seat.old.me.0 }
+        × (seat.new.me ≡ (T.change calls seat.old.me.0, seat.old.me.1))
+        × IsTold K.code K.eq (after V.eq F.remapped F.merged) shared.now.key words calls
+        seat.old.me.0 }
 {
     shared.load::<Tells<T>>(seat, word)
 }
 
 /// Adds the delta of a call to a word, which is only read where the delta is 0, while the seat's
 /// books get its record, and tells what the rule said of them before.
-pub(crate) fn add_delta<K: HashKey, V, F, A: Allocator, T: Told<K, V, F>>(
+pub(crate) fn add_delta<K: HashKey, V: Eq, F: Remap<K, V>, A: Allocator, T: Told<K, V, F>>(
     shared: &Books<K, V, F, A>,
     seat: &mut Seat<(), View<K, V, F>>,
     word: usize,
@@ -47,13 +50,14 @@ pub(crate) fn add_delta<K: HashKey, V, F, A: Allocator, T: Told<K, V, F>>(
     requires change { T.change ≡ books_with_record entry.now }
     requires seat { seat.old.table_id ≡ shared.now.table_id }
     requires word { word < shared.now.table_id.words }
-    requires rule { Keeps (Holds K.code shared.now.key) seat.old.id seat.old.me.0 word
-        (λ n. (n + word_of (delta entry.now)) % 2 ^ 64)
-        (books_with_record entry.now seat.old.me.0) }
+    requires rule { Keeps K.code K.eq (after V.eq F.remapped F.merged) shared.now.key seat.old.id
+        seat.old.me.0 word (λ n. (n + word_of (delta entry.now)) % 2 ^ 64)
+        (books_with_record entry.now) }
     ensures seat { seat.new.table_id ≡ seat.old.table_id }
-    ensures books { seat.new.me ≡ (books_with_record entry.now seat.old.me.0, seat.old.me.1) }
     ensures told { (words : List ℕ) × (calls : List (RecordView K V F))
-        × Among (IsSound K.code shared.now.key words calls) (AreTogether K.code) seat.old.me.0 }
+        × (seat.new.me ≡ (books_with_record entry.now calls seat.old.me.0, seat.old.me.1))
+        × IsTold K.code K.eq (after V.eq F.remapped F.merged) shared.now.key words calls
+        seat.old.me.0 }
 {
     let delta = entry.delta();
     if delta == 0 {
@@ -64,7 +68,7 @@ pub(crate) fn add_delta<K: HashKey, V, F, A: Allocator, T: Told<K, V, F>>(
 }
 
 /// Puts the badge's books behind the seat's, and leaves the badge blank.
-pub(crate) fn join<K: HashKey, V, F, A: Allocator>(
+pub(crate) fn join<K: HashKey, V: Eq, F: Remap<K, V>, A: Allocator>(
     shared: &Books<K, V, F, A>,
     seat: &mut Seat<(), View<K, V, F>>,
     badge: &mut Badge<View<K, V, F>>,
@@ -81,7 +85,7 @@ pub(crate) fn join<K: HashKey, V, F, A: Allocator>(
 }
 
 /// Leaves the seat its first book, and gives the others to the badge.
-pub(crate) fn part<K: HashKey, V, F, A: Allocator>(
+pub(crate) fn part<K: HashKey, V: Eq, F: Remap<K, V>, A: Allocator>(
     shared: &Books<K, V, F, A>,
     seat: &mut Seat<(), View<K, V, F>>,
     badge: &mut Badge<View<K, V, F>>,
@@ -94,4 +98,19 @@ pub(crate) fn part<K: HashKey, V, F, A: Allocator>(
     ensures others { badge.new.views ≡ rest_of seat.old.me.0 ∷ [] }
 {
     *badge = shared.split_seat::<KeepFirst>(seat).into_badge();
+}
+
+/// A badge with a moment's book: what the seat's first book has seen. The seat stays as it is.
+pub(crate) fn show<K: HashKey, V: Eq, F: Remap<K, V>, A: Allocator>(
+    shared: &Books<K, V, F, A>,
+    seat: &mut Seat<(), View<K, V, F>>,
+) -> Badge<View<K, V, F>>
+    requires seat { seat.old.table_id ≡ shared.now.table_id }
+    requires words { 0 < shared.now.table_id.words }
+    ensures seat { seat.new.table_id ≡ seat.old.table_id }
+    ensures same { seat.new.me ≡ seat.old.me }
+    ensures badge { result.table_id ≡ seat.old.table_id }
+    ensures seen { result.views ≡ seen_by seat.old.me.0 ∷ [] }
+{
+    shared.split_seat::<KeepSeen>(seat).into_badge()
 }

@@ -14,6 +14,7 @@ use crate::ledger::Ledger;
 use crate::seats::{join, look};
 use crate::tokens::{BinRole, Pass};
 use atomic_table::{Badge, Seat};
+use bin_history::Remap;
 use hashkeys::{HashKey, MOST_BINS};
 use std::alloc::Allocator;
 use std::marker::Brand;
@@ -32,7 +33,7 @@ fn are_wide<K, V, F>(roles: &[BinRole<K, V, F>]) -> bool
 }
 
 /// Puts the seat's books before the others.
-fn gather<K: HashKey, V, F, A: Allocator>(
+fn gather<K: HashKey, V: Eq, F: Remap<K, V>, A: Allocator>(
     shared: &Books<K, V, F, A>,
     all: &mut Badge<View<K, V, F>>,
     mut seat: Seat<(), View<K, V, F>>,
@@ -49,7 +50,7 @@ fn gather<K: HashKey, V, F, A: Allocator>(
     *all = seat.into_badge();
 }
 
-fn gather_passes<K: HashKey, V, F, A: Allocator>(
+fn gather_passes<K: HashKey, V: Eq, F: Remap<K, V>, A: Allocator>(
     shared: &Books<K, V, F, A>,
     all: &mut Badge<View<K, V, F>>,
     mut passes: Vec<Pass<K, V, F>, A>,
@@ -67,7 +68,7 @@ fn gather_passes<K: HashKey, V, F, A: Allocator>(
     passes.destroy_empty();
 }
 
-fn gather_roles<K: HashKey, V, F, A: Allocator>(
+fn gather_roles<K: HashKey, V: Eq, F: Remap<K, V>, A: Allocator>(
     shared: &Books<K, V, F, A>,
     all: &mut Badge<View<K, V, F>>,
     mut roles: Vec<BinRole<K, V, F>, A>,
@@ -86,7 +87,7 @@ fn gather_roles<K: HashKey, V, F, A: Allocator>(
 }
 
 /// Puts all books into one seat, and learns there that they agree.
-fn gather_all<K: HashKey, V, F, A: Allocator>(
+fn gather_all<K: HashKey, V: Eq, F: Remap<K, V>, A: Allocator>(
     shared: &Books<K, V, F, A>,
     mut passes: Vec<Pass<K, V, F>, A>,
     roles: Vec<BinRole<K, V, F>, A>,
@@ -112,13 +113,13 @@ fn gather_all<K: HashKey, V, F, A: Allocator>(
 }
 
 /// The ledger with the passes and roles that it could not be settled with, as they were handed in.
-pub struct Unsettled<K: HashKey, V, F, A: Allocator> {
+pub struct Unsettled<K: HashKey, V: Eq, F: Remap<K, V>, A: Allocator> {
     pub ledger: Ledger<K, V, F, A>,
     pub passes: Vec<Pass<K, V, F>, A>,
     pub roles: Vec<BinRole<K, V, F>, A>,
 }
 
-impl<K: HashKey, V, F, A: Allocator> Ledger<K, V, F, A> {
+impl<K: HashKey, V: Eq, F: Remap<K, V>, A: Allocator> Ledger<K, V, F, A> {
     /// Ends the ledger, and gives the sum of all deltas as a 64-bit two's complement number. Where
     /// there are fewer passes than clients, or the classes of the roles leave a hash out, it hands
     /// everything back.

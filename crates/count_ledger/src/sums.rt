@@ -5,10 +5,11 @@ ghost use Rattle.count_ledger.specs.Words.{word_of, total_made};
 
 use crate::ledger::{Ledger, word_at};
 use crate::tokens::Pass;
+use bin_history::Remap;
 use hashkeys::HashKey;
 use std::alloc::Allocator;
 
-impl<K: HashKey, V, F, A: Allocator> Ledger<K, V, F, A> {
+impl<K: HashKey, V: Eq, F: Remap<K, V>, A: Allocator> Ledger<K, V, F, A> {
     /// The clients' words from client 0 upward, added modulo 2^64. While other threads post, it is
     /// the sum at no one moment, so nothing is promised of it.
     pub fn sum(&self) -> u64 {

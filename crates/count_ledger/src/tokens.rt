@@ -7,8 +7,8 @@ use hashkeys::Class;
 use std::alloc::Allocator;
 use std::marker::Model;
 
-/// The right of one client to make calls, and what it made. It cannot be dropped: it ends by
-/// `Ledger::settle` or by `retire`.
+/// The right of one client to make calls, what it made, and what it has seen of all calls. It
+/// cannot be dropped: it ends by `Ledger::settle` or by `retire`.
 pub struct Pass<K, V, F> {
     pub(crate) client: u32,
     pub(crate) made: u64,
@@ -22,7 +22,7 @@ pub(crate) type Apart = [u64; 14];
 
 impl<K, V, F> Model for Pass<K, V, F> {
     ghost use Rattle.count_ledger.specs.Views.{PassView};
-    ghost use Rattle.count_ledger.specs.Tokens.{IsPass, made_of_pass};
+    ghost use Rattle.count_ledger.specs.Tokens.{IsPass, made_of_pass, seen_of_pass};
 
     ghost Value = { PassView K V F };
 
@@ -31,6 +31,7 @@ impl<K, V, F> Model for Pass<K, V, F> {
       client = p.client;
       made =
           made_of_pass p.seat.me.0;
+      seen = seen_of_pass p.seat.me.0;
     } };
 
     ghost invariant = { λ p. IsPass p.seat.table_id.words p.client p.made p.seat.me };

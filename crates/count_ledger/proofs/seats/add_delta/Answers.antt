@@ -15,7 +15,7 @@ fetch_add-requires g c =
       c.requires.seat,
       c.requires.word,
       rw (amount, c.requires.terms, c.requires.change)
-          (Allows-told g.K.HashKey.code c.args.shared.now.key _ (books_with_record c.args.entry.now) _ c.args.word
+          (Allows-told g.K.HashKey.code g.K.PartialEq.eq _ c.args.shared.now.key _ (books_with_record c.args.entry.now) _ c.args.word
           c.args.seat.now.me
           (λ n. (n + word_of (delta c.args.entry.now)) % 2 ^ 64) c.requires.rule),
     )
@@ -25,5 +25,5 @@ look-requires-clause-rule g c =
     let r = c.args.entry.now in
     let none : cast_unsigned w64 (delta r) ≡ 0 = rw c.delta-delta.ensures at c.if-delta-eq0.true in
     rw c.requires.change
-    (Keeps-idle g.K.HashKey.code c.args.shared.now.key _ _ _ c.args.word (word_of (delta r))
+    (Keeps-idle g.K.HashKey.code g.K.PartialEq.eq _ c.args.shared.now.key _ _ (books_with_record r) c.args.word (word_of (delta r))
     (sym (word_of-delta r) ∙ ap (λ (n : ℕ). cast_unsigned w64 (cast_signed w64 n)) none) c.requires.rule)

@@ -7,5 +7,5 @@ join_seat-requires g c = (
   rw (c.into_seat.ensures.0, c.replace-other.ensures.value) c.requires.badge,
   c.into_seat.ensures.3,
   c.requires.words,
-  Joins-joined g.K.HashKey.code c.args.shared.now.key _ _ _ _,
+  Joins-joined g.K.HashKey.code g.K.PartialEq.eq _ c.args.shared.now.key _ _ _ _,
 )

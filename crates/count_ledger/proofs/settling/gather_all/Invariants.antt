@@ -2,4 +2,4 @@ use Rattle.std.proofs.Common.{Some}
 use Rattle.count_ledger.proofs.settling.gather_all.Given as goal
 
 abbrev pub ghosts-look : goal.ghosts-look
-ghosts-look g a = record { terms = Some a.shared.now.key; change = λ books. books }
+ghosts-look g a = record { terms = Some a.shared.now.key; change = λ calls books. books }

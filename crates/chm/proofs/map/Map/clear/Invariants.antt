@@ -1,17 +1,17 @@
-use Rattle.std.proofs.Common.{◌≡◌, ◌≤◌, List, [], All}
+use Rattle.std.proofs.Common.{◌≡◌, ◌≤◌, List}
+use Rattle.hashkeys.specs.Classes.{ClassView}
 use Rattle.bin_history.specs.Calls.{after}
 use Rattle.generations.specs.Walks.{IsWalkTo}
-use Rattle.chm.specs.Cleared.{HasRemoved}
-use Rattle.chm.specs.Visits.{VisitView, classes_of_visits, IsVisit}
+use Rattle.chm.specs.Cleared.{AreCleared, HasRemoved}
 use Rattle.chm.proofs.map.Map.clear.Given as goal
 
 abbrev pub invariant-loop : goal.invariant-loop
 invariant-loop g l =
     record {
-      visits : (visits : List (VisitView _ _)) × IsWalkTo l.self.n (classes_of_visits visits) l.next
-          × All (IsVisit g.K.PartialEq.eq g.K.HashKey.code (after g.V.PartialEq.eq g.F.Remap.remapped g.F.Remap.merged)
-          l.self.ledger l.pass) visits
-          × All (λ v. v.entries ≡ []) visits;
+      cleared : (classes : List ClassView) × IsWalkTo l.self.n classes l.next
+          × AreCleared g.K.PartialEq.eq g.K.HashKey.code
+          (after g.V.PartialEq.eq g.F.Remap.remapped g.F.Remap.merged) l.self.ledger l.initial.pass classes l.pass;
       least : l.self.n ≤ l.next.n;
       removed : HasRemoved l.initial.pass l.pass;
+      ledger : l.pass.ledger ≡ l.self.ledger.id;
     }

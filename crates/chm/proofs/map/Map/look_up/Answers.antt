@@ -1,5 +1,5 @@
 use Rattle.std.proofs.Common.{◌≡◌, ap, sym, subst, ◌∙◌}
-use Rattle.hashkeys.specs.Classes.{IsClass, covers}
+use Rattle.hashkeys.specs.Classes.{covers}
 use Rattle.hashkeys.specs.Hashing.{hash_of}
 use Rattle.bin_history.specs.Calls.{after}
 use Rattle.bin_history.specs.Entries.{lookup}
@@ -25,12 +25,5 @@ returns-clause-found g c =
     let on = ap (covers bin.class) (sym hash) ∙ ap (λ (b : BinView _ _ _). covers b.class c.hash_of.result)
     c.as_ref-bin.ensures ∙ c.hold-held.ensures.covers in
     let value = c.in_ok-value.ensures ∙ copied-found c.get.result (lookup g.K.PartialEq.eq bin.entries key)
-    c.get.ensures in (
-      bin.class,
-      c.hold-held.result.role.kept,
-      subst IsClass c.class.ensures c.n.ensures.class,
-      on,
-      c.meet_under.ensures.met.history,
-      value
-          ∙ c.meet_under.ensures.met.same_map key,
-    )
+    c.get.ensures in
+    value ∙ c.meet_under.ensures.met.same_map key on

@@ -1,5 +1,5 @@
-use Rattle.std.proofs.Common.{◌≡◌, ap, sym, subst, ◌∙◌}
-use Rattle.hashkeys.specs.Classes.{IsClass, covers}
+use Rattle.std.proofs.Common.{◌≡◌, ap, sym, ◌∙◌}
+use Rattle.hashkeys.specs.Classes.{covers}
 use Rattle.hashkeys.specs.Hashing.{hash_of}
 use Rattle.bin_history.specs.Calls.{key_of}
 use Rattle.bin_history.specs.Lawful.{BinView}
@@ -22,5 +22,4 @@ returns-clause-called g c =
     IsCalled-met g.K.PartialEq.eq g.K.HashKey.code g.V.PartialEq.eq g.F.Remap.remapped g.F.Remap.merged
     c.args.self.now.ledger call c.args.pass.now
     c.call_under-made.new.pass c.in_ok-reply.reply
-    bin c.hold-held.result.role c.call_under-made.new.bin.entries c.in_ok-reply.ensures.called c.in_ok-reply.ensures.met
-    (subst IsClass c.class-class.ensures c.n.ensures.class) on
+    bin c.call_under-made.new.bin c.in_ok-reply.ensures.called on

@@ -40,14 +40,19 @@ taken g c =
     let first = ap (λ (l : List (_ × _)). slice_index_or l 0 d) c.entries.ensures in
     let of = ap (is_of g.K.HashKey.code c.args.bin.now.salt c.args.bin.now.class) (key ∙ ap (λ (e : _ × _). e.0) first)
     ∙ here in
+    let (front, r, is_front, made, met, before, stored) = c.in_ok-call_under.ensures.called in
     removed-first g.K.PartialEq.eq tells g.K.HashKey.code g.V.PartialEq.eq g.F.Remap.remapped g.F.Remap.merged
     c.args.bin.now.entries c.call_under.new.bin.entries
     (slice_index_or c.entries.result.now 0 d) d c.in_ok-key.key c.args.bin.now.salt c.args.bin.now.class c.args.pass.now
-    c.call_under.new.pass _
-    c.requires.some first key of c.in_ok-call_under.ensures.called
+    c.call_under.new.pass _ front r
+    c.requires.some first key of is_front.seen made before stored
 
 pub returns-clause-removed : goal.returns-clause-removed
 returns-clause-removed g c = (taken g c).0
 
 pub returns-clause-fewer : goal.returns-clause-fewer
 returns-clause-fewer g c = (taken g c).1
+
+pub returns-then-made-most_calls-clause-removed : goal.returns-then-made-most_calls-clause-removed
+returns-then-made-most_calls-clause-removed g c =
+    unchanged_in g.K.HashKey.code c.args.bin.now.salt c.args.bin.now.class c.args.pass.now c.args.pass.now refl

@@ -19,8 +19,7 @@ release-requires g c =
 pub returns-clause-visit : goal.returns-clause-visit
 returns-clause-visit g c =
     let Visited : ClassView → Type 0 = λ class. IsVisit g.K.PartialEq.eq g.K.HashKey.code
-    (after g.V.PartialEq.eq g.F.Remap.remapped g.F.Remap.merged)
-    c.args.self.now.ledger c.args.pass.now (record { class = class; entries = c.in_ok-entries.field-0.items }) in
+    c.args.self.now.ledger c.meet_under.new.pass.seen (record { class = class; entries = c.in_ok-entries.field-0.items }) in
     let lawful = c.lawful.ensures.lawful in
     let bin = c.as_ref-bin.result.now in
     let class = bin.class in
@@ -31,10 +30,5 @@ returns-clause-visit g c =
       distinct = subst (HasDistinctKeys g.K.PartialEq.eq) (sym c.in_ok-entries.ensures) lawful.distinct;
       of_class = subst (λ (s : Salt). Of s c.in_ok-entries.field-0.items) salt
           (subst (Of bin.salt) (sym c.in_ok-entries.ensures) lawful.of_class);
-      history = (
-        c.hold_first-held.result.role.kept,
-        c.meet_under.ensures.met.history,
-        c.in_ok-entries.ensures
-            ∙ c.meet_under.ensures.met.entries,
-      );
+      entries = c.in_ok-entries.ensures ∙ c.meet_under.ensures.met.entries;
     })

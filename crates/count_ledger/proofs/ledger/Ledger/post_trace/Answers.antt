@@ -1,8 +1,10 @@
 use Rattle.hashkeys.specs.Classes.{is_of}
+use Rattle.bin_history.proofs.Keys.{key_tells}
 use Rattle.count_ledger.specs.Tokens.{made_of_pass, salt_of_role, kept_of_role}
+use Rattle.count_ledger.proofs.Fronts.{IsFront-sound}
 use Rattle.count_ledger.proofs.Keeping.{Keeps-books_with_record, both_books}
 use Rattle.count_ledger.proofs.Ordering.{agree_by}
-use Rattle.count_ledger.proofs.Settlement.{IsRoleOf-sound}
+use Rattle.count_ledger.proofs.Settlement.{IsPassOf-sound, IsRoleOf-sound}
 use Rattle.count_ledger.proofs.ledger.Ledger.post_trace.Goals as goal
 
 pub add_delta-requires-clause-rule : goal.add_delta-requires-clause-rule
@@ -11,33 +13,45 @@ add_delta-requires-clause-rule g c =
     let ordinal = rw (← c.pass.view_is) at c.requires.ordinal in
     let room = rw (← c.pass.view_is, ← c.self.view_is) at c.requires.room in
     let class = rw (← c.role.view_is) at c.requires.class in
+    let legal = rw (← c.role.view_is) at c.requires.legal in
     rw (
       c.word_at-word.ensures,
       both_books c.pass.inside.seat.me c.join.new.seat.me c.role.inside.badge.views _ _ c.pass.invariant.book
           c.role.invariant
           c.join.ensures.books,
     )
-    (Keeps-books_with_record g.K.HashKey.code c.self.inside.table.shared.key _ c.pass.inside.client
-    _ _ _ _ _ c.args.entry.now client ordinal room class)
+    (Keeps-books_with_record g.K.HashKey.code g.K.PartialEq.eq _ c.self.inside.table.shared.key _
+    (key_tells g.met.K.Eq.laws g.met.K.HashKey.equal_is_same) c.pass.inside.client
+    _ _ _ _ _ _ c.args.entry.now client ordinal room class legal)
 
 pub returns-clause-agree : goal.returns-clause-agree
 returns-clause-agree g c =
     let books =
     rw (both_books c.pass.inside.seat.me c.join.new.seat.me c.role.inside.badge.views _ _ c.pass.invariant.book
     c.role.invariant
-    c.join.ensures.books) at c.add_delta.ensures.told.2 in
+    c.join.ensures.books) at c.add_delta.ensures.told.3.sound in
     rw (← c.pass.view_is, ← c.role.view_is)
     (agree_by (is_of g.K.HashKey.code (salt_of_role c.role.inside.badge.views) c.role.inside.class)
     c.pass.inside.client
     c.add_delta.ensures.told.1 (made_of_pass c.pass.inside.seat.me.0) (kept_of_role c.role.inside.badge.views)
-    books.0.4 books.2.0.3)
+    books.0.made_is books.2.0.3)
+
+pub returns-clause-of_pass : goal.returns-clause-of_pass
+returns-clause-of_pass g c =
+    let books =
+    rw (both_books c.pass.inside.seat.me c.join.new.seat.me c.role.inside.badge.views _ _ c.pass.invariant.book
+    c.role.invariant
+    c.join.ensures.books) at c.add_delta.ensures.told.3.sound in
+    rw (← c.self.view_is, ← c.pass.view_is)
+    (IsPassOf-sound g.K.HashKey.code c.self.inside.table.shared.table_id c.self.inside.table.shared.key
+    c.add_delta.ensures.told.0 c.add_delta.ensures.told.1 _ books.0)
 
 pub returns-clause-of_role : goal.returns-clause-of_role
 returns-clause-of_role g c =
     let books =
     rw (both_books c.pass.inside.seat.me c.join.new.seat.me c.role.inside.badge.views _ _ c.pass.invariant.book
     c.role.invariant
-    c.join.ensures.books) at c.add_delta.ensures.told.2 in
+    c.join.ensures.books) at c.add_delta.ensures.told.3.sound in
     rw (← c.self.view_is, ← c.role.view_is)
     (IsRoleOf-sound g.K.HashKey.code c.self.inside.table.shared.table_id c.self.inside.table.shared.key
     c.add_delta.ensures.told.0 c.add_delta.ensures.told.1 _ books.2.0)
