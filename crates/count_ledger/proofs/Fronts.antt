@@ -2,18 +2,21 @@
 use Rattle.std.proofs.Common.{◌≡◌, Bool, true, cond, Option, None, Decides, List, [], ◌∷◌, ◌++◌, sym, ap, ◌∙◌}
 use Rattle.std.proofs.Common.{append_assoc, ℕ, ◌<◌, ◌==◌, All, subst, arith}
 use Rattle.std.proofs.lemmas.Bool.{eq-eqb}
-use Rattle.std.proofs.lemmas.List.Elements.{All-filter, All-push, filter_passes}
+use Rattle.std.proofs.lemmas.List.Elements.{All-filter, All-push, filter-append, filter_passes}
 use Rattle.hashkeys.specs.Classes.{ClassView, is_of}
-use Rattle.std.proofs.lemmas.List.{append-nil}
+use Rattle.std.proofs.lemmas.List.{append-nil, append_cancel_left}
 use Rattle.bin_history.specs.Calls.{key_of}
+use Rattle.bin_history.specs.Cells.{records_on}
+use Rattle.bin_history.specs.Clients.{by_client}
 use Rattle.bin_history.specs.Entries.{lookup}
 use Rattle.bin_history.specs.Part.{part_of_entries, part_of_records}
 use Rattle.bin_history.specs.Plain.{run, IsLegal, IsLegalStep}
 use Rattle.bin_history.specs.Records.{RecordView}
 use Rattle.bin_history.specs.declared.call.Call.{Call}
+use Rattle.bin_history.proofs.Cells.{IsLegal-cell}
 use Rattle.bin_history.proofs.Parts.{lookup-part, run-part, IsLegal-part}
 use Rattle.bin_history.proofs.Runs.{IsLegal-append}
-use Rattle.count_ledger.specs.Fronts.{BeginsWith, IsFront, IsHistory}
+use Rattle.count_ledger.specs.Fronts.{BeginsWith, IsFront, IsHistory, IsHistoryOn}
 use Rattle.count_ledger.specs.Rule.{IsSoundPass, ledger_of}
 use Rattle.count_ledger.specs.Terms.{TermsView, opening_of}
 use Rattle.count_ledger.specs.Views.{LedgerId, LedgerView, PassView}
@@ -107,3 +110,27 @@ module _ {K V F : Type 0} (same : K → K → Bool) (after : Call K V F → Opti
         own = filter_turn (λ (x : RecordView K V F). x.client == pass.client) on front
             ∙ ap (part_of_records test) f.own;
       }
+
+  -- the calls of a front on one key
+  pub IsHistoryOn-front : (tells : (x y : K) → Decides (same x y) (x ≡ y)) (ledger : LedgerView K V)
+      (pass : PassView K V F) (front : List (RecordView K V F)) (key : K)
+      → IsFront same after ledger pass front
+      → IsHistoryOn same after ledger pass key (records_on same key front)
+  IsHistoryOn-front tells ledger pass front key f =
+      let on : RecordView K V F → Bool = λ x. same (key_of x.call) key in
+      record {
+        client = f.client;
+        legal = IsLegal-cell same tells after (lookup same ledger.opening) front key f.legal;
+        clients = All-filter on (λ (x : RecordView K V F). x.client < ledger.clients) front f.clients;
+        own = filter_turn (λ (x : RecordView K V F). x.client == pass.client) on front ∙ ap (records_on same key) f.own;
+      }
+
+  -- what a front has behind all that a client had seen is by others
+  pub others_behind : (ledger : LedgerView K V) (pass : PassView K V F) (front rest : List (RecordView K V F))
+      → IsFront same after ledger pass front → by_client pass.client pass.seen ≡ pass.made → front ≡ pass.seen ++ rest
+      → by_client pass.client rest ≡ []
+  others_behind ledger pass front rest f own is =
+      append_cancel_left pass.made (by_client pass.client rest) []
+      (ap (λ (l : List (RecordView K V F)). l ++ by_client pass.client rest) (sym own)
+      ∙ sym (filter-append (λ (x : RecordView K V F). x.client == pass.client) pass.seen rest)
+      ∙ ap (by_client pass.client) (sym is) ∙ f.own ∙ sym (append-nil pass.made))

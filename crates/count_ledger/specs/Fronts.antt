@@ -2,6 +2,7 @@
 use Rattle.std.specs.Prelude.{◌≡◌, ℕ, ◌<◌, Bool, true, Option, List, [], ◌∷◌, ◌++◌, All}
 use Rattle.hashkeys.specs.Classes.{ClassView, is_of}
 use Rattle.bin_history.specs.Calls.{key_of}
+use Rattle.bin_history.specs.Cells.{records_on, IsCellHistory}
 use Rattle.bin_history.specs.Clients.{by_client}
 use Rattle.bin_history.specs.Entries.{lookup}
 use Rattle.bin_history.specs.Part.{part_of_entries, part_of_records}
@@ -52,3 +53,12 @@ module _ {K V F : Type 0} (same_key : K → K → Bool) (after : Call K V F → 
     pub clients : All (λ r. r.client < ledger.clients) kept
     pub of_class : All (λ r. is_of code ledger.salt class (key_of r.call) ≡ true) kept
     pub own : by_client pass.client kept ≡ part_of_records (is_of code ledger.salt class) pass.made
+
+  -- the calls of a front on one key: those of one cell, from the opening value on, and those of the pass's client just
+  -- the calls that it made on the key
+  pub record IsHistoryOn (ledger : LedgerView K V) (pass : PassView K V F) (key : K) (rs : List (RecordView K V F)) :
+      Type 0 where
+    pub client : pass.client < ledger.clients
+    pub legal : IsCellHistory after (lookup same_key ledger.opening key) rs
+    pub clients : All (λ r. r.client < ledger.clients) rs
+    pub own : by_client pass.client rs ≡ records_on same_key key pass.made

@@ -5,6 +5,8 @@ ghost use Rattle.std.specs.Int.{w64, cast_signed};
 ghost use Rattle.hashkeys.specs.Classes.{ClassView, is_of};
 ghost use Rattle.bin_history.specs.BinPart.{IsPartOf};
 ghost use Rattle.bin_history.specs.Calls.{after};
+ghost use Rattle.bin_history.specs.Cells.{records_on};
+ghost use Rattle.bin_history.specs.Clients.{by_client};
 ghost use Rattle.bin_history.specs.Deltas.{sum_of_deltas};
 ghost use Rattle.bin_history.specs.Entries.{lookup, HasDistinctKeys, replay};
 ghost use Rattle.bin_history.specs.Histories.{GoesOn};
@@ -15,7 +17,7 @@ ghost use Rattle.bin_history.specs.Readiness.{KeepsOrFolds};
 ghost use Rattle.bin_history.specs.Records.{RecordView};
 ghost use Rattle.count_ledger.specs.Agreement.{BinAgrees, part_of_role};
 ghost use Rattle.count_ledger.specs.Books.{IsPassOf};
-ghost use Rattle.count_ledger.specs.Fronts.{BeginsWith, IsFront, IsHistory};
+ghost use Rattle.count_ledger.specs.Fronts.{BeginsWith, IsFront, IsHistory, IsHistoryOn};
 ghost use Rattle.count_ledger.specs.Settled.{AreReconciled};
 ghost use Rattle.count_ledger.specs.Views.{LedgerView, PassView, RoleView};
 ghost use Rattle.count_ledger.specs.Words.{word_of, total_of, total_made, total_kept};
@@ -61,8 +63,10 @@ pub fn agreement_laws<K: HashKey, V: Eq, F: Remap<K, V>>()
 {}
 
 /// What is known of a front. Its part in any class is a history of that class, in which each key of
-/// the class has the value that it has in the front. A client that made a call behind a front has
-/// seen a front with its call; and what begins with a front begins with what that begins with.
+/// the class has the value that it has in the front, and the pairs of the class stand in the same
+/// order. Its calls on any one key are those of one cell. What it has behind all that a client had
+/// seen is by other clients. A client that made a call behind a front has seen a front with its
+/// call; and what begins with a front begins with what that begins with.
 pub fn laws_of_fronts<K: HashKey, V: Eq, F: Remap<K, V>>()
     ensures history { (ledger : LedgerView K V) (pass : PassView K V F) (class : ClassView)
         (front : List (RecordView K V F))
@@ -74,6 +78,19 @@ pub fn laws_of_fronts<K: HashKey, V: Eq, F: Remap<K, V>>()
         → test key ≡ true
         → run K.eq (lookup K.eq (part_of_entries test opening)) (part_of_records test front) key
         ≡ run K.eq (lookup K.eq opening) front key }
+    ensures pairs { (opening : List (K × V)) (test : K → Bool) (front : List (RecordView K V F))
+        → replay K.eq (part_of_entries test opening) (part_of_records test front)
+        ≡ part_of_entries test (replay K.eq opening front) }
+    ensures key { (ledger : LedgerView K V) (pass : PassView K V F)
+        (front : List (RecordView K V F)) (key : K)
+        → IsFront K.eq (after V.eq F.remapped F.merged) ledger pass front
+        → IsHistoryOn K.eq (after V.eq F.remapped F.merged) ledger pass key
+        (records_on K.eq key front) }
+    ensures others { (ledger : LedgerView K V) (pass : PassView K V F)
+        (front rest : List (RecordView K V F))
+        → IsFront K.eq (after V.eq F.remapped F.merged) ledger pass front
+        → by_client pass.client pass.seen ≡ pass.made → front ≡ pass.seen ++ rest
+        → by_client pass.client rest ≡ [] }
     ensures called { (ledger : LedgerView K V) (old new : PassView K V F) (r : RecordView K V F)
         (front : List (RecordView K V F))
         → IsFront K.eq (after V.eq F.remapped F.merged) ledger old front

@@ -1,5 +1,6 @@
 //! Passes and roles.
 ghost use Rattle.std.specs.Prelude.{◌≡◌, ◌<◌, ◌≤◌, [], ◌∷◌, length};
+ghost use Rattle.bin_history.specs.Clients.{by_client};
 
 use crate::books::View;
 use atomic_table::{Badge, Seat};
@@ -80,6 +81,13 @@ impl<K, V, F> Pass<K, V, F> {
         ensures at_most { result ≤ 144115188075855872 }
     {
         self.made
+    }
+
+    /// Of its client's calls a pass has seen just those that it made. It does nothing when it runs.
+    pub fn lawful(&self)
+        ensures { by_client self.now.client self.now.seen ≡ self.now.made }
+    {
+        let _ = &self.seat;
     }
 
     /// Ends the pass. The ledger can then never be settled.

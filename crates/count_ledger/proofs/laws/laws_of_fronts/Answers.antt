@@ -1,5 +1,7 @@
 use Rattle.bin_history.proofs.Keys.{key_tells}
-use Rattle.count_ledger.proofs.Fronts.{BeginsWith-more, IsFront-called, IsHistory-front, run_of_part}
+use Rattle.bin_history.proofs.Parts.{replay-part}
+use Rattle.count_ledger.proofs.Fronts.{BeginsWith-more, IsFront-called, IsHistory-front, IsHistoryOn-front, others_behind}
+use Rattle.count_ledger.proofs.Fronts.{run_of_part}
 use Rattle.count_ledger.proofs.laws.laws_of_fronts.Goals as goal
 
 pub returns-clause-history : goal.returns-clause-history
@@ -9,6 +11,17 @@ returns-clause-history g c =
 pub returns-clause-value : goal.returns-clause-value
 returns-clause-value g c = λ opening test front key on.
     run_of_part g.K.PartialEq.eq (key_tells g.met.K.Eq.laws g.met.K.HashKey.equal_is_same) test opening front key on
+
+pub returns-clause-pairs : goal.returns-clause-pairs
+returns-clause-pairs g c = λ opening test front.
+    replay-part g.K.PartialEq.eq (key_tells g.met.K.Eq.laws g.met.K.HashKey.equal_is_same) test opening front
+
+pub returns-clause-key : goal.returns-clause-key
+returns-clause-key g c =
+    IsHistoryOn-front g.K.PartialEq.eq _ (key_tells g.met.K.Eq.laws g.met.K.HashKey.equal_is_same)
+
+pub returns-clause-others : goal.returns-clause-others
+returns-clause-others g c = others_behind g.K.PartialEq.eq _
 
 pub returns-clause-called : goal.returns-clause-called
 returns-clause-called g c =
