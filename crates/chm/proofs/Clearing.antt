@@ -164,78 +164,78 @@ passed_on {S} {T} {E} r e f same is = let its : f ≡ e = subst (λ (x : Result 
     ap (λ (x : E). Err x) (sym its)
 
 module _ {K V F : Type 0} (same : K → K → Bool) (after : Call K V F → Option V → Option V) (ledger : LedgerView K V)
-    where
-  -- what a pass has seen is a front for it
-  pub IsFront-seen : (old new : PassView K V F) → HasSeen same after ledger old new →
-      IsFront same after ledger new new.seen
-  IsFront-seen old new s = subst (λ (p : PassView K V F). IsFront same after ledger p new.seen) (sym s.pass) (record {
-    client = s.front.client;
-    seen = BeginsWith-all new.seen;
-    own = s.front.own;
-    legal = s.front.legal;
-    clients = s.front.clients;
-  })
+  where
+    -- what a pass has seen is a front for it
+    pub IsFront-seen : (old new : PassView K V F) → HasSeen same after ledger old new →
+        IsFront same after ledger new new.seen
+    IsFront-seen old new s = subst (λ (p : PassView K V F). IsFront same after ledger p new.seen) (sym s.pass) (record {
+      client = s.front.client;
+      seen = BeginsWith-all new.seen;
+      own = s.front.own;
+      legal = s.front.legal;
+      clients = s.front.clients;
+    })
 
-  module _ (code : K → ℕ) where
-    -- one bin more
-    pub AreCleared-push : (old mid new : PassView K V F) (cs : List ClassView) (c : ClassView) →
-        AreCleared same code after ledger old cs mid → HasRemovedIn code ledger.salt c mid new →
-        IsEmptyIn same code after ledger new c → AreCleared same code after ledger old (cs ++ c ∷ []) new
-    AreCleared-push old mid new [] c are removed empty =
-        (new, subst (λ (p : PassView K V F). HasRemovedIn code ledger.salt c p new) are removed, empty, refl)
-    AreCleared-push old mid new (d ∷ ds) c (m, r, e, rest) removed empty =
-        (m, r, e, AreCleared-push m mid new ds c rest removed empty)
+    module _ (code : K → ℕ) where
+      -- one bin more
+      pub AreCleared-push : (old mid new : PassView K V F) (cs : List ClassView) (c : ClassView) →
+          AreCleared same code after ledger old cs mid → HasRemovedIn code ledger.salt c mid new →
+          IsEmptyIn same code after ledger new c → AreCleared same code after ledger old (cs ++ c ∷ []) new
+      AreCleared-push old mid new [] c are removed empty =
+          (new, subst (λ (p : PassView K V F). HasRemovedIn code ledger.salt c p new) are removed, empty, refl)
+      AreCleared-push old mid new (d ∷ ds) c (m, r, e, rest) removed empty =
+          (m, r, e, AreCleared-push m mid new ds c rest removed empty)
 
-    -- of the calls on keys of a class there are no more after removals in classes that have none of its hashes
-    kept-part : (old new : PassView K V F) (class : ClassView) (cs : List ClassView) →
-        ((hash : ℕ) → covering (class ∷ cs) hash ≤ 1) → AreCleared same code after ledger old cs new
-        → part_of_records (is_of code ledger.salt class) new.made
-        ≡ part_of_records (is_of code ledger.salt class) old.made
-    kept-part old new class [] once are =
-        ap (λ (p : PassView K V F). part_of_records (is_of code ledger.salt class) p.made) are
-    kept-part old new class (d ∷ ds) once (m, (rs, each, of, is), e, rest) =
-        let In : RecordView K V F → Type 0 = λ r. is_of code ledger.salt d (key_of r.call) ≡ true in
-        let Out : RecordView K V F → Type 0 = λ r. is_of code ledger.salt class (key_of r.call) ≡ false in
-        let none : part_of_records (is_of code ledger.salt class) rs ≡ [] =
-        filter_none (λ (r : RecordView K V F). is_of code ledger.salt class (key_of r.call)) rs
-        (All-weaker In Out (λ r i. first_alone class d ds (hash_of ledger.salt (code (key_of r.call)))
-        (once (hash_of ledger.salt (code (key_of r.call)))) i) rs of) in
-        kept-part m new class ds (λ hash. without_second class d ds hash (once hash)) rest
-        ∙ ap (λ (p : PassView K V F). part_of_records (is_of code ledger.salt class) p.made) is.pass
-        ∙ filter-append (λ (r : RecordView K V F). is_of code ledger.salt class (key_of r.call)) old.made rs
-        ∙ ap (λ (l : List (RecordView K V F)). part_of_records (is_of code ledger.salt class) old.made ++ l) none
-        ∙ append-nil (part_of_records (is_of code ledger.salt class) old.made)
+      -- of the calls on keys of a class there are no more after removals in classes that have none of its hashes
+      kept-part : (old new : PassView K V F) (class : ClassView) (cs : List ClassView) →
+          ((hash : ℕ) → covering (class ∷ cs) hash ≤ 1) → AreCleared same code after ledger old cs new
+          → part_of_records (is_of code ledger.salt class) new.made
+          ≡ part_of_records (is_of code ledger.salt class) old.made
+      kept-part old new class [] once are =
+          ap (λ (p : PassView K V F). part_of_records (is_of code ledger.salt class) p.made) are
+      kept-part old new class (d ∷ ds) once (m, (rs, each, of, is), e, rest) =
+          let In : RecordView K V F → Type 0 = λ r. is_of code ledger.salt d (key_of r.call) ≡ true in
+          let Out : RecordView K V F → Type 0 = λ r. is_of code ledger.salt class (key_of r.call) ≡ false in
+          let none : part_of_records (is_of code ledger.salt class) rs ≡ [] =
+          filter_none (λ (r : RecordView K V F). is_of code ledger.salt class (key_of r.call)) rs
+          (All-weaker In Out (λ r i. first_alone class d ds (hash_of ledger.salt (code (key_of r.call)))
+          (once (hash_of ledger.salt (code (key_of r.call)))) i) rs of) in
+          kept-part m new class ds (λ hash. without_second class d ds hash (once hash)) rest
+          ∙ ap (λ (p : PassView K V F). part_of_records (is_of code ledger.salt class) p.made) is.pass
+          ∙ filter-append (λ (r : RecordView K V F). is_of code ledger.salt class (key_of r.call)) old.made rs
+          ∙ ap (λ (l : List (RecordView K V F)). part_of_records (is_of code ledger.salt class) old.made ++ l) none
+          ∙ append-nil (part_of_records (is_of code ledger.salt class) old.made)
 
-    module _ (tells : (x y : K) → Decides (same x y) (x ≡ y)) where
-      -- with one client, a class that was seen empty has no pair by its own calls
-      own_empty : (pass : PassView K V F) (class : ClassView) → ledger.clients ≡ 1 →
-          IsEmptyIn same code after ledger pass class
-          → replay same (opening_in code ledger class) (part_of_records (is_of code ledger.salt class) pass.made) ≡ []
-      own_empty pass class one empty =
-          sym (IsOwn-visit same after ledger tells code pass pass.seen (record { class = class; entries = [] }) one
-          empty.front (record {
-            distinct = tt;
-            of_class = All-nil (λ (e : K × V). is_of code ledger.salt class e.0 ≡ true);
-            entries = sym empty.empty;
-          }))
+      module _ (tells : (x y : K) → Decides (same x y) (x ≡ y)) where
+        -- with one client, a class that was seen empty has no pair by its own calls
+        own_empty : (pass : PassView K V F) (class : ClassView) → ledger.clients ≡ 1 →
+            IsEmptyIn same code after ledger pass class
+            → replay same (opening_in code ledger class) (part_of_records (is_of code ledger.salt class) pass.made) ≡ []
+        own_empty pass class one empty =
+            sym (IsOwn-visit same after ledger tells code pass pass.seen (record { class = class; entries = [] }) one
+            empty.front (record {
+              distinct = tt;
+              of_class = All-nil (λ (e : K × V). is_of code ledger.salt class e.0 ≡ true);
+              entries = sym empty.empty;
+            }))
 
-      -- with one client, no class that was cleared has a pair by its own calls
-      pub emptied : (old new : PassView K V F) (cs : List ClassView) → ledger.clients ≡ 1 →
-          ((hash : ℕ) → covering cs hash ≤ 1) → AreCleared same code after ledger old cs new
-          → All (λ c. replay same (opening_in code ledger c) (part_of_records (is_of code ledger.salt c) new.made) ≡ [])
-          cs
-      emptied old new [] one once are =
-          All-nil (λ c. replay same (opening_in code ledger c) (part_of_records (is_of code ledger.salt c) new.made)
-          ≡ [])
-      emptied old new (c ∷ cs) one once (m, r, e, rest) =
-          All-cons (λ c. replay same (opening_in code ledger c) (part_of_records (is_of code ledger.salt c) new.made)
-          ≡ []) c cs
-          (ap (λ (l : List (RecordView K V F)). replay same (opening_in code ledger c) l)
-          (kept-part m new c cs once rest) ∙ own_empty m c one e)
-          (emptied m new cs one (λ hash. without_first c cs hash (once hash)) rest)
+        -- with one client, no class that was cleared has a pair by its own calls
+        pub emptied : (old new : PassView K V F) (cs : List ClassView) → ledger.clients ≡ 1 →
+            ((hash : ℕ) → covering cs hash ≤ 1) → AreCleared same code after ledger old cs new
+            → All (λ c. replay same (opening_in code ledger c) (part_of_records (is_of code ledger.salt c) new.made) ≡ [])
+            cs
+        emptied old new [] one once are =
+            All-nil (λ c. replay same (opening_in code ledger c) (part_of_records (is_of code ledger.salt c) new.made)
+            ≡ [])
+        emptied old new (c ∷ cs) one once (m, r, e, rest) =
+            All-cons (λ c. replay same (opening_in code ledger c) (part_of_records (is_of code ledger.salt c) new.made)
+            ≡ []) c cs
+            (ap (λ (l : List (RecordView K V F)). replay same (opening_in code ledger c) l)
+            (kept-part m new c cs once rest) ∙ own_empty m c one e)
+            (emptied m new cs one (λ hash. without_first c cs hash (once hash)) rest)
 
-      -- with one client, a bin that has entries left has them by its own calls
-      pub own_left : (pass : PassView K V F) → ledger.clients ≡ 1 → HasLeft same code after ledger pass →
-          HasOwnLeft same code ledger pass
-      own_left pass one (v, front, visit, some) =
-          (v.class, λ none. some (IsOwn-visit same after ledger tells code pass pass.seen v one front visit ∙ none))
+        -- with one client, a bin that has entries left has them by its own calls
+        pub own_left : (pass : PassView K V F) → ledger.clients ≡ 1 → HasLeft same code after ledger pass →
+            HasOwnLeft same code ledger pass
+        own_left pass one (v, front, visit, some) =
+            (v.class, λ none. some (IsOwn-visit same after ledger tells code pass pass.seen v one front visit ∙ none))

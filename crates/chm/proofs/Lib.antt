@@ -13,4 +13,3 @@ pub mod Shared
 pub mod Finding
 pub mod Passes
 pub mod Limits
-pub mod Hearing

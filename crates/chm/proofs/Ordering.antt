@@ -1,6 +1,6 @@
 -- The calls of a closed map in one order are those of a one-thread map.
 use Rattle.std.proofs.Common.{◌≡◌, ℕ, ◌<◌, ◌==◌, Bool, true, cond, Option, None, Decides, List, All, sym, ap, ◌∙◌}
-use Rattle.std.proofs.Common.{subst, arith}
+use Rattle.std.proofs.Common.{[], ◌∷◌, ◌++◌, append_assoc, subst, arith}
 use Rattle.std.proofs.lemmas.List.Elements.{All-filter, All-get_or, All-weaker}
 use Rattle.hashkeys.specs.Classes.{covers, is_of}
 use Rattle.hashkeys.specs.Hashing.{hash_of}
@@ -18,10 +18,12 @@ use Rattle.bin_history.proofs.Histories.{HasHistory-replay}
 use Rattle.bin_history.proofs.Parts.{lookup-part}
 use Rattle.bin_history.proofs.Runs.{lookup-replay}
 use Rattle.count_ledger.specs.Books.{IsRoleOf}
+use Rattle.count_ledger.specs.Fronts.{BeginsWith}
 use Rattle.count_ledger.specs.Views.{PassView, RoleView}
 use Rattle.count_ledger.proofs.Filters.{filter_within, filter_turn}
+use Rattle.count_ledger.proofs.Fronts.{BeginsWith-more}
 use Rattle.generations.specs.Views.{GenerationsView}
-use Rattle.chm.specs.Headline.{QuietView, IsQuiet, entries_of, IsOneOrder, IsHistoryOfKey}
+use Rattle.chm.specs.Headline.{QuietView, IsQuiet, entries_of, IsOneOrder, IsHistoryOfKey, IsToldInOrder}
 use Rattle.chm.specs.Views.{bins_of}
 use Rattle.count_ledger.specs.Settled.{IsOrder}
 use Rattle.chm.proofs.Homes.{IsHome, home, distinct}
@@ -110,6 +112,23 @@ module _ {K V F : Type 0} (same : K → K → Bool) (tells : (x y : K) → Decid
         home_of k in cell k b r is_kept at_home);
     final = λ k. let (b, r, is_kept, at_home) = home_of k in value k b r is_kept at_home;
   }
+
+  -- each call stands behind those that its client had seen
+  pub AreToldInOrder-closed : All (IsToldInOrder calls) q.passes
+  AreToldInOrder-closed =
+      All-weaker (λ (p : PassView K V F). BeginsWith calls p.seen) (IsToldInOrder calls) (λ p seen. told p seen)
+      q.passes order.seen where
+        told : (p : PassView K V F) → BeginsWith calls p.seen → IsToldInOrder calls p
+        told p seen front known first second knew had =
+            let (rest, is) = BeginsWith-more calls p.seen (known ++ second ∷ []) seen knew in
+            let (between, its) = had in (
+              between,
+              rest,
+              is ∙ ap (λ (l : List (RecordView K V F)). (l ++ second ∷ []) ++ rest) its
+                  ∙ append_assoc ((front ++ first ∷ []) ++ between) (second ∷ []) rest
+                  ∙ append_assoc (front ++ first ∷ []) between (second ∷ rest)
+                  ∙ append_assoc front (first ∷ []) (between ++ second ∷ rest),
+            )
 
   -- the calls on one key, in that order, are the key's history
   pub IsHistoryOfKey-ordered : (k : K) → IsHistoryOfKey same after q k (records_on same k calls)

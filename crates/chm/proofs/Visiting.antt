@@ -47,67 +47,67 @@ HasSeenMore-more {K} {V} {F} old mid new a b = record {
 }
 
 module _ {K V F : Type 0} (same : K → K → Bool) (after : Call K V F → Option V → Option V) (ledger : LedgerView K V)
-    where
-  pub HasSeenMore-seen : (old new : PassView K V F) → HasSeen same after ledger old new → HasSeenMore old new
-  HasSeenMore-seen old new s = record { seen = s.front.seen; pass = s.pass }
+  where
+    pub HasSeenMore-seen : (old new : PassView K V F) → HasSeen same after ledger old new → HasSeenMore old new
+    HasSeenMore-seen old new s = record { seen = s.front.seen; pass = s.pass }
 
-  -- with one client a front has the client's own calls and no others
-  own_front : (pass : PassView K V F) (front : List (RecordView K V F)) → ledger.clients ≡ 1 →
-      IsFront same after ledger pass front → front ≡ pass.made
-  own_front pass front one f =
-      let few : All (λ r. r.client < 1) front = rw (← one) f.clients in
-      let mine : pass.client < 1 = (let l = f.client in omega arith) in
-      sym (only_client pass.client front mine few) ∙ f.own
+    -- with one client a front has the client's own calls and no others
+    own_front : (pass : PassView K V F) (front : List (RecordView K V F)) → ledger.clients ≡ 1 →
+        IsFront same after ledger pass front → front ≡ pass.made
+    own_front pass front one f =
+        let few : All (λ r. r.client < 1) front = rw (← one) f.clients in
+        let mine : pass.client < 1 = (let l = f.client in omega arith) in
+        sym (only_client pass.client front mine few) ∙ f.own
 
-  module _ (tells : (x y : K) → Decides (same x y) (x ≡ y)) (code : K → ℕ) where
-    pub IsOwn-visit : (pass : PassView K V F) (front : List (RecordView K V F)) (v : VisitView K V) →
-        ledger.clients ≡ 1 → IsFront same after ledger pass front → IsVisit same code ledger front v →
-        IsOwn same code ledger pass v
-    IsOwn-visit pass front v one f visit =
-        visit.entries
-        ∙ ap (λ (rs : List (RecordView K V F)).
-        part_of_entries (is_of code ledger.salt v.class) (replay same ledger.opening rs)) (own_front pass front one f)
-        ∙ sym (replay-part same tells (is_of code ledger.salt v.class) ledger.opening pass.made)
+    module _ (tells : (x y : K) → Decides (same x y) (x ≡ y)) (code : K → ℕ) where
+      pub IsOwn-visit : (pass : PassView K V F) (front : List (RecordView K V F)) (v : VisitView K V) →
+          ledger.clients ≡ 1 → IsFront same after ledger pass front → IsVisit same code ledger front v →
+          IsOwn same code ledger pass v
+      IsOwn-visit pass front v one f visit =
+          visit.entries
+          ∙ ap (λ (rs : List (RecordView K V F)).
+          part_of_entries (is_of code ledger.salt v.class) (replay same ledger.opening rs)) (own_front pass front one f)
+          ∙ sym (replay-part same tells (is_of code ledger.salt v.class) ledger.opening pass.made)
 
-    -- one visit more
-    pub AreVisited-push : (old mid new : PassView K V F) (vs : List (VisitView K V)) (v : VisitView K V) →
-        AreVisited same code after ledger old vs mid → HasSeen same after ledger mid new →
-        IsVisit same code ledger new.seen v → AreVisited same code after ledger old (vs ++ v ∷ []) new
-    AreVisited-push old mid new [] v are seen visit =
-        (new, subst (λ (p : PassView K V F). HasSeen same after ledger p new) are seen, visit, refl)
-    AreVisited-push old mid new (w ∷ ws) v (m, s, i, rest) seen visit =
-        (m, s, i, AreVisited-push m mid new ws v rest seen visit)
+      -- one visit more
+      pub AreVisited-push : (old mid new : PassView K V F) (vs : List (VisitView K V)) (v : VisitView K V) →
+          AreVisited same code after ledger old vs mid → HasSeen same after ledger mid new →
+          IsVisit same code ledger new.seen v → AreVisited same code after ledger old (vs ++ v ∷ []) new
+      AreVisited-push old mid new [] v are seen visit =
+          (new, subst (λ (p : PassView K V F). HasSeen same after ledger p new) are seen, visit, refl)
+      AreVisited-push old mid new (w ∷ ws) v (m, s, i, rest) seen visit =
+          (m, s, i, AreVisited-push m mid new ws v rest seen visit)
 
-    -- after visits the pass has seen more
-    pub AreVisited-seen : (old new : PassView K V F) (vs : List (VisitView K V)) →
-        AreVisited same code after ledger old vs new → HasSeenMore old new
-    AreVisited-seen old new [] are = HasSeenMore-same old new are
-    AreVisited-seen old new (w ∷ ws) (m, s, i, rest) =
-        HasSeenMore-more old m new (HasSeenMore-seen old m s) (AreVisited-seen m new ws rest)
+      -- after visits the pass has seen more
+      pub AreVisited-seen : (old new : PassView K V F) (vs : List (VisitView K V)) →
+          AreVisited same code after ledger old vs new → HasSeenMore old new
+      AreVisited-seen old new [] are = HasSeenMore-same old new are
+      AreVisited-seen old new (w ∷ ws) (m, s, i, rest) =
+          HasSeenMore-more old m new (HasSeenMore-seen old m s) (AreVisited-seen m new ws rest)
 
-    -- with one client visits show the client's own calls
-    pub visits_own : (old new : PassView K V F) (vs : List (VisitView K V)) → ledger.clients ≡ 1 →
-        AreVisited same code after ledger old vs new → All (IsOwn same code ledger old) vs
-    visits_own old new [] one are = All-nil (IsOwn same code ledger old)
-    visits_own old new (w ∷ ws) one (m, s, i, rest) =
-        All-cons (IsOwn same code ledger old) w ws (IsOwn-visit old m.seen w one s.front i)
-        (subst (λ (p : PassView K V F). All (IsOwn same code ledger p) ws) s.pass (visits_own m new ws one rest))
+      -- with one client visits show the client's own calls
+      pub visits_own : (old new : PassView K V F) (vs : List (VisitView K V)) → ledger.clients ≡ 1 →
+          AreVisited same code after ledger old vs new → All (IsOwn same code ledger old) vs
+      visits_own old new [] one are = All-nil (IsOwn same code ledger old)
+      visits_own old new (w ∷ ws) one (m, s, i, rest) =
+          All-cons (IsOwn same code ledger old) w ws (IsOwn-visit old m.seen w one s.front i)
+          (subst (λ (p : PassView K V F). All (IsOwn same code ledger p) ws) s.pass (visits_own m new ws one rest))
 
-    abbrev Own : VisitView K V → Type 0
-    Own = OwnsItsKeys same tells (λ k. hash_of ledger.salt (code k)) (λ (v : VisitView K V). v.class) (λ v. v.entries)
+      abbrev Own : VisitView K V → Type 0
+      Own = OwnsItsKeys same tells (λ k. hash_of ledger.salt (code k)) (λ (v : VisitView K V). v.class) (λ v. v.entries)
 
-    each_own : (old new : PassView K V F) (vs : List (VisitView K V)) → AreVisited same code after ledger old vs new →
-        All Own vs
-    each_own old new [] are = All-nil Own
-    each_own old new (w ∷ ws) (m, s, i, rest) = All-cons Own w ws (i.distinct, i.of_class) (each_own m new ws rest)
+      each_own : (old new : PassView K V F) (vs : List (VisitView K V)) → AreVisited same code after ledger old vs new →
+          All Own vs
+      each_own old new [] are = All-nil Own
+      each_own old new (w ∷ ws) (m, s, i, rest) = All-cons Own w ws (i.distinct, i.of_class) (each_own m new ws rest)
 
-    -- no key comes twice in the visits of a walk
-    pub distinct_visits : (n : ℕ) (old new : PassView K V F) (visits : List (VisitView K V))
-        → AreVisits same code after n ledger old visits new → HasDistinctKeys same (shown_by visits)
-    distinct_visits n old new visits are =
-        distinct_all same tells (λ k. hash_of ledger.salt (code k)) (λ (v : VisitView K V). v.class)
-        (λ v. v.entries) visits (each_own old new visits are.visited)
-        (λ k. let once = are.walk.each_hash (hash_of ledger.salt (code k)) in omega arith)
+      -- no key comes twice in the visits of a walk
+      pub distinct_visits : (n : ℕ) (old new : PassView K V F) (visits : List (VisitView K V))
+          → AreVisits same code after n ledger old visits new → HasDistinctKeys same (shown_by visits)
+      distinct_visits n old new visits are =
+          distinct_all same tells (λ k. hash_of ledger.salt (code k)) (λ (v : VisitView K V). v.class)
+          (λ v. v.entries) visits (each_own old new visits are.visited)
+          (λ k. let once = are.walk.each_hash (hash_of ledger.salt (code k)) in omega arith)
 
 pub classes-push : {K V : Type 0} (vs : List (VisitView K V)) (v : VisitView K V) → classes_of_visits (vs ++ v ∷ [])
     ≡ classes_of_visits vs ++ v.class ∷ []

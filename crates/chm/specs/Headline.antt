@@ -5,7 +5,8 @@
 -- left (`IsAnswered`); so does a look-up, and a walk shows each bin at such a front. A moment is a front that one client
 -- hands to another. When all clients are done the map is closed, and its bins, their roles and the passes fit together
 -- (`IsQuiet`). Then there is one order of all calls, with each client's calls in that client's order: a map of one
--- thread gives these answers in it, and ends as the closed map (`IsOneOrder`).
+-- thread gives these answers in it, and ends as the closed map (`IsOneOrder`); and in it each call stands behind those
+-- that its client had seen (`IsToldInOrder`).
 --
 -- `same_key` and `same_value` are `==` on keys and on values, `code` is a key's code, `remapped` and `merged` are what
 -- a function computes, and `after` is the value that a call leaves at its key, by the one that it finds there.
@@ -23,7 +24,7 @@ use Rattle.bin_history.specs.Plain.{run, IsLegal}
 use Rattle.bin_history.specs.Records.{RecordView}
 use Rattle.bin_history.specs.declared.call.Call.{Call}
 use Rattle.bin_history.specs.declared.call.Reply.{Reply}
-use Rattle.count_ledger.specs.Fronts.{IsFront}
+use Rattle.count_ledger.specs.Fronts.{BeginsWith, IsFront}
 use Rattle.count_ledger.specs.Limits.{most_calls}
 use Rattle.count_ledger.specs.Settled.{AreReconciled, IsOrder}
 use Rattle.count_ledger.specs.Views.{LedgerView, PassView, RoleView}
@@ -122,6 +123,14 @@ module _ {K V F : Type 0} (same_key : K → K → Bool) (code : K → ℕ) (afte
     pub legal : IsLegal same_key after (lookup same_key q.ledger.opening) calls
     pub final : (k : K) → lookup same_key (entries_of q.bins) k
         ≡ run same_key (lookup same_key q.ledger.opening) calls k
+
+module _ {K V F : Type 0} where
+  -- a call stands behind each call that its client had seen: where the pass has seen `second` behind the calls `known`,
+  -- and `first` was among these, the first stands before the second in this order
+  abbrev pub IsToldInOrder : List (RecordView K V F) → PassView K V F → Type 0
+  IsToldInOrder calls pass = (front known : List (RecordView K V F)) (first second : RecordView K V F)
+      → BeginsWith pass.seen (known ++ second ∷ []) → BeginsWith known (front ++ first ∷ [])
+      → (between rest : List (RecordView K V F)) × (calls ≡ front ++ first ∷ (between ++ second ∷ rest))
 
 module _ {K V F : Type 0} (same_key : K → K → Bool) (after : Call K V F → Option V → Option V) where
   -- all calls on one key: of each client those that it made on the key, in its order;

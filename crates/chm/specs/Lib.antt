@@ -8,4 +8,3 @@ pub mod Visits
 pub mod Closing
 pub mod Cleared
 pub mod Reopened
-pub mod Passed

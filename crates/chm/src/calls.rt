@@ -47,7 +47,6 @@ impl<
         let lent = &mut held;
         let bin = lent.bin.as_mut();
         let class = bin.class();
-        let _ = class.n();
         let made = self.call_under(pass, bin, &mut lent.role, key, op);
         held.release();
         let (reply, grew) = made?;
@@ -60,8 +59,8 @@ impl<
     ///
     ///     map.call(rt, pass, Call::Put(1, 5))?;
     ///     map.call(rt, pass, Call::Get(1))? == Reply::Value(Some(5))
-    pub fn call<'a, R: Wait>(
-        &'a self,
+    pub fn call<R: Wait>(
+        &self,
         rt: &R,
         pass: &mut Pass<K, V, F>,
         call: Call<K, V, F>,
@@ -72,6 +71,22 @@ impl<
             pass.new result }
     {
         let (key, op) = call.into_parts();
+        self.call_owned(rt, pass, key, op)
+    }
+
+    /// The same of a call whose key is handed over beside it.
+    fn call_owned<'a, R: Wait>(
+        &'a self,
+        rt: &R,
+        pass: &mut Pass<K, V, F>,
+        key: K,
+        op: Op<V, F>,
+    ) -> Result<Reply<V>, Fault>
+        requires exact { AreExact K.is_clone V.is_clone F.is_clone }
+        requires pass { pass.old.ledger ≡ self.now.ledger.id }
+        ensures { IsAnswered K.eq V.eq F.remapped F.merged self.now.ledger (call_on key op)
+            pass.old pass.new result }
+    {
         let key: Given<'a, K> = Given::Owned(key);
         self.call_on(rt, pass, key, op)
     }
@@ -112,7 +127,7 @@ impl<
         ensures { IsAnswered K.eq V.eq F.remapped F.merged self.now.ledger
             (Get key) pass.old pass.new result }
     {
-        self.call(rt, pass, Call::Get(key))
+        self.call_owned(rt, pass, key, Op::Get)
     }
 
     /// Whether the key has a value.
@@ -131,7 +146,7 @@ impl<
         ensures { IsAnswered K.eq V.eq F.remapped F.merged self.now.ledger
             (Contains key) pass.old pass.new result }
     {
-        self.call(rt, pass, Call::Contains(key))
+        self.call_owned(rt, pass, key, Op::Contains)
     }
 
     /// Gives the key this value. It replies the value before.
@@ -151,7 +166,7 @@ impl<
         ensures { IsAnswered K.eq V.eq F.remapped F.merged self.now.ledger
             (Put key value) pass.old pass.new result }
     {
-        self.call(rt, pass, Call::Put(key, value))
+        self.call_owned(rt, pass, key, Op::Put(value))
     }
 
     /// Gives the key this value where it has none. It replies the value before.
@@ -171,7 +186,7 @@ impl<
         ensures { IsAnswered K.eq V.eq F.remapped F.merged self.now.ledger
             (PutIfAbsent key value) pass.old pass.new result }
     {
-        self.call(rt, pass, Call::PutIfAbsent(key, value))
+        self.call_owned(rt, pass, key, Op::PutIfAbsent(value))
     }
 
     /// Takes the key away. It replies the value before.
@@ -190,7 +205,7 @@ impl<
         ensures { IsAnswered K.eq V.eq F.remapped F.merged self.now.ledger
             (Remove key) pass.old pass.new result }
     {
-        self.call(rt, pass, Call::Remove(key))
+        self.call_owned(rt, pass, key, Op::Remove)
     }
 
     /// Takes the key away where it has this value. It replies whether it had.
@@ -210,7 +225,7 @@ impl<
         ensures { IsAnswered K.eq V.eq F.remapped F.merged self.now.ledger
             (RemoveIf key value) pass.old pass.new result }
     {
-        self.call(rt, pass, Call::RemoveIf(key, value))
+        self.call_owned(rt, pass, key, Op::RemoveIf(value))
     }
 
     /// Gives the key this value where it has one. It replies the value before.
@@ -230,7 +245,7 @@ impl<
         ensures { IsAnswered K.eq V.eq F.remapped F.merged self.now.ledger
             (Replace key value) pass.old pass.new result }
     {
-        self.call(rt, pass, Call::Replace(key, value))
+        self.call_owned(rt, pass, key, Op::Replace(value))
     }
 
     /// Gives the key the new value where it has the old one. It replies whether it had.
@@ -251,7 +266,7 @@ impl<
         ensures { IsAnswered K.eq V.eq F.remapped F.merged self.now.ledger
             (ReplaceIf key old new) pass.old pass.new result }
     {
-        self.call(rt, pass, Call::ReplaceIf(key, old, new))
+        self.call_owned(rt, pass, key, Op::ReplaceIf(old, new))
     }
 
     /// Gives a key without a value what the function makes of none. It replies the value after.
@@ -271,7 +286,7 @@ impl<
         ensures { IsAnswered K.eq V.eq F.remapped F.merged self.now.ledger
             (ComputeIfAbsent key function) pass.old pass.new result }
     {
-        self.call(rt, pass, Call::ComputeIfAbsent(key, function))
+        self.call_owned(rt, pass, key, Op::ComputeIfAbsent(function))
     }
 
     /// Gives a key with a value what the function makes of it. It replies the value after. Nothing
@@ -292,7 +307,7 @@ impl<
         ensures { IsAnswered K.eq V.eq F.remapped F.merged self.now.ledger
             (ComputeIfPresent key function) pass.old pass.new result }
     {
-        self.call(rt, pass, Call::ComputeIfPresent(key, function))
+        self.call_owned(rt, pass, key, Op::ComputeIfPresent(function))
     }
 
     /// Gives the key what the function makes of its value, or of none. It replies the value after.
@@ -312,7 +327,7 @@ impl<
         ensures { IsAnswered K.eq V.eq F.remapped F.merged self.now.ledger
             (Compute key function) pass.old pass.new result }
     {
-        self.call(rt, pass, Call::Compute(key, function))
+        self.call_owned(rt, pass, key, Op::Compute(function))
     }
 
     /// Gives a key without a value this one, and a key with a value what the function makes of
@@ -333,6 +348,6 @@ impl<
         ensures { IsAnswered K.eq V.eq F.remapped F.merged self.now.ledger
             (Merge key value function) pass.old pass.new result }
     {
-        self.call(rt, pass, Call::Merge(key, value, function))
+        self.call_owned(rt, pass, key, Op::Merge(value, function))
     }
 }

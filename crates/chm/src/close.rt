@@ -7,7 +7,7 @@ use crate::fault::Fault;
 use crate::map::Map;
 use crate::quiet::Quiet;
 use bin_history::{Bin, Remap};
-use count_ledger::{Pass, Unsettled};
+use count_ledger::{Pass, Unsettled, retire_all};
 use generations::NotLeft;
 use hashkeys::HashKey;
 use std::alloc::Allocator;
@@ -30,6 +30,28 @@ impl<K: HashKey, V: Clone + Eq, F: Remap<K, V> + Clone, A: Allocator> Model
     ghost Value = { NotClosedView K V F };
 
     ghost view = { λ e. record { fault = e.fault; map = e.map; passes = e.passes.items } };
+}
+
+impl<
+    K: HashKey + Drop,
+    V: Clone + Eq + Drop,
+    F: Remap<K, V> + Clone + Drop,
+    A: Allocator + Clone,
+> NotClosed<K, V, F, A> {
+    /// Why the map was not closed, for who gives it up: its passes end, and it goes.
+    ///
+    ///     map.close(rt, passes).map_err(|refused| refused.give_up())
+    pub fn give_up(self) -> Fault
+        ensures { result ≡ self.fault }
+    {
+        let NotClosed {
+            fault,
+            map: _,
+            passes,
+        } = self;
+        retire_all(passes);
+        fault
+    }
 }
 
 /// The entries of each of these bins are the replay of its records over its base. It changes
@@ -56,10 +78,7 @@ impl<
     ///
     ///     match map.close(rt, passes) {
     ///         Ok(quiet) => Ok(quiet),
-    ///         Err(NotClosed { fault, map: _, passes }) => {
-    ///             retire_all(passes);
-    ///             Err(fault)
-    ///         }
+    ///         Err(refused) => Err(refused.give_up()),
     ///     }
     pub fn close<R: Wait>(
         self,

@@ -1,7 +1,12 @@
 //! A map of keys to values that many threads call at once. A call holds the bin of its key, makes
 //! the call there and posts it to the books of its client and of the bin, before it gives the bin
-//! back. Each call so answers the reply of the one record that it made, in the one-thread map that
-//! the bin is.
+//! back.
+//!
+//! The map is linearizable as far as its clients can tell. There is one order of all calls, in which
+//! each answers what a map of one thread answers, and each stands behind every call that its client
+//! had seen: the client's own, those before them, and those that it looked up, walked over or learned
+//! of by a `Moment` of another client. Of two calls between which nothing was handed over no
+//! contract says which of them stands first.
 //!
 //! The table grows while it is called. After a call that made its key present, where there are
 //! three keys to four bins, the call's client opens a move to twice the bins, and moves 16 of them
@@ -19,7 +24,6 @@ mod lent;
 mod map;
 mod moments;
 mod moving;
-mod passing;
 mod quiet;
 mod reopen;
 mod share;
@@ -34,7 +38,6 @@ pub use count_ledger::{MOST_CALLS, MOST_CLIENTS, MOST_LEAN_CALLS, Moment, Pass, 
 pub use fault::Fault;
 pub use hashkeys::{ByteString, Bytes, Class, HashKey, Key, Salt};
 pub use map::{Map, Opened};
-pub use passing::{hear, tell, tell_and_hear};
 pub use quiet::{Entries, Quiet};
 pub use share::Sharing;
 pub use size::MOST_BINS;

@@ -1,4 +1,4 @@
-//! Moments: what one client has seen, told to another.
+//! Moments: what one client has seen, handed to another.
 ghost use Rattle.std.specs.Prelude.{◌≡◌};
 ghost use Rattle.bin_history.specs.Calls.{after};
 ghost use Rattle.count_ledger.specs.Fronts.{BeginsWith, HasSeen};
@@ -10,9 +10,15 @@ use hashkeys::HashKey;
 use std::alloc::Allocator;
 
 impl<K: HashKey, V: Clone + Eq, F: Remap<K, V> + Clone, A: Allocator> Map<K, V, F, A> {
-    /// What the pass's client has seen of the calls on this map: its own, and all that stand before
-    /// the last of them, or that it learned of. A moment has no bytes, and can go to another
-    /// thread. It is no call, and holds no bin.
+    /// What the pass's client has seen of the calls on this map: its own and those before them, and
+    /// what it looked up, walked over or learned of. A moment has no bytes, and can go to another
+    /// thread: whatever that client does once it has learned of it happens after all these calls.
+    /// It is no call, holds no bin, takes no memory and never waits.
+    ///
+    ///     map.put(rt, first, 1, 5)?;
+    ///     let mut moment = map.moment(first);
+    ///     map.learn(second, &mut moment);
+    ///     map.get(rt, second, 1)? == Reply::Value(Some(5))
     pub fn moment(&self, pass: &mut Pass<K, V, F>) -> Moment<K, V, F>
         requires { pass.old.ledger ≡ self.now.ledger.id }
         ensures moment { result ≡ record { ledger = self.now.ledger.id; seen = pass.old.seen } }
@@ -21,7 +27,10 @@ impl<K: HashKey, V: Clone + Eq, F: Remap<K, V> + Clone, A: Allocator> Map<K, V, 
         self.ledger.moment(pass)
     }
 
-    /// The same moment once more.
+    /// The same moment once more, for one more client.
+    ///
+    ///     let mut moment = map.moment(first);
+    ///     let mut copy = map.again(&mut moment);
     pub fn again(&self, moment: &mut Moment<K, V, F>) -> Moment<K, V, F>
         requires { moment.old.ledger ≡ self.now.ledger.id }
         ensures copy { result ≡ moment.old }
@@ -30,8 +39,12 @@ impl<K: HashKey, V: Clone + Eq, F: Remap<K, V> + Clone, A: Allocator> Map<K, V, 
         self.ledger.again(moment)
     }
 
-    /// The pass's client learns of a moment: the calls that it makes from now on stand behind all
-    /// calls of the moment. It is no call, and holds no bin.
+    /// The pass's client learns of a moment: it has then seen all calls so far, those of the moment
+    /// among them, and the calls that it makes from now on stand behind them. It is no call, holds
+    /// no bin, takes no memory and never waits.
+    ///
+    ///     map.learn(second, &mut moment);
+    ///     map.get(rt, second, 1)? == Reply::Value(Some(5))
     pub fn learn(&self, pass: &mut Pass<K, V, F>, moment: &mut Moment<K, V, F>)
         requires pass { pass.old.ledger ≡ self.now.ledger.id }
         requires moment { moment.old.ledger ≡ self.now.ledger.id }

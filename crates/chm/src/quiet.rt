@@ -1,9 +1,10 @@
 //! A closed map.
-ghost use Rattle.std.specs.Prelude.{◌≡◌, List, length};
+ghost use Rattle.std.specs.Prelude.{◌≡◌, All, List, length};
 ghost use Rattle.bin_history.specs.Calls.{after};
 ghost use Rattle.bin_history.specs.Entries.{HasDistinctKeys};
 ghost use Rattle.bin_history.specs.Records.{RecordView};
-ghost use Rattle.chm.specs.Headline.{IsHistoryOfKey, IsOneOrder, entries_of, IsQuiet};
+ghost use Rattle.chm.specs.Headline.{IsHistoryOfKey, IsOneOrder, IsQuiet, IsToldInOrder};
+ghost use Rattle.chm.specs.Headline.{entries_of};
 
 use bin_history::{Bin, Form, Remap};
 use count_ledger::{BinRole, Ledger, Pass};
@@ -107,6 +108,17 @@ impl<K: HashKey, V: Clone + Eq, F: Remap<K, V> + Clone, A: Allocator> Quiet<K, V
     pub fn one_order(&self)
         ensures { (calls : List (RecordView K V F))
             × IsOneOrder K.eq K.code (after V.eq F.remapped F.merged) self.now calls }
+    {
+        let _ = &self.bins;
+    }
+
+    /// Each call stands, in one order of all calls, behind every call that its client had seen when
+    /// it made it, of its own, by a look or by a moment of another client. It does nothing when it
+    /// runs.
+    pub fn told_in_order(&self)
+        ensures { (calls : List (RecordView K V F))
+            × IsOneOrder K.eq K.code (after V.eq F.remapped F.merged) self.now calls
+            × All (IsToldInOrder calls) self.now.passes }
     {
         let _ = &self.bins;
     }

@@ -156,7 +156,6 @@ impl<
         let mut held = self.bins.hold(rt, self.salt().hash_of(key));
         let lent = &mut held;
         let bin = lent.bin.as_ref();
-        let _ = bin.class().n();
         let value = copied(bin.get(key));
         self.meet_under(pass, bin, &mut lent.role);
         held.release();

@@ -74,8 +74,7 @@ returns-in_err-done-clause-left g c = λ full.
     ∙ c.hold_first-held.ensures.salt in
     let some =
     c.in_err-done.ensures.left
-    (passed_on c.from_residual.result c.in_err-done.field-0.0 PassFull c.from_residual.ensures.1 full) in
-    (
+    (passed_on c.from_residual.result c.in_err-done.field-0.0 PassFull c.from_residual.ensures.1 full) in (
       record { class = bin.class; entries = bin.entries },
       IsFront-seen g.K.PartialEq.eq (after g.V.PartialEq.eq g.F.Remap.remapped g.F.Remap.merged)
           c.args.self.now.ledger c.empty-done.new.pass c.meet_under.new.pass c.meet_under.ensures.seen,
