@@ -53,9 +53,10 @@ impl Event {
     }
 }
 
-/// Gives a key the value 1, once the event has been done.
+/// Gives a key the value 1, once the event has been done. It tells that it was asked.
 #[derive(Drop)]
 struct OneAfter<'a> {
+    asked: &'a Event,
     event: &'a Event,
 }
 
@@ -65,7 +66,10 @@ impl<'a> Clone for OneAfter<'a> {
     ghost is_clone = { λ x y. y ≡ x };
 
     fn clone(&self) -> Result<OneAfter<'a>, AllocError> {
-        Ok(OneAfter { event: self.event })
+        Ok(OneAfter {
+            asked: self.asked,
+            event: self.event,
+        })
     }
 }
 
@@ -77,6 +81,7 @@ impl<'a> Remap<Key, u64> for OneAfter<'a> {
     ghost merged = { λ f old given. Some old };
 
     fn remap(&self, _key: &Key, _value: Option<&u64>) -> Result<Option<u64>, AllocError> {
+        self.asked.done();
         self.event.wait(1);
         Ok(Some(1))
     }
@@ -86,13 +91,15 @@ impl<'a> Remap<Key, u64> for OneAfter<'a> {
     }
 }
 
-/// Client 0 computes at a key with a function that waits until client 1 has put another one.
+/// Client 0 computes at a key with a function that waits until client 1 has put another one, which
+/// client 1 does once the function was asked.
 fn compute_while_another_puts<
     R: Threads + Wait + Abort + Sync,
     F: Remap<Key, u64> + Clone + Drop + Send + Sync,
->(rt: &R, alloc: Global, form: Form, function: &F, event: &Event) -> u64
+>(rt: &R, alloc: Global, form: Form, function: &F, both: (&Event, &Event)) -> u64
     requires { IsExact F.is_clone }
 {
+    let (asked, event) = both;
     let (map, mut passes) = open::<Key, u64, F, Global>(alloc, form, 16, 2).expect(rt, "a map");
     let work = |number: usize, pass: &mut Pass<Key, u64, F>|
         requires functions { IsExact F.is_clone }
@@ -104,6 +111,7 @@ fn compute_while_another_puts<
             let reply = map.compute(rt, pass, key(rt, b"a"), function);
             assert!(rt; reply == Ok(Reply::Value(Some(1))));
         } else {
+            asked.wait(1);
             let reply = map.put(rt, pass, key(rt, b"Aa"), 1);
             event.done();
             assert!(rt; reply == Ok(Reply::Value(None)));
@@ -118,10 +126,18 @@ fn compute_while_another_puts<
 #[test]
 fn a_function_waits_for_a_put_on_another_bin(rt: HostRuntime) -> Result<(), Fail> {
     for form in BOTH {
-        let event = Event::new();
-        let function = OneAfter { event: &event };
-        let count = compute_while_another_puts(&rt, rt.alloc(), form, &function, &event);
-        assert_same(&rt, &(event.given_up(), count), &(0, 2));
+        let (asked, event) = (Event::new(), Event::new());
+        let function = OneAfter {
+            asked: &asked,
+            event: &event,
+        };
+        let both = (&asked, &event);
+        let count = compute_while_another_puts(&rt, rt.alloc(), form, &function, both);
+        assert_same(
+            &rt,
+            &(asked.given_up(), event.given_up(), count),
+            &(0, 0, 2),
+        );
     }
     Ok(())
 }

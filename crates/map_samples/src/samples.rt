@@ -5,7 +5,7 @@ ghost use Rattle.chm.specs.Opened.{IsLimited, IsNew};
 ghost use Rattle.chm.specs.Refusals.{IsCapacity};
 
 use bin_history::{Form, Remap};
-use chm::{Fault, Map, NotClosed, Opened, Quiet};
+use chm::{Fault, Map, Opened, Quiet};
 use count_ledger::{Pass, retire_all};
 use hashkeys::{HashKey, Salt};
 use std::alloc::Allocator;
@@ -132,16 +132,7 @@ pub fn close<
 {
     match map.close(rt, passes) {
         Ok(quiet) => Ok(quiet),
-        Err(
-            NotClosed {
-                fault,
-                map: _,
-                passes,
-            },
-        ) => {
-            retire_all(passes);
-            Err(fault)
-        }
+        Err(refused) => Err(refused.give_up()),
     }
 }
 

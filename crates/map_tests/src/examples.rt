@@ -5,7 +5,7 @@ ghost use Rattle.std.specs.Prelude.{◌≡◌, All};
 use crate::call_examples::right_calls;
 use crate::maps::assert_same;
 use bin_history::{Form, Remap};
-use chm::{Fault, Map, NotClosed, Opened, Quiet, Sharing};
+use chm::{Fault, Map, Opened, Quiet, Sharing};
 use count_ledger::{Pass, retire_all};
 use hashkeys::Salt;
 use map_samples::open;
@@ -103,16 +103,7 @@ fn close<R: Wait>(
 {
     match map.close(rt, passes) {
         Ok(quiet) => Ok(quiet),
-        Err(
-            NotClosed {
-                fault,
-                map: _,
-                passes,
-            },
-        ) => {
-            retire_all(passes);
-            Err(fault)
-        }
+        Err(refused) => Err(refused.give_up()),
     }
 }
 

@@ -1,5 +1,5 @@
-//! Tests of the map by what it makes public: its calls, growth, loads, opening and closing,
-//! readings, refused requests and threads.
+//! Tests of the map by what it makes public: its calls, growth, loads, moments, opening and
+//! closing, readings, refused requests and threads.
 #![tactic(auto)]
 
 #[cfg(test)]
@@ -16,6 +16,8 @@ mod loads;
 mod maps;
 #[cfg(test)]
 mod memory;
+#[cfg(test)]
+mod moment_examples;
 #[cfg(test)]
 mod moves;
 #[cfg(test)]
