@@ -1,6 +1,6 @@
 -- What the rule says of all books together.
 use Rattle.std.proofs.Common.{◌≡◌, ◌≢◌, ℕ, ◌<◌, ◌≤◌, ◌==◌, ◌&&◌, Bool, true, false, cond, List, [], ◌∷◌, ◌++◌, length}
-use Rattle.std.proofs.Common.{map, sym, ap, subst, ◌∙◌, arith, All}
+use Rattle.std.proofs.Common.{map, ap, subst, ◌∙◌, arith, All}
 use Rattle.std.specs.List.{AllByRecursion as Each}
 use Rattle.std.proofs.lemmas.Bool.Decides.{nat_tests}
 use Rattle.std.proofs.lemmas.List.Elements.{All-from_recursion, All-weaker, filter_passes}

@@ -1,6 +1,5 @@
 use Rattle.hashkeys.specs.Classes.{is_of}
 use Rattle.count_ledger.specs.Tokens.{made_of_pass, salt_of_role, kept_of_role}
-use Rattle.count_ledger.proofs.Fronts.{IsFront-sound}
 use Rattle.count_ledger.proofs.Keeping.{Keeps-books_seeing, both_books}
 use Rattle.count_ledger.proofs.Ordering.{agree_by}
 use Rattle.count_ledger.proofs.Settlement.{IsPassOf-sound, IsRoleOf-sound}
