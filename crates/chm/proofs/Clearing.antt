@@ -134,7 +134,7 @@ module _ {K V F : Type 0} where
     removed_in old new (rs, each, of, is) = (rs, each, is)
 
 -- classes with each hash at most once
-without_first : (c : ClassView) (cs : List ClassView) (hash : ℕ) → covering (c ∷ cs) hash ≤ 1 → covering cs hash ≤ 1
+pub without_first : (c : ClassView) (cs : List ClassView) (hash : ℕ) → covering (c ∷ cs) hash ≤ 1 → covering cs hash ≤ 1
 without_first c cs hash once =
     let all = sum_by-cons (λ (x : ClassView). cond (covers x hash) 1 0) c cs in omega arith
 
@@ -187,7 +187,7 @@ module _ {K V F : Type 0} (same : K → K → Bool) (after : Call K V F → Opti
           (m, r, e, AreCleared-push m mid new ds c rest removed empty)
 
       -- of the calls on keys of a class there are no more after removals in classes that have none of its hashes
-      kept-part : (old new : PassView K V F) (class : ClassView) (cs : List ClassView) →
+      pub kept-part : (old new : PassView K V F) (class : ClassView) (cs : List ClassView) →
           ((hash : ℕ) → covering (class ∷ cs) hash ≤ 1) → AreCleared same code after ledger old cs new
           → part_of_records (is_of code ledger.salt class) new.made
           ≡ part_of_records (is_of code ledger.salt class) old.made

@@ -7,6 +7,7 @@ pub mod Closing
 pub mod Homes
 pub mod Ordering
 pub mod Clearing
+pub mod ByClass
 pub mod Dealing
 pub mod Reopening
 pub mod Shared

@@ -5,6 +5,7 @@ pub mod Sizes
 pub mod Refusals
 pub mod Opened
 pub mod Visits
+pub mod ByClass
 pub mod Closing
 pub mod Cleared
 pub mod Reopened
