@@ -10,6 +10,7 @@ pub mod Clearing
 pub mod ByClass
 pub mod Dealing
 pub mod Reopening
+mod Seats
 pub mod Shared
 pub mod Finding
 pub mod Passes

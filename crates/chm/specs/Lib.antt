@@ -9,3 +9,4 @@ pub mod ByClass
 pub mod Closing
 pub mod Cleared
 pub mod Reopened
+pub mod Shares

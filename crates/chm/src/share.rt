@@ -1,12 +1,13 @@
 //! Threads that share a map.
-ghost use Rattle.std.specs.Prelude.{◌≡◌, ◌<◌, ℕ, length, All, slice_index_or};
-ghost use Rattle.count_ledger.specs.Views.{PassView};
+ghost use Rattle.std.specs.Prelude.{◌≡◌, ◌<◌, ◌≤◌, ℕ, [], length, map, All, IfOk, OnErr, Some};
+ghost use Rattle.std.specs.Prelude.{IsSome, vec_len, vec_capacity, slice_index_or};
+ghost use Rattle.chm.specs.Shares.{HasEnded, HaveWorked};
 
 use crate::map::Map;
 use bin_history::{MOST_CLIENTS, Remap};
 use count_ledger::Pass;
 use hashkeys::HashKey;
-use std::alloc::Allocator;
+use std::alloc::{AllocError, Allocator};
 use std::sync::Wait;
 use std::thread;
 use std::thread::Threads;
@@ -14,50 +15,158 @@ use std::thread::Threads;
 /// What each of the clients that share a map does, in a thread of its own, by calls with the pass
 /// that it is lent.
 pub trait Sharing<K: HashKey, V: Clone + Eq, F: Remap<K, V> + Clone, A: Allocator> {
-    ghost use Rattle.count_ledger.specs.Views.{PassView};
+    ghost use Rattle.count_ledger.specs.Views.{LedgerId, PassView};
 
-    // What the work may leave of a pass.
-    ghost does: { Self → PassView K V F → PassView K V F → Type 0 } = { λ _ _ _. Unit {0} };
+    /// What each client answers.
+    type Out: Drop;
+
+    // The ledgers with whose passes the work can be done.
+    ghost fits: { Self → LedgerId → Type 0 } = { λ _ _. Unit {0} };
+
+    // What the work may leave of a pass, and answer.
+    ghost does: { Self → PassView K V F → PassView K V F → Self.Out → Type 0 } = { λ _ _ _ _.
+        Unit {0} };
 
     /// The work of the client whose pass it is: `pass.client()` is its number.
-    fn work<R: Wait>(&self, rt: &R, map: &Map<K, V, F, A>, pass: &mut Pass<K, V, F>)
-        requires { pass.old.ledger ≡ map.now.ledger.id }
+    fn work<R: Wait>(&self, rt: &R, map: &Map<K, V, F, A>, pass: &mut Pass<K, V, F>) -> Self::Out
+        requires pass { pass.old.ledger ≡ map.now.ledger.id }
+        requires fits { fits self.now map.now.ledger.id }
         ensures ledger { pass.new.ledger ≡ pass.old.ledger }
-        ensures done { does self.now pass.old pass.new };
+        ensures done { does self.now pass.old pass.new result };
 }
 
-impl<K: HashKey, V: Clone + Eq, F: Remap<K, V> + Clone, A: Allocator> Map<K, V, F, A> {
+/// A client's pass while it works, and then its answer.
+struct Seat<K, V, F, T> {
+    pass: Pass<K, V, F>,
+    answer: Option<T>,
+}
+
+/// Seats for the passes, and their answers.
+type Room<K, V, F, T, A> = (Vec<Seat<K, V, F, T>, A>, Vec<T, A>);
+
+/// Room for so many clients and their answers.
+fn room_for<K, V, F, T: Drop, A: Allocator + Clone>(
+    alloc: &A,
+    clients: usize,
+) -> Result<Room<K, V, F, T, A>, AllocError>
+    ensures seats { IfOk result
+        (λ room. (room.0.items ≡ []) × (vec_capacity room.0 ≡ clients)) }
+    ensures answers { IfOk result
+        (λ room. (room.1.items ≡ []) × (vec_capacity room.1 ≡ clients)) }
+{
+    let answers = Vec::with_capacity(alloc.clone()?, clients)?;
+    let seats = Vec::with_capacity(alloc.clone()?, clients)?;
+    Ok((seats, answers))
+}
+
+/// Gives each pass a seat.
+fn seat_all<K, V, F, T, A: Allocator>(
+    passes: &mut Vec<Pass<K, V, F>, A>,
+    seats: &mut Vec<Seat<K, V, F, T>, A>,
+)
+    requires none { seats.old.items ≡ [] }
+    requires room { vec_len passes.old ≤ vec_capacity seats.old }
+    ensures seated { map (λ s. s.pass) seats.new.items ≡ passes.old.items }
+    ensures spent { passes.new.items ≡ [] }
+    ensures capacity { vec_capacity passes.new ≡ vec_capacity passes.old }
+{
+    while !passes.is_empty() {
+        seats.push_reserved(Seat {
+            pass: passes.remove(0),
+            answer: None,
+        });
+    }
+}
+
+/// All clients work at the same time.
+fn work_all<
+    K: HashKey + Send + Sync,
+    V: Clone + Eq + Send + Sync,
+    F: Remap<K, V> + Clone + Send + Sync,
+    A: Allocator + Send + Sync,
+    R: Threads + Wait + Sync,
+    W: Sharing<K, V, F, A> + Sync,
+>(rt: &R, map: &Map<K, V, F, A>, work: &W, seats: &mut [Seat<K, V, F, W::Out>])
+where
+    W::Out: Send,
+    requires own { All (λ s. s.pass.ledger ≡ map.now.ledger.id) seats.old }
+    requires fits { W.fits work.now map.now.ledger.id }
+    ensures len { length seats.new ≡ length seats.old }
+    ensures ended { (i : ℕ) (d : _) → i < length seats.old →
+        HasEnded (W.does work.now) (slice_index_or seats.old i d) (slice_index_or seats.new i d) }
+{
+    let lend = |_number: usize, seat: &mut Seat<K, V, F, W::Out>|
+        requires own { seat.now.pass.ledger ≡ map.now.ledger.id }
+        requires fits { W.fits work.now map.now.ledger.id }
+        ensures { HasEnded (W.does work.entry.now) seat.entry.now seat.exit.now }
+    { seat.answer = Some(work.work(rt, map, &mut seat.pass)) };
+    thread::for_each_mut(rt, seats, MOST_CLIENTS as usize, &lend);
+}
+
+/// Takes the passes back, and the answers.
+fn gather<K, V, F, T, A: Allocator>(
+    mut seats: Vec<Seat<K, V, F, T>, A>,
+    passes: &mut Vec<Pass<K, V, F>, A>,
+    answers: &mut Vec<T, A>,
+)
+    requires ended { All (λ s. IsSome s.answer) seats.items }
+    requires none { (passes.old.items ≡ []) × (answers.old.items ≡ []) }
+    requires room { (vec_len seats ≤ vec_capacity passes.old)
+        × (vec_len seats ≤ vec_capacity answers.old) }
+    ensures passes { passes.new.items ≡ map (λ s. s.pass) seats.items }
+    ensures answers { map Some answers.new.items ≡ map (λ s. s.answer) seats.items }
+{
+    while !seats.is_empty() {
+        let Seat { pass, answer } = seats.remove(0);
+        passes.push_reserved(pass);
+        match answer {
+            Some(answer) => answers.push_reserved(answer),
+            None => unreachable!(),
+        }
+    }
+    seats.destroy_empty();
+}
+
+impl<K: HashKey, V: Clone + Eq, F: Remap<K, V> + Clone, A: Allocator + Clone> Map<K, V, F, A> {
     /// Lends each pass to a thread of its own, in which the work makes calls of the map, all at the
     /// same time; where a thread cannot be started its client works in a thread that there is,
-    /// after others, so no client may wait for another. All have ended when this returns. Each pass
-    /// is then of the map still, and as the work left it.
+    /// after others, so no client may wait for another. All have ended when this returns, and the
+    /// passes are back, each of the map still and as the work left it. It answers what the clients
+    /// answered, in the order of the passes.
     ///
-    /// Where each of four clients adds 1 at 1, as `map.merge(rt, pass, 1, 1, Plus(0))` does:
+    /// Where each of four clients adds 1 at 1, as `map.merge(rt, pass, 1, 1, Plus(0))` does, and
+    /// answers its number:
     ///
-    ///     map.share(rt, &mut passes, &AddOne);
-    ///     map.glance(rt, &1) == Ok(Some(4))
+    ///     map.share(rt, &mut passes, &AddOne)?.as_slice() == [0, 1, 2, 3].as_slice()
+    ///     map.glance(rt, &1)? == Some(4)
+    ///
+    /// # Errors
+    ///
+    /// For want of memory, before any client began.
     pub fn share<R: Threads + Wait + Sync, W: Sharing<K, V, F, A> + Sync>(
         &self,
         rt: &R,
-        passes: &mut [Pass<K, V, F>],
+        passes: &mut Vec<Pass<K, V, F>, A>,
         work: &W,
-    )
+    ) -> Result<Vec<W::Out, A>, AllocError>
     where
         K: Send + Sync,
         V: Send + Sync,
         F: Send + Sync,
         A: Send + Sync,
-        requires { All (λ p. p.ledger ≡ self.now.ledger.id) passes.old }
-        ensures own { All (λ p. p.ledger ≡ self.now.ledger.id) passes.new }
-        ensures len { length passes.new ≡ length passes.old }
-        ensures done { (i : ℕ) (d : PassView K V F) → i < length passes.old →
-            W.does work.now (slice_index_or passes.old i d) (slice_index_or passes.new i d) }
+        W::Out: Send,
+        requires own { All (λ p. p.ledger ≡ self.now.ledger.id) passes.old.items }
+        requires fits { W.fits work.now self.now.ledger.id }
+        ensures own { All (λ p. p.ledger ≡ self.now.ledger.id) passes.new.items }
+        ensures len { length passes.new.items ≡ length passes.old.items }
+        ensures done { IfOk result (λ answers. HaveWorked (W.does work.now) passes.old.items
+            passes.new.items answers.items) }
+        ensures refused { OnErr result (passes.new.items ≡ passes.old.items) }
     {
-        let lend = |_number: usize, pass: &mut Pass<K, V, F>|
-            requires { pass.now.ledger ≡ self.now.ledger.id }
-            ensures ledger { pass.exit.now.ledger ≡ pass.entry.now.ledger }
-            ensures done { W.does work.entry.now pass.entry.now pass.exit.now }
-        { work.work(rt, self, pass) };
-        thread::for_each_mut(rt, passes, MOST_CLIENTS as usize, &lend);
+        let (mut seats, mut answers) = room_for(self.growth.allocator(), passes.len())?;
+        seat_all(passes, &mut seats);
+        work_all(rt, self, work, &mut seats);
+        gather(seats, passes, &mut answers);
+        Ok(answers)
     }
 }

@@ -1,12 +1,50 @@
-use denote.Param.Send.{sendable}
-use Rattle.chm.proofs.Shared.{map_sync}
+use Rattle.std.proofs.Common.{◌≡◌, ◌++◌, List, All, IsSome, map, take, drop, length, sym, ap, subst, ◌∙◌}
+use Rattle.count_ledger.specs.Views.{PassView}
+use Rattle.chm.specs.Shares.{HaveWorked}
+use Rattle.chm.specs.declared.share.Seat.{Seat}
+use Rattle.chm.proofs.Seats.{own-before, own-after, all-answered, have-worked, restored}
 use Rattle.chm.proofs.map.Map.share.Goals as goal
 
-pub for_each_mut-requires-sync-F : goal.for_each_mut-requires-sync-F
-for_each_mut-requires-sync-F g c κs within =
-    let sk = c.type_bounds.send-K in let sv = c.type_bounds.send-V in let sf = c.type_bounds.send-F in
-    let sa = c.type_bounds.send-A in
-    let yk = c.type_bounds.sync-K in let yv = c.type_bounds.sync-V in let yf = c.type_bounds.sync-F in
-    let ya = c.type_bounds.sync-A in
-    let yr = c.type_bounds.sync-R in let yw = c.type_bounds.sync-W in let frees = c.type_bounds.frees-A-Allocator in
-    search (sendable, map_sync) depth 40 fits 20000
+pub work_all-requires-clause-own : goal.work_all-requires-clause-own
+work_all-requires-clause-own g c κs within =
+    own-before (g.W.Sharing.does c.args.work.now) c.args.self.now.ledger.id c.args.passes.now.items
+    c.deref_mut.result.now (ap (map (λ s. s.pass)) c.deref_mut.ensures.value ∙ c.seat_all.ensures.seated)
+    c.requires.own
+
+pub gather-requires-clause-ended : goal.gather-requires-clause-ended
+gather-requires-clause-ended g c =
+    let before : List (Seat g.row.K.Denot g.row.V.Denot g.row.F.Denot g.row.W-Out.Denot) = c.deref_mut.result.now in
+    let after : List (Seat g.row.K.Denot g.row.V.Denot g.row.F.Denot g.row.W-Out.Denot) = c.work_all.new.seats in
+    subst (λ (ss : List (Seat g.row.K.Denot g.row.V.Denot g.row.F.Denot g.row.W-Out.Denot)).
+    All (λ s. IsSome s.answer) ss)
+    (sym (restored after _ _ (c.work_all.ensures.len ∙ c.deref_mut.ensures.len)))
+    (all-answered (g.W.Sharing.does c.args.work.now) c.args.self.now.ledger.id c.args.passes.now.items
+    before (ap (map (λ s. s.pass)) c.deref_mut.ensures.value ∙ c.seat_all.ensures.seated)
+    after c.work_all.ensures.len c.work_all.ensures.ended)
+
+pub returns-clause-own : goal.returns-clause-own
+returns-clause-own g c =
+    let before : List (Seat g.row.K.Denot g.row.V.Denot g.row.F.Denot g.row.W-Out.Denot) = c.deref_mut.result.now in
+    let after : List (Seat g.row.K.Denot g.row.V.Denot g.row.F.Denot g.row.W-Out.Denot) = c.work_all.new.seats in
+    let whole = restored after (drop (length after) c.seat_all.new.seats.items) c.seat_all.new.seats.len
+    (c.work_all.ensures.len ∙ c.deref_mut.ensures.len) in
+    subst (λ (ps : List (PassView g.row.K.Denot g.row.V.Denot g.row.F.Denot)).
+    All (λ p. p.ledger ≡ c.args.self.now.ledger.id) ps)
+    (sym (c.gather.ensures.passes ∙ ap (map (λ s. s.pass)) whole))
+    (own-after (g.W.Sharing.does c.args.work.now) c.args.self.now.ledger.id c.args.passes.now.items
+    before (ap (map (λ s. s.pass)) c.deref_mut.ensures.value ∙ c.seat_all.ensures.seated)
+    after c.work_all.ensures.len c.work_all.ensures.ended c.requires.own)
+
+pub returns-clause-done : goal.returns-clause-done
+returns-clause-done g c =
+    let before : List (Seat g.row.K.Denot g.row.V.Denot g.row.F.Denot g.row.W-Out.Denot) = c.deref_mut.result.now in
+    let after : List (Seat g.row.K.Denot g.row.V.Denot g.row.F.Denot g.row.W-Out.Denot) = c.work_all.new.seats in
+    let whole = restored after (drop (length after) c.seat_all.new.seats.items) c.seat_all.new.seats.len
+    (c.work_all.ensures.len ∙ c.deref_mut.ensures.len) in
+    subst (λ (ps : List (PassView g.row.K.Denot g.row.V.Denot g.row.F.Denot)).
+    HaveWorked (g.W.Sharing.does c.args.work.now) c.args.passes.now.items ps c.gather.new.answers.items)
+    (sym (c.gather.ensures.passes ∙ ap (map (λ s. s.pass)) whole))
+    (have-worked (g.W.Sharing.does c.args.work.now) c.args.self.now.ledger.id c.args.passes.now.items
+    before (ap (map (λ s. s.pass)) c.deref_mut.ensures.value ∙ c.seat_all.ensures.seated)
+    after c.work_all.ensures.len c.work_all.ensures.ended c.gather.new.answers.items
+    (c.gather.ensures.answers ∙ ap (map (λ s. s.answer)) whole))
