@@ -1,14 +1,13 @@
 -- What walks and clears tell of each class by itself.
-use Rattle.std.proofs.Common.{◌≡◌, ℕ, ◌<◌, ◌≤◌, Bool, Option, Decides, List, [], ◌∷◌, All, refl, sym, ap, subst, ◌∙◌}
+use Rattle.std.proofs.Common.{◌≡◌, ℕ, ◌<◌, ◌≤◌, Bool, Option, Decides, List, [], ◌∷◌, All, sym, ap, subst, ◌∙◌}
 use Rattle.std.proofs.lemmas.List.Elements.{All-nil, All-cons}
 use Rattle.hashkeys.specs.Classes.{ClassView, covering, is_of}
 use Rattle.bin_history.specs.Clients.{by_client}
 use Rattle.bin_history.specs.Entries.{replay}
 use Rattle.bin_history.specs.Part.{part_of_entries, part_of_records}
-use Rattle.bin_history.specs.Records.{RecordView}
 use Rattle.bin_history.specs.declared.call.Call.{Call}
 use Rattle.bin_history.proofs.Parts.{replay-part}
-use Rattle.count_ledger.specs.Fronts.{IsFront, IsHistory}
+use Rattle.count_ledger.specs.Fronts.{IsFront}
 use Rattle.count_ledger.specs.Views.{LedgerView, PassView}
 use Rattle.count_ledger.proofs.Fronts.{IsHistory-front}
 use Rattle.chm.specs.ByClass.{AreOfHistory}

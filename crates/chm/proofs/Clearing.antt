@@ -4,7 +4,7 @@ use Rattle.std.proofs.Common.{◌∷◌, ◌++◌, length, All, slice_index_or}
 use Rattle.std.proofs.Common.{refl, sym, ap, subst, ◌∙◌, arith, Result, Err, IsErrOf}
 use Rattle.std.specs.Result.{IsErrAnd}
 use Rattle.std.proofs.lemmas.List.{append_assoc, append-nil}
-use Rattle.std.proofs.lemmas.List.Elements.{All-nil, All-cons, All-head, All-tail, All-append, All-push, All-weaker}
+use Rattle.std.proofs.lemmas.List.Elements.{All-nil, All-cons, All-head, All-append, All-weaker}
 use Rattle.std.proofs.lemmas.List.Elements.{filter-append}
 use Rattle.std.proofs.lemmas.List.Sums.{sum_by-cons}
 use Rattle.hashkeys.specs.Classes.{ClassView, covers, covering, is_of}
@@ -25,7 +25,6 @@ use Rattle.count_ledger.proofs.Fronts.{BeginsWith-all, BeginsWith-push, BeginsWi
 use Rattle.chm.specs.Cleared.{AreCleared, HasLeft, HasMade, HasOwnLeft, HasRemoved, HasRemovedIn, IsEmptyIn, IsRemoval}
 use Rattle.chm.specs.Headline.{IsMade}
 use Rattle.chm.specs.Views.{opening_in}
-use Rattle.chm.specs.Visits.{VisitView, IsVisit}
 use Rattle.chm.proofs.Visiting.{IsOwn-visit}
 
 module _ {K V F : Type 0} (same : K → K → Bool) (tells : (x y : K) → Decides (same x y) (x ≡ y)) (code : K → ℕ)

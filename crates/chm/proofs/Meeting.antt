@@ -1,5 +1,5 @@
 -- What the books of a pass and of the role of a bin tell of the bin.
-use Rattle.std.proofs.Common.{◌≡◌, ℕ, Bool, true, Option, Decides, List, [], ◌∷◌, ◌++◌, length, All, sym, ap, subst}
+use Rattle.std.proofs.Common.{◌≡◌, ℕ, Bool, true, Option, Decides, List, length, sym, ap}
 use Rattle.std.proofs.Common.{◌∙◌}
 use Rattle.hashkeys.specs.Classes.{is_of}
 use Rattle.bin_history.specs.Calls.{key_of, after}
@@ -7,7 +7,7 @@ use Rattle.bin_history.specs.Entries.{lookup, replay}
 use Rattle.bin_history.specs.Lawful.{BinView, IsLawful}
 use Rattle.bin_history.specs.Made.{IsMadeOn}
 use Rattle.bin_history.specs.Part.{part_of_entries, part_of_records}
-use Rattle.bin_history.specs.Plain.{run, IsLegal, IsLegalStep}
+use Rattle.bin_history.specs.Plain.{run, IsLegalStep}
 use Rattle.bin_history.specs.declared.call.Call.{Call}
 use Rattle.bin_history.specs.Records.{RecordView}
 use Rattle.bin_history.specs.declared.call.Reply.{Reply}
@@ -15,7 +15,7 @@ use Rattle.bin_history.proofs.Parts.{replay-part}
 use Rattle.bin_history.proofs.Runs.{lookup-replay}
 use Rattle.count_ledger.specs.Agreement.{BinAgrees}
 use Rattle.count_ledger.specs.Books.{IsRoleOf}
-use Rattle.count_ledger.specs.Fronts.{IsFront, IsPosted}
+use Rattle.count_ledger.specs.Fronts.{IsPosted}
 use Rattle.count_ledger.specs.Views.{LedgerView, PassView, RoleView}
 use Rattle.count_ledger.proofs.Agreements.{BinAgrees-replay}
 use Rattle.count_ledger.proofs.Fronts.{run_of_part}

@@ -7,7 +7,7 @@ use Rattle.std.proofs.Common.{Decides}
 use Rattle.std.proofs.lemmas.Bool.Decides.{nat_tests}
 use Rattle.std.proofs.lemmas.List.{map-append}
 use Rattle.std.proofs.lemmas.List.Elements.{All-head, All-tail, All-nil, All-cons}
-use Rattle.hashkeys.specs.Classes.{ClassView, covers, is_of}
+use Rattle.hashkeys.specs.Classes.{covers, is_of}
 use Rattle.hashkeys.specs.Hashing.{hash_of}
 use Rattle.bin_history.specs.Clients.{by_client}
 use Rattle.bin_history.specs.Entries.{lookup, HasDistinctKeys, replay}

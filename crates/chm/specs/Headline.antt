@@ -10,16 +10,15 @@
 --
 -- `same_key` and `same_value` are `==` on keys and on values, `code` is a key's code, `remapped` and `merged` are what
 -- a function computes, and `after` is the value that a call leaves at its key, by the one that it finds there.
-use Rattle.std.specs.Prelude.{◌≡◌, ℕ, ◌<◌, ◌≤◌, ◌↔◌, Bool, true, Option, List, [], ◌∷◌, ◌++◌, length, flat_map, All}
+use Rattle.std.specs.Prelude.{◌≡◌, ℕ, ◌<◌, ◌≤◌, ◌↔◌, Bool, Option, List, [], ◌∷◌, ◌++◌, length, flat_map, All}
 use Rattle.std.specs.Prelude.{Result, IfOk, IfErr, IsErrOf, OnErr}
-use Rattle.hashkeys.specs.Classes.{ClassView, IsClass, IsTableSize, is_of}
+use Rattle.hashkeys.specs.Classes.{IsTableSize}
 use Rattle.bin_history.specs.Calls.{key_of, after, reply}
 use Rattle.bin_history.specs.Cells.{records_on, cell_after, IsCellHistory}
 use Rattle.bin_history.specs.Clients.{by_client}
 use Rattle.bin_history.specs.Copies.{IsExact}
 use Rattle.bin_history.specs.Entries.{lookup}
 use Rattle.bin_history.specs.Lawful.{BinView}
-use Rattle.bin_history.specs.Part.{part_of_records}
 use Rattle.bin_history.specs.Plain.{run, IsLegal}
 use Rattle.bin_history.specs.Records.{RecordView}
 use Rattle.bin_history.specs.declared.call.Call.{Call}
@@ -31,7 +30,7 @@ use Rattle.count_ledger.specs.Views.{LedgerView, PassView, RoleView}
 use Rattle.generations.specs.BinsWithRoles.{AreBinsWithRoles, classes_of_bins}
 use Rattle.generations.specs.Walks.{IsWalk}
 use Rattle.chm.specs.Refusals.{IsOfCall}
-use Rattle.chm.specs.Views.{opening_in, bins_of}
+use Rattle.chm.specs.Views.{bins_of}
 use Rattle.chm.specs.declared.fault.Fault.{Fault}
 use Rattle.chm.specs.declared.fault.Fault.TheVariants.{PassFull}
 

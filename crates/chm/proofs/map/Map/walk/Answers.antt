@@ -1,4 +1,4 @@
-use Rattle.std.proofs.Common.{◌≡◌, ℕ, All, List, sym, subst, ap, ◌∙◌, arith}
+use Rattle.std.proofs.Common.{◌≡◌, ℕ, List, sym, subst, ap, ◌∙◌, arith}
 use Rattle.hashkeys.specs.Classes.{ClassView, IsTableSize}
 use Rattle.bin_history.specs.Calls.{after}
 use Rattle.count_ledger.specs.Views.{PassView}
