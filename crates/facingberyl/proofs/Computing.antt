@@ -82,13 +82,13 @@ other b false e = ap not (sym e)
 
 module _ {K V F : Type 0} (same_value : V → V → Bool) (remapped : F → K → Option V → Option V)
     (merged : F → V → V → Option V)
-    (old mid made new : PassView K V F) (a b : ℕ) (value : Option V)
+    (old mid made new : PassView K V F) (a b : ℕ) (value : Option V) (front : List (RecordView K V F))
     (mid_is : mid ≡ old) (new_is : new ≡ made) (small : a < 2 ^ 64) (a_is : a ≡ word_of (sum_of_deltas old.made))
     (b_is : b ≡ word_of (sum_of_deltas made.made)) where
-  told : (call : Call K V F) (answer : Reply V) (r : RecordView K V F) (test : Bool → Bool) →
-      IsMade same_value remapped merged call mid made answer r
+  told : (call : Call K V F) (r : RecordView K V F) (test : Bool → Bool) →
+      IsMade same_value remapped merged call mid made (Value value) front r
       → test (changes r.before r.after) ≡ asks call r.before → IsTold call old new (test (not (b == a)))
-  told call answer r test is asked =
+  told call r test is asked =
       let made_is : made.made ≡ old.made ++ r ∷ [] = ap (λ (p : PassView K V F). p.made) is.pass
       ∙ ap (λ (p : PassView K V F). p.made ++ r ∷ []) mid_is in (
         r,
@@ -98,36 +98,33 @@ module _ {K V F : Type 0} (same_value : V → V → Bool) (remapped : F → K �
             (b_is ∙ ap (λ (rs : List (RecordView K V F)). word_of (sum_of_deltas rs)) made_is)) ∙ asked,
       )
 
-  pub told-absent : (k : K) (f : F) (answer : Reply V) (r : RecordView K V F) (none : Bool) → answer ≡ Value value →
-      is_some value ≡ not none
-      → IsMade same_value remapped merged (ComputeIfAbsent k f) mid made answer r
+  pub told-absent : (k : K) (f : F) (r : RecordView K V F) (none : Bool) → is_some value ≡ not none
+      → IsMade same_value remapped merged (ComputeIfAbsent k f) mid made (Value value) front r
       → IsTold (ComputeIfAbsent k f) old new (none || not (b == a))
-  told-absent k f answer r none value_is none_is is =
-      let same : value ≡ r.after = ap value_of (sym value_is ∙ is.reply_is) in
-      told (ComputeIfAbsent k f) answer r (λ c. none || c) is
+  told-absent k f r none none_is is =
+      told (ComputeIfAbsent k f) r (λ c. none || c) is
       (ap (λ (n : Bool). n || changes r.before r.after)
-      (other (is_some value) none none_is ∙ ap (λ (v : Option V). not (is_some v)) same)
+      (other (is_some value) none none_is
+      ∙ ap (λ (v : Option V). not (is_some v)) (ap value_of is.reply_is))
       ∙ asked_on_absent r.before r.after
       (λ x e. is.left ∙ ap (after same_value remapped merged (ComputeIfAbsent k f)) e))
 
-  pub told-present : (k : K) (f : F) (answer : Reply V) (r : RecordView K V F) (some : Bool) → answer ≡ Value value →
-      some ≡ is_some value
-      → IsMade same_value remapped merged (ComputeIfPresent k f) mid made answer r
+  pub told-present : (k : K) (f : F) (r : RecordView K V F) (some : Bool) → some ≡ is_some value
+      → IsMade same_value remapped merged (ComputeIfPresent k f) mid made (Value value) front r
       → IsTold (ComputeIfPresent k f) old new (some || not (b == a))
-  told-present k f answer r some value_is some_is is =
-      let same : value ≡ r.after = ap value_of (sym value_is ∙ is.reply_is) in
-      told (ComputeIfPresent k f) answer r (λ c. some || c) is
-      (ap (λ (n : Bool). n || changes r.before r.after) (some_is ∙ ap (λ (v : Option V). is_some v) same)
+  told-present k f r some some_is is =
+      told (ComputeIfPresent k f) r (λ c. some || c) is
+      (ap (λ (n : Bool). n || changes r.before r.after)
+      (some_is ∙ ap (λ (v : Option V). is_some v) (ap value_of is.reply_is))
       ∙ asked_on_present r.before r.after
       (λ e. is.left ∙ ap (after same_value remapped merged (ComputeIfPresent k f)) e))
 
-  pub told-merge : (k : K) (v : V) (f : F) (answer : Reply V) (r : RecordView K V F) (none : Bool) →
-      answer ≡ Value value → is_some value ≡ not none
-      → IsMade same_value remapped merged (Merge k v f) mid made answer r
+  pub told-merge : (k : K) (v : V) (f : F) (r : RecordView K V F) (none : Bool) → is_some value ≡ not none
+      → IsMade same_value remapped merged (Merge k v f) mid made (Value value) front r
       → IsTold (Merge k v f) old new (none || not (not (b == a)))
-  told-merge k v f answer r none value_is none_is is =
-      let same : value ≡ r.after = ap value_of (sym value_is ∙ is.reply_is) in
-      told (Merge k v f) answer r (λ c. none || not c) is
+  told-merge k v f r none none_is is =
+      told (Merge k v f) r (λ c. none || not c) is
       (ap (λ (n : Bool). n || not (changes r.before r.after))
-      (other (is_some value) none none_is ∙ ap (λ (w : Option V). not (is_some w)) same)
+      (other (is_some value) none none_is
+      ∙ ap (λ (w : Option V). not (is_some w)) (ap value_of is.reply_is))
       ∙ asked_on_merge v r.before r.after (λ e. is.left ∙ ap (after same_value remapped merged (Merge k v f)) e))

@@ -174,7 +174,7 @@ module _ {K : Type 0} (same : K → K → Bool) where
     module _ (w : K) (rs : List (RecordView K ℕ Add)) (room : times_in_all same w lists < 2 ^ 64)
         (h : IsHistoryOfKey same after q w rs) where
       some_pass : PassView K ℕ Add
-      some_pass = record { ledger = q.ledger.id; client = 0; made = [] }
+      some_pass = record { ledger = q.ledger.id; client = 0; made = []; seen = [] }
 
       abbrev pass : ℕ → PassView K ℕ Add
       pass c = slice_index_or q.passes c some_pass

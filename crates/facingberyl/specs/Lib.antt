@@ -1,3 +1,4 @@
 pub mod Teams
 pub mod Computed
 pub mod Tallies
+pub mod Replies

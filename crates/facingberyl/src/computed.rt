@@ -9,8 +9,7 @@ ghost use Rattle.count_ledger.specs.Words.{word_of};
 ghost use Rattle.facingberyl.specs.Computed.{IsTold};
 
 use crate::client::{Client, Loan};
-use crate::typed::value_in;
-use bin_history::Remap;
+use bin_history::{Op, Remap};
 use chm::Fault;
 use hashkeys::HashKey;
 use std::alloc::Allocator;
@@ -34,9 +33,9 @@ impl<L: Loan, K: HashKey, V: Clone + Eq, F: Remap<K, V> + Clone, A: Allocator> C
     A,
 > {
     /// How many keys the client's calls added, less how many they took away, as a 64-bit two's
-    /// complement number.
+    /// complement number. It takes no memory and waits for nobody.
     ///
-    ///     client.remove(rt, 1)?;
+    ///     client.remove(rt, &1)?;
     ///     let before = client.balance();
     ///     client.put(rt, 1, 5)?;
     ///     client.balance() == before.wrapping_add(1)
@@ -57,10 +56,15 @@ impl<
     A: Allocator + Clone,
 > Client<'_, L, K, V, F, A> {
     /// Gives a key without a value what the function makes of none. It answers the value after, and
-    /// whether the function was used.
+    /// whether the function was used. It waits for the key's bin.
     ///
     ///     client.put(rt, 1, 5)?;
     ///     client.compute_if_absent(rt, 1, Add)? == Computed { value: Some(5), used: false }
+    ///
+    /// # Errors
+    ///
+    /// `PassFull` where the client has made all the calls that it may, and `NoMemory`. Nothing is
+    /// changed then.
     pub fn compute_if_absent<R: Wait>(
         &mut self,
         rt: &R,
@@ -68,7 +72,7 @@ impl<
         function: F,
     ) -> Result<Computed<V>, Fault>
         requires exact { AreExact K.is_clone V.is_clone F.is_clone }
-        ensures answered { IsAnsweredAs K.eq K.code V.eq F.remapped F.merged
+        ensures answered { IsAnsweredAs K.eq V.eq F.remapped F.merged
             (λ answer. Value answer.value) self.old.map.now.ledger
             (ComputeIfAbsent key function) self.old.pass.now self.new.pass.now result }
         ensures used { IfOk result
@@ -77,18 +81,22 @@ impl<
         ensures map { self.new.map.now ≡ self.old.map.now }
     {
         let before = self.map.balance(self.pass);
-        let reply = self.map.compute_if_absent(rt, self.pass, key, function)?;
-        let value = value_in(reply);
+        let value = self.value_of(rt, key, Op::ComputeIfAbsent(function))?;
         let changed = self.map.balance(self.pass) != before;
         let used = value.is_none() | changed;
         Ok(Computed { value, used })
     }
 
     /// Gives a key with a value what the function makes of it. It answers the value after, and
-    /// whether the function was used.
+    /// whether the function was used. It waits for the key's bin.
     ///
     ///     client.put(rt, 1, 5)?;
     ///     client.compute_if_present(rt, 1, Add)? == Computed { value: Some(5), used: true }
+    ///
+    /// # Errors
+    ///
+    /// `PassFull` where the client has made all the calls that it may, and `NoMemory`. Nothing is
+    /// changed then.
     pub fn compute_if_present<R: Wait>(
         &mut self,
         rt: &R,
@@ -96,7 +104,7 @@ impl<
         function: F,
     ) -> Result<Computed<V>, Fault>
         requires exact { AreExact K.is_clone V.is_clone F.is_clone }
-        ensures answered { IsAnsweredAs K.eq K.code V.eq F.remapped F.merged
+        ensures answered { IsAnsweredAs K.eq V.eq F.remapped F.merged
             (λ answer. Value answer.value) self.old.map.now.ledger
             (ComputeIfPresent key function) self.old.pass.now self.new.pass.now result }
         ensures used { IfOk result
@@ -105,18 +113,23 @@ impl<
         ensures map { self.new.map.now ≡ self.old.map.now }
     {
         let before = self.map.balance(self.pass);
-        let reply = self.map.compute_if_present(rt, self.pass, key, function)?;
-        let value = value_in(reply);
+        let value = self.value_of(rt, key, Op::ComputeIfPresent(function))?;
         let changed = self.map.balance(self.pass) != before;
         let used = value.is_some() | changed;
         Ok(Computed { value, used })
     }
 
     /// Gives a key without a value this one, and a key with a value what the function makes of
-    /// both. It answers the value after, and whether the function was used.
+    /// both. It answers the value after, and whether the function was used. It waits for the key's
+    /// bin.
     ///
     ///     client.put(rt, 1, 5)?;
     ///     client.merge(rt, 1, 2, Add)? == Computed { value: Some(7), used: true }
+    ///
+    /// # Errors
+    ///
+    /// `PassFull` where the client has made all the calls that it may, and `NoMemory`. Nothing is
+    /// changed then.
     pub fn merge<R: Wait>(
         &mut self,
         rt: &R,
@@ -125,7 +138,7 @@ impl<
         function: F,
     ) -> Result<Computed<V>, Fault>
         requires exact { AreExact K.is_clone V.is_clone F.is_clone }
-        ensures answered { IsAnsweredAs K.eq K.code V.eq F.remapped F.merged
+        ensures answered { IsAnsweredAs K.eq V.eq F.remapped F.merged
             (λ answer. Value answer.value) self.old.map.now.ledger
             (Merge key value function) self.old.pass.now self.new.pass.now result }
         ensures used { IfOk result
@@ -134,8 +147,7 @@ impl<
         ensures map { self.new.map.now ≡ self.old.map.now }
     {
         let before = self.map.balance(self.pass);
-        let reply = self.map.merge(rt, self.pass, key, value, function)?;
-        let value = value_in(reply);
+        let value = self.value_of(rt, key, Op::Merge(value, function))?;
         let changed = self.map.balance(self.pass) != before;
         let used = value.is_none() | !changed;
         Ok(Computed { value, used })

@@ -2,19 +2,21 @@
 //! to use, a team of clients that work on one map in threads, and bulk operations on a closed one.
 #![tactic(auto)]
 
+mod calls;
+mod clearing;
 mod client;
 mod computed;
-mod lent;
+mod moments;
+mod reading;
 mod team;
-mod typed;
 mod work;
 
 /// Bulk operations on a closed map.
 pub use bulk_tasks as bulk;
 pub use chm::{
     ByteString, Bytes, Call, Class, Entries, Fault, Form, HashKey, Key, MOST_BINS, MOST_CALLS,
-    MOST_CLIENTS, MOST_LEAN_CALLS, Map, NotClosed, Opened, Pass, Quiet, Remap, Reply, Salt,
-    Sharing, Visit, retire_all,
+    MOST_CLIENTS, MOST_LEAN_CALLS, Map, Moment, NotClosed, Opened, Pass, Quiet, Remap, Reply,
+    Salt, Sharing, Visit, retire_all,
 };
 pub use client::{Client, Loan};
 pub use computed::Computed;

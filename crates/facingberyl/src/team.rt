@@ -1,20 +1,23 @@
 //! A map with the passes of all its clients.
-ghost use Rattle.std.specs.Prelude.{◌≡◌, ◌≤◌, ◌<◌, ◌⊎◌, ℕ, length, All, IfOk, IfErr};
+ghost use Rattle.std.specs.Prelude.{◌≡◌, ◌≢◌, ◌≤◌, ◌<◌, ◌⊎◌, ℕ, length, All, IfOk, IfErr, OnErr};
 ghost use Rattle.std.specs.Prelude.{slice_index_or};
+ghost use Rattle.bin_history.specs.Calls.{after};
 ghost use Rattle.bin_history.specs.Copies.{IsExact};
+ghost use Rattle.count_ledger.specs.Fronts.{BeginsWith, HasSeen};
 ghost use Rattle.count_ledger.specs.Views.{PassView};
 ghost use Rattle.bin_history.specs.declared.form.Form.TheVariants.{Lean};
 ghost use Rattle.chm.specs.Opened.{IsLimited, IsNew};
 ghost use Rattle.chm.specs.Headline.{entries_of};
 ghost use Rattle.chm.specs.Refusals.{IsCapacity};
 ghost use Rattle.chm.specs.Reopened.{IsReopened};
+ghost use Rattle.chm.specs.Shares.{HaveWorked};
 
 use crate::work::{Lent, Work};
 use bin_history::Remap;
 use chm::{Fault, Map, NotClosed, Opened, Quiet};
-use count_ledger::{Pass, retire_all};
+use count_ledger::{Moment, Pass, retire_all};
 use hashkeys::{HashKey, Salt};
-use std::alloc::Allocator;
+use std::alloc::{AllocError, Allocator};
 use std::marker::Model;
 use std::sync::Wait;
 use std::thread::Threads;
@@ -94,20 +97,58 @@ impl<
     }
 
     /// All clients work at the same time, each in a thread of its own; one whose thread cannot be
-    /// started works in a thread that there is, after others. All have ended when this returns.
-    pub fn work<R: Threads + Wait + Sync, W: Work<K, V, F, A> + Sync>(&mut self, rt: &R, work: &W)
+    /// started works in a thread that there is, after others, so no client may wait for another.
+    /// All have ended when this returns. It answers what they answered, client 0's first. It waits
+    /// for them, and takes memory for a seat and an answer of each.
+    ///
+    ///     team.work(rt, &PutTheNumber)?.as_slice() == [0, 1, 2, 3].as_slice()
+    ///
+    /// # Errors
+    ///
+    /// For want of memory, before any client began.
+    pub fn work<R: Threads + Wait + Sync, W: Work<K, V, F, A> + Sync>(
+        &mut self,
+        rt: &R,
+        work: &W,
+    ) -> Result<Vec<W::Out, A>, AllocError>
     where
         K: Send + Sync,
         V: Send + Sync,
         F: Send + Sync,
         A: Send + Sync,
+        W::Out: Send,
+        requires { W.fits work.now self.old.map.ledger.id }
         ensures map { self.new.map ≡ self.old.map }
+        ensures own { All (λ p. p.ledger ≡ self.new.map.ledger.id) self.new.passes }
         ensures len { length self.new.passes ≡ length self.old.passes }
-        ensures done { (i : ℕ) (d : PassView K V F) → i < length self.old.passes
-            → W.does work.now (slice_index_or self.old.passes i d)
-            (slice_index_or self.new.passes i d) }
+        ensures done { IfOk result (λ answers. HaveWorked (W.does work.now) self.old.passes
+            self.new.passes answers.items) }
+        ensures refused { OnErr result (self.new.passes ≡ self.old.passes) }
     {
-        self.map.share(rt, &mut self.passes, &Lent { work });
+        self.map.share(rt, &mut self.passes, &Lent { work })
+    }
+
+    /// A client learns of a moment, before it works again: the calls that it then makes stand
+    /// behind all calls of the moment. It takes no memory and waits for nobody.
+    ///
+    /// Where client 0 put 5 at 1 before its moment, and client 1 is then to get it:
+    ///
+    ///     team.learn(1, &mut moment);
+    ///     team.work(rt, &GetOne)?[1] == Ok(Some(5))
+    pub fn learn(&mut self, client: usize, moment: &mut Moment<K, V, F>)
+        requires client { client < length self.old.passes }
+        requires moment { moment.old.ledger ≡ self.old.map.ledger.id }
+        ensures seen { (d : PassView K V F) → HasSeen K.eq (after V.eq F.remapped F.merged) self.old.map.ledger
+            (slice_index_or self.old.passes client d) (slice_index_or self.new.passes client d) }
+        ensures learned { (d : PassView K V F) →
+            BeginsWith (slice_index_or self.new.passes client d).seen moment.old.seen }
+        ensures others { (i : ℕ) (d : PassView K V F) → i ≢ client
+            → slice_index_or self.new.passes i d ≡ slice_index_or self.old.passes i d }
+        ensures len { length self.new.passes ≡ length self.old.passes }
+        ensures map { self.new.map ≡ self.old.map }
+        ensures same { moment.new ≡ moment.old }
+    {
+        self.map.learn(&mut self.passes[client], moment);
     }
 
     /// Closes the map, as `Map::close` does. Where it is refused the passes end, and the map with

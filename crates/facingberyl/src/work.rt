@@ -1,5 +1,5 @@
 //! What a client does with a map.
-ghost use Rattle.std.specs.Prelude.{◌≡◌};
+ghost use Rattle.std.specs.Prelude.{◌≡◌, IsSomeAnd};
 
 use crate::client::{Client, Loan};
 use bin_history::Remap;
@@ -10,19 +10,29 @@ use std::alloc::Allocator;
 use std::marker::{Brand, PhantomData};
 use std::sync::Wait;
 
-/// What each client of a team does, in a thread of its own, by calls with the pass that it is lent.
+/// What each client of a team does, in a thread of its own, by calls with the pass that it is lent,
+/// and what it answers.
 pub trait Work<K: HashKey, V: Clone + Eq, F: Remap<K, V> + Clone, A: Allocator> {
-    ghost use Rattle.count_ledger.specs.Views.{PassView};
+    ghost use Rattle.count_ledger.specs.Views.{LedgerId, PassView};
 
-    // What the work may leave of a pass.
-    ghost does: { Self → PassView K V F → PassView K V F → Type 0 } = { λ _ _ _. Unit {0} };
+    /// What each client answers.
+    type Out: Drop;
+
+    // The maps' ledgers with which the work can be done: where it brings moments, theirs.
+    ghost fits: { Self → LedgerId → Type 0 } = { λ _ _. Unit {0} };
+
+    // What the work may leave of a pass, and answer.
+    ghost does: { Self → PassView K V F → PassView K V F → Self.Out → Type 0 } = { λ _ _ _ _.
+        Unit {0} };
 
     /// The work of a client: `client.number()` is 0 for the first, and so on.
-    fn work<L: Loan, R: Wait>(&self, rt: &R, client: &mut Client<'_, L, K, V, F, A>)
-        ensures { does self.now client.old.pass.now client.new.pass.now };
+    fn work<L: Loan, R: Wait>(&self, rt: &R, client: &mut Client<'_, L, K, V, F, A>) -> Self::Out
+        requires { fits self.now client.old.map.now.ledger.id }
+        ensures { does self.now client.old.pass.now client.new.pass.now result };
 }
 
-/// Lets a client work whose loan is known, and gives the pass back.
+/// Lets a client work whose loan is known, and gives the pass back. The answer is left where it is
+/// wanted.
 fn work_seated<
     'a,
     L: Loan,
@@ -32,20 +42,27 @@ fn work_seated<
     A: Allocator,
     W: Work<K, V, F, A>,
     R: Wait,
->(rt: &R, map: &'a Map<K, V, F, A>, pass: &'a mut Pass<K, V, F>, work: &W) -> &'a mut Pass<K, V, F>
+>(
+    rt: &R,
+    map: &'a Map<K, V, F, A>,
+    pass: &'a mut Pass<K, V, F>,
+    work: &W,
+    answer: &mut Option<W::Out>,
+) -> &'a mut Pass<K, V, F>
     requires map { map.now.ledger.id ≡ L.ledger }
     requires pass { pass.old.ledger ≡ L.ledger }
     requires lent { pass.ghost_name ≡ L.lent }
+    requires fits { W.fits work.now map.now.ledger.id }
     ensures lent { result.ghost_name ≡ pass.entry.ghost_name }
     ensures ledger { result.now.ledger ≡ L.ledger }
-    ensures done { W.does work.now pass.old result.now }
+    ensures done { IsSomeAnd answer.new (W.does work.now pass.old result.now) }
 {
     let mut client: Client<'a, L, K, V, F, A> = Client {
         map,
         pass,
         loan: PhantomData,
     };
-    work.work(rt, &mut client);
+    *answer = Some(work.work(rt, &mut client));
     let Client {
         map: _,
         pass,
@@ -66,9 +83,18 @@ impl<K: HashKey, V: Clone + Eq, F: Remap<K, V> + Clone, A: Allocator, W: Work<K,
     F,
     A,
 > for Lent<'_, W> {
-    ghost does = { λ lent old new. W.does lent.work.now old new };
+    type Out = W::Out;
 
-    fn work<R: Wait>(&self, rt: &R, map: &Map<K, V, F, A>, pass: &mut Pass<K, V, F>) {
-        let _pass = work_seated::<Brand, K, V, F, A, W, R>(rt, map, pass, self.work);
+    ghost fits = { λ lent id. W.fits lent.work.now id };
+
+    ghost does = { λ lent old new answer. W.does lent.work.now old new answer };
+
+    fn work<R: Wait>(&self, rt: &R, map: &Map<K, V, F, A>, pass: &mut Pass<K, V, F>) -> W::Out {
+        let mut answer = None;
+        let _pass = work_seated::<Brand, K, V, F, A, W, R>(rt, map, pass, self.work, &mut answer);
+        match answer {
+            Some(answer) => answer,
+            None => unreachable!(),
+        }
     }
 }

@@ -1,0 +1,58 @@
+//! A client empties the map.
+ghost use Rattle.std.specs.Prelude.{◌≡◌, ◌≤◌, length, IfErr, IsErrOf, OnOk};
+ghost use Rattle.bin_history.specs.Calls.{after};
+ghost use Rattle.bin_history.specs.Copies.{IsExact};
+ghost use Rattle.count_ledger.specs.Limits.{most_calls};
+ghost use Rattle.chm.specs.Cleared.{HasLeft, HasOwnLeft, HasRemoved, IsCleared, IsEmptied};
+ghost use Rattle.chm.specs.Refusals.{IsOfCall};
+
+use crate::client::{Client, Loan};
+use bin_history::Remap;
+use chm::Fault;
+use hashkeys::HashKey;
+use std::alloc::Allocator;
+use std::sync::Wait;
+
+impl<
+    L: Loan,
+    K: HashKey + Drop,
+    V: Clone + Eq + Drop,
+    F: Remap<K, V> + Clone + Drop,
+    A: Allocator + Clone,
+> Client<'_, L, K, V, F, A> {
+    /// Takes all entries away, bin by bin in walk order, each bin under one hold, by a remove of
+    /// each entry that it meets, as `Map::clear` does. Others may put new ones into bins that were
+    /// left; with one client the map is then empty. It waits for each bin in turn.
+    ///
+    ///     client.put(rt, 1, 5)?;
+    ///     client.clear(rt)?;
+    ///     client.get(rt, &1)? == None
+    ///
+    /// # Errors
+    ///
+    /// `PassFull` where the client has made all the calls that it may and an entry is left, and
+    /// `NoMemory`. The removes made before that stand.
+    pub fn clear<R: Wait>(&mut self, rt: &R) -> Result<(), Fault>
+        requires keys { IsExact K.is_clone }
+        requires values { IsExact V.is_clone }
+        ensures cleared { OnOk result
+            (IsCleared K.eq K.code (after V.eq F.remapped F.merged) self.old.map.now.n
+            self.old.map.now.ledger self.old.pass.now self.new.pass.now) }
+        ensures emptied { self.old.map.now.ledger.clients ≡ 1 →
+            OnOk result
+            (IsEmptied K.eq K.code self.old.map.now.n self.old.map.now.ledger
+            self.new.pass.now) }
+        ensures removed { HasRemoved self.old.pass.now self.new.pass.now }
+        ensures full { IsErrOf result Fault.PassFull →
+            most_calls self.old.map.now.ledger.form ≤ length self.new.pass.now.made }
+        ensures left { IsErrOf result Fault.PassFull →
+            HasLeft K.eq K.code (after V.eq F.remapped F.merged) self.old.map.now.ledger
+            self.new.pass.now }
+        ensures own_left { self.old.map.now.ledger.clients ≡ 1 → IsErrOf result Fault.PassFull →
+            HasOwnLeft K.eq K.code self.old.map.now.ledger self.new.pass.now }
+        ensures faults { IfErr result IsOfCall }
+        ensures map { self.new.map.now ≡ self.old.map.now }
+    {
+        self.map.clear(rt, self.pass)
+    }
+}

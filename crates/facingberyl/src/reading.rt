@@ -1,0 +1,114 @@
+//! What a client reads without a call: nothing is posted, and a full pass may read too.
+ghost use Rattle.std.specs.Prelude.{◌≡◌, ◌<◌, ◌^◌, All, IfOk, IfErr};
+ghost use Rattle.bin_history.specs.Calls.{after};
+ghost use Rattle.bin_history.specs.Copies.{IsExact};
+ghost use Rattle.bin_history.specs.Entries.{HasDistinctKeys, lookup};
+ghost use Rattle.bin_history.specs.Plain.{run};
+ghost use Rattle.count_ledger.specs.Fronts.{HasSeen, HasSeenMore};
+ghost use Rattle.chm.specs.Visits.{AreVisits, IsOwn, IsShown, shown_by};
+
+use crate::client::{Client, Loan};
+use bin_history::Remap;
+use chm::{Fault, Visit};
+use hashkeys::HashKey;
+use std::alloc::Allocator;
+use std::sync::Wait;
+
+impl<
+    L: Loan,
+    K: HashKey + Drop,
+    V: Clone + Eq + Drop,
+    F: Remap<K, V> + Clone + Drop,
+    A: Allocator + Clone,
+> Client<'_, L, K, V, F, A> {
+    /// A copy of the value at the key: what all calls so far left there, which the client has then
+    /// seen. It waits for the key's bin.
+    ///
+    ///     client.put(rt, 1, 5)?;
+    ///     client.look_up(rt, &1)? == Some(5)
+    ///
+    /// # Errors
+    ///
+    /// `NoMemory`, where the value cannot be copied.
+    pub fn look_up<R: Wait>(&mut self, rt: &R, key: &K) -> Result<Option<V>, Fault>
+        requires values { IsExact V.is_clone }
+        ensures seen { HasSeen K.eq (after V.eq F.remapped F.merged) self.old.map.now.ledger
+            self.old.pass.now self.new.pass.now }
+        ensures found { IfOk result (λ value. value
+            ≡ run K.eq (lookup K.eq self.old.map.now.ledger.opening) self.new.pass.now.seen
+            key.now) }
+        ensures faults { IfErr result (λ fault. fault ≡ Fault.NoMemory) }
+        ensures map { self.new.map.now ≡ self.old.map.now }
+    {
+        self.map.look_up(rt, self.pass, key)
+    }
+
+    /// A copy of the value at the key, read beside others that read the bin. When it was the value
+    /// is not said. It waits for who writes in the key's bin.
+    ///
+    ///     client.put(rt, 1, 5)?;
+    ///     client.glance(rt, &1)? == Some(5)
+    ///
+    /// # Errors
+    ///
+    /// `NoMemory`, where the value cannot be copied.
+    pub fn glance<R: Wait>(&self, rt: &R, key: &K) -> Result<Option<V>, Fault>
+        requires values { IsExact V.is_clone }
+        ensures shown { IfOk result
+            (IsShown K.eq K.code (after V.eq F.remapped F.merged) self.now.map.now key.now) }
+        ensures faults { IfErr result (λ fault. fault ≡ Fault.NoMemory) }
+    {
+        self.map.glance(rt, key)
+    }
+
+    /// Shows the entries of each bin in walk order, one bin after the other, as `Map::walk` does:
+    /// each as all calls before that had left it, those among them that the client had seen when
+    /// the walk began. No key comes twice. With one client the walk shows the map. It waits for
+    /// each bin in turn, and takes memory for copies of all entries.
+    ///
+    ///     client.put(rt, 1, 5)?;
+    ///     let visits = client.walk(rt)?;
+    ///     visits.iter().any(|visit| visit.entries.as_slice() == [(1, 5)].as_slice())
+    ///
+    /// # Errors
+    ///
+    /// `NoMemory`. Nothing is shown then.
+    pub fn walk<R: Wait>(&mut self, rt: &R) -> Result<Vec<Visit<K, V, A>, A>, Fault>
+        requires keys { IsExact K.is_clone }
+        requires values { IsExact V.is_clone }
+        ensures visits { IfOk result
+            (λ v. AreVisits K.eq K.code (after V.eq F.remapped F.merged) self.old.map.now.n
+            self.old.map.now.ledger
+            self.old.pass.now v.items self.new.pass.now) }
+        ensures distinct { IfOk result (λ v. HasDistinctKeys K.eq (shown_by v.items)) }
+        ensures own { self.old.map.now.ledger.clients ≡ 1 →
+            IfOk result
+            (λ v. All (IsOwn K.eq K.code self.old.map.now.ledger self.old.pass.now) v.items) }
+        ensures seen { HasSeenMore self.old.pass.now self.new.pass.now }
+        ensures faults { IfErr result (λ fault. fault ≡ Fault.NoMemory) }
+        ensures map { self.new.map.now ≡ self.old.map.now }
+    {
+        self.map.walk(rt, self.pass)
+    }
+}
+
+impl<L: Loan, K: HashKey, V: Clone + Eq, F: Remap<K, V> + Clone, A: Allocator> Client<
+    '_,
+    L,
+    K,
+    V,
+    F,
+    A,
+> {
+    /// How many keys there are, as far as a look at one client's count after the other tells: while
+    /// other threads call, it is the number at no one moment, and nothing but its range is
+    /// promised. It waits for nobody.
+    ///
+    ///     client.put(rt, 1, 5)?;
+    ///     client.mapping_count() == 1
+    pub fn mapping_count(&self) -> u64
+        ensures { result < 2 ^ 63 }
+    {
+        self.map.mapping_count()
+    }
+}
