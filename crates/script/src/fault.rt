@@ -30,14 +30,14 @@ pub enum Kind {
     Missing,
 }
 
-impl fmt::Display for Kind {
-    ghost use Rattle.std.specs.Prelude.{Some};
+impl Kind {
     ghost use Rattle.script.specs.Kinds.{text_of};
 
-    ghost output = { λ kind. Some (text_of kind) };
-
-    fn fmt<W: fmt::Write>(&self, f: &mut fmt::Formatter<W>) -> fmt::Result {
-        f.write_str(match self {
+    /// The word that it is told by.
+    pub fn text(self) -> &'static str
+        ensures { result.now ≡ text_of self }
+    {
+        match self {
             Kind::Cut => "cut",
             Kind::Bytes => "bytes",
             Kind::Spaces => "spaces",
@@ -48,7 +48,18 @@ impl fmt::Display for Kind {
             Kind::Function => "function",
             Kind::Limit => "limit",
             Kind::Missing => "missing",
-        })
+        }
+    }
+}
+
+impl fmt::Display for Kind {
+    ghost use Rattle.std.specs.Prelude.{Some};
+    ghost use Rattle.script.specs.Kinds.{text_of};
+
+    ghost output = { λ kind. Some (text_of kind) };
+
+    fn fmt<W: fmt::Write>(&self, f: &mut fmt::Formatter<W>) -> fmt::Result {
+        f.write_str(self.text())
     }
 }
 
