@@ -35,7 +35,7 @@ IsAllowed-closed blocks replies q quiet empty clients played =
         record {
           clients = subst (λ (n : ℕ). All (λ (x : ScriptRecord). x.client < n) calls) clients books.clients;
           made = λ c lt.
-              let some_pass : ScriptPass = record { ledger = q.ledger.id; client = c; made = [] } in
+              let some_pass : ScriptPass = record { ledger = q.ledger.id; client = c; made = []; seen = [] } in
               let p : ScriptPass = slice_index_or q.passes c some_pass in
               let own : by_client p.client calls ≡ p.made =
               All-get_or (λ p. by_client p.client calls ≡ p.made) q.passes c some_pass (let m = played.as_many in

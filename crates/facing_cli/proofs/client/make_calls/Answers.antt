@@ -10,7 +10,7 @@ use Rattle.facing_cli.proofs.client.make_calls.Goals as goal
 pub loop-call-preserved : goal.loop-call-preserved
 loop-call-preserved g c =
     let (ledger, client, made, count, rest, room) = c.loop-call.invariant in
-    let (r, called, found) = c.in_ok-reply.ensures.called in
+    let (front, r, is_front, called, found) = c.in_ok-reply.ensures.called in
     let records : c.call-in-loop-call.new.pass.made ≡ c.loop-call.pass.made ++ r ∷ [] =
     ap (λ (p : ScriptPass). p.made) called.pass in
     let next = HasMade-push c.loop-call.yielded c.loop-call.replies.items c.loop-call.pass.made c.in-Some.call
