@@ -11,7 +11,7 @@ import time
 
 from maps import OUT, TOP, Failed, versions
 
-SPEED = f"{TOP}/docs/SPEED.md"
+FIGURES = f"{TOP}/docs/FIGURES.md"
 
 
 def processors():
@@ -121,11 +121,11 @@ def write(file, text):
 
 
 def put_between(name, text):
-    """Puts the text into docs/SPEED.md, between the two lines that mark its place."""
+    """Puts the text into docs/FIGURES.md, between the two lines that mark its place."""
     begin, end = f"<!-- {name}: begin -->\n", f"<!-- {name}: end -->\n"
-    with open(SPEED, encoding="utf-8") as it:
+    with open(FIGURES, encoding="utf-8") as it:
         page = it.read()
     if page.count(begin) != 1 or page.count(end) != 1 or page.index(end) < page.index(begin):
-        sys.exit(f"bench: docs/SPEED.md lacks the lines {begin.strip()} and {end.strip()}, between which the figures stand")
+        sys.exit(f"bench: docs/FIGURES.md lacks the lines {begin.strip()} and {end.strip()}, between which the figures stand")
     before, _, rest = page.partition(begin)
-    write(SPEED, f"{before}{begin}\n{text}\n{end}{rest.partition(end)[2]}")
+    write(FIGURES, f"{before}{begin}\n{text}\n{end}{rest.partition(end)[2]}")

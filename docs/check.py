@@ -1,44 +1,45 @@
 """Compares what the pages say of the code with the code.
 
-usage: python3 docs/check.py
+usage: python3 docs/check.py [--fix]
 
 It proves nothing. It looks whether
-  a line of a page has at most 120 characters (a row of a table in the top README may have more);
+  a line of a page has at most 200 characters, and the pages together and the top README no more words than they may;
+  a link leads to a file, a folder or a heading that is there, and each page is reached from the top README;
+  a link whose text is one name in backticks, as [`IsFront`](..), leads to a file that defines it, and where it names a
+    line (`#L12`) to that line; clauses in parentheses behind it, as (`called`, `refused`), are clauses of that function;
   what stands in a block `antt` stands so, but for line breaks, in the file that the last comment with a path names;
   each other block is told of by a comment before it, as `<!-- crates/hit_counter/stdout -->`: its parts stand so, but
     for line breaks and indents where they are code, in that file; or by `<!-- typed -->`: it is a command, or a form;
-  a file that is named is there;
-  a function that a page names with its file, or with its clauses, is there and has them;
-  a definition that a page names with its file is there;
-  each line of an example that stands with a call of a client, of a map or of a closed one stands in the tests that run it;
-  each crate of crates.txt has a README and a line in ARCHITECTURE.md, and each stored edit a line in TRIED.md;
-  each test that TRIED.md names is there;
+  each line of an example that stands with a call of the library stands in the tests that run it;
+  each crate of crates.txt has a README and a link in ARCHITECTURE.md;
+  the rows of wrong_bodies.csv name clauses and tests that are there, and each stored edit has its row;
+  API.md and TESTS.md are what api.py and tests.py make of the sources, and refusals.csv what refusals.py finds;
   the top README names the logic of the toolchain that is here.
-It prints a line for each fault, and ends with status 1 where there is one."""
-import glob
+It prints a line for each fault, and ends with status 1 where there is one. With --fix it first writes the generated pages
+anew and mends the lines that links name, and the file where another of the same crate defines the name."""
+import csv
 import os
+import posixpath
 import re
 import shutil
 import subprocess
 import sys
 
-TOP = os.path.dirname(os.path.dirname(os.path.realpath(__file__)))
-COLUMNS = 120
-PATH = r"[a-z_]+/(?:src|specs)/\w+\.(?:rt|antt)"
-TRIED = "docs/TRIED.md"
+import api
+import sources
+import tests
+from sources import is_file, text_of
+
+COLUMNS, WORDS, README_WORDS = 200, 23000, 1000
+ANTT_PATH = r"[a-z_]+/(?:src|specs)/\w+\.(?:rt|antt)"
+BODIES = "docs/wrong_bodies.csv"
+COLUMNS_OF_BODIES = ["crate", "body", "function", "clauses", "test", "edit"]
+LINK = r"\[((?:[^\[\]]|\[[^\]]*\])+)\]\(([^()\s]+)\)"
 EXAMPLES = {
     "crates/facingberyl/src/*.rt": "crates/use_tests/src/*examples.rt",
     "crates/chm/src/*.rt": "crates/map_tests/src/*examples.rt",
     "crates/bulk_tasks/src/*.rt": "crates/pool_tests/src/examples.rt",
 }
-
-
-def text_of(path):
-    with open(f"{TOP}/{path}", encoding="utf-8") as it:
-        return it.read()
-
-
-SPECS = "\n".join(text_of(os.path.relpath(it, TOP)) for it in sorted(glob.glob(f"{TOP}/crates/*/specs/*.antt")))
 
 
 def words_of(text):
@@ -52,18 +53,123 @@ def is_within(part, whole):
 
 def wide_lines(page, text):
     for number, line in enumerate(text.splitlines(), 1):
-        if len(line) > COLUMNS and not (page == "README.md" and line.startswith("|")):
+        if len(line) > COLUMNS:
             yield f"{page}:{number}: {len(line)} characters"
+
+
+def is_counted(page):
+    return page not in sources.GENERATED and not page.startswith("docs/history/")
+
+
+def too_many_words(pages):
+    counts = {it: len(text_of(it).split()) for it in pages if is_counted(it)}
+    if counts["README.md"] > README_WORDS:
+        yield f"README.md: {counts['README.md']} words, more than {README_WORDS}"
+    if sum(counts.values()) > WORDS:
+        yield f"the pages have {sum(counts.values())} words, more than {WORDS}"
+
+
+# == Links ==
+
+
+def without_code(text):
+    """Returns a page's text with its blocks left empty, so that their brackets are no links."""
+    text = re.sub(r"(?ms)^ *```.*?^ *```$", lambda it: "\n" * it[0].count("\n"), text)
+    return re.sub(r"(?m)(?<=\n\n)(?: {4}.*\n|\n)+", lambda it: "\n" * it[0].count("\n"), text)
+
+
+def links_in(page):
+    """Returns each link of a page to something here: its text, its path from the top, its fragment, and what follows it."""
+    text = without_code(text_of(page))
+    for found in re.finditer(LINK, text):
+        target, _, fragment = found[2].partition("#")
+        if not re.match(r"\w+:", found[2]):
+            path = posixpath.normpath(posixpath.join(posixpath.dirname(page), target)) if target else page
+            yield found[1], path, fragment, " ".join(text[found.end() : found.end() + 400].split())
+
+
+def headings_of(page):
+    found = re.findall(r"(?m)^#+ (.*)$", without_code(text_of(page)))
+    return {re.sub(r"[^\w\- ]", "", re.sub(LINK, r"\1", it).lower()).strip().replace(" ", "-") for it in found}
+
+
+def wrong_links(page):
+    for shown, path, fragment, after in links_in(page):
+        where = f"{page}: the link {shown} to {path}"
+        name = re.fullmatch(r"`([\w:!()]+)`", shown)
+        if not os.path.exists(f"{sources.TOP}/{path}"):
+            yield f"{where}: there is no such file"
+        elif fragment and path.endswith(".md"):
+            if fragment not in headings_of(path):
+                yield f"{where}: there is no heading {fragment}"
+        elif name and os.path.splitext(path)[1] in sources.KINDS:
+            yield from wrong_name(where, name[1], path, fragment)
+            yield from lost_clauses(where, name[1], path, after)
+
+
+def wrong_name(where, name, path, fragment):
+    line = sources.line_of(name, path)
+    if os.path.splitext(os.path.basename(path))[0] + os.path.splitext(path)[1] == name:
+        return
+    if line is None:
+        yield f"{where}: the file does not define it"
+    elif fragment and fragment != f"L{line}":
+        yield f"{where}#{fragment}: it is in line {line}"
+
+
+def lost_clauses(where, name, path, after):
+    """Clauses in parentheses behind the link to a function."""
+    if behind := re.match(r"\(((?:`[a-z_]+`(?:, )?)+)\)", after):
+        heads = sources.heads_of(name.split("::")[-1], text_of(path))
+        for clause in re.findall(r"`([a-z_]+)`", behind[1]):
+            if heads and not any(sources.has_clause(it, clause) for it in heads):
+                yield f"{where}: it has no clause {clause}"
+
+
+def unreached(pages):
+    """Pages that no way of links from the top README leads to."""
+    reached, ahead = set(), ["README.md"]
+    while ahead:
+        page = ahead.pop()
+        if page not in reached:
+            reached.add(page)
+            ahead += [path for _, path, _, _ in links_in(page) if path.endswith(".md") and is_file(path)]
+    return [f"{it}: no link leads here" for it in pages if it not in reached]
+
+
+def mended(page):
+    """Returns a page's text with right lines in its links, and the file of the same crate where one file lost a name."""
+
+    def mend(found):
+        name = re.fullmatch(r"`([\w:!]+)`", found[1])
+        target, _, fragment = found[2].partition("#")
+        path = posixpath.normpath(posixpath.join(posixpath.dirname(page), target))
+        if not name or not path.startswith("crates/") or os.path.splitext(path)[1] not in sources.KINDS:
+            return found[0]
+        if not is_file(path) or sources.line_of(name[1], path) is None:
+            folder = posixpath.dirname(path)
+            others = [it for it in sources.below_top(f"{folder}/*{os.path.splitext(path)[1]}") if sources.line_of(name[1], it)]
+            if len(others) != 1:
+                return found[0]
+            path = others[0]
+            target = posixpath.relpath(path, posixpath.dirname(page) or ".")
+        line = f"#L{sources.line_of(name[1], path)}" if fragment else ""
+        return f"[{found[1]}]({target}{line})"
+
+    return re.sub(LINK, mend, text_of(page))
+
+
+# == Blocks ==
 
 
 def wrong_quotes(page, text):
     for found in re.finditer(r"(?ms)^ *```antt\n(.*?)^ *```$", text):
         path, whole = "", ""
         for part in re.split(r"\n\s*\n", found[1].rstrip()):
-            named = re.match(rf"-- ({PATH})\n", part + "\n")
+            named = re.match(rf"-- ({ANTT_PATH})\n", part + "\n")
             if named:
                 path, part = named[1], part[named.end() :]
-                whole = text_of(f"crates/{path}") if os.path.isfile(f"{TOP}/crates/{path}") else ""
+                whole = text_of(f"crates/{path}") if is_file(f"crates/{path}") else ""
             if part.strip() and not is_within(part, whole):
                 yield f"{page}: crates/{path} has not: {' '.join(part.split())[:90]}"
 
@@ -89,7 +195,7 @@ def blocks_of(text):
 def is_shown(part, path, whole):
     """Whether a part of a block stands in a file: code whatever the line breaks, other text line by line."""
     if not path.endswith(".rt"):
-        lines = [it[4:] for it in part.splitlines()]
+        lines = [it.removeprefix("    ") for it in part.splitlines()]
         return "\n".join(lines).strip() in whole
     part, whole = ("".join(it.split()).replace(",)", ")") for it in (part, whole))
     return part in whole
@@ -100,155 +206,139 @@ def wrong_examples(page, text):
         named = re.search(r"<!-- ([\w./]+) -->$", before.strip())
         if not named:
             yield f"{page}:{number}: no comment names the file of this block"
-        elif named[1] != "typed":
-            whole = text_of(named[1]) if os.path.isfile(f"{TOP}/{named[1]}") else ""
+        elif named[1] not in ("typed", "drawn"):
+            whole = text_of(named[1]) if is_file(named[1]) else ""
             for part in re.split(r"\n\s*\n", block.strip("\n")):
                 if not whole or part.strip() and not is_shown(part, named[1], whole):
                     yield f"{page}:{number}: {named[1]} has not: {' '.join(part.split())[:90]}"
-
-
-def lost_files(page, text):
-    for path in sorted(set(re.findall(rf"`({PATH})`", text))):
-        if not os.path.isfile(f"{TOP}/crates/{path}"):
-            yield f"{page}: there is no file crates/{path}"
-
-
-def head_of(function, text):
-    """Returns the heads of the functions of this name, from `fn` up to the brace of the body, or the `;` where there is none: that of a field ends no head."""
-    return re.findall(rf"(?ms)\bfn {re.escape(function)}\b(?:.*?)(?:^\s*\{{\s*$|\{{\}}|^(?![^\n]* = )[^\n]*;$)", text)
-
-
-def lost_functions(page, flat):
-    """Functions that stand with their file, as `Map::call` (`chm/src/calls.rt`)."""
-    for name, path in re.findall(rf"`([A-Za-z_:]+)` \(`([a-z_]+/src/\w+\.rt)`\)", flat):
-        if os.path.isfile(f"{TOP}/crates/{path}"):
-            if not re.search(rf"\bfn {re.escape(name.split('::')[-1])}\b", text_of(f"crates/{path}")):
-                yield f"{page}: crates/{path} has no function {name}"
-
-
-def sources_of(crate):
-    return "\n".join(text_of(os.path.relpath(it, TOP)) for it in sorted(glob.glob(f"{TOP}/crates/{crate}/src/*.rt")))
-
-
-def fields_of(head):
-    """The fields of the records of specs that a function's clauses name: parts of what it ensures, as clauses are."""
-    ensured = re.findall(r"(?ms)^\s*ensures (.*?)(?=^\s*(?:requires|ensures) |\Z)", head)
-    fields, names = set(), set(re.findall(r"\b[A-Z]\w+", "".join(ensured)))
-    for name in list(names):
-        names.update(*(re.findall(r"\b[A-Z]\w+", it) for it in re.findall(rf"(?ms)^ *abbrev pub {name} :[^=]*\n *{name} [^=]*=(.*?)(?=\n\s*\n|\Z)", SPECS)))
-    for name in names:
-        for body in re.findall(rf"(?ms)^ *pub record {name} .*?\bwhere\n(.*?)(?=\n\s*\n|\Z)", SPECS):
-            fields.update(re.findall(r"(?m)^ +pub ([a-z_]+) :", body))
-    return fields
-
-
-def lost_clauses(page, flat, home="", kinds="ensures"):
-    """Functions that stand with clauses, or with parts of one that is a record, as `chm::Map::call` (`called`, `refused`); without its crate where the page is about one."""
-    for name, clauses in re.findall(r"`([A-Za-z_:]+)` \(((?:`[a-z_]+`(?:, )?)+)\)", flat):
-        parts = name.split("::")
-        crate = parts[0] if len(parts) > 1 and parts[0][0].islower() else home
-        if not crate:
-            continue
-        heads = head_of(parts[-1], sources_of(crate))
-        if not heads:
-            yield f"{page}: {crate} has no function {parts[-1]}"
-            continue
-        for clause in re.findall(r"`([a-z_]+)`", clauses):
-            if not any(re.search(rf"\b(?:{kinds}) {clause} \{{", it) or clause in fields_of(it) for it in heads):
-                yield f"{page}: {name} has no clause {clause}"
-
-
-def lost_definitions(page, flat):
-    """Definitions that stand with their file, as (`covers`, `is_of`: `hashkeys/specs/Classes.antt`), or as by `is_of` of that file."""
-    named = re.findall(rf"\(((?:`[^`]+`(?:, )?)+): `({PATH})`", flat)
-    named += re.findall(rf"\bby ((?:`[^`/]+`(?:, | and )?)+) of `({PATH})`", flat)
-    for names, path in named:
-        if not os.path.isfile(f"{TOP}/crates/{path}"):
-            continue
-        text = text_of(f"crates/{path}")
-        for name in re.findall(r"`([^`]+)`", names):
-            kinds = r"(?:(?:abbrev|pub|record|data|trait|struct|enum|fn|ghost|use) )+" if path.endswith(".rt") else r"(?:(?:abbrev|pub|record|data) )*"
-            if not re.search(rf"(?m)^\s*{kinds}{re.escape(name)}(?![\w-])", text):
-                yield f"{page}: crates/{path} defines no {name}"
 
 
 def squeezed(code):
     return re.sub(r",([)}])", r"\1", "".join(code.split()))
 
 
+def forms_of(line):
+    """Returns the forms in which a test may have a line of an example: an assertion is a comparison there, or the other way."""
+    yield squeezed(line).rstrip(",")
+    if asserted := re.fullmatch(r"assert_eq!\((.*), (.*)\);?", line.strip()):
+        yield squeezed(f"{asserted[1]} == {asserted[2]}")
+    if asserted := re.fullmatch(r"assert!\((.*)\);?", line.strip()):
+        yield squeezed(asserted[1])
+
+
 def wrong_call_examples():
     """Examples in the comments of calls, each of which the tests of EXAMPLES run."""
-    for pages, tests in EXAMPLES.items():
-        run = squeezed("\n".join(text_of(os.path.relpath(it, TOP)) for it in sorted(glob.glob(f"{TOP}/{tests}"))))
-        for page in sorted(os.path.relpath(it, TOP) for it in glob.glob(f"{TOP}/{pages}")):
-            for number, line in enumerate(text_of(page).splitlines(), 1):
+    for shown_in, run_by in EXAMPLES.items():
+        run = squeezed("\n".join(text_of(it) for it in sources.below_top(run_by)))
+        for path in sources.below_top(shown_in):
+            for number, line in enumerate(text_of(path).splitlines(), 1):
                 shown = re.match(r"\s*///     (.*)$", line)
-                if shown and squeezed(shown[1]).rstrip(",") not in run:
-                    yield f"{page}:{number}: {tests} has not: {shown[1].strip()}"
+                if shown and not any(it in run for it in forms_of(shown[1])):
+                    yield f"{path}:{number}: {run_by} has not: {shown[1].strip()}"
 
 
-def crates():
-    lines = [it.partition("#")[0] for it in text_of("crates.txt").splitlines()]
-    return [it.split(":")[0].split()[0] for it in lines if ":" in it]
+# == Crates, wrong bodies, generated pages ==
 
 
 def lost_crates():
     overview = text_of("docs/ARCHITECTURE.md")
-    for crate in crates():
-        if not os.path.isfile(f"{TOP}/crates/{crate}/README.md"):
+    for crate in sources.crates():
+        if not is_file(f"crates/{crate}/README.md"):
             yield f"crates/{crate} has no README.md"
-        if f"`{crate}`" not in overview:
-            yield f"docs/ARCHITECTURE.md: nothing of {crate}"
+        if f"](../crates/{crate}/README.md)" not in overview:
+            yield f"docs/ARCHITECTURE.md: no link to {crate}"
 
 
-def lost_edits():
-    """Edits, and what refuses them: clauses in the sections of crates, tests in the section after them."""
-    tried, _, after = text_of(TRIED).partition("## Tried and not stored")
-    after = after.partition("## What a test refuses")[2]
-    told = {}
-    for part in re.split(r"(?m)^### ", tried)[1:]:
-        crate = part.split("`")[1]
-        told[crate] = re.findall(r"(?m)^- `(\w+)`:", part)
-        yield from lost_clauses(TRIED, " ".join(part.split()), crate, "ensures|requires")
-    for crate in crates():
-        stored = [os.path.basename(it)[: -len(".edit")] for it in glob.glob(f"{TOP}/crates/{crate}/must-fail/*.edit")]
-        for name in sorted({*stored} ^ {*told.get(crate, [])}):
-            where = "is not told of" if name in stored else "is not stored"
-            yield f"{TRIED}: of {crate} the edit {name} {where}"
-    tests = "".join(sources_of(it) for it in crates())
-    for name in re.findall(r"`([a-z]\w*_\w+)`", after.partition("\n## ")[0]):
-        if name not in crates() and f"fn {name}(rt" not in tests:
-            yield f"{TRIED}: there is no test {name}"
+def wrong_bodies():
+    """Rows that name a function, a clause, a test or an edit that is not there, and edits without a row."""
+    every_test = {name for it in sources.crates() for path in sources.sources_of(it) for name, _, _ in sources.tests_in(path)}
+    told = set()
+    with open(f"{sources.TOP}/{BODIES}", encoding="utf-8", newline="") as it:
+        rows = list(csv.DictReader(it))
+        for number, row in enumerate(rows, 2):
+            where = f"{BODIES}:{number}"
+            if list(row) != COLUMNS_OF_BODIES or None in row.values():
+                yield f"{where}: other columns than {', '.join(COLUMNS_OF_BODIES)}"
+                continue
+            yield from wrong_body(where, row, every_test)
+            told.add((row["crate"], row["edit"]))
+    for crate in sources.crates():
+        stored = {os.path.basename(it)[: -len(".edit")] for it in sources.below_top(f"crates/{crate}/must-fail/*.edit")}
+        yield from (f"{BODIES}: of {crate} there is no row for the edit {it}" for it in stored if (crate, it) not in told)
+
+
+def wrong_body(where, row, every_test):
+    if row["crate"] not in sources.crates():
+        yield f"{where}: there is no crate {row['crate']}"
+        return
+    text = "\n".join(text_of(it) for it in sources.sources_of(row["crate"]))
+    heads = sources.heads_of(row["function"].split("::")[-1], text) if row["function"] else []
+    if row["function"] and not heads:
+        yield f"{where}: {row['crate']} has no function {row['function']}"
+    for clause in row["clauses"].split():
+        if heads and not any(sources.has_clause(it, clause) for it in heads):
+            yield f"{where}: {row['function']} has no clause {clause}"
+    for test in row["test"].split():
+        if test not in every_test:
+            yield f"{where}: there is no test {test}"
+    if row["edit"] and not is_file(f"crates/{row['crate']}/must-fail/{row['edit']}.edit"):
+        yield f"{where}: the edit {row['edit']} is not stored"
+    if not (row["function"] or row["test"]):
+        yield f"{where}: nothing refuses it"
+
+
+def old_pages():
+    for made in (api, tests):
+        if not is_file(made.PATH) or text_of(made.PATH) != made.page():
+            yield f"{made.PATH}: the sources say something else; python3 docs/check.py --fix"
+
+
+def other_refusals():
+    """What the list of places where a refusal is made says, where its script is here."""
+    if is_file("docs/refusals.py"):
+        done = subprocess.run([sys.executable, f"{sources.TOP}/docs/refusals.py", "--check"], capture_output=True, text=True)
+        if done.returncode:
+            yield from (done.stdout + done.stderr).splitlines()
 
 
 def other_logic():
     """The logic of the toolchain that the top README says its proofs were checked with, where there is one to ask."""
-    if not shutil.which("rt"):
-        return
-    logic = re.search(r"\blogic \w+", subprocess.run(["rt", "version"], capture_output=True, text=True).stdout)
-    if logic and logic[0] not in text_of("README.md"):
-        yield f"README.md: the toolchain that is here has another: {logic[0]}"
+    if shutil.which("rt"):
+        logic = re.search(r"\blogic \w+", subprocess.run(["rt", "version"], capture_output=True, text=True).stdout)
+        if logic and logic[0] not in text_of("README.md"):
+            yield f"README.md: the toolchain that is here has another: {logic[0]}"
+
+
+def fix(pages):
+    fixed = {made.PATH: made.page() for made in (api, tests)}
+    fixed |= {it: mended(it) for it in pages if it not in sources.GENERATED}
+    for page, text in fixed.items():
+        if not is_file(page) or text != text_of(page):
+            with open(f"{sources.TOP}/{page}", "w", encoding="utf-8") as it:
+                it.write(text)
+            print(f"{page}: written anew")
+    text_of.cache_clear()
 
 
 def main():
-    pages = ["README.md", *sorted(os.path.relpath(it, TOP) for it in glob.glob(f"{TOP}/docs/*.md") + glob.glob(f"{TOP}/crates/*/README.md"))]
+    pages = sources.pages()
+    if "--fix" in sys.argv[1:]:
+        fix(pages)
+        pages = sources.pages()
     faults = []
     for page in pages:
         text = text_of(page)
-        flat = " ".join(text.split())
-        for look in (wide_lines, wrong_quotes, wrong_examples, lost_files):
+        for look in (wide_lines, wrong_quotes, wrong_examples):
             faults += look(page, text)
-        for look in (lost_functions, lost_definitions):
-            faults += look(page, flat)
-        if page != TRIED:
-            faults += lost_clauses(page, flat)
-    faults += wrong_call_examples()
-    faults += lost_crates()
-    faults += lost_edits()
-    faults += other_logic()
+        faults += wrong_links(page)
+    for look in (too_many_words, unreached):
+        faults += look(pages)
+    for look in (wrong_call_examples, lost_crates, wrong_bodies, old_pages, other_refusals, other_logic):
+        faults += look()
     for fault in faults:
         print(fault)
-    print(f"{len(pages)} pages, {len(faults)} faults")
+    words = sum(len(text_of(it).split()) for it in pages if is_counted(it))
+    print(f"{len(pages)} pages, {words} words, {len(faults)} faults")
     return 1 if faults else 0
 
 

@@ -1,0 +1,75 @@
+"""Writes docs/TESTS.md, the list of all tests, from the sources.
+
+usage: python3 docs/tests.py
+
+First things that readers look for, by the tests that assert them, as THINGS has them; then each crate with tests, each of
+its files (what it is about, by the comment at its head), and its tests: a link to each, with its comment's first sentence
+where it has one. Else its name says what it asserts."""
+import sources
+
+PATH = "docs/TESTS.md"
+HEAD = """# Tests: the thing, the file, what is asserted
+
+Made by `python3 docs/tests.py` from the sources; [check.py](check.py) compares. `rt ci` runs them all. A test's name says
+what it asserts; expected values are written by hand, from the rules.
+
+## By the thing
+"""
+# What a reader looks for, and the tests that assert it.
+THINGS = (
+    ("each of the twelve calls: its reply and what it leaves, as of `merge` on an absent key", "each_call_replies_and_leaves_what_its_row_says", "each_call_replies_as_its_row_says"),
+    ("typed calls of a client, and the example that stands with each", "examples_hold"),
+    ("calls that borrow their key", "calls_by_reference_answer_as_their_twins"),
+    ("codes, hashes, salts", "known_codes_and_spreads", "known_codes_of_numbers_and_bytes"),
+    ("functions ready to use: `Add`, `Greatest`, `Set`", "functions_merge"),
+    ("a bin's fold and split", "the_oldest_records_are_folded", "a_salted_bin_is_split_by_salted_hashes"),
+    ("growth: at which counts, and to how many bins", "a_table_grows_at_three_keys_to_four_bins", "a_table_grows_at_three_quarters_of_its_bins"),
+    ("moves: each bin once, and help", "two_threads_forward_one_class_once", "a_call_helps_with_a_stride"),
+    ("a refused move", "a_refused_move_leaves_the_bin", "a_later_call_goes_on_with_a_refused_move"),
+    ("calls refused for want of memory, each request in turn", "a_refused_call_leaves_the_bin", "each_request_is_refused_in_turn"),
+    ("a full pass", "a_full_pass_clears_where_nothing_is_left"),
+    ("walks, looks, glances, clears", "a_glance_shows_the_value_before_and_after_a_move"),
+    ("a close: a missing pass, settling", "settling_needs_each_pass"),
+    ("clients at the same time", "one_of_32_clients_finds_no_value", "clients_call_at_the_same_time_each_after_its_gate"),
+    ("bulk operations", "the_sum_of_1_to_64", "a_search_gives_up_after_a_find", "a_list_in_walk_order"),
+    ("work that is stolen", "a_thief_takes_the_oldest_task", "four_workers_do_leaves_at_once"),
+    ("the script language", "every_form_of_a_query", "the_first_bad_line_decides"),
+    ("the command line", "words_are_taken", "help_is_told_apart_from_faults"),
+)
+
+
+def all_tests():
+    """Returns of each crate with tests its files, with what these are about, and their tests."""
+    for crate in sources.crates():
+        files = [(it, sources.module_comment(it) or "Tests inside the crate.", sources.tests_in(it)) for it in sources.sources_of(crate)]
+        if files := [it for it in files if it[2]]:
+            yield crate, files
+
+
+def link(name, path, line):
+    return f"[`{name}`](../{path}#L{line})"
+
+
+def index(tests):
+    """Returns a line for each thing, with links to its tests; one that is not there is left out."""
+    where = {name: link(name, path, line) for _, files in tests for path, _, found in files for name, line, _ in found}
+    for thing, *names in THINGS:
+        if links := [where[it] for it in names if it in where]:
+            yield f"- {thing}:\n" + ",\n".join(f"  {it}" for it in links)
+
+
+def page():
+    tests = list(all_tests())
+    count = sum(len(found) for _, files in tests for _, _, found in files)
+    parts = [HEAD, *index(tests), f"\n## All {count}, by crate and file"]
+    for crate, files in tests:
+        parts.append(f"\n### [{crate}](../crates/{crate}/README.md)")
+        for path, about, found in files:
+            parts.append(f"\n[{path.split('/src/')[1]}](../{path}): {about}\n")
+            parts += [f"- {link(name, path, line)}" + (f": {sources.sentence(comment)}" if comment else "") for name, line, comment in found]
+    return "\n".join(parts) + "\n"
+
+
+if __name__ == "__main__":
+    with open(f"{sources.TOP}/{PATH}", "w", encoding="utf-8") as it:
+        it.write(page())
