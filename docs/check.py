@@ -163,6 +163,8 @@ def mended(page):
 
 
 def wrong_quotes(page, text):
+    if len(re.findall(r"```", text)) != 2 * len(re.findall(r"(?ms)^ *```.*?^ *```$", text)):
+        yield f"{page}: a block is not closed"
     for found in re.finditer(r"(?ms)^ *```antt\n(.*?)^ *```$", text):
         path, whole = "", ""
         for part in re.split(r"\n\s*\n", found[1].rstrip()):
