@@ -14,7 +14,7 @@ It proves nothing. It looks whether
   each crate of crates.txt has a README and a link in ARCHITECTURE.md;
   the rows of wrong_bodies.csv name clauses and tests that are there, and each stored edit has its row;
   API.md and TESTS.md are what api.py and tests.py make of the sources, and refusals.csv what refusals.py finds;
-  the top README names the logic of the toolchain that is here.
+  VERSION has the version that mapcli tells, and the top README the logic of the toolchain that is here.
 It prints a line for each fault, and ends with status 1 where there is one. With --fix it first writes the generated pages
 anew and mends the lines that links name, and the file where another of the same crate defines the name."""
 import csv
@@ -36,9 +36,9 @@ BODIES = "docs/wrong_bodies.csv"
 COLUMNS_OF_BODIES = ["crate", "body", "function", "clauses", "test", "edit"]
 LINK = r"\[((?:[^\[\]]|\[[^\]]*\])+)\]\(([^()\s]+)\)"
 EXAMPLES = {
-    "crates/facingberyl/src/*.rt": "crates/use_tests/src/*examples.rt",
-    "crates/chm/src/*.rt": "crates/map_tests/src/*examples.rt",
-    "crates/bulk_tasks/src/*.rt": "crates/pool_tests/src/examples.rt",
+    "crates/facingberyl/src/*.rt": "crates/use_tests/src/*.rt",
+    "crates/chm/src/*.rt": "crates/map_tests/src/*.rt",
+    "crates/bulk_tasks/src/*.rt": "crates/pool_tests/src/*.rt",
 }
 
 
@@ -216,7 +216,7 @@ def wrong_examples(page, text):
 
 
 def squeezed(code):
-    return re.sub(r",([)}])", r"\1", "".join(code.split()))
+    return re.sub(r",([)}])", r"\1", "".join(code.split())).replace("&rt,", "rt,").replace("&rt)", "rt)")
 
 
 def forms_of(line):
@@ -289,6 +289,13 @@ def wrong_body(where, row, every_test):
         yield f"{where}: nothing refuses it"
 
 
+def other_version():
+    """The version that mapcli tells, where it tells one."""
+    told = re.search(r'const VERSION: &str = "([^"]*)"', "\n".join(text_of(it) for it in sources.sources_of("facing_cli")))
+    if told and (not is_file("VERSION") or text_of("VERSION").strip() != told[1]):
+        yield f"VERSION: facing_cli tells {told[1]}"
+
+
 def old_pages():
     for made in (api, tests):
         if not is_file(made.PATH) or text_of(made.PATH) != made.page():
@@ -335,7 +342,7 @@ def main():
         faults += wrong_links(page)
     for look in (too_many_words, unreached):
         faults += look(pages)
-    for look in (wrong_call_examples, lost_crates, wrong_bodies, old_pages, other_refusals, other_logic):
+    for look in (wrong_call_examples, lost_crates, wrong_bodies, old_pages, other_refusals, other_version, other_logic):
         faults += look()
     for fault in faults:
         print(fault)
