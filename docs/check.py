@@ -305,9 +305,9 @@ def old_pages():
 def other_refusals():
     """What the list of places where a refusal is made says, where its script is here."""
     if is_file("docs/refusals.py"):
-        done = subprocess.run([sys.executable, f"{sources.TOP}/docs/refusals.py", "--check"], capture_output=True, text=True)
-        if done.returncode:
-            yield from (done.stdout + done.stderr).splitlines()
+        import refusals
+
+        yield from refusals.faults()
 
 
 def other_logic():
