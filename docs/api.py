@@ -5,7 +5,7 @@ usage: python3 docs/api.py
 Of each `pub fn` of the crates and files in PARTS: a link to it and its form, the first sentence of its comment, its errors
 (the section `# Errors` of the comment, else the type of its error), whether it waits and takes memory (what its comment
 says with these words, else what its form says: a call without `Wait` waits for nobody, one that answers no `Result` takes
-no memory), and the names of its clauses, which are its promise."""
+no memory), the names of its clauses, which are its promise, and its example, as it stands in the comment."""
 import os
 import re
 import textwrap
@@ -38,13 +38,13 @@ def comment_before(lines, index):
 
 
 def sections(said):
-    """Returns a comment's text and, of each heading `# X`, the text below it; examples are left out."""
-    parts, now, shown = {"": []}, "", False
+    """Returns a comment's text, its example and, of each heading `# X`, the text below it."""
+    parts, now, shown = {"": [], "Example": []}, "", False
     for line in said:
         if "```" in line:
             shown = not shown
         elif shown or line.startswith("     "):
-            continue
+            parts["Example"].append(line)
         elif heading := re.match(r" # (\w+)", line):
             now = heading[1]
             parts[now] = []
@@ -127,7 +127,11 @@ def entry(path, lines, index):
     owner = owner_of(lines, index) if lines[index].startswith(" ") else ""
     shown = f"{owner}::{name}" if owner else name
     said = f"- [`{shown}`](../{path}#L{index + 1}): {first} Form: {form}. Errors: {errors_of(parts, answer)}"
-    said += f" Waiting: {wait_of(parts, head)} Memory: {memory_of(parts, answer)} Promise: {promise}."
+    waits, memory = wait_of(parts, head), memory_of(parts, answer)
+    said += f" Waiting and memory: {waits}" if waits == memory else f" Waiting: {waits} Memory: {memory}"
+    said += f" Promise: {promise}."
+    if parts["Example"]:
+        said += f" Example: `{parts['Example']}`."
     return "\n".join(textwrap.wrap(said, 120, subsequent_indent="  ", break_long_words=False, break_on_hyphens=False))
 
 
