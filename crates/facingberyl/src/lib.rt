@@ -6,6 +6,7 @@ mod calls;
 mod clearing;
 mod client;
 mod computed;
+mod letter;
 mod moments;
 mod reading;
 mod team;
@@ -21,5 +22,6 @@ pub use chm::{
 pub use client::{Client, Loan};
 pub use computed::Computed;
 pub use functions::{Add, Greatest, NoFunction, Set};
+pub use letter::{About, Letter};
 pub use team::Team;
 pub use work::Work;
