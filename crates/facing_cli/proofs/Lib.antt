@@ -11,3 +11,4 @@ pub mod SamePairs
 pub mod Sorted
 pub mod Determined
 pub mod Said
+pub mod Written

@@ -49,8 +49,3 @@ line_of BadWorkers = output_line (codes "mapcli: the workers are not 1 to 16")
 abbrev pub is_help : Fault → Bool
 is_help (Help text) = true
 is_help _ = false
-
--- a line of the script is bad
-abbrev pub is_of_script : Fault → Bool
-is_of_script (ScriptFault line kind) = true
-is_of_script _ = false

@@ -1,14 +1,17 @@
 //! How a run's end is told.
-ghost use Rattle.std.specs.Prelude.{◌≡◌, ◌⊎◌, true, false, IfOk, IsErrOf, OnOk, OnErr};
+ghost use Rattle.std.specs.Prelude.{◌≡◌, [], ◌∷◌, true, false, IfOk, IsErrOf, OnOk, OnErr, map};
 ghost use Rattle.std.specs.Prelude.{string_bytes};
 ghost use Rattle.std.specs.Io.KnownBytes.{Appends};
 ghost use Rattle.facing_cli.specs.Devices.{AppendsFront};
 ghost use Rattle.facing_cli.specs.Failures.{count_after};
-ghost use Rattle.facing_cli.specs.Statuses.{status_of, line_of, is_help, is_of_script};
+ghost use Rattle.facing_cli.specs.Statuses.{status_of, line_of, is_help};
+ghost use Rattle.facing_cli.specs.declared.fault.Fault.TheVariants.{ScriptFault};
 
 use crate::device::Output;
 use crate::fault::Fault;
-use crate::whole::write_all;
+use crate::whole::{write_all, write_pieces};
+use itoa::Buffer;
+use script::Kind;
 use std::alloc::{AllocError, Global};
 
 const NO_MEMORY: &str = "mapcli: no memory\n";
@@ -34,6 +37,10 @@ pub fn status(fault: &Fault) -> u8
 }
 
 /// What is told of this end of a run: `clap`'s text, or one line.
+///
+/// # Errors
+///
+/// `AllocError` where the text cannot be made; `tell` needs no memory for the same text.
 pub fn line(alloc: Global, fault: &Fault) -> Result<String, AllocError>
     ensures { IfOk result (λ told. string_bytes told ≡ line_of fault.now) }
 {
@@ -52,12 +59,43 @@ pub fn line(alloc: Global, fault: &Fault) -> Result<String, AllocError>
     }
 }
 
-/// Tells how a run ended: help to the output, any other end to where errors are told. What the
-/// machine did not give is told by a constant text, which needs no memory; where the line of a
-/// script's fault cannot be made for want of it, that is told. Where a write fails the text was
-/// written in part, and the fault is `Device`.
+/// Five pieces, in their order.
+fn five<'a>(
+    first: &'a str,
+    second: &'a str,
+    third: &'a str,
+    fourth: &'a str,
+    fifth: &'a str,
+) -> [&'a str; 5]
+    ensures { map (λ p. p.now) result
+        ≡ first.now ∷ second.now ∷ third.now ∷ fourth.now ∷ fifth.now ∷ [] }
+{
+    [first, second, third, fourth, fifth]
+}
+
+/// Writes the line of a script's fault, in pieces, which need no memory. Where a write fails, a
+/// beginning of it was written.
+fn write_script_fault<E: Output>(errors: &mut E, line: u64, kind: Kind) -> Result<(), Fault>
+    ensures ok { OnOk result (Appends (E.contents errors.old) (E.contents errors.new)
+        (line_of (ScriptFault line kind))) }
+    ensures err { OnErr result (AppendsFront (E.contents errors.old) (E.contents errors.new)
+        (line_of (ScriptFault line kind))) }
+    ensures failures { E.failures errors.new ≡ count_after result (E.failures errors.old) }
+    ensures faults { OnErr result (IsErrOf result Fault.Device) }
+{
+    let mut digits = Buffer::new();
+    let number = digits.format(line);
+    let pieces = five("mapcli: line ", number, ": ", kind.text(), "\n");
+    write_pieces(errors, &pieces)
+}
+
+/// Tells how a run ended: help to the output, any other end to where errors are told. What is
+/// written is what `line` answers. It takes no memory, so that the want of it can be told too.
+///
+/// # Errors
+///
+/// `Device` where a write fails; the text was then written in part.
 pub fn tell<O: Output, E: Output>(
-    alloc: Global,
     output: &mut O,
     errors: &mut E,
     fault: &Fault,
@@ -68,16 +106,10 @@ pub fn tell<O: Output, E: Output>(
         → Appends (O.contents output.old) (O.contents output.new) (line_of fault.now)) }
     ensures help_in_part { OnErr result (is_help fault.now ≡ true
         → AppendsFront (O.contents output.old) (O.contents output.new) (line_of fault.now)) }
-    ensures error_text { OnOk result (is_help fault.now ≡ false → is_of_script fault.now ≡ false
+    ensures error_text { OnOk result (is_help fault.now ≡ false
         → Appends (E.contents errors.old) (E.contents errors.new) (line_of fault.now)) }
-    ensures error_in_part { OnErr result (is_help fault.now ≡ false → is_of_script fault.now ≡ false
+    ensures error_in_part { OnErr result (is_help fault.now ≡ false
         → AppendsFront (E.contents errors.old) (E.contents errors.new) (line_of fault.now)) }
-    ensures script_text { OnOk result (is_of_script fault.now ≡ true
-        → (Appends (E.contents errors.old) (E.contents errors.new) (line_of fault.now))
-        ⊎ (Appends (E.contents errors.old) (E.contents errors.new) (line_of Fault.NoMemory))) }
-    ensures script_in_part { OnErr result (is_of_script fault.now ≡ true
-        → (AppendsFront (E.contents errors.old) (E.contents errors.new) (line_of fault.now))
-        ⊎ (AppendsFront (E.contents errors.old) (E.contents errors.new) (line_of Fault.NoMemory))) }
     ensures faults { OnErr result (IsErrOf result Fault.Device) }
     ensures help_failures { is_help fault.now ≡ true
         → O.failures output.new ≡ count_after result (O.failures output.old) }
@@ -87,14 +119,11 @@ pub fn tell<O: Output, E: Output>(
     match fault {
         Fault::Help(text) => write_all(output, text.as_bytes()),
         Fault::Usage(text) => write_all(errors, text.as_bytes()),
+        Fault::ScriptFault { line, kind } => write_script_fault(errors, *line, *kind),
         Fault::NoMemory => write_all(errors, NO_MEMORY.as_bytes()),
         Fault::Device => write_all(errors, DEVICE.as_bytes()),
         Fault::BinMissing => write_all(errors, BINS_MISSING.as_bytes()),
         Fault::BadCapacity => write_all(errors, BAD_CAPACITY.as_bytes()),
         Fault::BadWorkers => write_all(errors, BAD_WORKERS.as_bytes()),
-        Fault::ScriptFault { line: _, kind: _ } => match line(alloc, fault) {
-            Ok(text) => write_all(errors, text.as_bytes()),
-            Err(_) => write_all(errors, NO_MEMORY.as_bytes()),
-        },
     }
 }

@@ -1,6 +1,7 @@
 //! Whole inputs and whole outputs.
 ghost use Rattle.std.specs.Prelude.{◌≡◌, ◌<◌, ◌⊎◌, vec_len, IfOk, IfSome, OnOk, OnErr, IsErrOf};
 ghost use Rattle.std.specs.Io.KnownBytes.{Appends};
+ghost use Rattle.std.specs.List.{flat_map};
 ghost use Rattle.facing_cli.specs.Failures.{count_after};
 ghost use Rattle.facing_cli.specs.Devices.{AppendsFront};
 
@@ -50,6 +51,22 @@ pub(crate) fn write_all<O: Output>(output: &mut O, bytes: &[u8]) -> Result<(), F
     let mut written = 0;
     while written < bytes.len() {
         written += output.write(&bytes[written..])?;
+    }
+    Ok(())
+}
+
+/// Writes all pieces, one behind the other. Where a write fails, a beginning of what they are put
+/// together was written. It takes no memory.
+pub(crate) fn write_pieces<O: Output>(output: &mut O, pieces: &[&str]) -> Result<(), Fault>
+    ensures ok { OnOk result (Appends (O.contents output.old) (O.contents output.new)
+        (flat_map (λ p. p.now) pieces.now)) }
+    ensures err { OnErr result (AppendsFront (O.contents output.old) (O.contents output.new)
+        (flat_map (λ p. p.now) pieces.now)) }
+    ensures failures { O.failures output.new ≡ count_after result (O.failures output.old) }
+    ensures faults { OnErr result (IsErrOf result Fault.Device) }
+{
+    for piece in pieces {
+        write_all(output, piece.as_bytes())?;
     }
     Ok(())
 }

@@ -216,7 +216,7 @@ fn each_fault_has_its_status_and_its_line(rt: HostRuntime) -> Result<(), Fail> {
 fn assert_told(rt: &impl Abort, alloc: Global, fault: &Fault, wanted: [&str; 2]) {
     let mut output = Writer::new(Vec::new(alloc));
     let mut errors = Writer::new(Vec::new(alloc));
-    let told = tell(alloc, &mut output, &mut errors, fault).is_ok();
+    let told = tell(&mut output, &mut errors, fault).is_ok();
     let [first, second] = wanted;
     let is_same = told
         && output.inner.as_slice() == first.as_bytes()

@@ -57,7 +57,7 @@ fn main(rt: HostRuntime) -> ExitCode {
     let mut errors = Writer::new(rt.stderr());
     let (options, path) = match read_words(&rt) {
         Ok(read) => read,
-        Err(fault) => return end(alloc, &mut output, &mut errors, &fault),
+        Err(fault) => return end(&mut output, &mut errors, &fault),
     };
     let ended = if path.as_str() == "-" {
         let mut input = Reader::new(rt.stdin());
@@ -73,21 +73,16 @@ fn main(rt: HostRuntime) -> ExitCode {
     };
     match ended {
         Ok(()) => ExitCode::SUCCESS,
-        Err(fault) => end(alloc, &mut output, &mut errors, &fault),
+        Err(fault) => end(&mut output, &mut errors, &fault),
     }
 }
 
 /// Tells how the run ended, and gives its status.
-fn end<O: Output, E: Output>(
-    alloc: Global,
-    output: &mut O,
-    errors: &mut E,
-    fault: &Fault,
-) -> ExitCode {
-    match tell(alloc, output, errors, fault) {
+fn end<O: Output, E: Output>(output: &mut O, errors: &mut E, fault: &Fault) -> ExitCode {
+    match tell(output, errors, fault) {
         // help, the one end of status 0, that could not be written
         Err(unwritten) if status(fault) == 0 => {
-            let _ = tell(alloc, output, errors, &unwritten);
+            let _ = tell(output, errors, &unwritten);
             ExitCode::from(status(&unwritten))
         }
         _ => ExitCode::from(status(fault)),
