@@ -1,7 +1,8 @@
 -- The program's command line, and what words on it say.
 use Rattle.std.specs.Prelude.{◌≡◌, ℕ, ◌<◌, ◌^◌, true, Option, Some, None, List, [], ◌∷◌, pos, codes}
 use Rattle.std.specs.Str.Parse.{IsNumeral, digits_value, without_leading_plus}
-use Rattle.clap.specs.Words.{App, Row, Rule, Text, first_of, matches_of, new_app, new_rule, one_of, with_rule}
+use Rattle.clap.specs.Simple.{new_shape}
+use Rattle.clap.specs.Words.{App, Row, Rule, Text, first_of, matches_of, new_rule, one_of, with_rule}
 use Rattle.clap.specs.declared.builder.action.ArgAction.TheVariants.{Set}
 use Rattle.clap.specs.declared.builder.value_parser.ValueParser.{ValueParser}
 use Rattle.clap.specs.declared.builder.value_parser.ValueParser.TheVariants as parser
@@ -32,10 +33,14 @@ salt_rule = number_rule (codes "salt") (parser.Signed (pos 0) (pos 4294967295)) 
 abbrev pub file_rule : Rule
 file_rule = record (new_rule (codes "FILE")) { action = Some Set; required = true }
 
+-- a command of this name that has a version, and no arguments yet
+abbrev pub versioned : Text → App
+versioned name = record { top = record (new_shape name) { has_version = true }; subs = [] }
+
 -- the options workers, capacity and salt, with their ranges and defaults, and FILE
 abbrev pub program : App
 program =
-    with_rule (with_rule (with_rule (with_rule (new_app (codes "mapcli")) workers_rule) capacity_rule) salt_rule)
+    with_rule (with_rule (with_rule (with_rule (versioned (codes "mapcli")) workers_rule) capacity_rule) salt_rule)
     file_rule
 
 -- there is a text, decimal digits after a plus at most, of this number

@@ -1,12 +1,14 @@
 -- How the program tells of the end of a run, and how a command line may end it.
-use Rattle.std.specs.Prelude.{ℕ, Bool, true, false, List, ◌++◌, codes, string_bytes}
+use Rattle.std.specs.Prelude.{◌≡◌, ◌⊎◌, ℕ, Bool, true, false, List, ◌++◌, codes, string_bytes}
+use Rattle.clap.specs.declared.error.kind.ErrorKind.{ErrorKind}
+use Rattle.clap.specs.declared.error.kind.ErrorKind.TheVariants.{DisplayHelp, DisplayVersion}
 use Rattle.script.specs.Kinds.{fault_text}
 use Rattle.facing_cli.specs.Texts.{output_line}
 use Rattle.facing_cli.specs.declared.fault.Fault.{Fault}
 use Rattle.facing_cli.specs.declared.fault.Fault.TheVariants.{NoMemory, BadCapacity, BadWorkers, ScriptFault, Device}
 use Rattle.facing_cli.specs.declared.fault.Fault.TheVariants.{BinMissing, Usage, Help}
 
--- 0 where help was asked, 1 for a script's fault, 2 for a wrong command line, 3 for what went wrong outside
+-- 0 where help or the version was asked, 1 for a script's fault, 2 for a wrong command line, 3 for what went wrong outside
 abbrev pub status_of : Fault → ℕ
 status_of (Help text) = 0
 status_of (ScriptFault line kind) = 1
@@ -28,7 +30,11 @@ EndsWords BadWorkers = ⊥
 EndsWords Device = ⊥
 EndsWords BinMissing = ⊥
 
--- help ends it, or where memory runs out
+-- a command line asks for help, or for the version
+abbrev pub IsRequest : ErrorKind → Type 0
+IsRequest kind = (kind ≡ DisplayHelp) ⊎ (kind ≡ DisplayVersion)
+
+-- what was asked for ends it, or where memory runs out
 abbrev pub EndsInHelp : Fault → Type 0
 EndsInHelp (Help text) = Unit {0}
 EndsInHelp NoMemory = Unit {0}
@@ -45,7 +51,7 @@ line_of BinMissing = output_line (codes "mapcli: bins missing")
 line_of BadCapacity = output_line (codes "mapcli: the capacity is not 1 to 4096")
 line_of BadWorkers = output_line (codes "mapcli: the workers are not 1 to 16")
 
--- help was asked
+-- help or the version was asked
 abbrev pub is_help : Fault → Bool
 is_help (Help text) = true
 is_help _ = false

@@ -3,11 +3,12 @@ ghost use Rattle.std.specs.Prelude.{◌≡◌, ◌<◌, ◌^◌, [], ◌∷◌, 
 ghost use Rattle.std.specs.Prelude.{IfOk, IfErr, IfSome, IsErrAnd, IsSome};
 ghost use Rattle.clap.specs.Words.{app_of, fault_of, found_of, kind_of, matches_of, one_of, rows_of};
 ghost use Rattle.clap.specs.Words.{rule_of, takes, IsAmong};
-ghost use Rattle.clap.specs.declared.error.kind.ErrorKind.TheVariants.{DisplayHelp, OutOfMemory};
+ghost use Rattle.clap.specs.declared.error.kind.ErrorKind.{ErrorKind as ErrorKindView};
+ghost use Rattle.clap.specs.declared.error.kind.ErrorKind.TheVariants.{OutOfMemory};
 ghost use Rattle.facing_cli.specs.CommandLine.{workers_rule, capacity_rule, salt_rule, file_rule};
 ghost use Rattle.facing_cli.specs.CommandLine.{program, command_line, SaysNumber, AreRead, AreSaid};
 ghost use Rattle.facing_cli.specs.CommandLine.{AreWhole};
-ghost use Rattle.facing_cli.specs.Statuses.{EndsInHelp, EndsWords, is_help};
+ghost use Rattle.facing_cli.specs.Statuses.{EndsInHelp, EndsWords, IsRequest, is_help};
 ghost use Rattle.facing_cli.specs.declared.fault.Fault.TheVariants.{NoMemory};
 
 use crate::fault::Fault;
@@ -23,18 +24,24 @@ use std::alloc::{AllocError, Global};
 const NOT_SAID: &str = "mapcli: an option or FILE is not given\n";
 
 /// The options and FILE that the words after the program's name say: of each option the number on
-/// the line, and where the line has none its default. Wrong words, and words that ask for help, end
-/// with the text that tells so: help where help is asked for. Words that the command takes, and that
-/// say options in their ranges and a FILE, are refused for want of memory alone.
+/// the line, and where the line has none its default.
+///
+/// # Errors
+///
+/// `Usage` with what is wrong with the words; `Help` with the text that is asked for, where they ask
+/// for help or for the version; `NoMemory`. Words that the command takes, and that say options in
+/// their ranges and a FILE, are refused for want of memory alone.
 pub fn words(alloc: Global, words: &[String]) -> Result<(Options, String), Fault>
     ensures said { IfOk result (λ r. AreSaid (map string_bytes words.now) r.0 (string_bytes r.1)) }
     ensures taken { takes program (command_line (map string_bytes words.now)) ≡ true →
         AreWhole (matches_of program (command_line (map string_bytes words.now)))
         → IfErr result (λ fault. fault ≡ NoMemory) }
-    ensures asked { fault_of program (command_line (map string_bytes words.now)) ≡ DisplayHelp ∷ []
+    ensures asked { (kind : ErrorKindView) → IsRequest kind
+        → fault_of program (command_line (map string_bytes words.now)) ≡ kind ∷ []
         → IsErrAnd result EndsInHelp }
-    ensures help { IfErr result (λ fault. is_help fault ≡ true →
-        IsAmong DisplayHelp (fault_of program (command_line (map string_bytes words.now)))) }
+    ensures help { IfErr result (λ fault. is_help fault ≡ true → (kind : ErrorKindView)
+        × IsRequest kind
+        × IsAmong kind (fault_of program (command_line (map string_bytes words.now)))) }
     ensures ended { IfErr result EndsWords }
 {
     let line = whole_line(alloc, words)?;
@@ -60,10 +67,10 @@ fn read_words<'a>(alloc: Global, line: &'a [&'a str]) -> Result<(Options, String
     ensures taken { takes program (map (λ s. s.now) line.now) ≡ true →
         AreWhole (matches_of program (map (λ s. s.now) line.now))
         → IfErr result (λ fault. fault ≡ NoMemory) }
-    ensures asked { fault_of program (map (λ s. s.now) line.now) ≡ DisplayHelp ∷ [] →
-        IsErrAnd result EndsInHelp }
-    ensures help { IfErr result (λ fault. is_help fault ≡ true →
-        IsAmong DisplayHelp (fault_of program (map (λ s. s.now) line.now))) }
+    ensures asked { (kind : ErrorKindView) → IsRequest kind
+        → fault_of program (map (λ s. s.now) line.now) ≡ kind ∷ [] → IsErrAnd result EndsInHelp }
+    ensures help { IfErr result (λ fault. is_help fault ≡ true → (kind : ErrorKindView)
+        × IsRequest kind × IsAmong kind (fault_of program (map (λ s. s.now) line.now))) }
     ensures ended { IfErr result EndsWords }
 {
     match command(alloc)?.try_get_matches_from(line) {
@@ -134,16 +141,21 @@ fn usage(alloc: Global, text: &str) -> Fault
 fn refusal(alloc: Global, error: &clap::Error) -> Fault
     ensures ended { EndsWords result }
     ensures memory { kind_of error.now ≡ OutOfMemory → result ≡ NoMemory }
-    ensures asked { kind_of error.now ≡ DisplayHelp → EndsInHelp result }
-    ensures help { is_help result ≡ true → kind_of error.now ≡ DisplayHelp }
+    ensures asked { IsRequest (kind_of error.now) → EndsInHelp result }
+    ensures help { is_help result ≡ true → IsRequest (kind_of error.now) }
 {
-    let kind = error.kind();
-    match error.to_string(alloc) {
-        Ok(text) if kind == ErrorKind::DisplayHelp => Fault::Help(text),
-        Ok(text) if kind != ErrorKind::OutOfMemory => Fault::Usage(text),
-        _ => Fault::NoMemory,
+    let Ok(text) = error.to_string(alloc) else {
+        return Fault::NoMemory;
+    };
+    match error.kind() {
+        ErrorKind::DisplayHelp | ErrorKind::DisplayVersion => Fault::Help(text),
+        ErrorKind::OutOfMemory => Fault::NoMemory,
+        _ => Fault::Usage(text),
     }
 }
+
+/// What `--version` tells, as the file `VERSION` of the repository says.
+const VERSION: &str = "0.1.0";
 
 /// What `--help` tells of scripts.
 const ABOUT_SCRIPTS: &str =
@@ -228,6 +240,7 @@ fn command<'a>(alloc: Global) -> Result<Command<'a>, AllocError>
     ensures { IfOk result (λ c. app_of c ≡ program) }
 {
     Command::new(alloc, "mapcli")
+        .version(VERSION)
         .about("Runs a script of client blocks over a concurrent hash map, and answers its queries")
         .after_help(ABOUT_SCRIPTS)
         .arg(workers(alloc))?

@@ -1,5 +1,5 @@
 //! Command lines, and how the ends of runs are told.
-use facing_cli::{Fault, Writer, line, status, tell, words};
+use facing_cli::{Fault, Options, Writer, line, status, tell, words};
 use hashkeys::Salt;
 use script::Kind;
 use std::alloc::{AllocError, Global};
@@ -143,6 +143,7 @@ Options:
       --capacity <N>  How many bins the map opens with at least, 1 to 4096 [default: 16]
       --salt <N>      What the hashes of keys are mixed with, 0 to 4294967295 [default: 0]
   -h, --help          Print help
+  -V, --version       Print version
 
 A script has a block for each client: the line `client`, then a line for each of
 its calls. After the blocks come the line `query` and a line for each query. An
@@ -168,9 +169,46 @@ The exit status is 0; or 1 for a bad line of the script, 2 for wrong words, and 
 where memory ran out or a file could not be opened, read or written.
 ";
 
+/// The first request decides, whatever stands behind it.
 #[test]
-fn help_is_no_fault(rt: HostRuntime) {
-    assert_refusal(&rt, rt.alloc(), &["--help"], 0, HELP);
+fn what_is_asked_for_is_no_fault(rt: HostRuntime) {
+    for asked in ["--help", "-h"] {
+        assert_refusal(&rt, rt.alloc(), &[asked, "--version"], 0, HELP);
+    }
+    for asked in ["--version", "-V"] {
+        assert_refusal(
+            &rt,
+            rt.alloc(),
+            &[asked, "--workers", "0"],
+            0,
+            "mapcli 0.1.0\n",
+        );
+    }
+}
+
+/// The capacity is looked at before the workers.
+#[test]
+fn options_have_ranges(rt: HostRuntime) {
+    for (workers, capacity) in [(1, 1), (16, 4096)] {
+        let options = Options::new(workers, capacity).expect(&rt, "options");
+        let found = (options.workers(), options.capacity(), options.salt());
+        assert!(rt; found == (workers, capacity, Salt(0)), "{found:?}");
+    }
+    let bad_capacity = "mapcli: the capacity is not 1 to 4096\n";
+    let bad_workers = "mapcli: the workers are not 1 to 16\n";
+    let rows = [
+        (1, 0, bad_capacity),
+        (1, 4097, bad_capacity),
+        (0, 0, bad_capacity),
+        (0, 1, bad_workers),
+        (17, 4096, bad_workers),
+    ];
+    for (workers, capacity, wanted) in rows {
+        let Err(fault) = Options::new(workers, capacity) else {
+            panic!(rt; "{workers} workers and capacity {capacity} were taken");
+        };
+        assert_fault(&rt, rt.alloc(), &fault, 2, wanted);
+    }
 }
 
 /// Every end of a run that is no success, with its status and its text.

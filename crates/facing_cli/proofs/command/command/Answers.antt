@@ -1,11 +1,12 @@
 use Rattle.std.proofs.Common.{◌≡◌, ◌∙◌, ap₂, codes, rules}
 use Rattle.std.proofs.lemmas.Result.{IfOk-weaker}
-use Rattle.clap.specs.Words.{app_of, new_app, with_rule}
+use Rattle.clap.specs.Words.{app_of, with_rule}
+use Rattle.facing_cli.specs.CommandLine.{versioned}
 use Rattle.facing_cli.proofs.command.command.Goals as goal
 
 pub returns : goal.returns
 returns c =
-    let bare : app_of c.after_help.result ≡ new_app (codes "mapcli") = search rules in
+    let bare : app_of c.after_help.result ≡ versioned (codes "mapcli") = search rules in
     let first = c.in_ok-arg.ensures.shape c.workers.ensures.local ∙ ap₂ with_rule bare c.workers.ensures.rule in
     let second = c.in_ok-arg-2.ensures.shape c.capacity.ensures.local ∙ ap₂ with_rule first c.capacity.ensures.rule in
     let third = c.in_ok-arg-3.ensures.shape c.salt.ensures.local ∙ ap₂ with_rule second c.salt.ensures.rule in
