@@ -1,5 +1,5 @@
 //! Scripts at and beyond the limits of the language.
-use crate::samples::{PUT_AND_GET, check, options, told};
+use crate::samples::{PUT_AND_GET, check, check_with, options, told};
 use std::alloc::{AllocError, Global};
 use std::test::Fail;
 
@@ -33,6 +33,42 @@ fn there_are_at_most_32_clients(rt: HostRuntime) -> Result<(), Fail> {
 fn a_client_makes_at_most_1000000_calls(rt: HostRuntime) -> Result<(), Fail> {
     let script = repeated(rt.alloc(), "client\n", "get a\n", 1_000_001, "query\n")?;
     check(&rt, script.as_bytes(), 1, "mapcli: line 1000002: limit\n");
+    Ok(())
+}
+
+/// A script of one client that puts so many keys of one length, in byte order, with the values 1, 2
+/// and so on, and what it prints.
+fn script_of_keys(alloc: Global, keys: u64) -> Result<(String, String), AllocError> {
+    let mut script = String::from_str(alloc, "client\n")?;
+    let mut wanted = String::from_str(alloc, "client 0\n")?;
+    let mut pairs = String::new(alloc);
+    let mut sum = 0u64;
+    for value in 1..=keys {
+        let number = value.saturating_add(100_000);
+        writeln!(script, "put k{number} {value}")?;
+        wanted.push_str("none\n")?;
+        writeln!(pairs, "k{number} {value}")?;
+        sum = sum.saturating_add(value);
+    }
+    let below = keys.saturating_sub(1);
+    writeln!(
+        script,
+        "query\ncount\nreduce sum 1\nreduce max 1\nsearch above {below} 1\nlist 1"
+    )?;
+    writeln!(wanted, "{keys}\n{sum}\nsome {keys}\nsome {keys}")?;
+    wanted.push_str(&pairs)?;
+    Ok((script, wanted))
+}
+
+/// Where there is memory, no number of keys is refused. The table grows from one bin.
+#[test]
+fn a_map_has_any_number_of_keys(rt: HostRuntime) -> Result<(), Fail> {
+    let mut keys = 1u64;
+    for _ in 0..17 {
+        let (script, wanted) = script_of_keys(rt.alloc(), keys)?;
+        check_with(&rt, &options(&rt, 4, 1, 0), script.as_bytes(), 0, &wanted);
+        keys = keys.saturating_mul(2);
+    }
     Ok(())
 }
 

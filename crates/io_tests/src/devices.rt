@@ -1,6 +1,5 @@
 //! Runs over readers and writers that fail.
 use facing_cli::{Fault, OpenGate, Options, Reader, Writer, run};
-use hashkeys::Salt;
 use refusing_alloc::Refusing;
 use std::alloc::{AllocGlobal, Global};
 use std::io::{self, ErrorKind, Read, Write};
@@ -10,7 +9,7 @@ use std::thread::Threads;
 
 /// The options of a run: four workers, capacity 16 and no salt.
 fn options(rt: &impl Abort) -> Options {
-    Options::with_salt(4, 16, Salt(0)).expect(rt, "options")
+    Options::new(4, 16).expect(rt, "options")
 }
 
 /// Gives a script at most 8 bytes a read. One read fails, and those after it go on.
@@ -250,7 +249,7 @@ fn run_granted<R: Threads + Wait + Sync + Abort + AllocGlobal>(
 }
 
 const ALL_QUERIES: &[u8] =
-    b"client\nput b 1\nput a 2\nmerge a 3 sum\nclient\nget c\nquery\ncount\nreduce max 1\nlist 1\n";
+    b"client\nput b 1\nput a 2\nmerge a 3 sum\nclient\nget c\nquery\ncount\nreduce sum 1\nreduce max 1\nsearch above 4 1\nlist 1\n";
 
 /// Each request for memory is refused in turn, until a run asks for no more.
 #[test]
@@ -259,7 +258,8 @@ fn a_refused_request_leaves_nothing_written(rt: HostRuntime) {
     for granted in 0..1000 {
         let (is_done, written) = run_granted(&rt, &refusing, granted);
         if is_done {
-            let wanted = b"client 0\nnone\nnone\nsome 5\nclient 1\nnone\n2\nsome 5\na 5\nb 1\n";
+            let wanted =
+                b"client 0\nnone\nnone\nsome 5\nclient 1\nnone\n2\n6\nsome 5\nsome 5\na 5\nb 1\n";
             let is_same = written.as_slice() == wanted.as_slice();
             assert!(rt; is_same && !refusing.has_refused() && granted > 10);
             return;

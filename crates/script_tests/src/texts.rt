@@ -216,15 +216,18 @@ fn assert_repeated(
     assert!(rt; found == wanted, "{line:?}: {found:?}");
 }
 
+/// Queries have none.
 #[test]
 fn blocks_and_calls_have_a_limit(rt: HostRuntime) {
     let blocks: [&[u8]; 3] = [b"", b"client\n", b"query\n"];
     let calls: [&[u8]; 3] = [b"client\n", b"get a\n", b"query\n"];
+    let queries: [&[u8]; 3] = [b"client\nquery\n", b"count\n", b""];
     for (parts, times, wanted) in [
         (blocks, 32, None),
         (blocks, 33, Some((33, Kind::Limit))),
         (calls, 1_000_000, None),
         (calls, 1_000_001, Some((1_000_002, Kind::Limit))),
+        (queries, 65_536, None),
     ] {
         assert_repeated(&rt, rt.alloc(), parts, times, wanted);
     }
@@ -364,6 +367,7 @@ fn faults_are_printed(rt: HostRuntime) -> Result<(), Fail> {
         drop(printed);
         assert!(rt; is_same, "{text}");
         assert_printed(&rt, rt.alloc(), &ParseError::from(fault), text);
+        assert!(rt; text.strip_prefix("line 7: ") == Some(kind.text()));
     }
     assert_printed(&rt, rt.alloc(), &ParseError::NoMemory, "no memory");
     Ok(())
