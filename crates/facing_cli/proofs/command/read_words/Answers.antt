@@ -1,7 +1,6 @@
 use Rattle.std.proofs.Common.{◌≡◌, ◌∙◌, List, [], ◌∷◌, true, false, map, inl, inr, sym, refl, ap, subst}
 use Rattle.clap.specs.Words.{App, HasKind, Kinds, Text, app_of, fault_of, found_of, is_simple, is_simple_and_free, kind_of}
 use Rattle.clap.specs.Words.{matches_of, rows_of, takes}
-use Rattle.clap.specs.declared.error.kind.ErrorKind.{ErrorKind}
 use Rattle.facing_cli.specs.CommandLine.{program, AreWhole}
 use Rattle.facing_cli.specs.Statuses.{EndsInHelp, IsRequest, is_help}
 use Rattle.facing_cli.specs.declared.fault.Fault.{Fault}

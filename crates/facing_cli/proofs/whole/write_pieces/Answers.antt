@@ -1,4 +1,4 @@
-use Rattle.std.proofs.Common.{◌≡◌, ℕ, List, [], take, drop, suc, get_or, Result, Ok, Err, OnErr, sym, subst, Bor}
+use Rattle.std.proofs.Common.{ℕ, List, [], take, drop, suc, get_or, Result, Ok, Err, OnErr, sym, subst, Bor}
 use Rattle.std.specs.List.{flat_map}
 use Rattle.facing_cli.specs.Devices.{AppendsFront}
 use Rattle.facing_cli.proofs.Written.{AppendsFront-within, flat_map-at}
