@@ -2,10 +2,11 @@
 ghost use Rattle.std.specs.Prelude.{◌≡◌, ◌<◌, ◌≤◌, [], length, IfOk, IfErr, vec_len, vec_capacity};
 ghost use Rattle.std.specs.Prelude.{All};
 ghost use Rattle.hashkeys.specs.Classes.{IsTableSize};
-ghost use Rattle.count_ledger.specs.Opening.{new_passes, new_roles, lists_of};
+ghost use Rattle.count_ledger.specs.Opening.{new_passes};
 
-use crate::values::{assert_same, key};
-use bin_history::{Call, Form, Record};
+use crate::held::{Held, hold_all, roles_of};
+use crate::values::{Plus, assert_same, key};
+use bin_history::{Form, Op, Reply};
 use count_ledger::{BinRole, Ledger, LedgerName, MOST_CALLS, Pass, Unsettled, retire_all};
 use hashkeys::{Key, Salt};
 use std::alloc::{AllocError, Global};
@@ -13,116 +14,168 @@ use std::process::Abort;
 use std::test::Fail;
 use std::thread::join_mut;
 
-type KeyLedger = Ledger<Key, u64, (), Global>;
+pub(crate) type KeyLedger = Ledger<Key, u64, Plus, Global>;
 
-type KeyPass = Pass<Key, u64, ()>;
+pub(crate) type KeyPass = Pass<Key, u64, Plus>;
 
-type KeyRole = BinRole<Key, u64, ()>;
+type KeyRole = BinRole<Key, u64, Plus>;
 
-type KeyUnsettled = Unsettled<Key, u64, (), Global>;
+pub(crate) type KeyBin = Held<Key, u64, Plus, Global>;
 
-/// A call: which client makes it, which role keeps it, on which key, and the values before and
-/// after it.
+/// A call: which client makes it, on which bin and key, and which value it is to find and to leave.
+/// It is a put, or where it leaves none a remove.
 #[derive(Drop)]
-struct Row {
+pub(crate) struct Row {
     client: usize,
-    role: usize,
+    bin: usize,
     key: &'static [u8],
     before: Option<u64>,
     after: Option<u64>,
 }
 
-fn put(client: usize, role: usize, key: &'static [u8], before: Option<u64>, after: u64) -> Row {
+pub(crate) fn put(
+    client: usize,
+    bin: usize,
+    key: &'static [u8],
+    before: Option<u64>,
+    after: u64,
+) -> Row {
     Row {
         client,
-        role,
+        bin,
         key,
         before,
         after: Some(after),
     }
 }
 
-/// Posts a call as the pass's next.
-fn make(rt: &impl Abort, ledger: &KeyLedger, pass: &mut KeyPass, role: &mut KeyRole, row: &Row)
+/// Makes a call on the key as the pass's next, which finds this value, and posts it.
+pub(crate) fn call(
+    rt: &impl Abort,
+    ledger: &KeyLedger,
+    pass: &mut KeyPass,
+    bin: &mut KeyBin,
+    text: &[u8],
+    op: Op<u64, Plus>,
+    before: Option<u64>,
+)
     requires pass { pass.old.ledger ≡ ledger.now.id }
-    requires role { role.old.ledger ≡ ledger.now.id }
-    requires salt { role.old.salt ≡ record { 0 = 0 } }
+    requires role { bin.old.ledger ≡ ledger.now.id }
     ensures pass { pass.new.ledger ≡ ledger.now.id }
-    ensures role { role.new.ledger ≡ ledger.now.id }
-    ensures salt { role.new.salt ≡ record { 0 = 0 } }
+    ensures role { bin.new.ledger ≡ ledger.now.id }
 {
-    let key = key(rt, row.key);
+    let key = key(rt, text);
     assert!(rt; pass.made() < ledger.most_calls());
-    assert!(rt; role.class().covers(Salt(0).hash_of(&key)));
-    let call = match row.after {
-        Some(value) => Call::Put(key, value),
-        None => Call::Remove(key),
+    assert!(rt; bin.class().covers(bin.salt().hash_of(&key)));
+    let reply = bin.post(ledger, pass, key, op).expect(rt, "memory");
+    assert_same(rt, &reply, &Reply::Value(before));
+}
+
+/// Makes the call of a row.
+pub(crate) fn make(
+    rt: &impl Abort,
+    ledger: &KeyLedger,
+    pass: &mut KeyPass,
+    bin: &mut KeyBin,
+    row: &Row,
+)
+    requires pass { pass.old.ledger ≡ ledger.now.id }
+    requires role { bin.old.ledger ≡ ledger.now.id }
+    ensures pass { pass.new.ledger ≡ ledger.now.id }
+    ensures role { bin.new.ledger ≡ ledger.now.id }
+{
+    let op = match row.after {
+        Some(value) => Op::Put(value),
+        None => Op::Remove,
     };
-    let entry = Record::new(pass.client(), pass.made(), call, row.before, row.after);
-    ledger.post(pass, role, &entry);
+    call(rt, ledger, pass, bin, row.key, op, row.before);
 }
 
 fn make_all(
     rt: &impl Abort,
     ledger: &KeyLedger,
     passes: &mut Vec<KeyPass>,
-    roles: &mut Vec<KeyRole>,
+    bins: &mut Vec<KeyBin>,
     rows: &[Row],
 )
     requires passes { All (λ p. p.ledger ≡ ledger.now.id) passes.old.items }
-    requires roles { All (λ r. r.ledger ≡ ledger.now.id) roles.old.items }
-    requires salt { All (λ r. r.salt ≡ record { 0 = 0 }) roles.old.items }
+    requires roles { All (λ r. r.ledger ≡ ledger.now.id) bins.old.items }
     ensures passes { All (λ p. p.ledger ≡ ledger.now.id) passes.new.items }
-    ensures roles { All (λ r. r.ledger ≡ ledger.now.id) roles.new.items }
-    ensures salt { All (λ r. r.salt ≡ record { 0 = 0 }) roles.new.items }
+    ensures roles { All (λ r. r.ledger ≡ ledger.now.id) bins.new.items }
     ensures pass_len { vec_len passes.new ≡ vec_len passes.old }
     ensures pass_capacity { vec_capacity passes.new ≡ vec_capacity passes.old }
-    ensures role_len { vec_len roles.new ≡ vec_len roles.old }
-    ensures role_capacity { vec_capacity roles.new ≡ vec_capacity roles.old }
+    ensures bin_len { vec_len bins.new ≡ vec_len bins.old }
+    ensures bin_capacity { vec_capacity bins.new ≡ vec_capacity bins.old }
 {
     for row in rows {
-        assert!(rt; row.client < passes.len() && row.role < roles.len());
-        make(
-            rt,
-            ledger,
-            &mut passes[row.client],
-            &mut roles[row.role],
-            row,
-        );
+        assert!(rt; row.client < passes.len() && row.bin < bins.len());
+        make(rt, ledger, &mut passes[row.client], &mut bins[row.bin], row);
     }
 }
 
-/// A ledger of this many clients over an empty map, with the roles of two classes.
-fn open(alloc: Global, clients: u32) -> Result<(KeyLedger, Vec<KeyPass>, Vec<KeyRole>), AllocError>
+/// As many bins without pairs.
+fn empty_bases(alloc: Global, n: usize) -> Result<Vec<Vec<(Key, u64)>>, AllocError>
+    ensures len { IfOk result (λ bases. length bases.items ≡ n) }
+    ensures empty { IfOk result (λ bases. All (λ base. base.items ≡ []) bases.items) }
+{
+    let mut bases = Vec::new(alloc);
+    for _number in 0..n {
+        bases.push(Vec::new(alloc))?;
+    }
+    Ok(bases)
+}
+
+/// A ledger of this many clients over an empty map, with the roles of as many classes.
+fn open_books(
+    alloc: Global,
+    clients: u32,
+    n: usize,
+) -> Result<(KeyLedger, Vec<KeyPass>, Vec<KeyRole>), AllocError>
     requires some { 0 < clients }
     requires at_most { clients ≤ 32 }
+    requires size { IsTableSize n }
     ensures clients { IfOk result (λ r. r.0.clients ≡ clients) }
     ensures passes { IfOk result (λ r. r.1.items ≡ new_passes r.0.id clients) }
     ensures own { IfOk result (λ r. All (λ x. x.ledger ≡ r.0.id) r.2.items) }
-    ensures salt { IfOk result (λ r. All (λ x. x.salt ≡ record { 0 = 0 }) r.2.items) }
-    ensures roles { IfOk result (λ r. vec_len r.2 ≡ 2) }
+    ensures new { IfOk result (λ r. All
+        (λ x. (x.salt ≡ record { 0 = 0 }) × (x.opening ≡ []) × (x.kept ≡ [])) r.2.items) }
+    ensures roles { IfOk result (λ r. length r.2.items ≡ n) }
 {
-    let bases = Vec::from_array(alloc, [Vec::new(alloc), Vec::new(alloc)])?;
+    let bases = empty_bases(alloc, n)?;
     Ledger::new(alloc, Form::Recorded, Salt(0), clients, &bases)
 }
 
-/// Settles, or hands back passes and roles of the ledger.
-fn settle(ledger: KeyLedger, passes: Vec<KeyPass>, roles: Vec<KeyRole>) -> Result<u64, KeyUnsettled>
-    requires passes { All (λ p. p.ledger ≡ ledger.id) passes.items }
-    requires roles { All (λ r. r.ledger ≡ ledger.id) roles.items }
-    requires salt { All (λ r. r.salt ≡ record { 0 = 0 }) roles.items }
-    ensures passes { IfErr result (λ u. All (λ p. p.ledger ≡ u.ledger.id) u.passes.items) }
-    ensures roles { IfErr result (λ u. All (λ r. r.ledger ≡ u.ledger.id) u.roles.items) }
-    ensures salt { IfErr result (λ u. All (λ r. r.salt ≡ record { 0 = 0 }) u.roles.items) }
-    ensures same_ledger { IfErr result (λ u. u.ledger ≡ ledger) }
-    ensures same_passes { IfErr result (λ u. u.passes ≡ passes) }
-    ensures same_roles { IfErr result (λ u. u.roles ≡ roles) }
+/// The same, with a bin for each role.
+pub(crate) fn open(
+    rt: &impl Abort,
+    alloc: Global,
+    clients: u32,
+    n: usize,
+) -> Result<(KeyLedger, Vec<KeyPass>, Vec<KeyBin>), AllocError>
+    requires some { 0 < clients }
+    requires at_most { clients ≤ 32 }
+    requires size { IsTableSize n }
+    ensures clients { IfOk result (λ r. r.0.clients ≡ clients) }
+    ensures passes { IfOk result (λ r. r.1.items ≡ new_passes r.0.id clients) }
+    ensures own { IfOk result (λ r. All (λ x. x.ledger ≡ r.0.id) r.2.items) }
+    ensures bins { IfOk result (λ r. length r.2.items ≡ n) }
 {
-    ledger.settle(passes, roles)
+    let (ledger, passes, roles) = open_books(alloc, clients, n)?;
+    let bins = hold_all(rt, &ledger, Salt(0), roles);
+    Ok((ledger, passes, bins))
 }
 
-fn settled(rt: &impl Abort, outcome: Result<u64, KeyUnsettled>) -> u64 {
-    match outcome {
+/// What a ledger settles with.
+pub(crate) fn settled(
+    rt: &impl Abort,
+    ledger: KeyLedger,
+    passes: Vec<KeyPass>,
+    roles: Vec<KeyRole>,
+) -> u64
+    requires passes { All (λ p. p.ledger ≡ ledger.id) passes.items }
+    requires roles { All (λ r. r.ledger ≡ ledger.id) roles.items }
+{
+    match ledger.settle(passes, roles) {
         Ok(total) => total,
         Err(
             Unsettled {
@@ -142,7 +195,7 @@ fn settled(rt: &impl Abort, outcome: Result<u64, KeyUnsettled>) -> u64 {
 
 #[test]
 fn shares_and_sums_count_new_keys(rt: HostRuntime) -> Result<(), Fail> {
-    let (ledger, mut passes, mut roles) = open(rt.alloc(), 2)?;
+    let (ledger, mut passes, mut bins) = open(&rt, rt.alloc(), 2, 2)?;
     let rows = [
         put(0, 1, b"a", None, 1),
         put(0, 0, b"b", None, 2),
@@ -150,239 +203,142 @@ fn shares_and_sums_count_new_keys(rt: HostRuntime) -> Result<(), Fail> {
         put(0, 1, b"q", None, 4),
         Row {
             client: 1,
-            role: 0,
+            bin: 0,
             key: b"b",
             before: Some(2),
             after: None,
         },
     ];
-    make_all(&rt, &ledger, &mut passes, &mut roles, &rows);
+    make_all(&rt, &ledger, &mut passes, &mut bins, &rows);
     let sums = (ledger.sum(), ledger.sum_all(&mut passes));
     assert!(rt; passes.len() == 2);
     let shares = (ledger.share(&mut passes[0]), ledger.share(&mut passes[1]));
-    let total = settled(&rt, ledger.settle(passes, roles));
+    let total = settled(&rt, ledger, passes, roles_of(&rt, bins));
     assert_same(&rt, &sums, &(2, 2));
     assert_same(&rt, &shares, &(3, 18_446_744_073_709_551_615));
     assert_same(&rt, &total, &2);
     Ok(())
 }
 
-/// Divides the last role.
-fn divide_last(rt: &impl Abort, ledger: &KeyLedger, roles: &mut Vec<KeyRole>)
-    requires roles { All (λ r. r.ledger ≡ ledger.now.id) roles.old.items }
-    requires salt { All (λ r. r.salt ≡ record { 0 = 0 }) roles.old.items }
-    ensures roles { All (λ r. r.ledger ≡ ledger.now.id) roles.new.items }
-    ensures salt { All (λ r. r.salt ≡ record { 0 = 0 }) roles.new.items }
+/// Divides the last bin.
+fn divide_last(rt: &impl Abort, ledger: &KeyLedger, bins: &mut Vec<KeyBin>)
+    requires { All (λ r. r.ledger ≡ ledger.now.id) bins.old.items }
+    ensures { All (λ r. r.ledger ≡ ledger.now.id) bins.new.items }
 {
-    let role = roles.pop().expect(rt, "a role");
-    assert!(rt; role.class().n() < 65536);
-    let (low, high) = ledger.divide(role);
-    roles.push(low).expect(rt, "memory");
-    roles.push(high).expect(rt, "memory");
+    let bin = bins.pop().expect(rt, "a bin");
+    assert!(rt; bin.class().n() < 65536);
+    let (low, high) = bin.divide(rt, ledger);
+    bins.push(low).expect(rt, "memory");
+    bins.push(high).expect(rt, "memory");
 }
 
-/// Whether the roles are of these classes, by size and index.
-fn are_of(roles: &[KeyRole], classes: &[(u32, u32)]) -> bool {
-    for (role, class) in roles.iter().zip(classes) {
-        if (role.class().n(), role.class().index()) != *class {
+/// Whether the bins are of these classes, by size and index.
+fn are_of(bins: &[KeyBin], classes: &[(u32, u32)]) -> bool {
+    for (bin, class) in bins.iter().zip(classes) {
+        if (bin.class().n(), bin.class().index()) != *class {
             return false;
         }
     }
-    roles.len() == classes.len()
+    bins.len() == classes.len()
 }
 
 #[test]
 fn a_divided_role_keeps_each_key_in_its_half(rt: HostRuntime) -> Result<(), Fail> {
-    let (ledger, mut passes, mut roles) = open(rt.alloc(), 2)?;
+    let (ledger, mut passes, mut bins) = open(&rt, rt.alloc(), 2, 2)?;
     let before = [put(0, 1, b"a", None, 1), put(1, 1, b"c", None, 2)];
-    make_all(&rt, &ledger, &mut passes, &mut roles, &before);
-    divide_last(&rt, &ledger, &mut roles);
-    let are_divided = are_of(&roles, &[(2, 0), (4, 1), (4, 3)]);
+    make_all(&rt, &ledger, &mut passes, &mut bins, &before);
+    divide_last(&rt, &ledger, &mut bins);
+    let are_divided = are_of(&bins, &[(2, 0), (4, 1), (4, 3)]);
     let after = [
         put(1, 1, b"a", Some(1), 3),
         put(0, 2, b"c", Some(2), 4),
         put(0, 1, b"q", None, 5),
     ];
-    make_all(&rt, &ledger, &mut passes, &mut roles, &after);
+    make_all(&rt, &ledger, &mut passes, &mut bins, &after);
+    let mut roles = roles_of(&rt, bins);
     assert!(rt; passes.len() == 2 && roles.len() == 3);
     ledger.meet(&mut passes[0], &mut roles[2]);
     let first = (passes[0].client(), passes[0].made());
     let second = (passes[1].client(), passes[1].made());
-    let total = settled(&rt, ledger.settle(passes, roles));
+    let total = settled(&rt, ledger, passes, roles);
     assert!(rt; are_divided);
     assert_same(&rt, &(first, second), &((0, 3), (1, 2)));
     assert_same(&rt, &total, &3);
     Ok(())
 }
 
-#[test]
-fn settling_needs_each_pass(rt: HostRuntime) -> Result<(), Fail> {
-    let (ledger, mut passes, mut roles) = open(rt.alloc(), 2)?;
-    make_all(
-        &rt,
-        &ledger,
-        &mut passes,
-        &mut roles,
-        &[put(0, 1, b"a", None, 1)],
-    );
-    let pass = passes.pop().expect(&rt, "a pass");
-    let Err(
-        Unsettled {
-            ledger,
-            mut passes,
-            mut roles,
-        },
-    ) = settle(ledger, passes, roles)
-    else {
-        assert!(rt; false, "a pass is missing");
-        unreachable!()
-    };
-    make_all(
-        &rt,
-        &ledger,
-        &mut passes,
-        &mut roles,
-        &[put(0, 1, b"q", None, 2)],
-    );
-    passes.push_reserved(pass);
-    assert_same(&rt, &settled(&rt, ledger.settle(passes, roles)), &2);
-    Ok(())
-}
-
-#[test]
-fn settling_needs_each_role(rt: HostRuntime) -> Result<(), Fail> {
-    let (ledger, mut passes, mut roles) = open(rt.alloc(), 2)?;
-    make_all(
-        &rt,
-        &ledger,
-        &mut passes,
-        &mut roles,
-        &[put(0, 1, b"a", None, 1)],
-    );
-    let role = roles.pop().expect(&rt, "a role");
-    let Err(
-        Unsettled {
-            ledger,
-            mut passes,
-            mut roles,
-        },
-    ) = settle(ledger, passes, roles)
-    else {
-        assert!(rt; false, "a role is missing");
-        unreachable!()
-    };
-    make_all(
-        &rt,
-        &ledger,
-        &mut passes,
-        &mut roles,
-        &[put(1, 0, b"b", None, 2)],
-    );
-    roles.push_reserved(role);
-    assert_same(&rt, &settled(&rt, ledger.settle(passes, roles)), &2);
-    Ok(())
-}
-
 /// Puts a key this many times.
-fn put_often(
+pub(crate) fn put_often(
     rt: &impl Abort,
     ledger: &KeyLedger,
     pass: &mut KeyPass,
-    role: &mut KeyRole,
-    key: &'static [u8],
+    bin: &mut KeyBin,
+    text: &[u8],
     times: u64,
 )
     requires pass { pass.old.ledger ≡ ledger.now.id }
-    requires role { role.old.ledger ≡ ledger.now.id }
-    requires salt { role.old.salt ≡ record { 0 = 0 } }
+    requires role { bin.old.ledger ≡ ledger.now.id }
     ensures pass { pass.new.ledger ≡ ledger.now.id }
-    ensures role { role.new.ledger ≡ ledger.now.id }
-    ensures salt { role.new.salt ≡ record { 0 = 0 } }
+    ensures role { bin.new.ledger ≡ ledger.now.id }
 {
     let mut before = None;
     for time in 0..times {
-        make(rt, ledger, pass, role, &put(0, 0, key, before, time));
+        call(rt, ledger, pass, bin, text, Op::Put(time), before);
         before = Some(time);
     }
 }
 
 #[test]
 fn two_threads_post_to_two_roles(rt: HostRuntime) -> Result<(), Fail> {
-    let (ledger, mut passes, mut roles) = open(rt.alloc(), 2)?;
+    let (ledger, mut passes, mut bins) = open(&rt, rt.alloc(), 2, 2)?;
     let mut pass = passes.pop().expect(&rt, "a pass");
     let mut other_pass = passes.pop().expect(&rt, "a pass");
-    let mut role = roles.pop().expect(&rt, "a role");
-    let mut other_role = roles.pop().expect(&rt, "a role");
+    let mut bin = bins.pop().expect(&rt, "a bin");
+    let mut other_bin = bins.pop().expect(&rt, "a bin");
     join_mut(
         &rt,
-        &mut || put_often(&rt, &ledger, &mut pass, &mut role, b"a", 1000),
-        &mut || put_often(&rt, &ledger, &mut other_pass, &mut other_role, b"b", 1000),
+        &mut || put_often(&rt, &ledger, &mut pass, &mut bin, b"a", 1000),
+        &mut || put_often(&rt, &ledger, &mut other_pass, &mut other_bin, b"b", 1000),
     );
     let counts = (pass.made(), other_pass.made(), ledger.sum());
     passes.push_reserved(pass);
     passes.push_reserved(other_pass);
-    roles.push_reserved(role);
-    roles.push_reserved(other_role);
-    let total = settled(&rt, ledger.settle(passes, roles));
+    bins.push_reserved(bin);
+    bins.push_reserved(other_bin);
+    let total = settled(&rt, ledger, passes, roles_of(&rt, bins));
     assert_same(&rt, &(counts, total), &((1000, 1000, 2), 2));
     Ok(())
 }
 
 #[test]
 fn a_pass_takes_a_million_calls(rt: HostRuntime) -> Result<(), Fail> {
-    let (ledger, mut passes, mut roles) = open(rt.alloc(), 1)?;
-    assert!(rt; passes.len() == 1 && roles.len() == 2);
-    put_often(
-        &rt,
-        &ledger,
-        &mut passes[0],
-        &mut roles[1],
-        b"a",
-        MOST_CALLS,
-    );
+    let (ledger, mut passes, mut bins) = open(&rt, rt.alloc(), 1, 2)?;
+    assert!(rt; passes.len() == 1 && bins.len() == 2);
+    let (pass, bin) = (&mut passes[0], &mut bins[1]);
+    put_often(&rt, &ledger, pass, bin, b"a", MOST_CALLS);
     let counts = (passes[0].made(), ledger.share(&mut passes[0]));
-    let total = settled(&rt, ledger.settle(passes, roles));
+    let total = settled(&rt, ledger, passes, roles_of(&rt, bins));
     assert_same(&rt, &(counts, total), &((1_000_000, 1), 1));
     Ok(())
 }
 
 #[test]
 fn a_name_has_no_bytes(rt: HostRuntime) -> Result<(), Fail> {
-    let (ledger, passes, roles) = open(rt.alloc(), 1)?;
+    let (ledger, passes, roles) = open_books(rt.alloc(), 1, 2)?;
+    assert!(rt; roles.len() == 2);
     let name = LedgerName::of(&roles[0]);
     drop(name.again().to_tag());
     drop(name);
-    let total = settled(&rt, ledger.settle(passes, roles));
+    let total = settled(&rt, ledger, passes, roles);
     assert_same(&rt, &(size_of::<LedgerName>(), total), &(0, 0));
     Ok(())
 }
 
-/// As many bins without pairs.
-fn empty_bases(alloc: Global, n: usize) -> Result<Vec<Vec<(Key, u64)>>, AllocError>
-    ensures len { IfOk result (λ bases. length bases.items ≡ n) }
-    ensures empty { IfOk result (λ bases. All (λ base. base.items ≡ []) bases.items) }
-{
-    let mut bases = Vec::new(alloc);
-    for _number in 0..n {
-        bases.push(Vec::new(alloc))?;
-    }
-    Ok(bases)
-}
-
-/// A ledger of 32 clients over an empty map, with the roles of 65,536 classes.
-fn open_largest(alloc: Global) -> Result<(KeyLedger, Vec<KeyPass>, Vec<KeyRole>), AllocError>
-    ensures passes { IfOk result (λ r. All (λ p. p.ledger ≡ r.0.id) r.1.items) }
-    ensures roles { IfOk result (λ r. All (λ x. x.ledger ≡ r.0.id) r.2.items) }
-{
-    let bases = empty_bases(alloc, 65536)?;
-    Ledger::new(alloc, Form::Recorded, Salt(0), 32, &bases)
-}
-
 #[test]
 fn the_largest_ledger_settles(rt: HostRuntime) -> Result<(), Fail> {
-    let (ledger, passes, roles) = open_largest(rt.alloc())?;
+    let (ledger, passes, roles) = open_books(rt.alloc(), 32, 65536)?;
     let sizes = (passes.len(), roles.len());
-    let total = settled(&rt, ledger.settle(passes, roles));
+    let total = settled(&rt, ledger, passes, roles);
     assert_same(&rt, &(sizes, total), &((32, 65536), 0));
     Ok(())
 }

@@ -4,14 +4,20 @@
 #[cfg(test)]
 mod bins;
 #[cfg(test)]
+mod held;
+#[cfg(test)]
 mod keys;
 #[cfg(test)]
 mod ledgers;
 #[cfg(test)]
 mod made;
 #[cfg(test)]
+mod moments;
+#[cfg(test)]
 mod moves;
 #[cfg(test)]
 mod plain;
+#[cfg(test)]
+mod settling;
 #[cfg(test)]
 mod values;

@@ -81,6 +81,29 @@ impl Plain {
         Ok(reply)
     }
 
+    /// Whether this is the call.
+    fn is(&self, rt: &impl Abort, call: &Call<Key, u64, Plus>) -> bool {
+        let is_rest = match call {
+            Call::Get(_) => self.kind == 0,
+            Call::Contains(_) => self.kind == 1,
+            Call::Put(_, value) => self.kind == 2 && *value == self.given,
+            Call::PutIfAbsent(_, value) => self.kind == 3 && *value == self.given,
+            Call::Remove(_) => self.kind == 4,
+            Call::RemoveIf(_, value) => self.kind == 5 && *value == self.given,
+            Call::Replace(_, value) => self.kind == 6 && *value == self.given,
+            Call::ReplaceIf(_, old, new) => {
+                self.kind == 7 && *old == self.given && *new == self.other
+            }
+            Call::ComputeIfAbsent(_, function) => self.kind == 8 && function.0 == self.function,
+            Call::ComputeIfPresent(_, function) => self.kind == 9 && function.0 == self.function,
+            Call::Compute(_, function) => self.kind == 10 && function.0 == self.function,
+            Call::Merge(_, value, function) => {
+                self.kind == 11 && *value == self.given && function.0 == self.function
+            }
+        };
+        is_rest && *call.key() == text(rt, self.key)
+    }
+
     /// The same call for a bin.
     fn call(&self, rt: &impl Abort) -> Call<Key, u64, Plus> {
         let key = text(rt, self.key);
@@ -145,6 +168,67 @@ fn are_same(rt: &impl Abort, entries: &[(Key, u64)], pairs: &[(usize, u64)]) -> 
         }
     }
     entries.len() == pairs.len()
+}
+
+/// What the calls that a recorded bin stores no more left of the pairs, and how many they are.
+#[derive(Drop)]
+struct Folded {
+    pairs: Pairs,
+    calls: usize,
+}
+
+/// Whether the bin's records are the newest of these calls, and its base is what those before them
+/// left.
+fn are_stored(
+    rt: &impl Abort,
+    bin: &Bin<Key, u64, Plus, Global>,
+    made: &[Plain],
+    folded: &mut Folded,
+) -> Result<bool, AllocError> {
+    let calls = made.len().saturating_sub(bin.records().len());
+    for plain in made.iter().take(calls).skip(folded.calls) {
+        drop(plain.make(&mut folded.pairs)?);
+    }
+    folded.calls = calls;
+    for (entry, plain) in bin.records().iter().zip(made.iter().skip(calls)) {
+        if !plain.is(rt, entry.call()) {
+            return Ok(false);
+        }
+    }
+    Ok(are_same(rt, bin.base(), &folded.pairs))
+}
+
+/// Makes 3,000 calls on a recorded bin, and answers which is the first after which its records are
+/// not those calls, or its base is not what those before them left.
+fn first_misstored(rt: &impl Abort, alloc: Global) -> Result<Option<u64>, AllocError> {
+    let form = Form::Recorded;
+    let mut bin = Bin::new(alloc, form, Salt(0), Class::new(1, 0), Vec::new(alloc))?;
+    let mut made = Vec::new(alloc);
+    let mut folded = Folded {
+        pairs: Vec::new(alloc),
+        calls: 0,
+    };
+    let mut numbers = Numbers(1);
+    for line in 0..3_000u64 {
+        let plain = numbers.call();
+        let call = plain.call(rt);
+        assert!(rt; bin.class().covers(bin.salt().hash_of(call.key())));
+        let ready = bin.prepare(call)?;
+        drop(bin.apply(ready, 0, line));
+        made.push(plain)?;
+        let is_checked = line % 61 == 0 || line == 1024 || line == 1536;
+        if is_checked && !are_stored(rt, &bin, &made, &mut folded)? {
+            return Ok(Some(line));
+        }
+    }
+    Ok(None)
+}
+
+#[test]
+fn a_bin_stores_its_newest_calls_over_what_the_others_left(rt: HostRuntime) -> Result<(), Fail> {
+    let misstored = first_misstored(&rt, rt.alloc())?;
+    assert_same(&rt, &misstored, &None);
+    Ok(())
 }
 
 /// Makes 10,000 calls on a bin of the form and on a plain map, and answers which is the first that

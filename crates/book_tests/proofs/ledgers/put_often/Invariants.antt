@@ -5,6 +5,5 @@ abbrev pub invariant-loop-time : goal.invariant-loop-time
 invariant-loop-time g l =
     record {
       pass : l.pass.ledger ≡ l.ledger.id;
-      role : l.role.ledger ≡ l.ledger.id;
-      salt : l.role.salt ≡ record { 0 = 0 };
+      role : l.bin.ledger ≡ l.ledger.id;
     }

@@ -1,0 +1,35 @@
+use Rattle.std.proofs.Common.{◌≡◌, ◌∷◌, [], sym, ap, ◌∙◌}
+use Rattle.bin_history.specs.Calls.{after, key_of}
+use Rattle.bin_history.specs.Entries.{lookup}
+use Rattle.bin_history.specs.Plain.{run}
+use Rattle.bin_history.specs.declared.call.Call.{Call}
+use Rattle.bin_history.proofs.Keys.{key_tells}
+use Rattle.bin_history.proofs.Runs.{lookup-replay}
+use Rattle.count_ledger.proofs.Agreements.{BinAgrees-gone_on, BinAgrees-replay}
+use Rattle.book_tests.proofs.held.Held.post.Goals as goal
+
+-- the call found what the role's records left at its key
+pub post_trace-requires-clause-legal : goal.post_trace-requires-clause-legal
+post_trace-requires-clause-legal g c =
+    let same = g.K.PartialEq.eq in
+    let tells = key_tells g.met.K.Eq.laws g.met.K.HashKey.equal_is_same in
+    let then = after g.V.PartialEq.eq g.F.Remap.remapped g.F.Remap.merged in
+    let bin = c.self.inside.bin in
+    let role = c.self.inside.role in
+    let made = c.in_ok-reply.ensures.made in
+    let entries = (BinAgrees-replay same tells g.K.HashKey.code then bin role c.self.invariant
+    c.lawful.ensures.lawful c.lawful.ensures.replayed).1 in
+    let map : lookup same bin.entries ≡ run same (lookup same role.opening) role.kept = ap (lookup same) entries
+    ∙ lookup-replay same tells role.opening role.kept c.self.invariant.history.1.distinct in (
+      made.found ∙ (λ i. map i (key_of (sym made.call_is i))),
+      made.left ∙ ap (λ (call : Call _ _ _). then call c.in_ok-reply.trace.before) (sym made.call_is),
+    )
+
+-- bin and role go on by the call's record
+pub invariant_of-self-2 : goal.invariant_of-self-2
+invariant_of-self-2 g c =
+    BinAgrees-gone_on g.K.PartialEq.eq (key_tells g.met.K.Eq.laws g.met.K.HashKey.equal_is_same) g.K.HashKey.code
+    (after g.V.PartialEq.eq g.F.Remap.remapped g.F.Remap.merged) c.self.inside.bin c.make_on.new.self
+    c.self.inside.role c.post_trace.new.role
+    (c.in_ok-reply.trace ∷ []) c.self.invariant c.make_on.ensures.class c.make_on.ensures.salt
+    c.in_ok-reply.ensures.made.history c.post_trace.ensures.role
