@@ -1,7 +1,7 @@
 //! A ledger and a move, each request of their making refused in turn.
 ghost use Rattle.std.specs.Prelude.{◌≡◌, All, IfOk};
 
-use crate::values::{Alloc, assert_same};
+use crate::values::{Alloc, Answer, Number, assert_same};
 use bin_history::Form;
 use count_ledger::{BinRole, Ledger, Pass, Unsettled, retire_all};
 use hashkeys::{Key, Salt};
@@ -14,12 +14,16 @@ use transfer::{Finish, Range, Strides};
 /// More than any call's requests.
 const MANY: u64 = 1000;
 
-type KeyPass = Pass<Key, u64, ()>;
+type NumberLedger<'a> = Ledger<Key, Number<'a>, Answer<'a>, Alloc<'a>>;
+
+type NumberPass<'a> = Pass<Key, Number<'a>, Answer<'a>>;
+
+type NumberRole<'a> = BinRole<Key, Number<'a>, Answer<'a>>;
 
 type Made<'a> = (
-    Ledger<Key, u64, (), Alloc<'a>>,
-    Vec<KeyPass, Alloc<'a>>,
-    Vec<BinRole<Key, u64, ()>, Alloc<'a>>,
+    NumberLedger<'a>,
+    Vec<NumberPass<'a>, Alloc<'a>>,
+    Vec<NumberRole<'a>, Alloc<'a>>,
 );
 
 /// Settles a ledger of two clients over two bins that nobody called.
