@@ -45,7 +45,12 @@ impl<
     }
 
     /// The same of a call whose key is handed over.
-    pub(crate) fn value_of<R: Wait>(&mut self, rt: &R, key: K, op: Op<V, F>) -> Result<Option<V>, Fault>
+    pub(crate) fn value_of<R: Wait>(
+        &mut self,
+        rt: &R,
+        key: K,
+        op: Op<V, F>,
+    ) -> Result<Option<V>, Fault>
         requires exact { AreExact K.is_clone V.is_clone F.is_clone }
         requires value { answers_truth op ≡ false }
         ensures answered { IsAnsweredAs K.eq V.eq F.remapped F.merged Value

@@ -16,8 +16,8 @@ mod work;
 pub use bulk_tasks as bulk;
 pub use chm::{
     ByteString, Bytes, Call, Class, Entries, Fault, Form, HashKey, Key, MOST_BINS, MOST_CALLS,
-    MOST_CLIENTS, MOST_LEAN_CALLS, Map, Moment, NotClosed, Opened, Pass, Quiet, Remap, Reply,
-    Salt, Sharing, Visit, retire_all,
+    MOST_CLIENTS, MOST_LEAN_CALLS, Map, Moment, NotClosed, Opened, Pass, Quiet, Remap, Reply, Salt,
+    Sharing, Visit, retire_all,
 };
 pub use client::{Client, Loan};
 pub use computed::Computed;

@@ -22,8 +22,8 @@ impl<L: Loan, K: HashKey, V: Clone + Eq, F: Remap<K, V> + Clone, A: Allocator> C
     /// takes no memory and waits for nobody.
     pub fn moment(&mut self) -> Moment<K, V, F>
         ensures moment { result ≡ record {
-            ledger = self.old.map.now.ledger.id;
-            seen = self.old.pass.now.seen;
+          ledger = self.old.map.now.ledger.id;
+          seen = self.old.pass.now.seen;
         } }
         ensures same { self.new.pass.now ≡ self.old.pass.now }
         ensures map { self.new.map.now ≡ self.old.map.now }
