@@ -3,7 +3,6 @@
 ghost use Rattle.std.specs.Prelude.{◌≡◌, All};
 
 use crate::call_examples::right_calls;
-use crate::maps::assert_same;
 use bin_history::{Form, Remap};
 use chm::{Fault, Map, Opened, Quiet, Sharing};
 use count_ledger::{Pass, retire_all};
@@ -12,8 +11,6 @@ use map_samples::open;
 use std::alloc::{AllocError, Global};
 use std::process::Abort;
 use std::sync::Wait;
-use std::sync::atomic::AtomicU64;
-use std::sync::atomic::Ordering::SeqCst;
 use std::test::Fail;
 use std::thread::Threads;
 
@@ -59,17 +56,18 @@ pub(crate) type NumberPass = Pass<u64, u64, Plus>;
 /// Such a map, closed.
 type NumberQuiet = Quiet<u64, u64, Plus, Global>;
 
-/// Runs the examples of the calls of a map of one client, and leaves 5 at 1.
+/// Runs the examples of the calls of a map of one client, answers how many are right, and leaves 5
+/// at 1.
 #[derive(Clone, Copy)]
-struct Examples<'a> {
-    right: &'a AtomicU64,
-}
+struct Examples;
 
-impl Sharing<u64, u64, Plus, Global> for Examples<'_> {
-    fn work<R: Wait>(&self, rt: &R, map: &Numbers, pass: &mut NumberPass) {
+impl Sharing<u64, u64, Plus, Global> for Examples {
+    type Out = u64;
+
+    fn work<R: Wait>(&self, rt: &R, map: &Numbers, pass: &mut NumberPass) -> u64 {
         let right = right_calls(rt, map, pass);
-        self.right.store(right, SeqCst);
         let _ = map.put(rt, pass, 1, 5);
+        right
     }
 }
 
@@ -107,22 +105,36 @@ fn close<R: Wait>(
     }
 }
 
-/// Adds 1 at 1.
+/// Adds 1 at 1, and answers the client's number.
 #[derive(Clone, Copy)]
 struct AddOne;
 
 impl Sharing<u64, u64, Plus, Global> for AddOne {
-    fn work<R: Wait>(&self, rt: &R, map: &Numbers, pass: &mut NumberPass) {
+    type Out = u32;
+
+    fn work<R: Wait>(&self, rt: &R, map: &Numbers, pass: &mut NumberPass) -> u32 {
         let _ = map.merge(rt, pass, 1, 1, Plus(0));
+        pass.client()
     }
 }
 
-fn share<R: Threads + Wait + Abort + Sync>(rt: &R, alloc: Global) -> bool {
+/// Whether the answers come in order and the sum is right.
+fn are_added<R: Threads + Wait + Sync>(
+    rt: &R,
+    map: &Numbers,
+    passes: &mut Vec<NumberPass, Global>,
+) -> Result<bool, Fault>
+    requires { All (λ p. p.ledger ≡ map.now.ledger.id) passes.old.items }
+{
+    let answered = map.share(rt, passes, &AddOne)?.as_slice() == [0, 1, 2, 3].as_slice();
+    Ok(answered && map.glance(rt, &1)? == Some(4))
+}
+
+fn share<R: Threads + Wait + Abort + Sync>(rt: &R, alloc: Global) -> Result<bool, Fault> {
     let (map, mut passes): Opened<u64, u64, Plus, Global> = open(alloc, Form::Lean, 16, 4).expect(
         rt, "a map",
     );
-    map.share(rt, &mut passes, &AddOne);
-    let told = map.glance(rt, &1) == Ok(Some(4));
+    let told = are_added(rt, &map, &mut passes);
     retire_all(passes);
     told
 }
@@ -168,23 +180,21 @@ fn into_entries(quiet: NumberQuiet) -> bool {
     }
 }
 
-/// The closed map of the examples of calls.
+/// The closed map of the examples of calls, and how many were right.
 fn closed<R: Threads + Wait + Abort + Sync>(
     rt: &R,
     alloc: Global,
-    right: &AtomicU64,
-) -> Result<NumberQuiet, Fault> {
+) -> Result<(NumberQuiet, Vec<u64>), Fault> {
     let (map, mut passes) = open(alloc, Form::Lean, 16, 1).expect(rt, "a map");
-    map.share(rt, &mut passes, &Examples { right });
-    close(rt, map, passes)
+    let right = map.share(rt, &mut passes, &Examples).expect(rt, "memory");
+    Ok((close(rt, map, passes)?, right))
 }
 
 #[test]
 fn each_example_of_a_call_is_as_it_says(rt: HostRuntime) -> Result<(), Fail> {
-    let right = AtomicU64::new(0);
-    let quiet = closed(&rt, rt.alloc(), &right)?;
+    let (quiet, right) = closed(&rt, rt.alloc())?;
     drop(quiet);
-    assert_same(&rt, &right.load(SeqCst), &24);
+    assert!(rt; right.as_slice() == [24].as_slice());
     Ok(())
 }
 
@@ -192,15 +202,14 @@ fn each_example_of_a_call_is_as_it_says(rt: HostRuntime) -> Result<(), Fail> {
 fn each_example_of_opening_and_sharing_is_as_it_says(rt: HostRuntime) -> Result<(), Fail> {
     let told = [new(rt.alloc()), with_salt(rt.alloc()), lean(rt.alloc())];
     assert!(rt; told == [Ok(true), Ok(true), Ok(true)]);
-    assert!(rt; share(&rt, rt.alloc()));
+    assert!(rt; share(&rt, rt.alloc()) == Ok(true));
     assert!(rt; mapping_count_all(&rt, rt.alloc()));
     Ok(())
 }
 
 #[test]
 fn each_example_of_a_closed_map_is_as_it_says(rt: HostRuntime) -> Result<(), Fail> {
-    let right = AtomicU64::new(0);
-    let quiet = closed(&rt, rt.alloc(), &right)?;
+    let (quiet, _) = closed(&rt, rt.alloc())?;
     let has_five = quiet_get(&quiet);
     let has_one = quiet.mapping_count() == 1;
     let shows_five = entries(&quiet);
