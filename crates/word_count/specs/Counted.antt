@@ -1,5 +1,6 @@
 -- What counting words comes to.
-use Rattle.std.specs.Prelude.{◌≡◌, ℕ, ◌<◌, ◌≤◌, Bool, nat_eq, List, [], length, map, take, All, slice_index_or}
+use Rattle.std.specs.Prelude.{◌≡◌, ℕ, ◌<◌, ◌≤◌, Bool, nat_eq, List, [], length, map, All, slice_index_or}
+use Rattle.std.specs.Prelude.{Result, OnOk}
 use Rattle.std.specs.Cmp.Lexicographic.{pointwise}
 use Rattle.std.specs.declared.vec.Vec.{Vec}
 use Rattle.bin_history.specs.Calls.{key_of}
@@ -8,6 +9,7 @@ use Rattle.bin_history.specs.Limits.{most_calls}
 use Rattle.bin_history.specs.Records.{RecordView}
 use Rattle.bin_history.specs.declared.form.Form.TheVariants.{Lean}
 use Rattle.count_ledger.specs.Views.{PassView}
+use Rattle.chm.specs.declared.fault.Fault.{Fault}
 use Rattle.facingberyl.specs.Tallies.{AddsOne, times_in_all, stored_count}
 use Rattle.functions.specs.declared.numbers.Add.{Add}
 
@@ -21,22 +23,18 @@ WordPass = PassView (List ℕ) ℕ Add
 abbrev pub same_word : List ℕ → List ℕ → Bool
 same_word = pointwise nat_eq
 
--- calls that count the first of these words, in order
+-- calls that count these words, in order, which are 2^57 at most
 pub record HasCounted (words : List (List ℕ)) (made : List WordRecord) : Type 0 where
-  pub keys : map (λ r. key_of r.call) made ≡ take (length made) words
+  pub keys : map (λ r. key_of r.call) made ≡ words
   pub ones : All AddsOne made
+  pub few : length words ≤ most_calls Lean
 
--- a client that had made nothing counts words of its part
-pub record HasWorked {A : Type 0} (parts : List (Vec (List ℕ) A)) (old new : WordPass) : Type 0 where
+-- a client that had made nothing counted the words of its part, or was refused
+pub record HasWorked {A : Type 0} (parts : List (Vec (List ℕ) A)) (old new : WordPass)
+    (answer : Result (Unit {0}) Fault) : Type 0 where
   pub client : new.client ≡ old.client
-  pub counted : old.made ≡ [] → (v : Vec (List ℕ) A) → old.client < length parts →
-      HasCounted (slice_index_or parts old.client v).items new.made
-
--- each client made a call for each word of its part, which has 2^57 at most
-pub record AreWhole {A : Type 0} (parts : List (Vec (List ℕ) A)) (passes : List WordPass) : Type 0 where
-  pub each : (c : ℕ) (p : WordPass) (v : Vec (List ℕ) A) → c < length parts → length (slice_index_or passes c p).made
-      ≡ length (slice_index_or parts c v).items
-  pub few : All (λ v. length v.items ≤ most_calls Lean) parts
+  pub counted : OnOk answer (old.made ≡ [] → (v : Vec (List ℕ) A) → old.client < length parts →
+      HasCounted (slice_index_or parts old.client v).items new.made)
 
 -- each word stands once, with how often it stands in the parts
 pub record AreCounts (parts : List (List (List ℕ))) (counts : List (List ℕ × ℕ)) : Type 0 where

@@ -9,8 +9,9 @@ use Rattle.chm.specs.Headline.{entries_of}
 use Rattle.functions.specs.declared.numbers.Add.{Add}
 use Rattle.facingberyl.proofs.Tallies.{stored_count-of-key, times-few}
 use Rattle.facingberyl.specs.Tallies.{AllCounted, times_in_all}
-use Rattle.word_count.proofs.Worked.{new-length, all-counted, pairs-same}
-use Rattle.word_count.specs.Counted.{WordPass, AreWhole, same_word}
+use Rattle.facingberyl.proofs.Passes.{length-new_passes}
+use Rattle.word_count.proofs.Worked.{all-counted, all-few, pairs-same}
+use Rattle.word_count.specs.Counted.{WordPass, same_word}
 use Rattle.word_count.proofs.count.count.Goals as goal
 
 -- a sum that stays in the range is exact
@@ -29,18 +30,17 @@ returns g c =
     let q = c.in_ok-map.map in
     let new = c.in_ok-team.ensures.new.passes in
     let wide : length parts ≡ n = length-map c.args.parts.now (λ (b : Vec (List ℕ) _). b.items) in
-    let lent : AreWhole c.args.parts.now c.passes.result.now =
-    search (rules, c.if-not-are_counted.ensures, c.are_counted.ensures, c.if-not-are_counted.false) in
-    let whole : AreWhole c.args.parts.now passes = subst (AreWhole c.args.parts.now) c.passes.ensures lent in
+    let worked = c.in_ok-answers.ensures.done in
+    let done = c.in_ok-all_done.ensures in
     let made : AllCounted parts passes = all-counted team.map.ledger.id n team.passes new c.args.parts.now refl passes
-    c.work.ensures.done whole in
+    c.in_ok-answers.answers.items worked done in
     let ledger_is : q.ledger ≡ team.map.ledger = c.in_ok-map.ensures.ledger ∙ ap (λ m. m.ledger) c.work.ensures.map in
     let clients : q.ledger.clients ≡ length parts = ap (λ (l : LedgerView (List ℕ) ℕ). l.clients) ledger_is
     ∙ c.in_ok-team.ensures.new.clients ∙ sym wide in
     let opening : q.ledger.opening ≡ [] = ap (λ (l : LedgerView (List ℕ) ℕ). l.opening) ledger_is
     ∙ c.in_ok-team.ensures.new.opening in
     let as_many : length q.passes ≡ length parts = ap length c.in_ok-map.ensures.passes ∙ c.work.ensures.len
-    ∙ new-length team.map.ledger.id n team.passes new
+    ∙ length-new_passes team.map.ledger.id n team.passes new
     ∙ sym wide in
     let counted : AllCounted parts q.passes = subst (AllCounted parts) (sym c.in_ok-map.ensures.passes) made in
     let items : c.in_ok-for_each.field-0.items ≡ entries_of q.bins = c.in_ok-for_each.ensures.answers
@@ -48,7 +48,9 @@ returns g c =
     record {
       distinct = subst (HasDistinctKeys same_word) (sym items) c.histories.ensures.distinct;
       each = λ w.
-          let few = times-few same_word w 144115188075855872 c.args.parts.now whole.few in
+          let few = times-few same_word w 144115188075855872 c.args.parts.now
+          (all-few team.map.ledger.id n team.passes new c.args.parts.now refl passes c.in_ok-answers.answers.items
+          worked done) in
           let room : times_in_all same_word w parts < 2 ^ 64 = omega (arith, few) in
           ap (λ (es : List (List ℕ × ℕ)). lookup same_word es w) items
           ∙ stored_count-of-key same_word after_calls (λ k f. refl)
