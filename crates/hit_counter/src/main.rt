@@ -1,6 +1,6 @@
 //! `hit_counter` shares a cache of squares among four clients, who look numbers up, work out what
-//! is missing and count hits and misses. The cache is then closed, read, opened again for one
-//! client, and emptied.
+//! is missing and answer how often each was the case. The cache is then closed, read, opened again
+//! for one client, and emptied.
 #![tactic(auto)]
 
 use anyhow::Result;
@@ -8,8 +8,6 @@ use facingberyl::bulk::{Plan, Sum, reduce};
 use facingberyl::{Client, Fault, Loan, Quiet, Remap, Team, Work};
 use std::alloc::{AllocError, Global};
 use std::sync::Wait;
-use std::sync::atomic::AtomicU64;
-use std::sync::atomic::Ordering::SeqCst;
 use std::thread::Threads;
 
 /// The square of a key, modulo 2^64, where it has no value. A value is left as it is, and a merge
@@ -36,58 +34,61 @@ impl Remap<u64, u64> for Square {
     }
 }
 
+/// How many numbers were in the cache, and how many were not.
+#[derive(Clone, Copy)]
+struct Looks {
+    hits: u64,
+    misses: u64,
+}
+
 /// Looks up the numbers below 100: all of them, or else those that are the client's number modulo
 /// 4.
 #[derive(Clone, Copy)]
-struct LookUp<'a> {
+struct LookUp {
     all: bool,
-    hits: &'a AtomicU64,
-    misses: &'a AtomicU64,
 }
 
-impl LookUp<'_> {
-    fn look_up<L: Loan, R: Wait>(
+impl Work<u64, u64, Square, Global> for LookUp {
+    type Out = Result<Looks, Fault>;
+
+    fn work<L: Loan, R: Wait>(
         &self,
         rt: &R,
         client: &mut Client<'_, L, u64, u64, Square, Global>,
-        number: u64,
-    ) -> Result<(), Fault> {
-        if client.get(rt, number)?.is_some() {
-            self.hits.fetch_add(1, SeqCst);
-            return Ok(());
-        }
-        client.compute_if_absent(rt, number, Square)?;
-        self.misses.fetch_add(1, SeqCst);
-        Ok(())
-    }
-}
-
-impl Work<u64, u64, Square, Global> for LookUp<'_> {
-    fn work<L: Loan, R: Wait>(&self, rt: &R, client: &mut Client<'_, L, u64, u64, Square, Global>) {
+    ) -> Result<Looks, Fault> {
         let own = client.number();
+        let mut looks = Looks { hits: 0, misses: 0 };
         for number in 0..100u64 {
-            let asked = self.all || number as usize % 4 == own;
-            if asked && self.look_up(rt, client, number).is_err() {
-                return;
+            if self.all || number as usize % 4 == own {
+                if client.compute_if_absent(rt, number, Square)?.used {
+                    looks.misses = looks.misses.saturating_add(1);
+                } else {
+                    looks.hits = looks.hits.saturating_add(1);
+                }
             }
         }
+        Ok(looks)
     }
 }
 
 /// Counts the entries that a walk shows, and takes them away.
 #[derive(Clone, Copy)]
-struct Empty<'a> {
-    seen: &'a AtomicU64,
-}
+struct Empty;
 
-impl Work<u64, u64, Square, Global> for Empty<'_> {
-    fn work<L: Loan, R: Wait>(&self, rt: &R, client: &mut Client<'_, L, u64, u64, Square, Global>) {
-        if let Ok(visits) = client.map.walk(rt, client.pass) {
-            for visit in &visits {
-                self.seen.fetch_add(visit.entries.len() as u64, SeqCst);
-            }
+impl Work<u64, u64, Square, Global> for Empty {
+    type Out = Result<usize, Fault>;
+
+    fn work<L: Loan, R: Wait>(
+        &self,
+        rt: &R,
+        client: &mut Client<'_, L, u64, u64, Square, Global>,
+    ) -> Result<usize, Fault> {
+        let mut seen = 0usize;
+        for visit in &client.walk(rt)? {
+            seen = seen.saturating_add(visit.entries.len());
         }
-        let _ = client.map.clear(rt, client.pass);
+        client.clear(rt)?;
+        Ok(seen)
     }
 }
 
@@ -95,44 +96,38 @@ type Cache = Quiet<u64, u64, Square, Global>;
 
 /// Shares the cache among four clients: each works its own numbers out, and then looks all of them
 /// up.
-fn share<R: Threads + Wait + Sync>(
-    rt: &R,
-    alloc: Global,
-    hits: &AtomicU64,
-    misses: &AtomicU64,
-) -> Result<Cache, Fault> {
+fn share<R: Threads + Wait + Sync>(rt: &R, alloc: Global) -> Result<(Cache, Looks), Fault> {
     let mut team = Team::new(alloc, 16, 4)?;
+    let mut sum = Looks { hits: 0, misses: 0 };
     for all in [false, true] {
-        team.work(rt, &LookUp { all, hits, misses });
+        for looks in team.work(rt, &LookUp { all })? {
+            let Looks { hits, misses } = looks?;
+            sum.hits = sum.hits.saturating_add(hits);
+            sum.misses = sum.misses.saturating_add(misses);
+        }
     }
-    team.close(rt)
+    Ok((team.close(rt)?, sum))
 }
 
-/// Opens the cache again for one client, who empties it. It answers how many keys are left.
-fn reopen_alone<R: Threads + Wait + Sync>(
-    rt: &R,
-    cache: &Cache,
-    seen: &AtomicU64,
-) -> Result<u64, Fault> {
+/// Opens the cache again for one client, who empties it. It answers how many entries the client
+/// saw, and how many keys are left.
+fn reopen_alone<R: Threads + Wait + Sync>(rt: &R, cache: &Cache) -> Result<(usize, u64), Fault> {
     let mut alone = Team::reopen(cache, 1)?;
-    alone.work(rt, &Empty { seen });
-    Ok(alone.close(rt)?.mapping_count())
+    let mut sum = 0usize;
+    for seen in alone.work(rt, &Empty)? {
+        sum = sum.saturating_add(seen?);
+    }
+    Ok((sum, alone.close(rt)?.mapping_count()))
 }
 
 fn main(rt: HostRuntime) -> Result<()> {
-    let (hits, misses) = (AtomicU64::new(0), AtomicU64::new(0));
-    let seen = AtomicU64::new(0);
-    let cache = share(&rt, rt.alloc(), &hits, &misses)?;
+    let (cache, looks) = share(&rt, rt.alloc())?;
     let sum = reduce(&rt, rt.alloc(), &cache, &Plan::new(0, 4), &Sum)?;
-    let left = reopen_alone(&rt, &cache, &seen)?;
+    let (seen, left) = reopen_alone(&rt, &cache)?;
     let count = cache.mapping_count();
     drop(cache);
-    println!(rt;
-        "{} hits, {} misses",
-        hits.load(SeqCst),
-        misses.load(SeqCst)
-    )?;
+    println!(rt; "{} hits, {} misses", looks.hits, looks.misses)?;
     println!(rt; "{count} squares, {} in all", sum.unwrap_or(0))?;
-    println!(rt; "{} seen, {left} left", seen.load(SeqCst))?;
+    println!(rt; "{seen} seen, {left} left")?;
     Ok(())
 }
