@@ -6,7 +6,7 @@ use std::marker::{Brand, Model, PhantomData};
 
 /// What letters are about, in contracts alone: of which map's calls their moments know, and what is
 /// so of those calls. A call at `Brand` picks it.
-pub trait About<K, V, F>: Send + Sync {
+pub trait About<K, V, F> {
     ghost use Rattle.std.specs.Prelude.{List};
     ghost use Rattle.bin_history.specs.Records.{RecordView};
     ghost use Rattle.count_ledger.specs.Views.{LedgerId};
