@@ -1,6 +1,7 @@
 //! Threads that share a map without a team, and the pairs of a closed map.
 use facingberyl::{
-    Add, Bytes, Client, Loan, Map, NotClosed, Pass, Quiet, Salt, Sharing, Team, Work, retire_all,
+    Add, Bytes, Client, Fault, Loan, Map, NotClosed, Pass, Quiet, Salt, Sharing, Team, Work,
+    retire_all,
 };
 use std::alloc::Global;
 use std::sync::Wait;
@@ -12,24 +13,27 @@ use std::thread::Threads;
 struct Numbers;
 
 impl Sharing<u64, u64, Add, Global> for Numbers {
+    type Out = Result<(), Fault>;
+
     fn work<R: Wait>(
         &self,
         rt: &R,
         map: &Map<u64, u64, Add, Global>,
         pass: &mut Pass<u64, u64, Add>,
-    ) {
+    ) -> Result<(), Fault> {
         let number = u64::from(pass.client());
-        let _ = map.merge(rt, pass, 0, 1, Add);
-        let _ = map.merge(rt, pass, number, number, Add);
+        map.merge(rt, pass, 0, 1, Add)?;
+        map.merge(rt, pass, number, number, Add)?;
+        Ok(())
     }
 }
 
 /// A closed map on which three clients worked.
 fn shared<R: Threads + Wait + Sync>(rt: &R, alloc: Global) -> Option<Quiet<u64, u64, Add, Global>> {
     let (map, mut passes) = Map::lean(alloc, 16, 3, Salt(0)).ok()?;
-    map.share(rt, &mut passes, &Numbers);
+    let answers = map.share(rt, &mut passes, &Numbers);
     match map.close(rt, passes) {
-        Ok(closed) => Some(closed),
+        Ok(closed) => (answers.ok()?.as_slice() == [Ok(()); 3].as_slice()).then_some(closed),
         Err(
             NotClosed {
                 fault: _,
@@ -60,20 +64,25 @@ fn threads_share_a_map_without_a_team(rt: HostRuntime) -> Result<(), Fail> {
 struct Words;
 
 impl Work<Bytes<'static>, u64, Add, Global> for Words {
+    type Out = Result<(), Fault>;
+
     fn work<L: Loan, R: Wait>(
         &self,
         rt: &R,
         client: &mut Client<'_, L, Bytes<'static>, u64, Add, Global>,
-    ) {
-        let _ = client.put(rt, Bytes(b"one"), 1);
-        let _ = client.put(rt, Bytes(b"two"), 2);
+    ) -> Result<(), Fault> {
+        client.put(rt, Bytes(b"one"), 1)?;
+        client.put(rt, Bytes(b"two"), 2)?;
+        Ok(())
     }
 }
 
 #[test]
 fn the_pairs_of_a_team_are_taken_out(rt: HostRuntime) -> Result<(), Fail> {
     let mut team = Team::new(rt.alloc(), 1, 1)?;
-    team.work(&rt, &Words);
+    for answer in team.work(&rt, &Words)? {
+        answer?;
+    }
     let mut sum = 0;
     let mut bytes = 0;
     if let Ok(pairs) = team.close(&rt)?.into_entries() {

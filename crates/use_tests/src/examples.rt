@@ -2,8 +2,6 @@
 use facingberyl::{Add, Client, Computed, Fault, Loan, Team, Work};
 use std::alloc::Global;
 use std::sync::Wait;
-use std::sync::atomic::AtomicU64;
-use std::sync::atomic::Ordering::SeqCst;
 use std::test::Fail;
 
 /// A client of the examples.
@@ -11,7 +9,7 @@ type Numbers<'a, L> = Client<'a, L, u64, u64, Add, Global>;
 
 fn get<L: Loan, R: Wait>(rt: &R, client: &mut Numbers<'_, L>) -> Result<bool, Fault> {
     client.put(rt, 1, 5)?;
-    Ok(client.get(rt, 1)? == Some(5))
+    Ok(client.get(rt, &1)? == Some(5))
 }
 
 fn look_up<L: Loan, R: Wait>(rt: &R, client: &mut Numbers<'_, L>) -> Result<bool, Fault> {
@@ -21,7 +19,7 @@ fn look_up<L: Loan, R: Wait>(rt: &R, client: &mut Numbers<'_, L>) -> Result<bool
 
 fn contains_key<L: Loan, R: Wait>(rt: &R, client: &mut Numbers<'_, L>) -> Result<bool, Fault> {
     client.put(rt, 1, 5)?;
-    Ok(client.contains_key(rt, 1)?)
+    Ok(client.contains_key(rt, &1)?)
 }
 
 fn put<L: Loan, R: Wait>(rt: &R, client: &mut Numbers<'_, L>) -> Result<bool, Fault> {
@@ -36,7 +34,7 @@ fn put_if_absent<L: Loan, R: Wait>(rt: &R, client: &mut Numbers<'_, L>) -> Resul
 
 fn remove<L: Loan, R: Wait>(rt: &R, client: &mut Numbers<'_, L>) -> Result<bool, Fault> {
     client.put(rt, 1, 5)?;
-    Ok(client.remove(rt, 1)? == Some(5))
+    Ok(client.remove(rt, &1)? == Some(5))
 }
 
 fn remove_if<L: Loan, R: Wait>(rt: &R, client: &mut Numbers<'_, L>) -> Result<bool, Fault> {
@@ -45,8 +43,8 @@ fn remove_if<L: Loan, R: Wait>(rt: &R, client: &mut Numbers<'_, L>) -> Result<bo
 }
 
 fn replace<L: Loan, R: Wait>(rt: &R, client: &mut Numbers<'_, L>) -> Result<bool, Fault> {
-    client.remove(rt, 1)?;
-    Ok(client.replace(rt, 1, 6)? == None)
+    client.remove(rt, &1)?;
+    Ok(client.replace(rt, &1, 6)? == None)
 }
 
 fn replace_if<L: Loan, R: Wait>(rt: &R, client: &mut Numbers<'_, L>) -> Result<bool, Fault> {
@@ -96,21 +94,51 @@ fn merge<L: Loan, R: Wait>(rt: &R, client: &mut Numbers<'_, L>) -> Result<bool, 
 }
 
 fn balance<L: Loan, R: Wait>(rt: &R, client: &mut Numbers<'_, L>) -> Result<bool, Fault> {
-    client.remove(rt, 1)?;
+    client.remove(rt, &1)?;
     let before = client.balance();
     client.put(rt, 1, 5)?;
     Ok(client.balance() == before.wrapping_add(1))
 }
 
-/// Runs the examples, and counts those that are right.
-#[derive(Clone, Copy)]
-struct Examples<'a> {
-    right: &'a AtomicU64,
+fn glance<L: Loan, R: Wait>(rt: &R, client: &mut Numbers<'_, L>) -> Result<bool, Fault> {
+    client.put(rt, 1, 5)?;
+    Ok(client.glance(rt, &1)? == Some(5))
 }
 
-impl Work<u64, u64, Add, Global> for Examples<'_> {
-    fn work<L: Loan, R: Wait>(&self, rt: &R, client: &mut Numbers<'_, L>) {
-        let told = [
+fn walk<L: Loan, R: Wait>(rt: &R, client: &mut Numbers<'_, L>) -> Result<bool, Fault> {
+    client.put(rt, 1, 5)?;
+    let visits = client.walk(rt)?;
+    Ok(
+        visits
+            .iter()
+            .any(|visit| visit.entries.as_slice() == [(1, 5)].as_slice()),
+    )
+}
+
+fn mapping_count<L: Loan, R: Wait>(rt: &R, client: &mut Numbers<'_, L>) -> Result<bool, Fault> {
+    client.put(rt, 1, 5)?;
+    Ok(client.mapping_count() == 1)
+}
+
+fn clear<L: Loan, R: Wait>(rt: &R, client: &mut Numbers<'_, L>) -> Result<bool, Fault> {
+    client.put(rt, 1, 5)?;
+    client.clear(rt)?;
+    Ok(client.get(rt, &1)? == None)
+}
+
+/// Runs the examples, and answers which are right.
+#[derive(Clone, Copy)]
+struct Examples;
+
+impl Work<u64, u64, Add, Global> for Examples {
+    type Out = [Result<bool, Fault>; 18];
+
+    fn work<L: Loan, R: Wait>(
+        &self,
+        rt: &R,
+        client: &mut Numbers<'_, L>,
+    ) -> [Result<bool, Fault>; 18] {
+        [
             get(rt, client),
             look_up(rt, client),
             contains_key(rt, client),
@@ -125,21 +153,20 @@ impl Work<u64, u64, Add, Global> for Examples<'_> {
             compute_if_present(rt, client),
             merge(rt, client),
             balance(rt, client),
-        ];
-        for right in told {
-            if right == Ok(true) {
-                self.right.fetch_add(1, SeqCst);
-            }
-        }
+            glance(rt, client),
+            walk(rt, client),
+            mapping_count(rt, client),
+            clear(rt, client),
+        ]
     }
 }
 
+/// The examples at the calls of a client, run by one client on one map.
 #[test]
 fn each_example_is_as_it_says(rt: HostRuntime) -> Result<(), Fail> {
-    let right = AtomicU64::new(0);
     let mut team = Team::new(rt.alloc(), 1, 1)?;
-    team.work(&rt, &Examples { right: &right });
+    let answers = team.work(&rt, &Examples)?;
     drop(team);
-    assert_eq!(rt; right.load(SeqCst), 14);
+    assert_eq!(rt; answers.as_slice(), [[Ok(true); 18]].as_slice());
     Ok(())
 }

@@ -1,7 +1,11 @@
-//! Tests of the library as a program meets it: typed calls, teams, keys and functions that are
-//! ready to use.
+//! Tests of the library as a program meets it: typed calls, teams and their answers, moments, keys
+//! and functions that are ready to use.
 #![tactic(auto)]
 
+#[cfg(test)]
+mod answers;
+#[cfg(test)]
+mod borrowed;
 #[cfg(test)]
 mod closed;
 #[cfg(test)]
@@ -9,6 +13,8 @@ mod examples;
 #[cfg(test)]
 mod keys;
 #[cfg(test)]
-mod lent;
+mod letters;
+#[cfg(test)]
+mod moments;
 #[cfg(test)]
 mod teams;
