@@ -1,12 +1,12 @@
 //! Maps at the program's keys, and calls on them.
 ghost use Rattle.std.specs.Prelude.{◌≡◌, ◌<◌, ◌≤◌, true, [], All, IfOk, length};
 ghost use Rattle.hashkeys.specs.Classes.{IsTableSize, is_of};
-ghost use Rattle.bin_history.specs.Calls.{after, key_of};
+ghost use Rattle.bin_history.specs.Calls.{after};
 ghost use Rattle.bin_history.specs.Copies.{IsExact};
 ghost use Rattle.count_ledger.specs.Agreement.{BinAgrees};
 ghost use Rattle.count_ledger.specs.Limits.{most_calls};
 
-use bin_history::{Bin, Call, Form, Remap};
+use bin_history::{Bin, Form, Given, Op, Remap};
 use count_ledger::{BinRole, Ledger, Pass, retire_all};
 use generations::Generations;
 use hashkeys::{HashKey, Key, Salt};
@@ -163,6 +163,7 @@ pub(crate) fn open_quiet<A: Allocator + Clone>(
 
 /// Makes a call on a key of the bin's class, as the next of the pass's client.
 fn make<
+    'a,
     K: HashKey + Drop,
     V: Clone + Eq + Drop,
     F: Remap<K, V> + Clone + Drop,
@@ -170,16 +171,17 @@ fn make<
 >(
     ledger: &Ledger<K, V, F, A>,
     pass: &mut Pass<K, V, F>,
-    bin: &mut Bin<K, V, F, A>,
+    bin: &'a mut Bin<K, V, F, A>,
     role: &mut BinRole<K, V, F>,
-    call: Call<K, V, F>,
+    key: K,
+    op: Op<V, F>,
 ) -> Result<(), AllocError>
     requires keys { IsExact K.is_clone }
     requires values { IsExact V.is_clone }
     requires pass { pass.old.ledger ≡ ledger.now.id }
     requires role { role.old.ledger ≡ ledger.now.id }
     requires room { length pass.old.made < most_calls ledger.now.form }
-    requires key { is_of K.code bin.old.salt bin.old.class (key_of call) ≡ true }
+    requires key { is_of K.code bin.old.salt bin.old.class key ≡ true }
     requires agree { BinAgrees K.eq (after V.eq F.remapped F.merged) bin.old role.old }
     ensures pass { pass.new.ledger ≡ ledger.now.id }
     ensures role { role.new.ledger ≡ ledger.now.id }
@@ -189,8 +191,9 @@ fn make<
     ensures salt { bin.new.salt ≡ bin.old.salt }
 {
     bin.lawful();
-    let ready = bin.prepare(call)?;
-    let (_, trace) = bin.apply(ready, pass.client(), pass.made());
+    let (client, ordinal) = (pass.client(), pass.made());
+    let key: Given<'a, K> = Given::Owned(key);
+    let (_, trace) = bin.make_on(key, op, client, ordinal)?;
     ledger.post_trace(pass, role, &trace);
     Ok(())
 }
@@ -212,7 +215,7 @@ pub(crate) fn put<R: Wait + Abort, A: Allocator + Clone>(
     let mut held = map.hold(rt, map.salt().hash_of(&key));
     let mut bin = held.bin;
     let mut role = held.role;
-    let result = make(ledger, pass, bin.as_mut(), &mut role, Call::Put(key, 0));
+    let result = make(ledger, pass, bin.as_mut(), &mut role, key, Op::Put(0));
     held.bin = bin;
     held.role = role;
     held.release();
