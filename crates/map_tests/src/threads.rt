@@ -172,6 +172,19 @@ fn clients_grow_one_table_and_lose_no_key(rt: HostRuntime) -> Result<(), Fail> {
     Ok(())
 }
 
+/// What a walk shows of slot 1.
+fn slot_1<R: Wait + Abort>(
+    rt: &R,
+    map: &KeyMap<Global>,
+    pass: &mut KeyPass,
+) -> Option<Visit<Key, u64, Global>>
+    requires { pass.old.ledger ≡ map.now.ledger.id }
+    ensures { pass.new.ledger ≡ map.now.ledger.id }
+{
+    let visits = map.walk(rt, pass).expect(rt, "memory");
+    visits.into_iter().nth(1)
+}
+
 /// What a walk shows of slot 1 after two clients each put a key there.
 fn walk_after_two<R: Threads + Wait + Abort + Sync>(
     rt: &R,
@@ -188,11 +201,11 @@ fn walk_after_two<R: Threads + Wait + Abort + Sync>(
     };
     thread::for_each_mut(rt, &mut passes, 2, &work);
     assert!(rt; passes.len() == 2);
-    let visits = map.walk(rt, &mut passes[0]);
+    let visit = slot_1(rt, &map, &mut passes[0]);
     let closed = close(rt, map, passes).expect(rt, "a closed map");
     assert_same(rt, &closed.mapping_count(), &2);
     drop(closed);
-    visits.expect(rt, "memory").into_iter().nth(1)
+    visit
 }
 
 #[test]
