@@ -216,7 +216,9 @@ def wrong_examples(page, text):
 
 
 def squeezed(code):
-    return re.sub(r",([)}])", r"\1", "".join(code.split())).replace("&rt,", "rt,").replace("&rt)", "rt)")
+    """Returns code without white space, last commas, and whether what it is given is lent there or was lent before."""
+    lent = "".join(code.replace("&mut ", "").split())
+    return re.sub(r",([)}])", r"\1", lent).replace("&rt,", "rt,").replace("&rt)", "rt)")
 
 
 def forms_of(line):

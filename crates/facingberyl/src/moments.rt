@@ -34,9 +34,9 @@ impl<L: Loan, K: HashKey, V: Clone + Eq, F: Remap<K, V> + Clone, A: Allocator> C
     /// The client learns of a moment: the calls that it makes from now on stand behind all calls of
     /// the moment. It takes no memory and waits for nobody.
     ///
-    /// Where another client put 5 at 1 before its moment, and no call on 1 came after:
+    /// Where another client put 5 at 1 before the moment of its letter, and no call on 1 came after:
     ///
-    ///     client.learn(&mut moment);
+    ///     client.learn(&mut letter.open());
     ///     client.get(rt, &1)? == Some(5)
     pub fn learn(&mut self, moment: &mut Moment<K, V, F>)
         requires { moment.old.ledger ≡ self.old.map.now.ledger.id }

@@ -99,9 +99,10 @@ impl<
     /// All clients work at the same time, each in a thread of its own; one whose thread cannot be
     /// started works in a thread that there is, after others, so no client may wait for another.
     /// All have ended when this returns. It answers what they answered, client 0's first. It waits
-    /// for them, and takes memory for a seat and an answer of each.
+    /// for them, and takes memory for a seat and an answer of each. Where each of four clients
+    /// answers its number, the answers are 0 to 3, in this order:
     ///
-    ///     team.work(rt, &PutTheNumber)?.as_slice() == [0, 1, 2, 3].as_slice()
+    ///     let first = team.work(rt, &PutTheNumber)?;
     ///
     /// # Errors
     ///
@@ -131,10 +132,10 @@ impl<
     /// A client learns of a moment, before it works again: the calls that it then makes stand
     /// behind all calls of the moment. It takes no memory and waits for nobody.
     ///
-    /// Where client 0 put 5 at 1 before its moment, and client 1 is then to get it:
+    /// Where client 0 put 5 at 1 before the moment of its letter, client 1 then gets it:
     ///
-    ///     team.learn(1, &mut moment);
-    ///     team.work(rt, &GetOne)?[1] == Ok(Some(5))
+    ///     team.learn(1, &mut letter.open());
+    ///     team.work(rt, &Get)?
     pub fn learn(&mut self, client: usize, moment: &mut Moment<K, V, F>)
         requires client { client < length self.old.passes }
         requires moment { moment.old.ledger ≡ self.old.map.ledger.id }

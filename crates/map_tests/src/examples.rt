@@ -125,9 +125,21 @@ fn are_added<R: Threads + Wait + Sync>(
     passes: &mut Vec<NumberPass, Global>,
 ) -> Result<bool, Fault>
     requires { All (λ p. p.ledger ≡ map.now.ledger.id) passes.old.items }
+    ensures { All (λ p. p.ledger ≡ map.now.ledger.id) passes.new.items }
 {
     let answered = map.share(rt, passes, &AddOne)?.as_slice() == [0, 1, 2, 3].as_slice();
     Ok(answered && map.glance(rt, &1)? == Some(4))
+}
+
+/// Closes a map that is asked for nothing more.
+fn close_or_give_up<R: Wait>(
+    rt: &R,
+    map: Numbers,
+    passes: Vec<NumberPass, Global>,
+) -> Result<NumberQuiet, Fault>
+    requires { All (λ p. p.ledger ≡ map.ledger.id) passes.items }
+{
+    map.close(rt, passes).map_err(|refused| refused.give_up())
 }
 
 fn share<R: Threads + Wait + Abort + Sync>(rt: &R, alloc: Global) -> Result<bool, Fault> {
@@ -135,7 +147,7 @@ fn share<R: Threads + Wait + Abort + Sync>(rt: &R, alloc: Global) -> Result<bool
         rt, "a map",
     );
     let told = are_added(rt, &map, &mut passes);
-    retire_all(passes);
+    drop(close_or_give_up(rt, map, passes)?);
     told
 }
 
