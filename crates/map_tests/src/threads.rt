@@ -7,6 +7,7 @@ use crate::maps::{
 };
 use bin_history::{Form, Reply};
 use chm::Visit;
+use count_ledger::retire_all;
 use hashkeys::Key;
 use map_samples::{BOTH, close, open};
 use std::alloc::{AllocError, Allocator, Global};
@@ -202,9 +203,9 @@ fn walk_after_two<R: Threads + Wait + Abort + Sync>(
     thread::for_each_mut(rt, &mut passes, 2, &work);
     assert!(rt; passes.len() == 2);
     let visit = slot_1(rt, &map, &mut passes[0]);
-    let closed = close(rt, map, passes).expect(rt, "a closed map");
-    assert_same(rt, &closed.mapping_count(), &2);
-    drop(closed);
+    retire_all(passes);
+    assert_same(rt, &map.mapping_count(), &2);
+    drop(map);
     visit
 }
 
