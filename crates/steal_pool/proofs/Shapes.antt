@@ -274,3 +274,8 @@ hands of xs i x one k y two to crew in' at lent is_to in'' at' got =
     let loose : AreCrew (to ∷ []) (map of (set xs i x)) =
     subst (λ (n : ℕ). AreCrew (n ∷ []) (map of (set xs i x))) to' (lends of [] xs i x one crew in' lent') in
     gets of [] to (set xs i x) k y two loose in'' got'
+
+-- functions that agree
+pub same_map : {X Y : Type 0} (f g : X → Y) → ((x : X) → f x ≡ g x) → (xs : List X) → map f xs ≡ map g xs
+same_map f g same [] = refl
+same_map f g same (x ∷ xs) = ap (λ y. y ∷ map f xs) (same x) ∙ ap (λ ys. g x ∷ ys) (same_map f g same xs)

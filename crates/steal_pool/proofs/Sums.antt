@@ -1,5 +1,5 @@
 -- What the members count, when one of them changes.
-use Rattle.std.proofs.Common.{◌≡◌, ℕ, ◌+◌, ◌<◌, List, [], ◌∷◌, ◌++◌, length, get_or, set, sum_by, ap, arith}
+use Rattle.std.proofs.Common.{◌≡◌, Bool, true, false, if◌then◌else◌, ℕ, ◌+◌, ◌<◌, List, [], ◌∷◌, ◌++◌, length, get_or, set, sum_by, ap, arith}
 use Rattle.std.proofs.lemmas.List.Sums.{sum_by-set, sum_by_push}
 
 pub kept : {X : Type 0} (f : X → ℕ) (xs : List X) (i : ℕ) (x d : X) → i < length xs → f x ≡ f (get_or xs i d)
@@ -28,3 +28,11 @@ settled p t xs rest y pushed taken w v last books all =
     let e : sum_by p xs ≡ sum_by p (rest ++ y ∷ []) = ap (sum_by p) last in
     let e' : sum_by t xs ≡ sum_by t (rest ++ y ∷ []) = ap (sum_by t) last in
     omega arith
+
+-- what counts nothing is pushed, or is not
+pub kept_by_push : {X : Type 0} (f : X → ℕ) (b : Bool) (old new : List X) (x : X) → f x ≡ 0
+    → new ≡ (if b then old ++ x ∷ [] else old) → sum_by f new ≡ sum_by f old
+kept_by_push f true old new x nothing is =
+    let all : sum_by f new ≡ sum_by f (old ++ x ∷ []) = ap (sum_by f) is in
+    omega (arith, all, sum_by_push f old x, nothing)
+kept_by_push f false old new x nothing is = ap (sum_by f) is

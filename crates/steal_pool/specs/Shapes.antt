@@ -1,6 +1,6 @@
 -- Where the ways of a pool's members lead.
 use Rattle.std.specs.Prelude.{◌≡◌, ℕ, zero, suc, ◌+◌, ◌*◌, List, [], ◌∷◌, length, map, sum_by}
-use Rattle.steal_pool.specs.declared.member.Way.{Way}
+use Rattle.steal_pool.specs.declared.way.Way.{Way}
 use Rattle.steal_pool.specs.declared.member.Member.{Member}
 
 -- A member's number, how many ways into its deque are out, and the numbers of the members that its own ways lead to.
@@ -9,19 +9,19 @@ pub record Shape : Type 0 where
   pub out : ℕ
   pub ways : List ℕ
 
-module _ {T S : Type 0} {g : _} where
+module _ {T A S : Type 0} {g : _} where
   -- the numbers of the members that the ways lead to
-  abbrev pub targets : List (Way T S g) → List ℕ
+  abbrev pub targets : List (Way T A S g) → List ℕ
   targets ws = map (λ w. w.to) ws
 
-  abbrev pub shape : Member T S g → Shape
+  abbrev pub shape : Member T A S g → Shape
   shape m = record { number = m.number; out = m.out; ways = targets m.ways.items }
 
-  abbrev pub shapes : List (Member T S g) → List Shape
+  abbrev pub shapes : List (Member T A S g) → List Shape
   shapes ms = map shape ms
 
   -- no way into its deque is out, and it has no way
-  abbrev pub IsHome : Member T S g → Type 0
+  abbrev pub IsHome : Member T A S g → Type 0
   IsHome m = (m.out ≡ 0) × (m.ways.items ≡ [])
 
 -- the numbers below n, the largest first

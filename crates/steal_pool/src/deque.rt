@@ -10,23 +10,26 @@ ghost use Rattle.steal_pool.specs.Logs.{log, weigh};
 use crate::log::Log;
 use crate::rule::{EachOnce, Pushed, Share, Taken, Whole};
 use crossbeam_deque::{Pass, Steal, Stealer, Worker};
-use std::alloc::{AllocError, Global};
+use std::alloc::{AllocError, Allocator};
 
 /// The owner's side of a deque.
-pub(crate) type Own<T> = Worker<T, Global, Log<T>, EachOnce>;
+pub(crate) type Own<T, A> = Worker<T, A, Log<T>, EachOnce>;
 
 /// A side from which others take its oldest task.
-pub(crate) type Other<T> = Stealer<T, Global, Log<T>, EachOnce>;
+pub(crate) type Other<T, A> = Stealer<T, A, Log<T>, EachOnce>;
 
 /// An empty deque, whose owner takes its newest task.
-pub(crate) fn new_deque<T: Drop>(alloc: Global, capacity: usize) -> Result<Own<T>, AllocError>
+pub(crate) fn new_deque<T: Drop, A: Allocator + Clone>(
+    alloc: A,
+    capacity: usize,
+) -> Result<Own<T, A>, AllocError>
     ensures { IfOk result (λ w. (worker_view w ≡ log all_shares [] []) × (worker_flavor w ≡ 1)) }
 {
     Own::lifo_as(alloc, capacity)
 }
 
 /// Pushes a task, or hands it back.
-pub(crate) fn push<T>(own: &mut Own<T>, task: T) -> Result<(), T>
+pub(crate) fn push<T, A: Allocator>(own: &mut Own<T, A>, task: T) -> Result<(), T>
     requires { 0 < (worker_view own.old).shares }
     ensures deque { worker_deque own.new ≡ worker_deque own.old }
     ensures log { MatchResult result
@@ -38,7 +41,7 @@ pub(crate) fn push<T>(own: &mut Own<T>, task: T) -> Result<(), T>
 }
 
 /// Takes the newest task.
-pub(crate) fn pop<T>(own: &mut Own<T>) -> Option<T>
+pub(crate) fn pop<T, A: Allocator>(own: &mut Own<T, A>) -> Option<T>
     requires { 0 < (worker_view own.old).shares }
     ensures deque { worker_deque own.new ≡ worker_deque own.old }
     ensures log { MatchOption result (worker_view own.new ≡ worker_view own.old)
@@ -49,7 +52,7 @@ pub(crate) fn pop<T>(own: &mut Own<T>) -> Option<T>
 }
 
 /// Takes the oldest task of another's deque.
-pub(crate) fn steal<T>(other: &Other<T>, pass: &mut Pass<T, Log<T>>) -> Steal<T>
+pub(crate) fn steal<T, A: Allocator>(other: &Other<T, A>, pass: &mut Pass<T, Log<T>, A>) -> Steal<T>
     requires deque { IsPassOf (stealer_deque other.now) pass.old }
     requires share { 0 < (view pass.old).shares }
     ensures deque { IsPassOf (stealer_deque other.now) pass.new }
@@ -61,7 +64,7 @@ pub(crate) fn steal<T>(other: &Other<T>, pass: &mut Pass<T, Log<T>>) -> Steal<T>
 }
 
 /// Cuts off a share for a way into the deque.
-pub(crate) fn cut_share<T>(own: &mut Own<T>) -> Pass<T, Log<T>>
+pub(crate) fn cut_share<T, A: Allocator>(own: &mut Own<T, A>) -> Pass<T, Log<T>, A>
     requires { 1 < (worker_view own.old).shares }
     ensures deque { (worker_deque own.new ≡ worker_deque own.old)
         × IsPassOf (worker_deque own.old) result }
@@ -73,7 +76,7 @@ pub(crate) fn cut_share<T>(own: &mut Own<T>) -> Pass<T, Log<T>>
 }
 
 /// Takes a share back.
-pub(crate) fn take_share<T>(own: &mut Own<T>, pass: Pass<T, Log<T>>)
+pub(crate) fn take_share<T, A: Allocator>(own: &mut Own<T, A>, pass: Pass<T, Log<T>, A>)
     requires deque { IsPassOf (worker_deque own.old) pass }
     requires share { (0 < (worker_view own.old).shares) × (0 < (view pass).shares) }
     ensures deque { worker_deque own.new ≡ worker_deque own.old }
@@ -86,7 +89,7 @@ pub(crate) fn take_share<T>(own: &mut Own<T>, pass: Pass<T, Log<T>>)
 
 /// With all shares: what was pushed is what was taken and what is left, each task as often. How
 /// many are left.
-pub(crate) fn settle<T>(own: &mut Own<T>) -> usize
+pub(crate) fn settle<T, A: Allocator>(own: &mut Own<T, A>) -> usize
     requires { (worker_view own.old).shares ≡ all_shares }
     ensures same { (worker_deque own.new ≡ worker_deque own.old)
         × (worker_view own.new ≡ worker_view own.old) }

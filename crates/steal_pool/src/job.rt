@@ -5,11 +5,12 @@ ghost use Rattle.steal_pool.specs.Shapes.{shape};
 use crate::body::Body;
 use crate::gate::Gate;
 use crate::labor::Labor;
-use crate::member::{Member, Seats};
+use crate::member::Member;
+use crate::seats::Seats;
 use crate::task::{Task, Work};
 use completers::{Arrival, Node, Partial, Supply, Ticket, Tree};
 use crossbeam_utils::Backoff;
-use std::alloc::Global;
+use std::alloc::Allocator;
 use std::marker::PhantomData;
 use std::sync::Wait;
 use std::sync::atomic::AtomicBool;
@@ -17,14 +18,12 @@ use std::sync::atomic::Ordering::SeqCst;
 
 /// What all workers of a run share. `done` is set once somebody was last at the root.
 #[derive(Drop)]
-pub(crate) struct Job<'a, B: Body, G, W: Work> {
-    pub(crate) tree: &'a Tree<B, Global>,
+pub(crate) struct Job<'a, B: Body, G, W: Work, A: Allocator> {
+    pub(crate) tree: &'a Tree<B, A>,
     pub(crate) body: &'a B,
     pub(crate) gate: &'a G,
     pub(crate) bins: usize,
     pub(crate) batch: usize,
-    // Whether deques take what is pushed.
-    pub(crate) pushes: bool,
     pub(crate) done: &'a AtomicBool,
     pub(crate) work: PhantomData<W>,
     ghost tree_is: { (tree.now.identity ≡ W.tree) × (tree.now.bins ≡ W.bins) × (tree.now.slots ≡ 8) },
@@ -32,7 +31,7 @@ pub(crate) struct Job<'a, B: Body, G, W: Work> {
     ghost range: { (0 < bins) × (bins ≡ W.bins) × (W.bins ≤ B.limit body.now) },
 }
 
-impl<B: Body, G: Gate, W: Work> Job<'_, B, G, W> {
+impl<B: Body, G: Gate, W: Work, A: Allocator + Clone> Job<'_, B, G, W, A> {
     // Arrives with the part of the ticket's range, and goes on to the ticket above wherever it is
     // the last. At the root it has the part of the whole range.
     fn climb(&self, ticket: Ticket<B::Part>, part: B::Part) -> Option<B::Part>
@@ -77,10 +76,10 @@ impl<B: Body, G: Gate, W: Work> Job<'_, B, G, W> {
     // Forks while the batch lasts, and then does the leaf that is left. Where a push is refused it
     // works on the task at once.
     #[tactic(auto, using(crate::proofs::Halves::has_room, crate::proofs::Halves::half_room))]
-    fn work<S: Seats, Rt: Wait>(
+    fn work<S: Seats<A>, Rt: Wait>(
         &self,
         rt: &Rt,
-        me: &mut Member<Task<B::Part, W>, S>,
+        me: &mut Member<Task<B::Part, W>, A, S>,
         node: Node<B::Part>,
         batch: usize,
     ) -> Option<B::Part>
@@ -102,12 +101,7 @@ impl<B: Body, G: Gate, W: Work> Job<'_, B, G, W> {
                 batch,
                 work: PhantomData,
             };
-            let pushed = if self.pushes {
-                me.push(task)
-            } else {
-                Err(task)
-            };
-            if let Err(task) = pushed {
+            if let Err(task) = me.push(task) {
                 let (child, batch) = self.begin(task);
                 let found = self.work(rt, me, child, batch);
                 if found.is_some() {
@@ -123,12 +117,12 @@ impl<B: Body, G: Gate, W: Work> Job<'_, B, G, W> {
     }
 }
 
-impl<B: Body, G: Gate, W: Work, S: Seats, Rt: Wait> Labor<
-    Member<Task<B::Part, W>, S>,
+impl<B: Body, G: Gate, W: Work, A: Allocator + Clone, S: Seats<A>, Rt: Wait> Labor<
+    Member<Task<B::Part, W>, A, S>,
     Supply<B::Part>,
     B::Part,
     Rt,
-> for Job<'_, B, G, W> {
+> for Job<'_, B, G, W, A> {
     ghost fits = { λ job root. (root.tree ≡ W.tree) × (job.batch < 2 ^ root.level)
         × (root.level ≤ 7) };
 
@@ -140,7 +134,7 @@ impl<B: Body, G: Gate, W: Work, S: Seats, Rt: Wait> Labor<
         &self,
         rt: &Rt,
         root: &mut Option<Supply<B::Part>>,
-        me: &mut Member<Task<B::Part, W>, S>,
+        me: &mut Member<Task<B::Part, W>, A, S>,
     ) -> Option<B::Part> {
         if let Some(root) = root.take() {
             let node = self.tree.open(root, None, 0, self.bins);
@@ -152,7 +146,7 @@ impl<B: Body, G: Gate, W: Work, S: Seats, Rt: Wait> Labor<
         self.help(rt, me)
     }
 
-    fn help(&self, rt: &Rt, me: &mut Member<Task<B::Part, W>, S>) -> Option<B::Part> {
+    fn help(&self, rt: &Rt, me: &mut Member<Task<B::Part, W>, A, S>) -> Option<B::Part> {
         let backoff = Backoff::new();
         for _ in rt.forever() {
             if self.done.load(SeqCst) {

@@ -1,21 +1,25 @@
 //! A run: the tree, the deques, and the settlement.
-ghost use Rattle.std.specs.Prelude.{◌≡◌, ◌+◌, ◌*◌, ◌^◌, ◌<◌, ◌≤◌, ℕ, List, All, IfOk, IfSome};
-ghost use Rattle.std.specs.Prelude.{vec_len};
+ghost use Rattle.std.specs.Prelude.{◌≡◌, ◌+◌, ◌*◌, ◌^◌, ◌<◌, ◌≤◌, ℕ, List, [], All, IfOk};
+ghost use Rattle.std.specs.Prelude.{IfSome, vec_len};
 ghost use Rattle.crossbeam_deque.specs.Handles.{worker_deque};
+ghost use Rattle.steal_pool.specs.Books.{AreSettled};
 ghost use Rattle.steal_pool.specs.Limits.{most_batch, most_workers};
-ghost use Rattle.steal_pool.specs.Seating.{AreSeated, IsUnshared};
+ghost use Rattle.steal_pool.specs.Seating.{AreSeated, IsFresh};
+ghost use Rattle.steal_pool.specs.Shapes.{shape};
 
 use crate::body::Body;
 use crate::crew::members;
 use crate::deque::{Own, new_deque};
+use crate::finished::{Finished, Tasks};
 use crate::gate::Gate;
 use crate::job::Job;
-use crate::labor::crew;
-use crate::member::Seats;
+use crate::labor::{Labor, crew};
+use crate::member::Member;
+use crate::seats::Seats;
 use crate::settle::close;
 use crate::task::{Task, Work};
 use completers::{MOST_NODES, Supply, Tree};
-use std::alloc::{AllocError, Global};
+use std::alloc::{AllocError, Allocator};
 use std::marker::{Brand, PhantomData};
 use std::sync::Wait;
 use std::sync::atomic::AtomicBool;
@@ -43,22 +47,17 @@ pub(crate) fn nodes_for(batch: usize) -> usize
 }
 
 // An empty deque for each worker.
-pub(crate) fn new_deques<T: Drop>(alloc: Global, workers: usize) -> Result<Vec<Own<T>>, AllocError>
-    ensures { IfOk result (λ v. (vec_len v ≡ workers) × All IsUnshared v.items) }
+pub(crate) fn new_deques<T: Drop, A: Allocator + Clone>(
+    alloc: &A,
+    workers: usize,
+) -> Result<Vec<Own<T, A>, A>, AllocError>
+    ensures { IfOk result (λ v. (vec_len v ≡ workers) × All IsFresh v.items) }
 {
-    let mut all = Vec::with_capacity(alloc, workers)?;
+    let mut all = Vec::with_capacity(alloc.clone()?, workers)?;
     for _number in 0..workers {
-        all.push(new_deque(alloc, CAPACITY)?)?;
+        all.push(new_deque(alloc.clone()?, CAPACITY)?)?;
     }
     Ok(all)
-}
-
-// What is refused to a run, so that a test can see what it then does.
-#[derive(Clone, Copy, Debug, PartialEq, Eq)]
-pub(crate) enum Refused {
-    Nothing,
-    Pushes,
-    Memory,
 }
 
 // What the caller of a run asked for.
@@ -67,7 +66,6 @@ pub(crate) struct Order<'a, B: Body, G> {
     pub(crate) workers: usize,
     // At most so many threads are started.
     pub(crate) threads: usize,
-    pub(crate) refused: Refused,
     pub(crate) gate: &'a G,
     pub(crate) body: &'a B,
     pub(crate) bins: usize,
@@ -77,45 +75,83 @@ pub(crate) struct Order<'a, B: Body, G> {
     ghost batch_is: { batch ≤ most_batch },
 }
 
-// The part of all bins, where somebody came to the root, and how many tasks the settlement found
-// left.
-type Outcome<P> = (Option<P>, u128);
+// The part of all bins, where somebody came to the root, and what the settlement counted.
+type Outcome<P> = (Option<P>, Option<Tasks>);
 
-// A run whose deques have numbers in contracts. When it ends all members are back.
+// A crew with these deques does its labor. When it ends all members are back.
+fn run_crew<
+    T: Drop + Send,
+    U: Drop,
+    P: Send + Drop,
+    A: Allocator + Clone + Send + Sync,
+    S: Seats<A> + Send,
+    L: Labor<Member<T, A, S>, U, P, Rt> + Sync,
+    Rt: Threads + Wait + Sync,
+>(
+    rt: &Rt,
+    alloc: &A,
+    labor: &L,
+    threads: usize,
+    root: U,
+    deques: &mut Vec<Own<T, A>, A>,
+) -> Result<Outcome<P>, AllocError>
+    requires root { L.fits labor.now root }
+    requires shape { (m : _) → L.shape m ≡ shape m }
+    requires few { vec_len deques.old ≤ most_workers }
+    requires deques { All IsFresh deques.old.items }
+    requires seats { AreSeated worker_deque S.deque deques.old.items }
+    ensures part { IfOk result (λ out. IfSome out.0 (L.gives labor.now)) }
+    ensures tasks { IfOk result (λ out. IfSome out.1 AreSettled) }
+{
+    let (mut members, none) = members::<T, A, S>(alloc, deques)?;
+    let found = crew(rt, labor, threads, root, members.as_mut_slice());
+    let (tasks, _left) = close(members, none);
+    Ok((found, tasks))
+}
+
+// A run whose deques have numbers in contracts.
 fn run_seated<
     B: Body + Sync,
     G: Gate + Sync,
     W: Work + Send + Sync,
-    S: Seats + Send,
+    A: Allocator + Clone + Send + Sync,
+    S: Seats<A> + Send,
     Rt: Threads + Wait + Sync,
 >(
     rt: &Rt,
-    alloc: Global,
-    job: &Job<'_, B, G, W>,
+    alloc: &A,
+    job: &Job<'_, B, G, W, A>,
     threads: usize,
-    deques: Vec<Own<Task<B::Part, W>>>,
+    deques: &mut Vec<Own<Task<B::Part, W>, A>, A>,
     root: Supply<B::Part>,
 ) -> Result<Outcome<B::Part>, AllocError>
 where
     B::Part: Send,
     requires tree { root.tree ≡ W.tree }
     requires room { (job.now.batch < 2 ^ root.level) × (root.level ≤ 7) }
-    requires few { vec_len deques ≤ most_workers }
-    requires deques { All IsUnshared deques.items }
-    requires seats { AreSeated worker_deque S.deque deques.items }
-    ensures { IfOk result (λ out. IfSome out.0 (B.relates job.now.body.now 0 W.bins)) }
+    requires few { vec_len deques.old ≤ most_workers }
+    requires deques { All IsFresh deques.old.items }
+    requires seats { AreSeated worker_deque S.deque deques.old.items }
+    ensures part { IfOk result (λ out. IfSome out.0 (B.relates job.now.body.now 0 W.bins)) }
+    ensures tasks { IfOk result (λ out. IfSome out.1 AreSettled) }
 {
-    let mut members = members::<Task<B::Part, W>, S>(alloc, deques)?;
-    let found = crew(rt, job, threads, root, members.as_mut_slice());
-    Ok((found, close(members)))
+    run_crew::<Task<B::Part, W>, Supply<B::Part>, B::Part, A, S, Job<'_, B, G, W, A>, Rt>(
+        rt, alloc, job, threads, root, deques,
+    )
 }
 
 // A run whose tree contracts can name.
-fn run_tree<B: Body + Sync, G: Gate + Sync, W: Work + Send + Sync, Rt: Threads + Wait + Sync>(
+fn run_tree<
+    B: Body + Sync,
+    G: Gate + Sync,
+    W: Work + Send + Sync,
+    A: Allocator + Clone + Send + Sync,
+    Rt: Threads + Wait + Sync,
+>(
     rt: &Rt,
-    alloc: Global,
+    alloc: &A,
     order: &Order<'_, B, G>,
-    tree: &Tree<B, Global>,
+    tree: &Tree<B, A>,
     root: Supply<B::Part>,
 ) -> Result<Outcome<B::Part>, AllocError>
 where
@@ -125,59 +161,63 @@ where
     requires bins { W.bins ≡ order.now.bins }
     requires root { root.tree ≡ W.tree }
     requires room { (order.now.batch < 2 ^ root.level) × (root.level ≤ 7) }
-    ensures { IfOk result (λ out. IfSome out.0 (B.relates order.now.body.now 0 order.now.bins)) }
+    ensures part { IfOk result
+        (λ out. IfSome out.0 (B.relates order.now.body.now 0 order.now.bins)) }
+    ensures tasks { IfOk result (λ out. IfSome out.1 AreSettled) }
 {
     let done = AtomicBool::new(false);
-    let job = Job::<B, G, W> {
+    let job = Job::<B, G, W, A> {
         tree,
         body: order.body,
         gate: order.gate,
         bins: order.bins,
         batch: order.batch,
-        pushes: order.refused != Refused::Pushes,
         done: &done,
         work: PhantomData,
     };
-    let deques = new_deques(alloc, order.workers)?;
-    run_seated::<B, G, W, Brand, Rt>(rt, alloc, &job, order.threads, deques, root)
+    let mut deques = new_deques(alloc, order.workers)?;
+    run_seated::<B, G, W, A, Brand, Rt>(rt, alloc, &job, order.threads, &mut deques, root)
 }
 
 // A run, unless memory is refused.
-fn try_run<B: Body + Sync, G: Gate + Sync, Rt: Threads + Wait + Sync>(
-    rt: &Rt,
-    alloc: Global,
-    order: &Order<'_, B, G>,
-) -> Result<Outcome<B::Part>, AllocError>
+fn try_run<
+    B: Body + Sync,
+    G: Gate + Sync,
+    A: Allocator + Clone + Send + Sync,
+    Rt: Threads + Wait + Sync,
+>(rt: &Rt, alloc: &A, order: &Order<'_, B, G>) -> Result<Outcome<B::Part>, AllocError>
 where
     B::Part: Send,
-    ensures { IfOk result (λ out. IfSome out.0 (B.relates order.now.body.now 0 order.now.bins)) }
+    ensures part { IfOk result
+        (λ out. IfSome out.0 (B.relates order.now.body.now 0 order.now.bins)) }
+    ensures tasks { IfOk result (λ out. IfSome out.1 AreSettled) }
 {
-    if order.refused == Refused::Memory {
-        return Err(AllocError);
-    }
     let nodes = nodes_for(order.batch);
-    let (tree, root) = Tree::new(alloc, order.body, nodes, 8, order.bins)?;
-    run_tree::<B, G, Brand, Rt>(rt, alloc, order, &tree, root)
+    let (tree, root) = Tree::new(alloc.clone()?, order.body, nodes, 8, order.bins)?;
+    run_tree::<B, G, Brand, A, Rt>(rt, alloc, order, &tree, root)
 }
 
-// A run, or one leaf over everything. How many tasks the settlement found left. None: no settlement
-// was made, since memory was refused.
-pub(crate) fn run_order<B: Body + Sync, G: Gate + Sync, Rt: Threads + Wait + Sync>(
-    rt: &Rt,
-    alloc: Global,
-    order: &Order<'_, B, G>,
-) -> (B::Part, Option<u128>)
+// A run, or one leaf over everything.
+pub(crate) fn run_order<
+    B: Body + Sync,
+    G: Gate + Sync,
+    A: Allocator + Clone + Send + Sync,
+    Rt: Threads + Wait + Sync,
+>(rt: &Rt, alloc: &A, order: &Order<'_, B, G>) -> Finished<B::Part>
 where
     B::Part: Send,
-    ensures { B.relates order.now.body.now 0 order.now.bins result.0 }
+    ensures part { B.relates order.now.body.now 0 order.now.bins result.part }
+    ensures tasks { IfSome result.tasks AreSettled }
 {
-    let Ok((found, left)) = try_run(rt, alloc, order) else {
-        return (order.body.leaf(0, order.bins), None);
+    let (found, tasks) = match try_run(rt, alloc, order) {
+        Ok(out) => out,
+        Err(AllocError) => (None, None),
     };
-    match found {
-        Some(part) => (part, Some(left)),
-        None => (order.body.leaf(0, order.bins), Some(left)),
-    }
+    let part = match found {
+        Some(part) => part,
+        None => order.body.leaf(0, order.bins),
+    };
+    Finished { part, tasks }
 }
 
 /// The part of the bins from 0 up to `bins`, of which there is at least one. There are 1 to
@@ -187,22 +227,29 @@ where
 ///
 /// It waits for its workers. There are no more of them than leaves, and one that can't be
 /// started is left out. Where memory for the tree or the deques is refused, the caller does one
-/// leaf over everything, without the gate.
-pub fn run<B: Body + Sync, G: Gate + Sync, Rt: Threads + Wait + Sync>(
+/// leaf over everything, without the gate, and no tasks are told. Else each task that a worker
+/// pushed was taken once when the call ends; a push that is refused memory is done at once.
+pub fn run<
+    B: Body + Sync,
+    G: Gate + Sync,
+    A: Allocator + Clone + Send + Sync,
+    Rt: Threads + Wait + Sync,
+>(
     rt: &Rt,
-    alloc: Global,
+    alloc: &A,
     workers: usize,
     gate: &G,
     body: &B,
     bins: usize,
     batch: usize,
-) -> B::Part
+) -> Finished<B::Part>
 where
     B::Part: Send,
     requires workers { (0 < workers) × (workers ≤ most_workers) }
     requires bins { (0 < bins) × (bins ≤ B.limit body.now) }
     requires batch { batch ≤ most_batch }
-    ensures { B.relates body.now 0 bins result }
+    ensures part { B.relates body.now 0 bins result.part }
+    ensures tasks { IfSome result.tasks AreSettled }
 {
     // Each node that is opened does one leaf, and there are no more than bins.
     let leaves = nodes_for(batch).min(bins);
@@ -210,12 +257,10 @@ where
     let order = Order {
         workers,
         threads: workers - 1,
-        refused: Refused::Nothing,
         gate,
         body,
         bins,
         batch,
     };
-    let (part, _left) = run_order(rt, alloc, &order);
-    part
+    run_order(rt, alloc, &order)
 }

@@ -3,13 +3,15 @@ ghost use Rattle.std.specs.Prelude.{◌≡◌, ◌+◌, ◌<◌, ◌≤◌, ℕ,
 ghost use Rattle.completers.specs.Parts.{AreParts};
 ghost use Rattle.crossbeam_deque.specs.Handles.{worker_deque};
 ghost use Rattle.steal_pool.specs.Limits.{most_workers};
-ghost use Rattle.steal_pool.specs.Seating.{AreSeated, IsUnshared};
+ghost use Rattle.steal_pool.specs.Seating.{AreSeated, IsFresh};
 ghost use Rattle.steal_pool.specs.Shapes.{shape, shapes};
 
 use crate::crew::members;
 use crate::deque::Own;
-use crate::member::{Member, Seats};
-use crate::pool::{Order, Refused, new_deques, nodes_for, run_order};
+use crate::finished::{Finished, Tasks};
+use crate::member::Member;
+use crate::pool::{Order, new_deques, nodes_for, run_order};
+use crate::seats::Seats;
 use crate::settle::close;
 use crate::{Body, OpenGate};
 use completers::{Parts, Relation};
@@ -59,50 +61,41 @@ impl Body for Count {
 }
 
 // A run with four workers over five bins, of whom at most so many have a thread: how many leaves it
-// does, and how many tasks its settlement finds left.
-fn run_refused<Rt: Threads + Wait + Sync + Abort>(
+// does, and what its settlement counts.
+fn run_with<Rt: Threads + Wait + Sync + Abort>(
     rt: &Rt,
     alloc: Global,
     threads: usize,
-    refused: Refused,
-) -> (u64, Option<u128>) {
+) -> (u64, Option<Tasks>) {
     let body = Count {
         leaves: AtomicU64::new(0),
     };
     let order = Order {
         workers: 4,
         threads,
-        refused,
         gate: &OpenGate,
         body: &body,
         bins: 5,
         batch: 2,
     };
-    let (part, left) = run_order(rt, alloc, &order);
+    let Finished { part, tasks } = run_order(rt, &alloc, &order);
     assert_eq!(rt; part, 5);
-    (body.leaves.load(SeqCst), left)
+    (body.leaves.load(SeqCst), tasks)
+}
+
+fn settled(count: u64) -> Option<Tasks> {
+    Some(Tasks {
+        pushed: count,
+        taken: count,
+    })
 }
 
 #[test]
 fn workers_without_a_thread_are_left_out(rt: HostRuntime) {
     for threads in 0..5 {
-        let done = run_refused(&rt, rt.alloc(), threads, Refused::Nothing);
-        assert_eq!(rt; done, (4, Some(0)));
+        let done = run_with(&rt, rt.alloc(), threads);
+        assert_eq!(rt; done, (4, settled(3)));
     }
-}
-
-#[test]
-fn a_refused_task_is_done_at_once(rt: HostRuntime) {
-    for threads in 0..4 {
-        let done = run_refused(&rt, rt.alloc(), threads, Refused::Pushes);
-        assert_eq!(rt; done, (4, Some(0)));
-    }
-}
-
-#[test]
-fn a_run_without_memory_is_one_leaf(rt: HostRuntime) {
-    let done = run_refused(&rt, rt.alloc(), 3, Refused::Memory);
-    assert_eq!(rt; done, (1, None));
 }
 
 /// Adds up what 64 bins hold, 1 in the first and 64 in the last. What a part has of it is asserted,
@@ -151,23 +144,22 @@ fn a_run_with_no_thread_started_adds_up_all_bins(rt: HostRuntime) {
         let order = Order {
             workers,
             threads: 0,
-            refused: Refused::Nothing,
             gate: &OpenGate,
             body: &Sums,
             bins: 64,
             batch: 1,
         };
-        let done = run_order(&rt, rt.alloc(), &order);
+        let done = run_order(&rt, &rt.alloc(), &order);
         assert!(rt;
-            done == (2080, Some(0)),
+            done.part == 2080 && done.tasks == settled(1),
             "{workers} workers: {} in all",
-            done.0
+            done.part
         );
     }
 }
 
 // Pushes three tasks, and takes the newest.
-fn push_three<S: Seats>(me: &mut Member<u64, S>) -> Option<u64>
+fn push_three<S: Seats<Global>>(me: &mut Member<u64, Global, S>) -> Option<u64>
     ensures { shape me.new ≡ shape me.old }
 {
     for task in [10, 11, 12] {
@@ -177,7 +169,7 @@ fn push_three<S: Seats>(me: &mut Member<u64, S>) -> Option<u64>
 }
 
 // Member 0 pushes three tasks and takes the newest, and member 2 takes the oldest.
-fn two_take<S: Seats>(members: &mut [Member<u64, S>]) -> (Option<u64>, Option<u64>)
+fn two_take<S: Seats<Global>>(members: &mut [Member<u64, Global, S>]) -> (Option<u64>, Option<u64>)
     ensures { shapes members.new ≡ shapes members.old }
 {
     let Some((first, others)) = members.split_last_mut() else {
@@ -190,23 +182,26 @@ fn two_take<S: Seats>(members: &mut [Member<u64, S>]) -> (Option<u64>, Option<u6
     (newest, thief.take())
 }
 
+/// What two members took, what tasks are told, and how many are left.
+type Taken = (Option<u64>, Option<u64>, (Option<Tasks>, u128));
+
 // What members 0 and 2 of three take, and how many tasks are left, once the members are back.
-fn seated_take_two<S: Seats>(
+fn seated_take_two<S: Seats<Global>>(
     alloc: Global,
-    deques: Vec<Own<u64>>,
-) -> Result<(Option<u64>, Option<u64>, u128), AllocError>
-    requires few { vec_len deques ≤ most_workers }
-    requires deques { All IsUnshared deques.items }
-    requires seats { AreSeated worker_deque S.deque deques.items }
+    deques: &mut Vec<Own<u64, Global>>,
+) -> Result<Taken, AllocError>
+    requires few { vec_len deques.old ≤ most_workers }
+    requires deques { All IsFresh deques.old.items }
+    requires seats { AreSeated worker_deque S.deque deques.old.items }
 {
-    let mut members = members::<u64, S>(alloc, deques)?;
+    let (mut members, none) = members::<u64, Global, S>(&alloc, deques)?;
     let (newest, oldest) = two_take(members.as_mut_slice());
-    Ok((newest, oldest, close(members)))
+    Ok((newest, oldest, close(members, none)))
 }
 
-fn take_two(alloc: Global) -> Result<(Option<u64>, Option<u64>, u128), AllocError> {
-    let deques = new_deques(alloc, 3)?;
-    seated_take_two::<Brand>(alloc, deques)
+fn take_two(alloc: Global) -> Result<Taken, AllocError> {
+    let mut deques = new_deques(&alloc, 3)?;
+    seated_take_two::<Brand>(alloc, &mut deques)
 }
 
 #[test]
@@ -214,20 +209,20 @@ fn what_is_left_is_what_nobody_took(rt: HostRuntime) -> Result<(), Fail> {
     let (newest, oldest, left) = take_two(rt.alloc())?;
     assert_eq!(rt; newest, Some(12));
     assert_eq!(rt; oldest, Some(10));
-    assert_eq!(rt; left, 1);
+    assert_eq!(rt; left, (None, 1));
     Ok(())
 }
 
 // Members 0, 2 and 3 of four have a task each, their number. What member 1 takes.
-fn seated_rounds<S: Seats>(
+fn seated_rounds<S: Seats<Global>>(
     alloc: Global,
-    deques: Vec<Own<u64>>,
+    deques: &mut Vec<Own<u64, Global>>,
 ) -> Result<[Option<u64>; 3], AllocError>
-    requires few { vec_len deques ≤ most_workers }
-    requires deques { All IsUnshared deques.items }
-    requires seats { AreSeated worker_deque S.deque deques.items }
+    requires few { vec_len deques.old ≤ most_workers }
+    requires deques { All IsFresh deques.old.items }
+    requires seats { AreSeated worker_deque S.deque deques.old.items }
 {
-    let mut members = members::<u64, S>(alloc, deques)?;
+    let (mut members, _none) = members::<u64, Global, S>(&alloc, deques)?;
     for member in members.iter_mut() {
         let number = member.number as u64;
         if number != 1 {
@@ -244,8 +239,8 @@ fn seated_rounds<S: Seats>(
 }
 
 fn take_rounds(alloc: Global) -> Result<[Option<u64>; 3], AllocError> {
-    let deques = new_deques(alloc, 4)?;
-    seated_rounds::<Brand>(alloc, deques)
+    let mut deques = new_deques(&alloc, 4)?;
+    seated_rounds::<Brand>(alloc, &mut deques)
 }
 
 #[test]

@@ -7,6 +7,7 @@ use Rattle.steal_pool.proofs.settle.give_all_back.Given as goal
 abbrev pub invariant-loop-index : goal.invariant-loop-index
 invariant-loop-index g l =
     record {
+      empty : l.none.items ≡ [];
       crew : AreCrew [] (shapes l.members);
       none : All (λ ws. ws ≡ []) (take l.index (own_ways (shapes l.members)));
       pushed : (h : g.row.T.Denot → ℕ) → sum_by (weight_pushed_by h) l.members

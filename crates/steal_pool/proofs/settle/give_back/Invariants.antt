@@ -1,5 +1,6 @@
 use Rattle.std.proofs.Common.{◌≡◌, ◌+◌, ℕ, sum_by, vec_len}
-use Rattle.steal_pool.specs.Books.{weight_stolen, weight_pushed_by, weight_taken_by}
+use Rattle.steal_pool.specs.Books.{weight_pushed_by, weight_taken_by}
+use Rattle.steal_pool.specs.Ways.{weight_stolen}
 use Rattle.steal_pool.specs.Shapes.{shapes, targets, own_ways, AreCrew}
 use Rattle.steal_pool.proofs.settle.give_back.Given as goal
 

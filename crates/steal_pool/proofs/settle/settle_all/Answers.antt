@@ -13,7 +13,7 @@ loop-member-preserved g c =
     let i = c.loop-member.invariant.books in
     let s = c.settle-more.ensures in
     record {
-      home = (All-pop (IsHome {T = g.row.T.Denot} {S = g.row.S.Denot} {g = g.S.Seats}) c.loop-member.members.items
+      home = (All-pop (IsHome {T = g.row.T.Denot} {A = g.row.A.Denot} {S = g.row.S.Denot} {g = g.S.Seats}) c.loop-member.members.items
           c.pop.new.self.items
           (Some c.in-Some.member) c.in-Some.ensures.items c.loop-member.invariant.home).0;
       small = omega (arith, c.in-Some.ensures.len);
@@ -22,8 +22,8 @@ loop-member-preserved g c =
         search (rules, length-append),
         λ h.
             let w = weigh_append h i.0 s.0 in
-            let l = settled (weight_pushed_by {S = g.row.S.Denot} {g = g.S.Seats} h)
-            (weight_taken_by {S = g.row.S.Denot} {g = g.S.Seats} h) _ _ _ _ _ _ _ c.in-Some.ensures.items (s.2 h)
+            let l = settled (weight_pushed_by {A = g.row.A.Denot} {S = g.row.S.Denot} {g = g.S.Seats} h)
+            (weight_taken_by {A = g.row.A.Denot} {S = g.row.S.Denot} {g = g.S.Seats} h) _ _ _ _ _ _ _ c.in-Some.ensures.items (s.2 h)
             (i.2 h) in omega arith,
       );
     }

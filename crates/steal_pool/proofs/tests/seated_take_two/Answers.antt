@@ -3,8 +3,8 @@ use Rattle.std.proofs.lemmas.List.{take_at}
 use Rattle.steal_pool.specs.Shapes.{AreCrew, shapes}
 use Rattle.steal_pool.proofs.tests.seated_take_two.Goals as goal
 
-pub close-requires : goal.close-requires
-close-requires g c =
+pub close-requires-clause-crew : goal.close-requires-clause-crew
+close-requires-clause-crew g c =
     let new = c.two_take-newest.new.members in
     let long : length new ≡ c.in_ok-members.members.len = omega arith in
     let back = take_at new (drop (length new) c.in_ok-members.members.items) c.in_ok-members.members.len long in

@@ -3,4 +3,4 @@ use Rattle.steal_pool.specs.Seating.{deque_at}
 use Rattle.steal_pool.proofs.tests.take_two.Given as goal
 
 abbrev pub ghosts-seated_take_two : goal.ghosts-seated_take_two
-ghosts-seated_take_two a = record { deque = deque_at worker_deque a.deques.items }
+ghosts-seated_take_two a = record { deque = deque_at worker_deque a.deques.now.items }
