@@ -6,55 +6,58 @@ ghost use Rattle.bulk_tasks.specs.Plans.{IsPlanned};
 
 use crate::collector::Collector;
 use crate::fault::BulkFault;
-use crate::gather::gather;
+use crate::operations::Bulk;
 use crate::plan::Plan;
 use crate::stepping::{Stepper, step_through};
 use crate::traits::Action;
 use bin_history::{Bin, Remap};
 use chm::Quiet;
 use hashkeys::HashKey;
-use std::alloc::{AllocError, Allocator, Global};
+use std::alloc::{AllocError, Allocator};
 use std::sync::Wait;
 use std::thread::Threads;
 use steal_pool::Gate;
 
 /// Collects what an action answers.
 #[derive(Drop)]
-pub(crate) struct Acting<'a, X> {
-    alloc: Global,
-    action: &'a X,
+pub(crate) struct Acting<'a, X, B: Allocator> {
+    pub(crate) alloc: &'a B,
+    pub(crate) action: &'a X,
 }
 
-impl<K, V, X: Action<K, V>> Stepper<K, V> for Acting<'_, X> {
+impl<K, V, X: Action<K, V>, B: Allocator + Clone> Stepper<K, V> for Acting<'_, X, B> {
     ghost use Rattle.std.specs.Prelude.{◌≡◌, IfOk};
     ghost use Rattle.bulk_tasks.specs.Actions.{answers};
 
-    type Part = Result<Vec<X::R>, AllocError>;
+    type Part = Result<Vec<X::R, B>, AllocError>;
 
     ghost reached = { λ c es part. IfOk part
         (λ list. list.items ≡ answers (X.acted c.action.now) es) };
 
-    fn start(&self) -> Result<Vec<X::R>, AllocError> {
-        Ok(Vec::new(self.alloc))
+    fn start(&self) -> Result<Vec<X::R, B>, AllocError> {
+        Ok(Vec::new(self.alloc.clone()?))
     }
 
     fn add(
         &self,
-        part: Result<Vec<X::R>, AllocError>,
+        part: Result<Vec<X::R, B>, AllocError>,
         key: &K,
         value: &V,
-    ) -> Result<Vec<X::R>, AllocError> {
+    ) -> Result<Vec<X::R, B>, AllocError> {
         let mut list = part?;
         let answer = self.action.act(key, value)?;
         list.push(answer)?;
         Ok(list)
     }
 
-    fn look_again(&self, part: Result<Vec<X::R>, AllocError>) -> Result<Vec<X::R>, AllocError> {
+    fn look_again(
+        &self,
+        part: Result<Vec<X::R, B>, AllocError>,
+    ) -> Result<Vec<X::R, B>, AllocError> {
         part
     }
 
-    fn is_settled(&self, part: &Result<Vec<X::R>, AllocError>) -> bool {
+    fn is_settled(&self, part: &Result<Vec<X::R, B>, AllocError>) -> bool {
         part.is_err()
     }
 }
@@ -65,24 +68,25 @@ impl<
     F: Remap<K, V> + Clone,
     A: Allocator + Clone,
     X: Action<K, V>,
-> Collector<K, V, F, A> for Acting<'_, X> {
+    B: Allocator + Clone,
+> Collector<K, V, F, A> for Acting<'_, X, B> {
     ghost use Rattle.std.specs.Prelude.{◌≡◌, IfOk};
     ghost use Rattle.bulk_tasks.specs.Actions.{answers};
 
-    type Part = Result<Vec<X::R>, AllocError>;
+    type Part = Result<Vec<X::R, B>, AllocError>;
 
     ghost collected = { λ c es part. IfOk part
         (λ list. list.items ≡ answers (X.acted c.action.now) es) };
 
-    fn collect(&self, bins: &[Bin<K, V, F, A>]) -> Result<Vec<X::R>, AllocError> {
+    fn collect(&self, bins: &[Bin<K, V, F, A>]) -> Result<Vec<X::R, B>, AllocError> {
         step_through(self, bins)
     }
 
     fn append(
         &self,
-        left: Result<Vec<X::R>, AllocError>,
-        right: Result<Vec<X::R>, AllocError>,
-    ) -> Result<Vec<X::R>, AllocError> {
+        left: Result<Vec<X::R, B>, AllocError>,
+        right: Result<Vec<X::R, B>, AllocError>,
+    ) -> Result<Vec<X::R, B>, AllocError> {
         let mut list = left?;
         let mut more = right?;
         list.append(&mut more)?;
@@ -101,22 +105,22 @@ pub fn for_each<
     V: Clone + Eq + Send + Sync,
     F: Remap<K, V> + Clone + Send + Sync,
     A: Allocator + Clone + Send + Sync,
+    B: Allocator + Clone + Send + Sync,
     X: Action<K, V> + Sync,
     G: Gate + Sync,
     Rt: Threads + Wait + Sync,
 >(
     rt: &Rt,
-    alloc: Global,
+    alloc: B,
     quiet: &Quiet<K, V, F, A>,
     plan: &Plan<'_, G>,
     action: &X,
-) -> Result<Vec<X::R>, BulkFault>
+) -> Result<Vec<X::R, B>, BulkFault>
 where
     X::R: Send,
     ensures answers { IfOk result
         (λ list. list.items ≡ answers (X.acted action.now) (entries_of quiet.now.bins)) }
     ensures workers { IsPlanned plan.now.workers result }
 {
-    plan.check()?;
-    Ok(gather(rt, alloc, quiet, plan, &Acting { alloc, action })?)
+    Bulk::new(rt, alloc, quiet, plan).for_each(action)
 }

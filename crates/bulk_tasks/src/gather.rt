@@ -9,7 +9,7 @@ use crate::plan::Plan;
 use bin_history::Remap;
 use chm::Quiet;
 use hashkeys::HashKey;
-use std::alloc::{Allocator, Global};
+use std::alloc::Allocator;
 use std::sync::Wait;
 use std::thread::Threads;
 use steal_pool::{Gate, run};
@@ -20,10 +20,11 @@ pub(crate) fn gather<
     V: Clone + Eq + Send + Sync,
     F: Remap<K, V> + Clone + Send + Sync,
     A: Allocator + Clone + Send + Sync,
+    B: Allocator + Clone + Send + Sync,
     C: Collector<K, V, F, A> + Sync,
     G: Gate + Sync,
     Rt: Threads + Wait + Sync,
->(rt: &Rt, alloc: Global, quiet: &Quiet<K, V, F, A>, plan: &Plan<'_, G>, collector: &C) -> C::Part
+>(rt: &Rt, alloc: &B, quiet: &Quiet<K, V, F, A>, plan: &Plan<'_, G>, collector: &C) -> C::Part
 where
     C::Part: Send,
     requires { AreWorkers plan.now.workers }
@@ -42,5 +43,5 @@ where
         return collector.collect(bins);
     }
     let body = Collecting { bins, collector };
-    run(rt, alloc, plan.workers, plan.gate, &body, bins.len(), batch)
+    run(rt, alloc, plan.workers, plan.gate, &body, bins.len(), batch).part
 }

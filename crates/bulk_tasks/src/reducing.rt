@@ -8,13 +8,13 @@ ghost use Rattle.bulk_tasks.specs.Plans.{IsPlanned};
 
 use crate::collector::Collector;
 use crate::fault::BulkFault;
-use crate::gather::gather;
+use crate::operations::Bulk;
 use crate::plan::Plan;
 use crate::traits::{BasedReducer, Reducer};
 use bin_history::{Bin, Remap};
 use chm::Quiet;
 use hashkeys::HashKey;
-use std::alloc::{AllocError, Allocator, Global};
+use std::alloc::{AllocError, Allocator};
 use std::sync::Wait;
 use std::thread::Threads;
 use steal_pool::Gate;
@@ -67,7 +67,7 @@ fn fold_bins_onto<
 /// Collects the fold of the pairs by a reducer.
 #[derive(Drop)]
 pub(crate) struct Folding<'a, R> {
-    reducer: &'a R,
+    pub(crate) reducer: &'a R,
 }
 
 impl<
@@ -113,7 +113,7 @@ impl<
 }
 
 // Whatever order pairs stand in, the reducer folds them to the same. It does nothing when it runs.
-fn any_order<K, V, R: Reducer<K, V>>(reducer: &R)
+pub(crate) fn any_order<K, V, R: Reducer<K, V>>(reducer: &R)
     ensures { FoldsInAnyOrder (R.lifted reducer.now) (R.joined reducer.now) }
 {
     let _ = reducer;
@@ -121,7 +121,7 @@ fn any_order<K, V, R: Reducer<K, V>>(reducer: &R)
 
 // The fold from a basis, made of the plain fold: the basis joined to it, or alone where there were
 // no pairs.
-fn join_onto<K, V, R: Reducer<K, V>>(
+pub(crate) fn join_onto<K, V, R: Reducer<K, V>>(
     reducer: &R,
     basis: R::A,
     folded: Option<R::A>,
@@ -150,12 +150,13 @@ pub fn reduce<
     V: Clone + Eq + Send + Sync,
     F: Remap<K, V> + Clone + Send + Sync,
     A: Allocator + Clone + Send + Sync,
+    B: Allocator + Clone + Send + Sync,
     R: Reducer<K, V> + Sync,
     G: Gate + Sync,
     Rt: Threads + Wait + Sync,
 >(
     rt: &Rt,
-    alloc: Global,
+    alloc: B,
     quiet: &Quiet<K, V, F, A>,
     plan: &Plan<'_, G>,
     reducer: &R,
@@ -170,9 +171,7 @@ where
     ensures workers { IsPlanned plan.now.workers result }
     ensures total { IsTrue R.never_refuses → ¬ IsErrOf result BulkFault.NoMemory }
 {
-    plan.check()?;
-    any_order(reducer);
-    Ok(gather(rt, alloc, quiet, plan, &Folding { reducer })?)
+    Bulk::new(rt, alloc, quiet, plan).reduce(reducer)
 }
 
 /// The value of all entries by the reducer, as `reduce` gives it, from the reducer's basis on. It
@@ -186,12 +185,13 @@ pub fn reduce_based<
     V: Clone + Eq + Send + Sync,
     F: Remap<K, V> + Clone + Send + Sync,
     A: Allocator + Clone + Send + Sync,
+    B: Allocator + Clone + Send + Sync,
     R: BasedReducer<K, V> + Sync,
     G: Gate + Sync,
     Rt: Threads + Wait + Sync,
 >(
     rt: &Rt,
-    alloc: Global,
+    alloc: B,
     quiet: &Quiet<K, V, F, A>,
     plan: &Plan<'_, G>,
     reducer: &R,
@@ -206,9 +206,5 @@ where
     ensures workers { IsPlanned plan.now.workers result }
     ensures total { IsTrue R.never_refuses → ¬ IsErrOf result BulkFault.NoMemory }
 {
-    plan.check()?;
-    any_order(reducer);
-    let basis = reducer.basis()?;
-    let folded = gather(rt, alloc, quiet, plan, &Folding { reducer })?;
-    Ok(join_onto(reducer, basis, folded)?)
+    Bulk::new(rt, alloc, quiet, plan).reduce_based(reducer)
 }

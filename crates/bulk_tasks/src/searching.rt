@@ -6,7 +6,7 @@ ghost use Rattle.bulk_tasks.specs.Searches.{IsSearched};
 
 use crate::collector::Collector;
 use crate::fault::BulkFault;
-use crate::gather::gather;
+use crate::operations::Bulk;
 use crate::plan::Plan;
 use crate::stepping::{Stepper, step_through};
 use crate::traits::Probe;
@@ -14,7 +14,7 @@ use bin_history::{Bin, Remap};
 use chm::Quiet;
 use completers::{Finds, Found};
 use hashkeys::HashKey;
-use std::alloc::{Allocator, Global};
+use std::alloc::Allocator;
 use std::sync::Wait;
 use std::thread::Threads;
 use steal_pool::Gate;
@@ -167,12 +167,13 @@ pub fn search<
     V: Clone + Eq + Send + Sync,
     F: Remap<K, V> + Clone + Send + Sync,
     A: Allocator + Clone + Send + Sync,
+    B: Allocator + Clone + Send + Sync,
     P: Probe<K, V> + Sync,
     G: Gate + Sync,
     Rt: Threads + Wait + Sync,
 >(
     rt: &Rt,
-    alloc: Global,
+    alloc: B,
     quiet: &Quiet<K, V, F, A>,
     plan: &Plan<'_, G>,
     probe: &P,
@@ -183,17 +184,5 @@ where
     ensures workers { IsPlanned plan.now.workers result }
     ensures total { IsTrue P.never_refuses → ¬ IsErrOf result BulkFault.NoMemory }
 {
-    plan.check()?;
-    let found = Found::new();
-    let searching = Searching {
-        probe,
-        found: &found,
-        may_give_up: true,
-    };
-    match gather(rt, alloc, quiet, plan, &searching) {
-        Probed::Found(u) => Ok(Some(u)),
-        Probed::Nothing => Ok(None),
-        Probed::Refused => Err(BulkFault::NoMemory),
-        Probed::GaveUp => search_alone(quiet.bins(), probe),
-    }
+    Bulk::new(rt, alloc, quiet, plan).search(probe)
 }

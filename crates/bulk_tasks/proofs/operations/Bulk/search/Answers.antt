@@ -1,7 +1,7 @@
 use Rattle.std.proofs.Common.{List, IfOk, subst}
 use Rattle.chm.specs.Headline.{entries_of}
 use Rattle.bulk_tasks.specs.Searches.{IsSearched}
-use Rattle.bulk_tasks.proofs.searching.search.Goals as goal
+use Rattle.bulk_tasks.proofs.operations.Bulk.search.Goals as goal
 
 pub returns-clause-found : goal.returns-clause-found
 returns-clause-found g c =
