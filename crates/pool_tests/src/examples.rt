@@ -1,7 +1,9 @@
 //! The examples of the bulk operations, as they stand with them.
 use crate::bulk::quiet_of;
 use crate::samples::{Above, KeyQuiet};
-use bulk_tasks::{Action, BulkFault, Greatest, Plan, Sum, for_each, reduce, reduce_based, search};
+use bulk_tasks::{
+    Action, Bulk, BulkFault, Greatest, Plan, Sum, for_each, reduce, reduce_based, search,
+};
 use hashkeys::Key;
 use std::alloc::{AllocError, Global};
 use std::sync::Wait;
@@ -27,12 +29,13 @@ fn examples<Rt: Threads + Wait + Sync>(
     rt: &Rt,
     alloc: Global,
     quiet: &KeyQuiet,
-) -> Result<[bool; 4], BulkFault> {
+) -> Result<[bool; 5], BulkFault> {
     Ok([
         reduce(rt, alloc, quiet, &Plan::new(0, 4), &Greatest)? == Some(2),
         reduce_based(rt, alloc, quiet, &Plan::new(0, 4), &Sum)? == 3,
         search(rt, alloc, quiet, &Plan::new(0, 4), &Above(1))? == Some(2),
         for_each(rt, alloc, quiet, &Plan::new(0, 4), &Values)?.as_slice() == [1, 2].as_slice(),
+        Bulk::new(rt, alloc, quiet, &Plan::new(0, 4)).reduce(&Greatest)? == Some(2),
     ])
 }
 
@@ -41,6 +44,6 @@ fn each_operation_answers_as_its_example_says(rt: HostRuntime) -> Result<(), Fai
     let quiet = quiet_of(&rt, rt.alloc(), 16, &[(b"a", 1), (b"b", 2)])?;
     let found = examples(&rt, rt.alloc(), &quiet);
     drop(quiet);
-    assert!(rt; found == Ok([true; 4]), "{found:?}");
+    assert!(rt; found == Ok([true; 5]), "{found:?}");
     Ok(())
 }

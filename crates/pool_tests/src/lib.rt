@@ -13,8 +13,12 @@ mod finds;
 #[cfg(test)]
 mod gates;
 #[cfg(test)]
+mod refused;
+#[cfg(test)]
 mod runs;
 #[cfg(test)]
 mod samples;
+#[cfg(test)]
+mod sizes;
 #[cfg(test)]
 mod trees;

@@ -11,7 +11,7 @@ use std::test::Fail;
 use std::{hint, thread};
 
 /// A part is how many bins the range has, which the tests compare.
-struct Bins;
+pub(crate) struct Bins;
 
 impl Relation for Bins {
     type Part = usize;
