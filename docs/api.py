@@ -22,7 +22,7 @@ a call that takes it with `Wait` may wait. *Promise* names the clauses of a call
 # What is listed: a heading, the crate, and the files, in order; no files for all of the crate.
 PARTS = (
     ("facingberyl", "The library", ()),
-    ("bulk_tasks", "Bulk operations (`facingberyl::bulk`)", ("reducing.rt", "searching.rt", "acting.rt", "plan.rt")),
+    ("bulk_tasks", "Bulk operations (`facingberyl::bulk`)", ("operations.rt", "reducing.rt", "searching.rt", "acting.rt", "plan.rt")),
     ("chm", "The closed map (`facingberyl::Quiet`)", ("quiet.rt", "single.rt", "taken.rt", "reopen.rt")),
 )
 
