@@ -1,4 +1,5 @@
 pub mod Entries
+pub mod Reversals
 pub mod Runs
 pub mod Parts
 pub mod Cells
@@ -10,3 +11,5 @@ pub mod Lawful
 pub mod Filters
 pub mod Histories
 pub mod Made
+pub mod Leans
+pub mod Shared

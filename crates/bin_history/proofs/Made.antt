@@ -1,20 +1,18 @@
 -- A call that was made on a bin, by the way it was made.
-use Rattle.std.proofs.Common.{◌≡◌, ℕ, Bool, Option, Decides, List, [], ◌∷◌, ◌++◌, inl, inr, refl, sym, ap, ◌∙◌, subst}
+use Rattle.std.proofs.Common.{◌≡◌, ℕ, Bool, Option, Decides, List, [], ◌∷◌, ◌++◌, inl, inr, sym, ap, ◌∙◌, subst}
 use Rattle.std.proofs.Common.{take, drop, append_assoc}
 use Rattle.std.proofs.lemmas.List.{take-append-drop}
 use Rattle.bin_history.specs.Calls.{key_of, after, reply}
 use Rattle.bin_history.specs.Entries.{lookup, HasDistinctKeys, store, replay}
 use Rattle.bin_history.specs.Histories.{GoesOn}
-use Rattle.bin_history.specs.Lawful.{BinView, StoresByForm}
+use Rattle.bin_history.specs.Lawful.{BinView}
 use Rattle.bin_history.specs.Made.{IsMadeOn}
 use Rattle.bin_history.specs.Plain.{run, IsLegal}
 use Rattle.bin_history.specs.Readiness.{ReadyView, IsWorkedOut, KeepsOrFolds, record_of}
+use Rattle.bin_history.specs.RecordedForm.{as_recorded}
 use Rattle.bin_history.specs.Records.{RecordView}
 use Rattle.bin_history.specs.declared.call.Call.{Call}
 use Rattle.bin_history.specs.declared.call.Reply.{Reply}
-use Rattle.bin_history.specs.declared.form.Form.TheVariants.{Lean}
-use Rattle.bin_history.proofs.Changes.{store_same}
-use Rattle.bin_history.proofs.Histories.{GoesOn-called}
 use Rattle.bin_history.proofs.Runs.{replay-append, lookup-replay, IsLegal-append, IsLegal-front}
 
 module _ {K V F : Type 0} (same : K → K → Bool) (tells : (x y : K) → Decides (same x y) (x ≡ y)) (after' : Call K V F →
@@ -55,40 +53,6 @@ module _ {K V F : Type 0} (same : K → K → Bool) (tells : (x y : K) → Decid
 module _ {K V F : Type 0} (same : K → K → Bool) (tells : (x y : K) → Decides (same x y) (x ≡ y)) (code : K → ℕ)
     (same_value : V → V → Bool)
     (remapped : F → K → Option V → Option V) (merged : F → V → V → Option V) where
-  -- a call that leaves the value that it finds, read off a lean bin
-  pub IsMadeOn-read : (client ordinal : ℕ) (call : Call K V F) (b : BinView K V F) (v : Option V) (answer : Reply V)
-      (r : RecordView K V F)
-      → b.form ≡ Lean → StoresByForm b → v ≡ lookup same b.entries (key_of call) →
-      after same_value remapped merged call v ≡ v
-      → r.client ≡ client → r.ordinal ≡ ordinal → r.call ≡ call → r.before ≡ v → r.after ≡ v →
-      answer ≡ reply same_value call v v
-      → IsMadeOn same same_value remapped merged client ordinal call b b answer r
-  IsMadeOn-read client ordinal call b v answer r lean stores found left by next of before after_is replied =
-      let x : RecordView K V F = record { client = client; ordinal = ordinal; call = call; before = v; after = v } in
-      let is : r ≡ x = λ i. record {
-        client = by i;
-        ordinal = next i;
-        call = of i;
-        before = before i;
-        after =
-            after_is i;
-      } in
-      let stored : b.entries ≡ store same b.entries (key_of call) v =
-      sym (store_same same tells b.entries (key_of call) v (sym found)) in
-      let none = (stores lean).0 in
-      let read : IsMadeOn same same_value remapped merged client ordinal call b b answer x = record {
-        client_is = refl;
-        ordinal_is = refl;
-        call_is = refl;
-        found = found;
-        left = sym left;
-        replied = replied;
-        stored = stored;
-        history = GoesOn-called same tells code (after same_value remapped merged) Lean b b x lean lean stores stores
-            (λ _. refl) none stored (found, sym left);
-      } in
-      subst (IsMadeOn same same_value remapped merged client ordinal call b b answer) (sym is) read
-
   -- a call that was prepared, and then applied
   pub IsMadeOn-applied : (client ordinal : ℕ) (call : Call K V F) (b p c : BinView K V F) (ready : ReadyView K V F)
       (answer : Reply V) (r : RecordView K V F)
@@ -115,3 +79,27 @@ module _ {K V F : Type 0} (same : K → K → Bool) (tells : (x y : K) → Decid
         history = GoesOn-prepared same tells (after same_value remapped merged) b p c (r ∷ []) distinct legal folds
             (subst On (sym is) on);
       }
+
+module _ {K V F : Type 0} (same : K → K → Bool) (same_value : V → V → Bool) (remapped : F → K → Option V → Option V)
+    (merged : F → V → V → Option V) where
+  -- the form plays no part in it
+  pub IsMadeOn-recorded : (client ordinal : ℕ) (call : Call K V F) (b c : BinView K V F) (answer : Reply V)
+      (r : RecordView K V F) → IsMadeOn same same_value remapped merged client ordinal call b c answer r
+      → IsMadeOn same same_value remapped merged client ordinal call (as_recorded b) (as_recorded c) answer r
+  IsMadeOn-recorded client ordinal call b c answer r m = record {
+    client_is = m.client_is;
+    ordinal_is = m.ordinal_is;
+    call_is = m.call_is;
+    found = m.found;
+    left = m.left;
+    replied = m.replied;
+    stored = m.stored;
+    history = (
+      m.history.0,
+      record {
+        stored_is = m.history.1.stored_is;
+        legal = m.history.1.legal;
+        base_is = m.history.1.base_is;
+      },
+    );
+  }

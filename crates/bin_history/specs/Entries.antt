@@ -1,7 +1,12 @@
 -- Lists of pairs of a key and a value, as maps.
-use Rattle.std.specs.Prelude.{◌≡◌, Bool, Option, Some, None, cond, List, [], ◌∷◌}
+use Rattle.std.specs.Prelude.{◌≡◌, Bool, true, Option, Some, None, cond, List, [], ◌∷◌}
 use Rattle.bin_history.specs.Calls.{key_of}
 use Rattle.bin_history.specs.Records.{RecordView}
+
+-- the first entry, if there is one
+abbrev pub first_in : {X : Type 0} → List X → Option X
+first_in [] = None
+first_in (e ∷ es) = Some e
 
 module _ {K V : Type 0} (same_key : K → K → Bool) where
   -- the value at a key
@@ -22,6 +27,11 @@ module _ {K V : Type 0} (same_key : K → K → Bool) where
   abbrev pub remove : List (K × V) → K → List (K × V)
   remove [] k = []
   remove (e ∷ es) k = cond (same_key e.0 k) es (e ∷ remove es k)
+
+  -- the first key, if there is one, is this
+  abbrev pub StartsAt : List (K × V) → K → Type 0
+  StartsAt [] k = Unit {0}
+  StartsAt (e ∷ es) k = same_key e.0 k ≡ true
 
   -- the entries once the key has this value, or none
   abbrev pub store : List (K × V) → K → Option V → List (K × V)

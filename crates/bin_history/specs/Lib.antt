@@ -5,6 +5,9 @@ pub mod Clients
 pub mod Plain
 pub mod Cells
 pub mod Entries
+pub mod Hashes
+pub mod Chains
+pub mod Walks
 pub mod Births
 pub mod Deltas
 pub mod Records
@@ -12,6 +15,9 @@ pub mod Part
 pub mod Logs
 pub mod Lawful
 pub mod BinPart
+pub mod Leans
+pub mod RecordedForm
+pub mod Bins
 pub mod Histories
 pub mod Copies
 pub mod Changes

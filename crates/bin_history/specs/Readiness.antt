@@ -12,6 +12,7 @@ use Rattle.bin_history.specs.declared.form.Form.{Form}
 use Rattle.bin_history.specs.declared.form.Form.TheVariants.{Recorded, Lean}
 use Rattle.bin_history.specs.declared.effect.Answer.{Answer}
 use Rattle.bin_history.specs.declared.ready.Kept.{Kept}
+use Rattle.bin_history.specs.declared.seen.Seen.{Seen}
 use Rattle.bin_history.specs.declared.seen.SeenCall.{SeenCall}
 use Rattle.bin_history.specs.declared.seen.SeenCall.TheVariants.{Whole, Parts}
 use Rattle.std.specs.declared.snapshot.Snapshot.{Snapshot}
@@ -33,6 +34,12 @@ call_seen (Parts k op) = call_on k.value op.value
 
 abbrev pub value_seen : {V : Type 0} → Option (Snapshot V) → Option V
 value_seen seen = option_map (λ x. x.value) seen
+
+-- what was seen of a call is this call, and these values before and after it
+pub record IsSeen {K V F : Type 0} (seen : Seen K V F) (call : Call K V F) (before after : Option V) : Type 0 where
+  pub call_is : call_seen seen.call ≡ call
+  pub before_is : value_seen seen.before ≡ before
+  pub after_is : value_seen seen.after ≡ after
 
 -- what a bin of the form keeps of a call
 abbrev pub kept_in : {K V F : Type 0} → Form → Call K V F → Option V → Option V → Option (Kept K V F)

@@ -1,25 +1,40 @@
-//! One bin.
-ghost use Rattle.std.specs.Prelude.{◌≡◌};
+//! One bin, of either form.
+ghost use Rattle.std.specs.Prelude.{◌≡◌, ◌+◌, ◌<◌, ◌≤◌, ◌^◌, ◌++◌, [], true, All, IfOk, IfErr, IsOk, OnErr};
+ghost use Rattle.std.specs.Prelude.{option_copied, length, vec_len, vec_capacity, MatchOption};
+ghost use Rattle.hashkeys.specs.Classes.{is_of, low_half, high_half};
+ghost use Rattle.hashkeys.specs.Limits.{most_bins};
+ghost use Rattle.bin_history.specs.BinPart.{IsPartOf};
+ghost use Rattle.bin_history.specs.Calls.{after};
+ghost use Rattle.bin_history.specs.Copies.{IsExact};
+ghost use Rattle.bin_history.specs.Entries.{first_in, lookup, HasDistinctKeys, replay};
+ghost use Rattle.bin_history.specs.Hashes.{hash_by};
+ghost use Rattle.bin_history.specs.Lawful.{IsLawful};
+ghost use Rattle.bin_history.specs.Leans.{as_bin};
+ghost use Rattle.bin_history.specs.Made.{IsMadeOn};
+ghost use Rattle.bin_history.specs.Ops.{call_on, key_in};
+ghost use Rattle.bin_history.specs.RecordedForm.{as_recorded};
+ghost use Rattle.bin_history.specs.Sure.{IsSure};
+ghost use Rattle.bin_history.specs.declared.form.Form.TheVariants.{Lean};
 
-use crate::call::{Call, Remap, Reply};
-use crate::change::find;
-use crate::copies::copy_of_entries;
+use crate::call::{Remap, Reply};
+use crate::chain::chain_of;
 use crate::form::Form;
 use crate::given::Given;
-use crate::log::{Log, add_to, fold_in, part_of_log, reserve_in};
+use crate::lean::LeanBin;
 use crate::op::Op;
-use crate::ready::{Ready, work_out};
-use crate::record::Record;
-use crate::room::make_room_for;
-use crate::split::part_of_entries;
+use crate::recorded::RecordedBin;
 use crate::trace::Trace;
+use crate::walk::Walk;
 use hashkeys::{Class, HashKey, Salt};
 use std::alloc::{AllocError, Allocator};
 use std::marker::Model;
 
-/// A bin stores no more records than this. Where a call would add one more, the oldest half is
-/// first folded into the base.
-pub const MOST_RECORDS: usize = 1024;
+/// A bin by its form.
+#[derive(Drop)]
+pub enum Kind<K: HashKey, V: Clone + Eq, F: Remap<K, V> + Clone, A: Allocator> {
+    Lean(LeanBin<K, V, A>),
+    Recorded(Box<RecordedBin<K, V, F, A>, A>),
+}
 
 /// A bin of a map: the entries of a class in order of insertion and, in the recorded form, the
 /// records of the calls that made them from a base. Contracts see it as a `BinView`; whatever they
@@ -27,59 +42,39 @@ pub const MOST_RECORDS: usize = 1024;
 /// entries.
 #[derive(Drop)]
 pub struct Bin<K: HashKey, V: Clone + Eq, F: Remap<K, V> + Clone, A: Allocator> {
-    entries: Vec<(K, V), A>,
-    salt: Salt,
-    class: Class,
-    log: Option<Box<Log<K, V, F, A>, A>>,
+    kind: Kind<K, V, F, A>,
 }
 
 impl<K: HashKey, V: Clone + Eq, F: Remap<K, V> + Clone, A: Allocator> Model for Bin<K, V, F, A> {
-    ghost use Rattle.std.specs.Prelude.{◌-◌, vec_len, vec_capacity};
-    ghost use Rattle.bin_history.specs.Lawful.{BinView, IsReplayed};
-    ghost use Rattle.bin_history.specs.Calls.{after};
-    ghost use Rattle.bin_history.specs.Logs.{form_of, base_of, records_of, record_room_of};
+    ghost use Rattle.bin_history.specs.Bins.{bin_of};
+    ghost use Rattle.bin_history.specs.Lawful.{BinView};
 
     ghost Value = { BinView K V F };
 
-    ghost view = { λ b. record {
-      form = form_of b.log;
-      salt = b.salt;
-      class = b.class;
-      base = base_of b.log b.entries.items;
-      records = records_of b.log;
-      entries = b.entries.items;
-      record_room = record_room_of b.log;
-      entry_room = vec_capacity b.entries - vec_len b.entries;
-    } };
-
-    ghost invariant = { λ b. IsReplayed K.eq K.code (after V.eq F.remapped F.merged) b.salt b.class
-        (base_of b.log b.entries.items)
-        (records_of b.log) b.entries.items };
+    ghost view = { λ b. bin_of b.kind };
 }
 
 impl<K: HashKey, V: Clone + Eq, F: Remap<K, V> + Clone, A: Allocator + Clone> Bin<K, V, F, A> {
-    ghost use Rattle.std.specs.Prelude.{[], true, Some, None, All, IfOk, IsOk, MatchOption};
-    ghost use Rattle.hashkeys.specs.Classes.{is_of};
-    ghost use Rattle.bin_history.specs.Calls.{after};
-    ghost use Rattle.bin_history.specs.Copies.{IsExact};
-    ghost use Rattle.bin_history.specs.Entries.{lookup, HasDistinctKeys, replay};
-    ghost use Rattle.bin_history.specs.Lawful.{IsLawful};
-    ghost use Rattle.bin_history.specs.declared.form.Form.TheVariants.{Lean};
+    ghost use Rattle.bin_history.specs.Bins.{bin_of};
 
     /// A bin of the form with these pairs, in their order, and no records. The pairs' keys are
-    /// distinct and of the class. A lean bin takes no memory.
+    /// distinct and of the class. A lean bin of no pairs takes no memory.
     pub fn new(
-        alloc: A,
+        alloc: &A,
         form: Form,
         salt: Salt,
         class: Class,
         base: Vec<(K, V), A>,
     ) -> Result<Bin<K, V, F, A>, AllocError>
+    where
+        K: Drop,
+        V: Drop,
+        F: Drop,
         requires keys { IsExact K.is_clone }
         requires values { IsExact V.is_clone }
         requires distinct { HasDistinctKeys K.eq base.items }
         requires of_class { All (λ e. is_of K.code salt class e.0 ≡ true) base.items }
-        ensures succeeds { (form ≡ Lean) → IsOk result }
+        ensures succeeds { (form ≡ Lean) → base.items ≡ [] → IsOk result }
         ensures form { IfOk result (λ b. b.form ≡ form) }
         ensures salt { IfOk result (λ b. b.salt ≡ salt) }
         ensures class { IfOk result (λ b. b.class ≡ class) }
@@ -88,22 +83,49 @@ impl<K: HashKey, V: Clone + Eq, F: Remap<K, V> + Clone, A: Allocator + Clone> Bi
         ensures entries { IfOk result (λ b. b.entries ≡ base.items) }
     {
         match form {
-            Form::Recorded => {
-                let entries = copy_of_entries(alloc.clone()?, &base)?;
-                let log = Log::new(alloc, base)?;
+            Form::Lean => {
+                let chain = chain_of(alloc, salt, base)?;
                 Ok(Bin {
-                    entries,
-                    salt,
-                    class,
-                    log: Some(log),
+                    kind: Kind::Lean(LeanBin::of_chain(salt, class, chain)),
                 })
             }
-            Form::Lean => Ok(Bin {
-                entries: base,
-                salt,
-                class,
-                log: None,
-            }),
+            Form::Recorded => {
+                let bin = RecordedBin::new(alloc.clone()?, form, salt, class, base)?;
+                match Box::new(alloc.clone()?, bin) {
+                    Ok(boxed) => Ok(Bin {
+                        kind: Kind::Recorded(boxed),
+                    }),
+                    Err(failed) => {
+                        drop(failed);
+                        Err(AllocError)
+                    }
+                }
+            }
+        }
+    }
+
+    /// A bin of the kind.
+    pub fn of_kind(kind: Kind<K, V, F, A>) -> Bin<K, V, F, A>
+        ensures { result ≡ bin_of kind }
+    {
+        Bin { kind }
+    }
+
+    /// The bin by its form.
+    pub fn into_kind(self) -> Kind<K, V, F, A>
+        ensures { bin_of result ≡ self }
+    {
+        self.kind
+    }
+
+    /// The bin with its records, where it is of the recorded form.
+    pub fn recorded(&self) -> Option<&RecordedBin<K, V, F, A>>
+        ensures { MatchOption result (self.now.form ≡ Lean)
+            (λ bin. as_recorded bin.now ≡ self.now) }
+    {
+        match &self.kind {
+            Kind::Lean(_) => None,
+            Kind::Recorded(bin) => Some(bin),
         }
     }
 
@@ -111,9 +133,9 @@ impl<K: HashKey, V: Clone + Eq, F: Remap<K, V> + Clone, A: Allocator + Clone> Bi
     pub fn form(&self) -> Form
         ensures { result ≡ self.now.form }
     {
-        match &self.log {
-            Some(_) => Form::Recorded,
-            None => Form::Lean,
+        match &self.kind {
+            Kind::Lean(_) => Form::Lean,
+            Kind::Recorded(_) => Form::Recorded,
         }
     }
 
@@ -121,74 +143,31 @@ impl<K: HashKey, V: Clone + Eq, F: Remap<K, V> + Clone, A: Allocator + Clone> Bi
     pub fn class(&self) -> Class
         ensures { result ≡ self.now.class }
     {
-        self.class
+        match &self.kind {
+            Kind::Lean(bin) => bin.class(),
+            Kind::Recorded(bin) => bin.class(),
+        }
     }
 
     /// The salt of the map's hashes.
     pub fn salt(&self) -> Salt
         ensures { result ≡ self.now.salt }
     {
-        self.salt
-    }
-
-    /// The pairs that the records begin from: in a lean bin its entries.
-    pub fn base(&self) -> &[(K, V)]
-        ensures { result.now ≡ self.now.base }
-    {
-        match &self.log {
-            Some(log) => log.base.as_slice(),
-            None => self.entries.as_slice(),
+        match &self.kind {
+            Kind::Lean(bin) => bin.salt(),
+            Kind::Recorded(bin) => bin.salt(),
         }
     }
 
-    /// The records of the calls since the base, oldest first: at most 1,024, and none in a lean
-    /// bin.
-    pub fn records(&self) -> &[Record<K, V, F>]
-        ensures { result.now ≡ self.now.records }
+    /// The value at a key of this hash.
+    pub fn get(&self, hash: u32, key: &K) -> Option<&V>
+        requires hash { hash ≡ hash_by K.code self.now.salt key.now }
+        ensures { option_copied result ≡ lookup K.eq self.now.entries key.now }
     {
-        match &self.log {
-            Some(log) => log.records.as_slice(),
-            None => &[],
+        match &self.kind {
+            Kind::Lean(bin) => bin.get(hash, key),
+            Kind::Recorded(bin) => bin.get(key),
         }
-    }
-
-    /// The pairs that the bin holds, in order of insertion.
-    pub fn entries(&self) -> &[(K, V)]
-        ensures { result.now ≡ self.now.entries }
-    {
-        self.entries.as_slice()
-    }
-
-    /// The value at a key.
-    pub fn get(&self, key: &K) -> Option<&V>
-        ensures { MatchOption result (lookup K.eq self.now.entries key.now ≡ None)
-            (λ value. lookup K.eq self.now.entries key.now ≡ Some value.now) }
-    {
-        match find(&self.entries, key) {
-            Some(i) => Some(&self.entries[i].1),
-            None => None,
-        }
-    }
-
-    /// A copy of the entries, in order.
-    pub fn copy_entries(&self) -> Result<Vec<(K, V), A>, AllocError>
-        requires keys { IsExact K.is_clone }
-        requires values { IsExact V.is_clone }
-        ensures { IfOk result (λ copy. copy.items ≡ self.now.entries) }
-    {
-        copy_of_entries(self.entries.allocator().clone()?, &self.entries)
-    }
-
-    /// The pairs that the bin holds, in order of insertion, taken out of it. Nothing is copied.
-    pub fn into_entries(self) -> Vec<(K, V), A>
-    where
-        K: Drop,
-        V: Drop,
-        F: Drop,
-        ensures { result.items ≡ self.entries }
-    {
-        let Bin { entries, .. } = self;
-        entries
     }
 
     /// What holds of each bin. It does nothing when it runs.
@@ -196,169 +175,186 @@ impl<K: HashKey, V: Clone + Eq, F: Remap<K, V> + Clone, A: Allocator + Clone> Bi
         ensures lawful { IsLawful K.eq K.code (after V.eq F.remapped F.merged) self.now }
         ensures replayed { self.now.entries ≡ replay K.eq self.now.base self.now.records }
     {
-        let _ = &self.entries;
-    }
-}
-
-impl<K: HashKey, V: Clone + Eq, F: Remap<K, V> + Clone, A: Allocator + Clone> Bin<K, V, F, A> {
-    ghost use Rattle.std.specs.Prelude.{true, ◌+◌, ◌<◌, ◌^◌, ◌∷◌, [], length, IfOk, IsOk, OnOk};
-    ghost use Rattle.std.specs.Prelude.{OnErr};
-    ghost use Rattle.hashkeys.specs.Classes.{is_of};
-    ghost use Rattle.bin_history.specs.Calls.{after, key_of, reply};
-    ghost use Rattle.bin_history.specs.Copies.{IsExact};
-    ghost use Rattle.bin_history.specs.Entries.{store};
-    ghost use Rattle.bin_history.specs.Histories.{GoesOn};
-    ghost use Rattle.bin_history.specs.Ops.{call_on, key_in};
-    ghost use Rattle.bin_history.specs.declared.form.Form.TheVariants.{Recorded};
-    ghost use Rattle.bin_history.specs.Logs.{with_one_more};
-    ghost use Rattle.bin_history.specs.Readiness.{IsPrepared, KeepsOrFolds, record_of};
-    ghost use Rattle.bin_history.specs.Sure.{IsSure, op_of};
-
-    /// Prepares a call on a key of the bin's class: makes all growths, asks the call's function,
-    /// makes all copies, and works out what the call does and replies, so that `apply` cannot fail.
-    /// The entries stay; base and records stay too, but where there are 1,024 records the oldest
-    /// 512 are folded into the base. For want of memory the call is dropped, and nothing else
-    /// changes. Room for an entry is made only for a call that may add one, on a key that is not
-    /// there. Where clones never fail, the call asks no function and there is room in hand, it is
-    /// not refused.
-    pub fn prepare<'a>(&'a mut self, call: Call<K, V, F>) -> Result<Ready<K, V, F>, AllocError>
-        requires keys { IsExact K.is_clone }
-        requires values { IsExact V.is_clone }
-        requires of_class { is_of K.code self.old.salt self.old.class (key_of call) ≡ true }
-        ensures ready { IfOk result
-            (λ r. IsPrepared K.eq K.code V.eq F.remapped F.merged r self.new) }
-        ensures call { IfOk result (λ r. r.call ≡ call) }
-        ensures succeeds { IsSure K.eq K.is_infallible V.is_infallible self.old (key_of call)
-            (op_of call) → IsOk result }
-        ensures ok { OnOk result (KeepsOrFolds K.eq self.old self.new) }
-        ensures records { OnErr result (self.new.records ≡ self.old.records) }
-        ensures base { OnErr result (self.new.base ≡ self.old.base) }
-        ensures entries { self.new.entries ≡ self.old.entries }
-        ensures form { self.new.form ≡ self.old.form }
-        ensures class { self.new.class ≡ self.old.class }
-        ensures salt { self.new.salt ≡ self.old.salt }
-    {
-        let (key, op) = call.into_parts();
-        let key: Given<'a, K> = Given::Owned(key);
-        self.prepare_on(key, op)
+        match &self.kind {
+            Kind::Lean(bin) => bin.lawful::<F>(),
+            Kind::Recorded(bin) => bin.lawful(),
+        }
     }
 
-    /// The same of a call whose key is given beside it, handed over or lent. A lent key is copied
-    /// where an entry is made of it, and for the record in a recorded bin. A lean bin copies no
-    /// value but one that is both stored and answered.
-    pub fn prepare_on(
+    /// Makes a call on a key of this hash, as the call of this client, below 64, after so many
+    /// others of it, fewer than 2^58. It answers the reply and what the books need. For want of
+    /// memory the call is dropped, and nothing is changed.
+    pub fn make_on(
         &mut self,
+        alloc: &A,
+        hash: u32,
         key: Given<'_, K>,
         op: Op<V, F>,
-    ) -> Result<Ready<K, V, F>, AllocError>
-        requires keys { IsExact K.is_clone }
-        requires values { IsExact V.is_clone }
-        requires of_class { is_of K.code self.old.salt self.old.class (key_in key) ≡ true }
-        ensures ready { IfOk result
-            (λ r. IsPrepared K.eq K.code V.eq F.remapped F.merged r self.new) }
-        ensures call { IfOk result (λ r. r.call ≡ call_on (key_in key.entry) op) }
-        ensures succeeds { IsSure K.eq K.is_infallible V.is_infallible self.old
-            (key_in key.entry) op → IsOk result }
-        ensures ok { OnOk result (KeepsOrFolds K.eq self.old self.new) }
-        ensures records { OnErr result (self.new.records ≡ self.old.records) }
-        ensures base { OnErr result (self.new.base ≡ self.old.base) }
-        ensures entries { self.new.entries ≡ self.old.entries }
-        ensures form { self.new.form ≡ self.old.form }
-        ensures class { self.new.class ≡ self.old.class }
-        ensures salt { self.new.salt ≡ self.old.salt }
-    {
-        let found = find(&self.entries, key.get());
-        make_room_for(&mut self.entries, found, &op)?;
-        reserve_in(&mut self.log)?;
-        let form = self.form();
-        let ready = work_out(&self.entries, form, found, key, op)?;
-        fold_in(&mut self.log);
-        Ok(ready)
-    }
-
-    /// Makes a call that was prepared on this bin, since when nothing was applied, as the call of
-    /// this client, below 64, after so many others of it, fewer than 2^58. It answers the reply and
-    /// what the books need. A recorded bin keeps the record; a lean one keeps the entries alone. It
-    /// takes no memory: what it keeps goes into the room that there is.
-    pub fn apply(
-        &mut self,
-        ready: Ready<K, V, F>,
         client: u32,
         ordinal: u64,
-    ) -> (Reply<V>, Trace<K, V, F>)
-        requires prepared { IsPrepared K.eq K.code V.eq F.remapped F.merged ready self.old }
+    ) -> Result<(Reply<V>, Trace<K, V, F>), AllocError>
+    where
+        K: Drop,
+        V: Drop,
+        F: Drop,
+        requires keys { IsExact K.is_clone }
+        requires values { IsExact V.is_clone }
+        requires hash { hash ≡ hash_by K.code self.old.salt (key_in key) }
+        requires of_class { is_of K.code self.old.salt self.old.class (key_in key) ≡ true }
         requires client { client < 64 }
         requires ordinal { ordinal < 2 ^ 58 }
-        ensures reply { result.0 ≡ reply V.eq ready.call ready.before ready.after }
-        ensures trace { result.1 ≡ record_of client ordinal ready }
-        ensures entries { self.new.entries ≡ store K.eq self.old.entries
-            (key_of ready.call) ready.after }
-        ensures records { self.new.records ≡ with_one_more self.old.form self.old.records
-            (record_of client ordinal ready) }
-        ensures base { self.old.form ≡ Recorded → self.new.base ≡ self.old.base }
-        ensures record_room { self.old.form ≡ Recorded →
-            self.new.record_room + 1 ≡ self.old.record_room }
-        ensures entry_room { length self.new.entries + self.new.entry_room
-            ≡ length self.old.entries + self.old.entry_room }
-        ensures history { GoesOn K.eq (after V.eq F.remapped F.merged) self.old
-            (record_of client ordinal ready ∷ []) self.new }
+        ensures made { IfOk result
+            (λ r. IsMadeOn K.eq V.eq F.remapped F.merged client ordinal
+            (call_on (key_in key.entry) op) self.old self.new r.0 r.1) }
+        ensures succeeds { IsSure K.eq K.is_infallible V.is_infallible self.old
+            (key_in key.entry) op → IsOk result }
+        ensures records { OnErr result (self.new.records ≡ self.old.records) }
+        ensures base { OnErr result (self.new.base ≡ self.old.base) }
+        ensures entries { OnErr result (self.new.entries ≡ self.old.entries) }
         ensures form { self.new.form ≡ self.old.form }
         ensures class { self.new.class ≡ self.old.class }
         ensures salt { self.new.salt ≡ self.old.salt }
     {
-        let Ready {
-            seen,
-            answer,
-            change,
-            kept,
-        } = ready;
-        let taken = change.carry_out(&mut self.entries);
-        add_to(&mut self.log, client, ordinal, kept);
-        (answer.reply(taken), Trace::seen(client, ordinal, seen))
+        match &mut self.kind {
+            Kind::Lean(bin) => bin.make_on(alloc, hash, key, op, client, ordinal),
+            Kind::Recorded(bin) => bin.make_on(key, op, client, ordinal),
+        }
     }
 }
 
-impl<K: HashKey, V: Clone + Eq, F: Remap<K, V> + Clone, A: Allocator + Clone> Bin<K, V, F, A> {
-    ghost use Rattle.std.specs.Prelude.{◌<◌, IfOk};
-    ghost use Rattle.hashkeys.specs.Classes.{low_half, high_half};
-    ghost use Rattle.hashkeys.specs.Limits.{most_bins};
-    ghost use Rattle.bin_history.specs.Copies.{IsExact};
-    ghost use Rattle.bin_history.specs.BinPart.{IsPartOf};
+/// A value in room of its own.
+fn boxed<T: Drop, A: Allocator + Clone>(alloc: &A, value: T) -> Result<Box<T, A>, AllocError>
+    ensures { IfOk result (λ b. b.value ≡ value) }
+{
+    match Box::new(alloc.clone()?, value) {
+        Ok(boxed) => Ok(boxed),
+        Err(failed) => {
+            drop(failed);
+            Err(AllocError)
+        }
+    }
+}
 
-    /// The part of the bin in a half of its class.
-    fn part(&self, half: Class) -> Result<Bin<K, V, F, A>, AllocError>
+impl<
+    K: HashKey + Drop,
+    V: Clone + Eq + Drop,
+    F: Remap<K, V> + Clone + Drop,
+    A: Allocator + Clone,
+> Bin<K, V, F, A> {
+    /// The entries, in order.
+    pub fn walk(&self) -> Walk<'_, K, V, A>
+        ensures { result ≡ self.now.entries }
+    {
+        match &self.kind {
+            Kind::Lean(bin) => bin.walk(),
+            Kind::Recorded(bin) => Walk::of_list(bin.entries()),
+        }
+    }
+
+    /// The first entry.
+    pub fn first(&self) -> Option<&(K, V)>
+        ensures { option_copied result ≡ first_in self.now.entries }
+    {
+        let mut walk = self.walk();
+        walk.next()
+    }
+
+    /// A copy of the entries, in order.
+    pub fn copy_entries(&self, alloc: &A) -> Result<Vec<(K, V), A>, AllocError>
+        requires keys { IsExact K.is_clone }
+        requires values { IsExact V.is_clone }
+        ensures { IfOk result (λ copy. copy.items ≡ self.now.entries) }
+    {
+        match &self.kind {
+            Kind::Lean(bin) => bin.copies(alloc.clone()?),
+            Kind::Recorded(bin) => bin.copy_entries(),
+        }
+    }
+
+    /// Moves the entries, in order, into a list that has room for them.
+    pub fn pour(self, mut list: Vec<(K, V), A>) -> Vec<(K, V), A>
+        requires room { vec_len list + length self.entries ≤ vec_capacity list }
+        ensures items { result.items ≡ list.items ++ self.entries }
+        ensures capacity { vec_capacity list ≤ vec_capacity result }
+    {
+        match self.kind {
+            Kind::Lean(bin) => bin.pour(list),
+            Kind::Recorded(bin) => {
+                let mut own = Box::into_inner(bin).into_entries();
+                match list.append(&mut own) {
+                    Ok(()) => list,
+                    Err(AllocError) => unreachable!(),
+                }
+            }
+        }
+    }
+
+    /// The two halves of a recorded bin: copies, each in room of its own.
+    fn boxed_halves(
+        alloc: &A,
+        bin: &RecordedBin<K, V, F, A>,
+    ) -> Result<(Bin<K, V, F, A>, Bin<K, V, F, A>), AllocError>
         requires keys { IsExact K.is_clone }
         requires values { IsExact V.is_clone }
         requires functions { IsExact F.is_clone }
-        ensures class { IfOk result (λ b. b.class ≡ half) }
-        ensures part { IfOk result (λ b. IsPartOf K.code self.now b) }
+        requires size { bin.now.class.n < most_bins }
+        ensures low_class { IfOk result (λ b. b.0.class ≡ low_half bin.now.class) }
+        ensures high_class { IfOk result (λ b. b.1.class ≡ high_half bin.now.class) }
+        ensures low { IfOk result (λ b. IsPartOf K.code (as_recorded bin.now) b.0) }
+        ensures high { IfOk result (λ b. IsPartOf K.code (as_recorded bin.now) b.1) }
     {
-        let alloc = self.entries.allocator();
-        let entries = part_of_entries(alloc.clone()?, self.salt, half, &self.entries)?;
-        let log = part_of_log(&self.log, self.salt, half)?;
-        Ok(Bin {
-            entries,
-            salt: self.salt,
-            class: half,
-            log,
-        })
+        let (low, high) = bin.split()?;
+        let low = boxed(alloc, low)?;
+        let high = boxed(alloc, high)?;
+        Ok((
+            Bin {
+                kind: Kind::Recorded(low),
+            },
+            Bin {
+                kind: Kind::Recorded(high),
+            },
+        ))
     }
 
     /// The bins of the low and the high half of the class, in the bin's form, each with its part of
-    /// base, records and entries, in order. They are copies; the bin itself stays.
-    pub fn split(&self) -> Result<(Bin<K, V, F, A>, Bin<K, V, F, A>), AllocError>
+    /// base, records and entries, in order. A lean bin's entries are moved, which takes no memory.
+    /// Those of a recorded bin are copies, and for want of memory the bin comes back as it was.
+    pub fn split(
+        self,
+        alloc: &A,
+    ) -> Result<(Bin<K, V, F, A>, Bin<K, V, F, A>), (Bin<K, V, F, A>, AllocError)>
         requires keys { IsExact K.is_clone }
         requires values { IsExact V.is_clone }
         requires functions { IsExact F.is_clone }
-        requires size { self.now.class.n < most_bins }
-        ensures low_class { IfOk result (λ b. b.0.class ≡ low_half self.now.class) }
-        ensures high_class { IfOk result (λ b. b.1.class ≡ high_half self.now.class) }
-        ensures low { IfOk result (λ b. IsPartOf K.code self.now b.0) }
-        ensures high { IfOk result (λ b. IsPartOf K.code self.now b.1) }
+        requires size { self.class.n < most_bins }
+        ensures succeeds { self.form ≡ Lean → IsOk result }
+        ensures low_class { IfOk result (λ b. b.0.class ≡ low_half self.class) }
+        ensures high_class { IfOk result (λ b. b.1.class ≡ high_half self.class) }
+        ensures low { IfOk result (λ b. IsPartOf K.code self b.0) }
+        ensures high { IfOk result (λ b. IsPartOf K.code self b.1) }
+        ensures refused { IfErr result (λ e. e.0 ≡ self) }
     {
-        let (low, high) = self.class.halves();
-        let first = self.part(low)?;
-        let second = self.part(high)?;
-        Ok((first, second))
+        match self.kind {
+            Kind::Lean(bin) => {
+                let (low, high) = bin.split();
+                Ok((
+                    Bin {
+                        kind: Kind::Lean(low),
+                    },
+                    Bin {
+                        kind: Kind::Lean(high),
+                    },
+                ))
+            }
+            Kind::Recorded(bin) => match Bin::boxed_halves(alloc, &bin) {
+                Ok(halves) => Ok(halves),
+                Err(error) => Err((
+                    Bin {
+                        kind: Kind::Recorded(bin),
+                    },
+                    error,
+                )),
+            },
+        }
     }
 }

@@ -10,10 +10,10 @@ ghost use Rattle.bin_history.specs.Readiness.{kept_in};
 ghost use Rattle.bin_history.specs.declared.call.Call.{Call};
 ghost use Rattle.bin_history.specs.declared.form.Form.TheVariants.{Recorded};
 
-use crate::bin::MOST_RECORDS;
 use crate::fold::{births_in_front, fold_front};
 use crate::ready::Kept;
 use crate::record::Record;
+use crate::recorded::MOST_RECORDS;
 use crate::room::make_room_in;
 use crate::split::{part_of_entries, part_of_records};
 use hashkeys::{Class, HashKey, Salt};

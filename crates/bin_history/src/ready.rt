@@ -30,8 +30,8 @@ pub struct Kept<K, V, F> {
     pub(crate) after: Option<V>,
 }
 
-/// A call that is prepared: what it does to a bin and answers, with all copies made. `Bin::prepare`
-/// makes it and `Bin::apply` uses it up.
+/// A call that is prepared: what it does to a bin and answers, with all copies made. `RecordedBin::prepare`
+/// makes it and `RecordedBin::apply` uses it up.
 #[derive(Drop)]
 pub struct Ready<K, V, F> {
     pub(crate) seen: Seen<K, V, F>,
