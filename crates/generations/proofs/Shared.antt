@@ -15,12 +15,7 @@ use Rattle.boxcar.proofs.tag.Tag.TheSendSync as tag
 use Rattle.counted_slot.proofs.Counted.TheSendSync as counted
 use Rattle.hashkeys.specs.declared.hashing.HashKey as HashKey
 use Rattle.bin_history.specs.declared.call.Remap as Remap
-use Rattle.bin_history.specs.contracts.bin.Bin as Bin
-use Rattle.bin_history.specs.contracts.bin.Bin.TheInside as BinInside
-use Rattle.bin_history.specs.contracts.log.Log as Log
-use Rattle.bin_history.specs.contracts.log.Log.TheInside as LogInside
-use Rattle.bin_history.specs.contracts.record.Record as Record
-use Rattle.bin_history.specs.contracts.record.Record.TheInside as RecordInside
+use Rattle.bin_history.proofs.Shared.{bin_send, bin_sync}
 use Rattle.count_ledger.specs.contracts.tokens.BinRole as Role
 use Rattle.generations.specs.contracts.state.State as State
 use Rattle.generations.specs.contracts.place.Place as Place
@@ -45,52 +40,6 @@ module _ (K V F A : RattleType) (hash : HashKey.Ghosts K.Denot) (key_eq : Eq.Gho
 
   pub role_sync : IsSync (Role.the_row K V F)
   role_sync = search (sendable, badge_sync) depth 30
-
-  record_fields_send : AllSend (shape (RecordInside.the_type K V F)).fields
-  record_fields_send = (search sendable depth 20, (search sendable depth 20, (search sendable depth 20, tt)))
-
-  record_fields_sync : AllSync (shape (RecordInside.the_type K V F)).fields
-  record_fields_sync = (search sendable depth 20, (search sendable depth 20, (search sendable depth 20, tt)))
-
-  record_send : IsSend (Record.the_row K V F)
-  record_send = search (sendable, record_fields_send) depth 20
-
-  record_sync : IsSync (Record.the_row K V F)
-  record_sync = search (sendable, record_fields_sync) depth 20
-
-  log_fields_send : AllSend (shape (LogInside.the_type K V F A alloc)).fields
-  log_fields_send = (search (sendable, crosses) depth 20, (search (sendable, crosses, record_send) depth 20, tt))
-
-  log_fields_sync : AllSync (shape (LogInside.the_type K V F A alloc)).fields
-  log_fields_sync = (search (sendable, crosses) depth 20, (search (sendable, crosses, record_sync) depth 20, tt))
-
-  log_send : IsSend (Log.the_row K V F A alloc)
-  log_send = search (sendable, log_fields_send) depth 20
-
-  log_sync : IsSync (Log.the_row K V F A alloc)
-  log_sync = search (sendable, log_fields_sync) depth 20
-
-  bin_fields_send : AllSend
-      (shape (BinInside.the_type K V F A hash key_same key_clone value_clone value_same remap
-      function_clone alloc)).fields
-  bin_fields_send = (
-    search (sendable, crosses) depth 20,
-    (search sendable depth 20, (search sendable depth 20, (search (sendable, crosses, log_send) depth 20, tt))),
-  )
-
-  bin_fields_sync : AllSync
-      (shape (BinInside.the_type K V F A hash key_same key_clone value_clone value_same remap
-      function_clone alloc)).fields
-  bin_fields_sync = (
-    search (sendable, crosses) depth 20,
-    (search sendable depth 20, (search sendable depth 20, (search (sendable, crosses, log_sync) depth 20, tt))),
-  )
-
-  pub bin_send : IsSend (Bin.the_row K V F A hash key_same key_clone value_clone value_same remap function_clone alloc)
-  bin_send = search (sendable, bin_fields_send) depth 30
-
-  pub bin_sync : IsSync (Bin.the_row K V F A hash key_same key_clone value_clone value_same remap function_clone alloc)
-  bin_sync = search (sendable, bin_fields_sync) depth 30
 
   pub state_send : IsSend
       (State.the_row K V F A hash key_same key_clone value_clone value_same remap function_clone alloc)

@@ -9,5 +9,5 @@ use Rattle.generations.specs.declared.state.State.TheVariants.{Live, Away}
 -- a bin and its role that are at the place, or nothing
 abbrev pub FitsPlace : {K V F A : Type 0} → (K → K → Bool) → (Call K V F → Option V → Option V) → PlaceTag →
     State K V F A → Type 0
-FitsPlace same_key after tag (Live r b) = AreAt same_key after tag b.value r
+FitsPlace same_key after tag (Live r b) = AreAt same_key after tag b r
 FitsPlace same_key after tag Away = Unit {0}

@@ -4,6 +4,7 @@ ghost use Rattle.hashkeys.specs.Limits.{most_bins};
 ghost use Rattle.bin_history.specs.Copies.{IsExact};
 
 use crate::generations::Generations;
+use crate::refused::Refused;
 use bin_history::Remap;
 use count_ledger::Ledger;
 use crossbeam_utils::Backoff;
@@ -28,8 +29,44 @@ impl<
     F: Remap<K, V> + Clone + Drop,
     A: Allocator + Clone,
 > Generations<K, V, F, A> {
-    /// Replaces the bin of the class by its halves, once nobody holds or reads it. For want of
-    /// memory the bin stays.
+    /// Replaces the bin of the class by its halves. It waits for nobody.
+    ///
+    /// # Errors
+    ///
+    /// `NoMemory`, or `Busy` where the bin is held or read just then. The bin stays.
+    pub fn try_forward(&self, ledger: &Ledger<K, V, F, A>, class: Class) -> Result<Moved, Refused>
+        requires keys { IsExact K.is_clone }
+        requires values { IsExact V.is_clone }
+        requires functions { IsExact F.is_clone }
+        requires ledger { ledger.now.id ≡ self.now.ledger }
+        requires least { self.now.n ≤ class.n }
+        requires size { class.n < most_bins }
+    {
+        let (place, met) = self.find(class.index());
+        let size = met.n();
+        if class.n() < size {
+            return Ok(Moved::Already);
+        }
+        if size < class.n() {
+            return Ok(Moved::Wider);
+        }
+        let Some(held) = self.try_hold_at(place) else {
+            return Err(Refused::Busy);
+        };
+        match held.try_halve(ledger) {
+            Ok(()) => Ok(Moved::Yes),
+            Err((held, refused)) => {
+                held.release();
+                Err(refused)
+            }
+        }
+    }
+
+    /// The same, once nobody holds or reads the bin.
+    ///
+    /// # Errors
+    ///
+    /// For want of memory the bin stays.
     pub fn forward<R: Wait>(
         &self,
         rt: &R,
@@ -45,24 +82,11 @@ impl<
     {
         let backoff = Backoff::new();
         for _ in rt.forever() {
-            let (place, met) = self.find(class.index());
-            let size = met.n();
-            if class.n() < size {
-                return Ok(Moved::Already);
+            match self.try_forward(ledger, class) {
+                Ok(moved) => return Ok(moved),
+                Err(Refused::NoMemory) => return Err(AllocError),
+                Err(Refused::Busy) => backoff.snooze(),
             }
-            if size < class.n() {
-                return Ok(Moved::Wider);
-            }
-            if let Some(held) = self.try_hold(rt, place) {
-                return match held.halve(rt, ledger) {
-                    Ok(()) => Ok(Moved::Yes),
-                    Err((held, error)) => {
-                        held.release();
-                        Err(error)
-                    }
-                };
-            }
-            backoff.snooze();
         }
         unreachable!()
     }

@@ -1,19 +1,20 @@
 //! All places of a map, and the way from a hash to its place.
-ghost use Rattle.std.specs.Prelude.{◌≡◌, ℕ, ◌≤◌, ◌^◌, true, IfSome, IfOk, length};
-ghost use Rattle.hashkeys.specs.Classes.{covers, IsTableSize};
+ghost use Rattle.std.specs.Prelude.{◌≡◌, ℕ, ◌<◌, ◌≤◌, ◌^◌, true, IfSome, IfOk, length};
+ghost use Rattle.hashkeys.specs.Classes.{covers, low_half, high_half, IsTableSize};
+ghost use Rattle.hashkeys.specs.Limits.{most_bins};
 ghost use Rattle.generations.specs.Generations.{IsTable};
 ghost use Rattle.generations.specs.Views.{GenerationsView, IsPlaceOf, place_of};
 
-use crate::place::Place;
+use crate::place::{Place, leave_new};
+use crate::refused::Refused;
 use crate::state::{PlaceTag, State};
 use crate::tables::{Places, SIZES, Slots, no_tables};
 use bin_history::{Form, Remap};
 use count_ledger::LedgerName;
-use crossbeam_utils::Backoff;
+use counted_slot::Claim;
 use hashkeys::{Class, HashKey, Salt};
 use std::alloc::{AllocError, Allocator};
 use std::marker::Model;
-use std::sync::Wait;
 use std::sync::atomic::AtomicU64;
 use std::sync::atomic::Ordering::SeqCst;
 
@@ -42,6 +43,9 @@ impl<K: HashKey, V: Clone + Eq, F: Remap<K, V> + Clone, A: Allocator> Model
 
     ghost invariant = { λ g. IsGenerations g.ledger g.form g.salt g.opening.items g.tables.items };
 }
+
+/// The rights to fill the places of the low and the high half of a bin.
+type Halves<'a, K, V, F, A> = (Claim<'a, State<K, V, F, A>>, Claim<'a, State<K, V, F, A>>);
 
 /// The place of a table that has the hash, and its class, which is told by where it stands.
 fn place_in<'a, K: HashKey, V: Clone + Eq, F: Remap<K, V> + Clone, A: Allocator>(
@@ -191,22 +195,9 @@ impl<
         }
     }
 
-    /// Waits for a table that some thread puts in.
-    fn wait_for_table<R: Wait>(&self, rt: &R, exponent: u32) -> &Places<K, V, F, A>
-        ensures { IsTable self.now (2 ^ exponent) result.now.items }
-    {
-        let backoff = Backoff::new();
-        for _ in rt.forever() {
-            if let Some(places) = self.table(exponent) {
-                return places;
-            }
-            backoff.snooze();
-        }
-        unreachable!()
-    }
-
-    /// The table of this size, which is made where there is none yet.
-    fn table_made<R: Wait>(&self, rt: &R, size: u32) -> Result<&Places<K, V, F, A>, AllocError>
+    /// The table of this size, which is made where there is none yet. It is refused while another
+    /// thread puts the same table in.
+    fn table_made(&self, size: u32) -> Result<&Places<K, V, F, A>, Refused>
         requires size { IsTableSize size }
         requires least { self.now.n ≤ size }
         ensures { IfOk result (λ t. IsTable self.now size t.now.items) }
@@ -216,30 +207,56 @@ impl<
             let places = self.new_table(size)?;
             self.keep_table(exponent, places);
         }
-        Ok(self.wait_for_table(rt, exponent))
+        match self.table(exponent) {
+            Some(places) => Ok(places),
+            None => Err(Refused::Busy),
+        }
     }
 
-    /// The place for a bin of the class. Its table is made where there is none yet.
-    pub(crate) fn place_for<R: Wait>(
-        &self,
-        rt: &R,
-        class: Class,
-    ) -> Result<&Place<K, V, F, A>, AllocError>
+    /// The right to fill the place for a bin of the class. Its table is made where there is none
+    /// yet.
+    fn claim_for(&self, class: Class) -> Result<Claim<'_, State<K, V, F, A>>, Refused>
         requires least { self.now.n ≤ class.n }
-        ensures { IfOk result (λ p. p.now ≡ place_of self.now class) }
+        ensures { IfOk result (λ c. (c.right ≡ 2) × (c.tag ≡ place_of self.now class)) }
     {
-        let places = self.table_made(rt, class.n())?;
-        Ok(&places[class.index() as usize])
+        let places = self.table_made(class.n())?;
+        places[class.index() as usize]
+            .claim_new()
+            .ok_or(Refused::Busy)
     }
 
-    /// Makes the table of this many places, a power of two from 1 to 65,536, if there
-    /// is none yet: so many bins the map can then be moved to. For want of memory
-    /// there is none, and nothing is changed. It waits while another thread puts the same table in.
-    pub fn widen<R: Wait>(&self, rt: &R, size: u32) -> Result<(), AllocError>
+    /// The right to fill the places for the two halves of a bin.
+    pub(crate) fn claim_halves(&self, class: Class) -> Result<Halves<'_, K, V, F, A>, Refused>
+        requires least { self.now.n ≤ class.n }
+        requires size { class.n < most_bins }
+        ensures low { IfOk result
+            (λ c. (c.0.right ≡ 2) × (c.0.tag ≡ place_of self.now (low_half class))) }
+        ensures high { IfOk result
+            (λ c. (c.1.right ≡ 2) × (c.1.tag ≡ place_of self.now (high_half class))) }
+    {
+        let (low_class, high_class) = class.halves();
+        let low = self.claim_for(low_class)?;
+        match self.claim_for(high_class) {
+            Ok(high) => Ok((low, high)),
+            Err(refused) => {
+                leave_new(low);
+                Err(refused)
+            }
+        }
+    }
+
+    /// Makes the table of this many places, a power of two from 1 to 65,536, if there is none yet:
+    /// so many bins the map can then be moved to. It waits for nobody.
+    ///
+    /// # Errors
+    ///
+    /// `NoMemory`, and then there is none; `Busy` where another thread puts the same table in just
+    /// then.
+    pub fn try_widen(&self, size: u32) -> Result<(), Refused>
         requires size { IsTableSize size }
         requires least { self.now.n ≤ size }
     {
-        self.table_made(rt, size)?;
+        self.table_made(size)?;
         Ok(())
     }
 }

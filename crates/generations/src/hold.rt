@@ -9,20 +9,21 @@ ghost use Rattle.generations.specs.Places.{AreAt};
 ghost use Rattle.generations.specs.Views.{IsPlaceOf};
 
 use crate::generations::Generations;
-use crate::place::{AWAY, Place};
-use crate::state::{State, boxed};
+use crate::place::{AWAY, Place, fill, leave_new};
+use crate::refused::Refused;
+use crate::state::State;
 use bin_history::{Bin, Remap};
 use count_ledger::{BinRole, Ledger};
 use counted_slot::{Claim, PRESENT};
 use crossbeam_utils::Backoff;
 use hashkeys::HashKey;
-use std::alloc::{AllocError, Allocator};
+use std::alloc::Allocator;
 use std::sync::Wait;
 
 /// A bin that is held, with its role. Nobody else has either until it is released or halved, which
 /// must happen.
 pub struct Held<'a, K: HashKey, V: Clone + Eq, F: Remap<K, V> + Clone, A: Allocator> {
-    pub bin: Box<Bin<K, V, F, A>, A>,
+    pub bin: Bin<K, V, F, A>,
     pub role: BinRole<K, V, F>,
     /// Where the bin was, and goes back to.
     pub place: &'a Place<K, V, F, A>,
@@ -44,19 +45,16 @@ impl<
     #[inline(always)]
     pub fn hold<R: Wait>(&self, rt: &R, hash: u32) -> Held<'_, K, V, F, A>
         ensures at { AreAt K.eq (after V.eq F.remapped F.merged) result.place.now
-            result.bin.value result.role }
-        ensures covers { covers result.bin.value.class hash ≡ true }
-        ensures lawful { IsLawful K.eq K.code (after V.eq F.remapped F.merged) result.bin.value }
+            result.bin result.role }
+        ensures covers { covers result.bin.class hash ≡ true }
+        ensures lawful { IsLawful K.eq K.code (after V.eq F.remapped F.merged) result.bin }
         ensures of_map { IsPlaceOf self.now result.place.now }
         ensures home { result.home.now ≡ self.now }
     {
-        let place = self.widest_place(hash);
-        if let Some(claim) = place.claim_at_once() {
-            if let Some(held) = self.take_out(rt, place, claim) {
-                return held;
-            }
+        match self.hold_widest(hash) {
+            Some(held) => held,
+            None => self.wait_to_hold(rt, hash),
         }
-        self.wait_to_hold(rt, hash)
     }
 
     /// The same where the first try failed, or the place in the widest table was not begun.
@@ -64,16 +62,16 @@ impl<
     #[inline(never)]
     fn wait_to_hold<R: Wait>(&self, rt: &R, hash: u32) -> Held<'_, K, V, F, A>
         ensures at { AreAt K.eq (after V.eq F.remapped F.merged) result.place.now
-            result.bin.value result.role }
-        ensures covers { covers result.bin.value.class hash ≡ true }
-        ensures lawful { IsLawful K.eq K.code (after V.eq F.remapped F.merged) result.bin.value }
+            result.bin result.role }
+        ensures covers { covers result.bin.class hash ≡ true }
+        ensures lawful { IsLawful K.eq K.code (after V.eq F.remapped F.merged) result.bin }
         ensures of_map { IsPlaceOf self.now result.place.now }
         ensures home { result.home.now ≡ self.now }
     {
         let backoff = Backoff::new();
         for _ in rt.forever() {
             let (place, _class) = self.find(hash);
-            if let Some(held) = self.try_hold(rt, place) {
+            if let Some(held) = self.try_hold_at(place) {
                 return held;
             }
             backoff.snooze();
@@ -81,39 +79,68 @@ impl<
         unreachable!()
     }
 
+    /// Holds the bin of the hash, or none where another thread has it just then. It waits for
+    /// nobody.
+    pub fn try_hold(&self, hash: u32) -> Option<Held<'_, K, V, F, A>>
+        ensures at { IfSome result
+            (λ h. AreAt K.eq (after V.eq F.remapped F.merged) h.place.now h.bin h.role) }
+        ensures covers { IfSome result (λ h. covers h.bin.class hash ≡ true) }
+        ensures lawful { IfSome result
+            (λ h. IsLawful K.eq K.code (after V.eq F.remapped F.merged) h.bin) }
+        ensures of_map { IfSome result (λ h. IsPlaceOf self.now h.place.now) }
+        ensures home { IfSome result (λ h. h.home.now ≡ self.now) }
+    {
+        let (place, _class) = self.find(hash);
+        self.try_hold_at(place)
+    }
+
+    /// One try for the bin of the hash in the widest table, where it was held before.
+    #[inline(always)]
+    fn hold_widest(&self, hash: u32) -> Option<Held<'_, K, V, F, A>>
+        ensures at { IfSome result
+            (λ h. AreAt K.eq (after V.eq F.remapped F.merged) h.place.now h.bin h.role) }
+        ensures covers { IfSome result (λ h. covers h.bin.class hash ≡ true) }
+        ensures lawful { IfSome result
+            (λ h. IsLawful K.eq K.code (after V.eq F.remapped F.merged) h.bin) }
+        ensures of_map { IfSome result (λ h. IsPlaceOf self.now h.place.now) }
+        ensures home { IfSome result (λ h. h.home.now ≡ self.now) }
+    {
+        let place = self.widest_place(hash);
+        let claim = place.claim_at_once()?;
+        self.take_out(place, claim)
+    }
+
     /// One try for the bin of a place.
-    pub(crate) fn try_hold<'a, R: Wait>(
+    pub(crate) fn try_hold_at<'a>(
         &'a self,
-        rt: &R,
         place: &'a Place<K, V, F, A>,
     ) -> Option<Held<'a, K, V, F, A>>
         requires { IsPlaceOf self.now place.now }
         ensures at { IfSome result
-            (λ h. AreAt K.eq (after V.eq F.remapped F.merged) place.now h.bin.value h.role) }
+            (λ h. AreAt K.eq (after V.eq F.remapped F.merged) place.now h.bin h.role) }
         ensures lawful { IfSome result
-            (λ h. IsLawful K.eq K.code (after V.eq F.remapped F.merged) h.bin.value) }
+            (λ h. IsLawful K.eq K.code (after V.eq F.remapped F.merged) h.bin) }
         ensures place { IfSome result (λ h. h.place.now ≡ place.now) }
         ensures home { IfSome result (λ h. h.home.now ≡ self.now) }
     {
         let claim = place.try_claim()?;
-        self.take_out(rt, place, claim)
+        self.take_out(place, claim)
     }
 
     /// The bin and the role of a place, taken out by a claim to write. There is none where they are
     /// away.
     #[inline(always)]
-    fn take_out<'a, R: Wait>(
+    fn take_out<'a>(
         &'a self,
-        rt: &R,
         place: &'a Place<K, V, F, A>,
         claim: Claim<'a, State<K, V, F, A>>,
     ) -> Option<Held<'a, K, V, F, A>>
         requires of_map { IsPlaceOf self.now place.now }
         requires claim { (claim.right ≡ 2) × (claim.tag ≡ place.now) }
         ensures at { IfSome result
-            (λ h. AreAt K.eq (after V.eq F.remapped F.merged) place.now h.bin.value h.role) }
+            (λ h. AreAt K.eq (after V.eq F.remapped F.merged) place.now h.bin h.role) }
         ensures lawful { IfSome result
-            (λ h. IsLawful K.eq K.code (after V.eq F.remapped F.merged) h.bin.value) }
+            (λ h. IsLawful K.eq K.code (after V.eq F.remapped F.merged) h.bin) }
         ensures place { IfSome result (λ h. h.place.now ≡ place.now) }
         ensures home { IfSome result (λ h. h.home.now ≡ self.now) }
     {
@@ -121,12 +148,13 @@ impl<
             return None;
         };
         bin.lawful();
+        let claim = place.claim_again()?;
         Some(Held {
             bin,
             role,
             place,
             home: self,
-            claim: place.claim_from(rt, AWAY),
+            claim,
         })
     }
 }
@@ -142,7 +170,7 @@ impl<
     /// held. It waits for nobody.
     pub fn release(self)
         requires { AreAt K.eq (after V.eq F.remapped F.merged) self.place.now
-            self.bin.value self.role }
+            self.bin self.role }
     {
         let Held {
             bin,
@@ -155,7 +183,7 @@ impl<
     }
 
     /// Takes the bin and its role for good. Nothing stays in the place.
-    pub(crate) fn take(self) -> (Box<Bin<K, V, F, A>, A>, BinRole<K, V, F>)
+    pub(crate) fn take(self) -> (Bin<K, V, F, A>, BinRole<K, V, F>)
         ensures bin { result.0 ≡ self.entry.bin }
         ensures role { result.1 ≡ self.entry.role }
     {
@@ -170,47 +198,61 @@ impl<
         (bin, role)
     }
 
-    /// Puts the two halves of the bin, each with its part of the role, in its place. For want of
-    /// memory it hands everything back as it was.
-    pub fn halve<R: Wait>(
+    /// Puts the two halves of the bin, each with its part of the role, in its place. It waits for
+    /// nobody. A lean bin takes memory for the wider table alone, where that is not made yet.
+    ///
+    /// # Errors
+    ///
+    /// `NoMemory`, or `Busy` where another thread is in the way. Everything is handed back as it
+    /// was.
+    pub fn try_halve(
         self,
-        rt: &R,
         ledger: &Ledger<K, V, F, A>,
-    ) -> Result<(), (Held<'a, K, V, F, A>, AllocError)>
+    ) -> Result<(), (Held<'a, K, V, F, A>, Refused)>
         requires keys { IsExact K.is_clone }
         requires values { IsExact V.is_clone }
         requires functions { IsExact F.is_clone }
         requires at { AreAt K.eq (after V.eq F.remapped F.merged) self.place.now
-            self.bin.value self.role }
+            self.bin self.role }
         requires ledger { self.role.ledger ≡ ledger.now.id }
-        requires size { self.bin.value.class.n < most_bins }
+        requires size { self.bin.class.n < most_bins }
         ensures bin { IfErr result (λ e. e.0.bin ≡ self.entry.bin) }
         ensures role { IfErr result (λ e. e.0.role ≡ self.entry.role) }
         ensures place { IfErr result (λ e. e.0.place.now ≡ self.entry.place.now) }
         ensures home { IfErr result (λ e. e.0.home.now ≡ self.entry.home.now) }
     {
         let home: &'a Generations<K, V, F, A> = self.home;
-        let (low_class, high_class) = self.bin.class().halves();
-        let Ok(low_place) = home.place_for(rt, low_class) else {
-            return Err((self, AllocError));
+        let (low_claim, high_claim) = match home.claim_halves(self.bin.class()) {
+            Ok(claims) => claims,
+            Err(refused) => return Err((self, refused)),
         };
-        let Ok(high_place) = home.place_for(rt, high_class) else {
-            return Err((self, AllocError));
-        };
-        let Ok((low, high)) = self.bin.split() else {
-            return Err((self, AllocError));
-        };
-        let Ok(low) = boxed(home.allocator(), low) else {
-            return Err((self, AllocError));
-        };
-        let Ok(high) = boxed(home.allocator(), high) else {
-            return Err((self, AllocError));
-        };
-        let (bin, role) = self.take();
-        drop(bin);
-        let (low_role, high_role) = ledger.divide(role);
-        low_place.fill(rt, low, low_role);
-        high_place.fill(rt, high, high_role);
-        Ok(())
+        let Held {
+            bin,
+            role,
+            place,
+            home: _,
+            claim,
+        } = self;
+        match bin.split(home.allocator()) {
+            Ok((low, high)) => {
+                drop(claim.put(State::Away, AWAY));
+                let (low_role, high_role) = ledger.divide(role);
+                fill(low_claim, low, low_role);
+                fill(high_claim, high, high_role);
+                Ok(())
+            }
+            Err((bin, error)) => {
+                leave_new(low_claim);
+                leave_new(high_claim);
+                let held = Held {
+                    bin,
+                    role,
+                    place,
+                    home,
+                    claim,
+                };
+                Err((held, error.into()))
+            }
+        }
     }
 }

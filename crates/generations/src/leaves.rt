@@ -14,7 +14,6 @@ use bin_history::{Bin, Remap};
 use count_ledger::BinRole;
 use hashkeys::{Class, HashKey, MOST_BINS};
 use std::alloc::{AllocError, Allocator};
-use std::sync::Wait;
 
 /// Why the bins of a map could not be taken out.
 #[derive(Drop)]
@@ -46,24 +45,18 @@ impl<
     }
 
     /// The bin of a place, with its role. Nothing stays there.
-    fn take_bin<R: Wait>(
-        &self,
-        rt: &R,
-        place: &Place<K, V, F, A>,
-    ) -> Option<(Bin<K, V, F, A>, BinRole<K, V, F>)>
+    fn take_bin(&self, place: &Place<K, V, F, A>) -> Option<(Bin<K, V, F, A>, BinRole<K, V, F>)>
         requires { IsPlaceOf self.now place.now }
         ensures class { IfSome result (λ p. p.0.class ≡ place.now.class) }
         ensures with_role { IfSome result
             (λ p. IsBinWithRole K.eq K.code (after V.eq F.remapped F.merged) self.now p.0 p.1) }
     {
-        let (bin, role) = self.try_hold(rt, place)?.take();
-        Some((Box::into_inner(bin), role))
+        Some(self.try_hold_at(place)?.take())
     }
 
     /// Takes all bins. False where one is missing, or there are more than there is room for.
-    fn take_all<R: Wait>(
+    fn take_all(
         &self,
-        rt: &R,
         bins: &mut Vec<Bin<K, V, F, A>, A>,
         roles: &mut Vec<BinRole<K, V, F>, A>,
     ) -> bool
@@ -81,7 +74,7 @@ impl<
             if class.n() < next.n() {
                 return false;
             }
-            let Some((bin, role)) = self.take_bin(rt, place) else {
+            let Some((bin, role)) = self.take_bin(place) else {
                 return false;
             };
             bins.push_reserved(bin);
@@ -94,11 +87,13 @@ impl<
         false
     }
 
-    /// Takes out the bins in walk order and, place by place, their roles. For want of memory the
-    /// map comes back as it was.
-    pub fn into_leaves<R: Wait>(
+    /// Takes out the bins in walk order and, place by place, their roles. It waits for nobody.
+    ///
+    /// # Errors
+    ///
+    /// For want of memory the map comes back as it was.
+    pub fn into_leaves(
         self,
-        rt: &R,
     ) -> Result<(Vec<Bin<K, V, F, A>, A>, Vec<BinRole<K, V, F>, A>), NotLeft<K, V, F, A>>
         ensures walk { IfOk result (λ p. IsWalk self.n (classes_of_bins p.0.items)) }
         ensures with_roles { IfOk result
@@ -112,7 +107,7 @@ impl<
         let Ok((mut bins, mut roles)) = self.room_for(count) else {
             return Err(NotLeft::NoMemory(self));
         };
-        if self.take_all(rt, &mut bins, &mut roles) {
+        if self.take_all(&mut bins, &mut roles) {
             Ok((bins, roles))
         } else {
             Err(NotLeft::BinMissing)

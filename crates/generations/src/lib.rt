@@ -5,8 +5,9 @@
 //! widest table and takes the first place that was begun.
 //!
 //! Whoever gets the lock of a place finds a lawful bin of the place's class, and a role
-//! of this map's ledger that agrees with it. No call but `new`, `widen`, `halve`,
-//! `forward` and `into_leaves` takes memory. Calls that may wait for another thread take a `Wait`.
+//! of this map's ledger that agrees with it. No call but `new`, `try_widen`, `try_halve`,
+//! `try_forward`, `forward` and `into_leaves` takes memory. Calls that may wait for another thread
+//! take a `Wait`; those that begin with `try_` are refused in place of waiting.
 #![tactic(auto)]
 
 mod forward;
@@ -15,6 +16,7 @@ mod hold;
 mod leaves;
 mod opening;
 mod place;
+mod refused;
 mod shown;
 mod state;
 mod tables;
@@ -25,5 +27,6 @@ pub use generations::Generations;
 pub use hold::Held;
 pub use leaves::NotLeft;
 pub use place::Place;
+pub use refused::Refused;
 pub use shown::Shown;
 pub use walk::{next_in_walk, walk_laws};

@@ -10,7 +10,7 @@ ghost use Rattle.count_ledger.specs.Views.{LedgerId};
 
 use crate::generations::Generations;
 use crate::place::Place;
-use crate::state::{PlaceTag, State, boxed};
+use crate::state::{PlaceTag, State};
 use bin_history::{Bin, Form, Remap};
 use count_ledger::{BinRole, LedgerName};
 use hashkeys::{Class, HashKey, Salt};
@@ -23,7 +23,7 @@ fn opening_place<
     F: Remap<K, V> + Clone + Drop,
     A: Allocator + Clone,
 >(
-    alloc: A,
+    alloc: &A,
     form: Form,
     salt: Salt,
     class: Class,
@@ -51,8 +51,8 @@ fn opening_place<
         salt,
         ledger: LedgerName::of(&role),
     };
-    let bin = Bin::new(alloc.clone()?, form, salt, class, base)?;
-    Ok(Place::new(&tag, State::Live(role, boxed(&alloc, bin)?)))
+    let bin = Bin::new(alloc, form, salt, class, base)?;
+    Ok(Place::new(&tag, State::Live(role, bin)))
 }
 
 /// The places of the opening bins, each made of the base and the role at its place.
@@ -92,7 +92,7 @@ fn opening_places<
             unreachable!()
         };
         let class = Class::new(n, index);
-        let place = opening_place(alloc.clone()?, form, salt, class, base, role)?;
+        let place = opening_place(&alloc, form, salt, class, base, role)?;
         places.push_reserved(place);
     }
     Ok(places)

@@ -1,7 +1,7 @@
 //! A place for one bin.
 ghost use Rattle.std.specs.Prelude.{◌≡◌, ◌<◌, ◌%◌, IfSome};
 ghost use Rattle.bin_history.specs.Calls.{after};
-ghost use Rattle.counted_slot.specs.Counting.{readers};
+ghost use Rattle.counted_slot.specs.Counting.{IsTurn};
 ghost use Rattle.generations.specs.Places.{AreAt};
 ghost use Rattle.generations.specs.States.{FitsPlace};
 
@@ -9,16 +9,18 @@ use crate::state::{PlaceTag, State};
 use bin_history::{Bin, Remap};
 use count_ledger::BinRole;
 use counted_slot::{Claim, Counted, FREE, MARKED, MOST_READERS, ONE_READER, PRESENT, TAKEN};
-use crossbeam_utils::Backoff;
 use hashkeys::HashKey;
 use std::alloc::Allocator;
 use std::marker::Model;
-use std::sync::Wait;
 
 /// The word of a place whose bin is being taken out, was halved, or was taken for good. A place is
 /// made under `FREE`, and nobody reads there yet; once it was held or filled it is `PRESENT`, where
 /// readers may come. While its bin is held the word is `TAKEN`.
 pub(crate) const AWAY: u64 = MARKED;
+
+/// The word of a new place while it is claimed to be filled: `TAKEN` with a bit that tells that
+/// nobody is to look for a bin there yet. So the place can be handed back as it was.
+const FILLING: u64 = TAKEN + (1 << 32);
 
 /// A place for one bin: its lock with the bin. Contracts see what was fixed when it was made; the
 /// bin's class is told by where the place stands in its table.
@@ -47,7 +49,8 @@ impl<K: HashKey, V: Clone + Eq, F: Remap<K, V> + Clone, A: Allocator> Place<K, V
 
     /// Whether the place was held or filled since it was made. Once it was it stays so.
     pub(crate) fn is_begun(&self) -> bool {
-        self.lock.load() != FREE
+        let word = self.lock.load();
+        word != FREE && word != FILLING
     }
 
     /// One try for a claim to read.
@@ -66,6 +69,21 @@ impl<K: HashKey, V: Clone + Eq, F: Remap<K, V> + Clone, A: Allocator> Place<K, V
         Some(claim)
     }
 
+    /// One try for the right to write, by a turn of the word.
+    #[inline(always)]
+    fn turn_to_write(&self, old: u64, new: u64) -> Option<Claim<'_, State<K, V, F, A>>>
+        requires turn { IsTurn old new }
+        requires writes { new % 4 ≡ 3 }
+        ensures { IfSome result (λ c. (c.right ≡ 2) × (c.tag ≡ self.now)) }
+    {
+        let (found, claim) = self.lock.turn(old, new);
+        if found != old {
+            claim.done();
+            return None;
+        }
+        Some(claim)
+    }
+
     /// One try for the right to write.
     pub(crate) fn try_claim(&self) -> Option<Claim<'_, State<K, V, F, A>>>
         ensures { IfSome result (λ c. (c.right ≡ 2) × (c.tag ≡ self.now)) }
@@ -74,12 +92,7 @@ impl<K: HashKey, V: Clone + Eq, F: Remap<K, V> + Clone, A: Allocator> Place<K, V
         if word != PRESENT && word != FREE {
             return None;
         }
-        let (found, claim) = self.lock.turn(word, TAKEN);
-        if found != word {
-            claim.done();
-            return None;
-        }
-        Some(claim)
+        self.turn_to_write(word, TAKEN)
     }
 
     /// One try for the right to write where the bin was held before, without a look at the word
@@ -88,59 +101,47 @@ impl<K: HashKey, V: Clone + Eq, F: Remap<K, V> + Clone, A: Allocator> Place<K, V
     pub(crate) fn claim_at_once(&self) -> Option<Claim<'_, State<K, V, F, A>>>
         ensures { IfSome result (λ c. (c.right ≡ 2) × (c.tag ≡ self.now)) }
     {
-        let (found, claim) = self.lock.turn(PRESENT, TAKEN);
-        if found != PRESENT {
-            claim.done();
-            return None;
-        }
-        Some(claim)
+        self.turn_to_write(PRESENT, TAKEN)
     }
 
-    /// The right to write, from a word that nobody but the caller turns.
+    /// One try for the right to write where the bin was taken out just now. Nobody but the caller
+    /// turns the word then, so that it does not fail.
     #[inline(always)]
-    pub(crate) fn claim_from<R: Wait>(&self, rt: &R, word: u64) -> Claim<'_, State<K, V, F, A>>
-        requires { (word % 4 < 3) × (readers word ≡ 0) }
-        ensures { (result.right ≡ 2) × (result.tag ≡ self.now) }
+    pub(crate) fn claim_again(&self) -> Option<Claim<'_, State<K, V, F, A>>>
+        ensures { IfSome result (λ c. (c.right ≡ 2) × (c.tag ≡ self.now)) }
     {
-        let (found, claim) = self.lock.turn(word, TAKEN);
-        if found == word {
-            return claim;
-        }
-        claim.done();
-        self.wait_to_claim(rt, word)
+        self.turn_to_write(AWAY, TAKEN)
     }
 
-    /// The same where the first try failed.
-    #[cold]
-    #[inline(never)]
-    fn wait_to_claim<R: Wait>(&self, rt: &R, word: u64) -> Claim<'_, State<K, V, F, A>>
-        requires { (word % 4 < 3) × (readers word ≡ 0) }
-        ensures { (result.right ≡ 2) × (result.tag ≡ self.now) }
+    /// One try for the right to fill a new place.
+    pub(crate) fn claim_new(&self) -> Option<Claim<'_, State<K, V, F, A>>>
+        ensures { IfSome result (λ c. (c.right ≡ 2) × (c.tag ≡ self.now)) }
     {
-        let backoff = Backoff::new();
-        for _ in rt.forever() {
-            let (found, claim) = self.lock.turn(word, TAKEN);
-            if found == word {
-                return claim;
-            }
-            claim.done();
-            backoff.snooze();
-        }
-        unreachable!()
+        self.turn_to_write(FREE, FILLING)
     }
 }
 
-impl<K: HashKey + Drop, V: Clone + Eq + Drop, F: Remap<K, V> + Clone + Drop, A: Allocator> Place<
-    K,
-    V,
-    F,
-    A,
-> {
-    /// Puts a bin into a place that is new.
-    pub(crate) fn fill<R: Wait>(&self, rt: &R, bin: Box<Bin<K, V, F, A>, A>, role: BinRole<K, V, F>)
-        requires { AreAt K.eq (after V.eq F.remapped F.merged) self.now bin.value role }
-    {
-        let claim = self.claim_from(rt, FREE);
-        drop(claim.put(State::Live(role, bin), PRESENT));
-    }
+/// Puts a bin into a new place that was claimed.
+pub(crate) fn fill<
+    K: HashKey + Drop,
+    V: Clone + Eq + Drop,
+    F: Remap<K, V> + Clone + Drop,
+    A: Allocator,
+>(claim: Claim<'_, State<K, V, F, A>>, bin: Bin<K, V, F, A>, role: BinRole<K, V, F>)
+    requires right { claim.right ≡ 2 }
+    requires at { AreAt K.eq (after V.eq F.remapped F.merged) claim.tag bin role }
+{
+    drop(claim.put(State::Live(role, bin), PRESENT));
+}
+
+/// Leaves a new place that was claimed as it was.
+pub(crate) fn leave_new<
+    K: HashKey + Drop,
+    V: Clone + Eq + Drop,
+    F: Remap<K, V> + Clone + Drop,
+    A: Allocator,
+>(claim: Claim<'_, State<K, V, F, A>>)
+    requires { claim.right ≡ 2 }
+{
+    drop(claim.put(State::Away, FREE));
 }

@@ -78,7 +78,7 @@ impl<'a, K: HashKey, V: Clone + Eq, F: Remap<K, V> + Clone, A: Allocator + Clone
         ensures { IsSomeAnd self.now (λ p. result.now ≡ p.0) }
     {
         match self.claim.get() {
-            State::Live(_, bin) => bin.as_ref(),
+            State::Live(_, bin) => bin,
             State::Away => unreachable!(),
         }
     }
@@ -97,13 +97,13 @@ impl<
     A: Allocator + Clone,
 > Generations<K, V, F, A> {
     /// Lets readers come to a place that was never held.
-    fn open_up<R: Wait>(&self, rt: &R, place: &Place<K, V, F, A>)
+    fn open_up(&self, place: &Place<K, V, F, A>)
         requires { IsPlaceOf self.now place.now }
     {
         if place.is_begun() {
             return;
         }
-        if let Some(held) = self.try_hold(rt, place) {
+        if let Some(held) = self.try_hold_at(place) {
             held.release();
         }
     }
@@ -118,7 +118,7 @@ impl<
         let backoff = Backoff::new();
         for _ in rt.forever() {
             let (place, _class) = self.find(hash);
-            self.open_up(rt, place);
+            self.open_up(place);
             if let Some(claim) = place.try_share() {
                 if let Some(shown) = Shown::of(place, claim) {
                     return shown;
