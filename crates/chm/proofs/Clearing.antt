@@ -1,9 +1,10 @@
 -- What a clear takes away, and what its visits show at the end.
 use Rattle.std.proofs.Common.{◌≡◌, ◌≢◌, ℕ, ◌<◌, ◌≤◌, Bool, true, false, Decides, cond, Option, Some, None, List, []}
-use Rattle.std.proofs.Common.{◌∷◌, ◌++◌, length, All, slice_index_or}
+use Rattle.std.proofs.Common.{◌∷◌, ◌++◌, length, All}
 use Rattle.std.proofs.Common.{refl, sym, ap, subst, ◌∙◌, arith, Result, Err, IsErrOf}
 use Rattle.std.specs.Result.{IsErrAnd}
 use Rattle.std.proofs.lemmas.List.{append_assoc, append-nil}
+use Rattle.std.proofs.lemmas.Option.{none-some, same_Some}
 use Rattle.std.proofs.lemmas.List.Elements.{All-nil, All-cons, All-head, All-append, All-weaker}
 use Rattle.std.proofs.lemmas.List.Elements.{filter-append}
 use Rattle.std.proofs.lemmas.List.Sums.{sum_by-cons}
@@ -12,7 +13,7 @@ use Rattle.hashkeys.specs.Hashing.{hash_of}
 use Rattle.hashkeys.specs.declared.hashing.Salt.{Salt}
 use Rattle.bin_history.specs.Calls.{key_of}
 use Rattle.bin_history.specs.Deltas.{change_of_count}
-use Rattle.bin_history.specs.Entries.{lookup, remove, replay, store}
+use Rattle.bin_history.specs.Entries.{first_in, lookup, remove, replay, store}
 use Rattle.bin_history.specs.Part.{part_of_records}
 use Rattle.bin_history.specs.declared.call.Call.{Call}
 use Rattle.bin_history.specs.declared.call.Call.TheVariants.{Remove}
@@ -36,23 +37,23 @@ module _ {K V F : Type 0} (same : K → K → Bool) (tells : (x y : K) → Decid
   found_here : (e : K × V) (es : List (K × V)) → lookup same (e ∷ es) e.0 ≡ Some e.1
   found_here e es = ap (λ b. cond b (Some e.1) (lookup same es e.0)) ((tells e.0 e.0).1 refl)
 
-  pub first_of : (P : K × V → Type 0) (entries : List (K × V)) (d : K × V) → entries ≢ [] → All P entries →
-      P (slice_index_or entries 0 d)
-  first_of P [] d some each = absurd (some refl)
-  first_of P (e ∷ es) d some each = All-head P e es each
+  pub first_of : (P : K × V → Type 0) (entries : List (K × V)) (first : K × V) → Some first ≡ first_in entries →
+      All P entries → P first
+  first_of P [] first is each = absurd (none-some first (sym is))
+  first_of P (e ∷ es) first is each = subst P (sym (same_Some first e is)) (All-head P e es each)
 
   -- a remove of the first entry takes it away
-  pub removed-first : (entries others : List (K × V)) (first : K × V) (d : K × V) (key : K) (salt : Salt)
+  pub removed-first : (entries others : List (K × V)) (first : K × V) (key : K) (salt : Salt)
       (class : ClassView) (old new : PassView K V F)
       (answer : Reply V) (front : List (RecordView K V F)) (r : RecordView K V F)
-      → entries ≢ [] → first ≡ slice_index_or entries 0 d → key ≡ first.0 → is_of code salt class key ≡ true
+      → Some first ≡ first_in entries → key ≡ first.0 → is_of code salt class key ≡ true
       → BeginsWith front old.seen → IsMade same_value remapped merged (Remove key) old new answer front r
       → r.before ≡ lookup same entries key → others ≡ store same entries key r.after
       → HasRemovedIn code salt class old new × (length others < length entries)
-  removed-first [] others first d key salt class old new answer front r some at is of begins made before stored =
-      absurd (some refl)
-  removed-first (e ∷ es) others first d key salt class old new answer front r some at is of begins made before stored =
-      let same_key : key ≡ e.0 = is ∙ ap (λ (x : K × V). x.0) at in
+  removed-first [] others first key salt class old new answer front r at is of begins made before stored =
+      absurd (none-some first (sym at))
+  removed-first (e ∷ es) others first key salt class old new answer front r at is of begins made before stored =
+      let same_key : key ≡ e.0 = is ∙ ap (λ (x : K × V). x.0) (same_Some first e at) in
       let found : r.before ≡ Some e.1 = before ∙ ap (lookup same (e ∷ es)) same_key ∙ found_here e es in
       let none : r.after ≡ None = made.left in
       let its_key : key_of r.call ≡ key = ap key_of made.call_is in

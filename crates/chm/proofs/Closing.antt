@@ -41,6 +41,16 @@ module _ {K V F : Type 0} (same : K → K → Bool) (tells : (x y : K) → Decid
   ledgers_of_roles (b ∷ bs) (r ∷ rs) (with_role, with_roles) =
       All-cons (λ (r : RoleView K V F). r.ledger ≡ g.ledger) r rs with_role.ledger (ledgers_of_roles bs rs with_roles)
 
+  -- the bins of a map are of its salt
+  pub salts_of_bins : (bins : List (BinView K V F)) (roles : List (RoleView K V F)) →
+      AreBinsWithRoles same code after g bins roles
+      → All (λ b. b.salt ≡ g.salt) bins
+  salts_of_bins [] [] with_roles = All-nil (λ (b : BinView K V F). b.salt ≡ g.salt)
+  salts_of_bins [] (r ∷ rs) with_roles = absurd with_roles
+  salts_of_bins (b ∷ bs) [] with_roles = absurd with_roles
+  salts_of_bins (b ∷ bs) (r ∷ rs) (with_role, with_roles) =
+      All-cons (λ (b : BinView K V F). b.salt ≡ g.salt) b bs with_role.salt (salts_of_bins bs rs with_roles)
+
   -- there are as many pairs as the roles' opening pairs and deltas say
   pub count_of_bins : (bins : List (BinView K V F)) (roles : List (RoleView K V F)) →
       AreBinsWithRoles same code after g bins roles

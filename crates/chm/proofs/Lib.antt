@@ -12,6 +12,6 @@ pub mod Dealing
 pub mod Reopening
 mod Seats
 pub mod Shared
-pub mod Finding
+pub mod Searching
 pub mod Passes
 pub mod Limits

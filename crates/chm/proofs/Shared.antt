@@ -3,7 +3,6 @@ use denote.RattleType.{RattleType}
 use denote.Struct.Declared.{shape}
 use denote.Param.Send.{IsSend, IsSync, Frees, AllSync, sendable}
 use Rattle.std.proofs.CrossingOver.{crosses}
-use Rattle.std.proofs.sync.OnceLock.TheSendSync as once
 use Rattle.std.proofs.sync.atomic.AtomicIn.TheSendSync as ruled
 use Rattle.std.specs.declared.alloc.Allocator as Allocator
 use Rattle.std.specs.declared.clone.Clone as Clone
@@ -11,6 +10,7 @@ use Rattle.std.specs.declared.cmp.Eq as Eq
 use Rattle.std.specs.declared.cmp.PartialEq as PartialEq
 use Rattle.atomic_table.proofs.shared.Shared.TheSendSync as the_words
 use Rattle.atomic_table.proofs.send_lease.SendLease.TheSendSync as the_lease
+use Rattle.boxcar.proofs.slot.OnceSlot.TheSendSync as once
 use Rattle.hashkeys.specs.declared.hashing.HashKey as HashKey
 use Rattle.bin_history.specs.declared.call.Remap as Remap
 use Rattle.count_ledger.specs.contracts.ledger.Ledger as Ledger
@@ -47,7 +47,7 @@ module _ (K V F A : RattleType) (hash : HashKey.Ghosts K.Denot) (key_eq : Eq.Gho
       generations.map_sync K V F A hash key_eq key_same key_clone value_clone value_eq value_same remap function_clone
           alloc sk sv sf sa yk yv yf ya frees,
       (
-        search (sendable, crosses, ruled.the_sync, once.the_sync, transfer.strides_send, transfer.strides_sync) depth 30,
+        search (sendable, crosses, ruled.the_sync, once.the_send, once.the_sync, transfer.strides_send, transfer.strides_sync) depth 30,
         (search sendable depth 20, tt),
       ),
     ),

@@ -1,8 +1,8 @@
 -- What the visits of a walk show.
-use Rattle.std.proofs.Common.{◌≡◌, ℕ, ◌<◌, ◌==◌, Bool, true, Option, Some, None, option_copied, Bor, List, [], ◌∷◌}
+use Rattle.std.proofs.Common.{◌≡◌, ℕ, ◌<◌, ◌==◌, Bool, true, Option, Some, None, List, [], ◌∷◌}
 use Rattle.std.proofs.Common.{◌++◌, map, All, refl, sym, ap, subst, ◌∙◌}
 use Rattle.std.proofs.Common.{arith}
-use Rattle.std.specs.Option.{IsSomeAnd, MatchOption}
+use Rattle.std.specs.Option.{IsSomeAnd}
 use Rattle.std.proofs.Common.{Decides}
 use Rattle.std.proofs.lemmas.Bool.Decides.{nat_tests}
 use Rattle.std.proofs.lemmas.List.{map-append}
@@ -112,13 +112,6 @@ module _ {K V F : Type 0} (same : K → K → Bool) (after : Call K V F → Opti
 pub classes-push : {K V : Type 0} (vs : List (VisitView K V)) (v : VisitView K V) → classes_of_visits (vs ++ v ∷ [])
     ≡ classes_of_visits vs ++ v.class ∷ []
 classes-push vs v = map-append (λ (x : VisitView _ _). x.class) vs (v ∷ [])
-
--- a reference to a value, if there is one, shows what was looked up
-pub copied-found : {V : Type 0} (o : Option (Bor V)) (found : Option V) →
-    MatchOption o (found ≡ None) (λ value. found ≡ Some value.now)
-    → option_copied o ≡ found
-copied-found None found is = sym is
-copied-found (Some value) found is = sym is
 
 -- what a reader of a bin for the key's hash looks up
 pub IsShown-read : {K V F : Type 0} (same : K → K → Bool) (code : K → ℕ) (after : Call K V F → Option V → Option V)

@@ -1,18 +1,15 @@
 //! The twelve calls.
-ghost use Rattle.std.specs.Prelude.{◌≡◌, ◌<◌, length, IfOk, OnErr};
+ghost use Rattle.std.specs.Prelude.{◌≡◌, IfSome, IfNone};
 ghost use Rattle.bin_history.specs.Ops.{call_on, key_in};
-ghost use Rattle.bin_history.specs.Copies.{IsExact};
 ghost use Rattle.bin_history.specs.declared.call.Call.TheVariants.{Get, Contains, Put, PutIfAbsent};
 ghost use Rattle.bin_history.specs.declared.call.Call.TheVariants.{Remove, RemoveIf, Replace};
 ghost use Rattle.bin_history.specs.declared.call.Call.TheVariants.{ReplaceIf, ComputeIfAbsent};
 ghost use Rattle.bin_history.specs.declared.call.Call.TheVariants.{ComputeIfPresent, Compute};
 ghost use Rattle.bin_history.specs.declared.call.Call.TheVariants.{Merge};
-ghost use Rattle.count_ledger.specs.Limits.{most_calls};
-ghost use Rattle.chm.specs.Headline.{AreExact, IsAnswered, IsCalled};
+ghost use Rattle.chm.specs.Headline.{AreExact, IsAnswered};
 
 use crate::fault::Fault;
 use crate::map::Map;
-use crate::moving::Landed;
 use bin_history::{Call, Given, Op, Remap, Reply};
 use count_ledger::Pass;
 use hashkeys::HashKey;
@@ -25,34 +22,6 @@ impl<
     F: Remap<K, V> + Clone + Drop,
     A: Allocator + Clone,
 > Map<K, V, F, A> {
-    /// Makes a call on the bin of its key, which it holds meanwhile, and posts it. For want of
-    /// memory nothing is changed or posted.
-    fn make<R: Wait>(
-        &self,
-        rt: &R,
-        pass: &mut Pass<K, V, F>,
-        key: Given<'_, K>,
-        op: Op<V, F>,
-    ) -> Result<(Reply<V>, Landed), AllocError>
-        requires keys { IsExact K.is_clone }
-        requires values { IsExact V.is_clone }
-        requires pass { pass.old.ledger ≡ self.now.ledger.id }
-        requires room { length pass.old.made < most_calls self.now.ledger.form }
-        ensures called { IfOk result
-            (λ r. IsCalled K.eq V.eq F.remapped F.merged self.now.ledger
-            (call_on (key_in key.entry) op) pass.old pass.new r.0) }
-        ensures refused { OnErr result (pass.new ≡ pass.old) }
-    {
-        let mut held = self.bins.hold(rt, self.salt().hash_of(key.get()));
-        let lent = &mut held;
-        let bin = lent.bin.as_mut();
-        let class = bin.class();
-        let made = self.call_under(pass, bin, &mut lent.role, key, op);
-        held.release();
-        let (reply, grew) = made?;
-        Ok((reply, Landed { class, grew }))
-    }
-
     /// Makes a call, whichever of the twelve it is. It posts the call, and then does the call's
     /// part for the table. The pass is full after 1,000,000 calls in a recorded map, and after 2^57
     /// in a lean one.
@@ -112,8 +81,37 @@ impl<
             return Err(Fault::PassFull);
         }
         let (reply, landed) = self.make(rt, pass, key, op)?;
-        self.after_call(rt, &landed);
+        self.after_call(&landed);
         Ok(reply)
+    }
+
+    /// Tries to make a call as `call_on` does, and waits for nobody. There is no answer where the
+    /// key's bin is held just then: the call was not made, and the pass is as it was.
+    ///
+    ///     map.try_call(pass, Given::Owned(1), Op::Put(5)) == Some(Ok(Reply::Value(None)))
+    pub fn try_call(
+        &self,
+        pass: &mut Pass<K, V, F>,
+        key: Given<'_, K>,
+        op: Op<V, F>,
+    ) -> Option<Result<Reply<V>, Fault>>
+        requires exact { AreExact K.is_clone V.is_clone F.is_clone }
+        requires pass { pass.old.ledger ≡ self.now.ledger.id }
+        ensures answered { IfSome result
+            (IsAnswered K.eq V.eq F.remapped F.merged self.now.ledger
+            (call_on (key_in key.entry) op) pass.old pass.new) }
+        ensures busy { IfNone result (pass.new ≡ pass.old) }
+    {
+        if pass.made() >= self.ledger.most_calls() {
+            return Some(Err(Fault::PassFull));
+        }
+        match self.try_make(pass, key, op)? {
+            Ok((reply, landed)) => {
+                self.after_call(&landed);
+                Some(Ok(reply))
+            }
+            Err(AllocError) => Some(Err(Fault::NoMemory)),
+        }
     }
 
     /// The value at the key.

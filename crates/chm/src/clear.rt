@@ -54,9 +54,13 @@ impl<
             return Err(Fault::PassFull);
         }
         bin.lawful();
-        let key = bin.entries()[0].0.clone()?;
+        let Some(entry) = bin.first() else {
+            unreachable!()
+        };
+        let key = entry.0.clone()?;
+        let hash = bin.salt().hash_of(&key);
         let given: Given<'a, K> = Given::Owned(key);
-        self.call_under(pass, bin, role, given, Op::Remove)?;
+        self.call_under(pass, bin, role, hash, given, Op::Remove)?;
         Ok(())
     }
 
@@ -84,7 +88,7 @@ impl<
         ensures left { IsErrOf result Fault.PassFull → bin.new.entries ≢ [] }
         ensures faults { IfErr result IsOfCall }
     {
-        while !bin.entries().is_empty() {
+        while bin.first().is_some() {
             self.remove_first(pass, bin, role)?;
         }
         Ok(())
@@ -114,7 +118,7 @@ impl<
     {
         let mut held = self.hold_first(rt, class);
         let lent = &mut held;
-        let bin = lent.bin.as_mut();
+        let bin = &mut lent.bin;
         let class = bin.class();
         let done = self.empty(pass, bin, &mut lent.role);
         bin.lawful();

@@ -13,7 +13,6 @@ use hashkeys::HashKey;
 use std::alloc::Allocator;
 use std::marker::Model;
 use std::snapshot::Snapshot;
-use std::sync::Wait;
 
 /// Why a map could not be closed, with the passes as they were handed in. The map comes back too,
 /// as it was, but where bins were missing.
@@ -40,7 +39,7 @@ impl<
 > NotClosed<K, V, F, A> {
     /// Why the map was not closed, for who gives it up: its passes end, and it goes.
     ///
-    ///     map.close(rt, passes).map_err(|refused| refused.give_up())
+    ///     map.close(passes).map_err(|refused| refused.give_up())
     pub fn give_up(self) -> Fault
         ensures { result ≡ self.fault }
     {
@@ -74,15 +73,15 @@ impl<
 > Map<K, V, F, A> {
     /// Closes the map, with the passes of all clients. The closed map knows that the role of each
     /// bin kept just the calls that the clients made on its keys, each once and in its client's
-    /// order. Where a pass is missing, or for want of memory, map and passes come back.
+    /// order. It waits for nobody: whoever has all passes has no call to wait for. Where a pass is
+    /// missing, or for want of memory, map and passes come back.
     ///
-    ///     match map.close(rt, passes) {
+    ///     match map.close(passes) {
     ///         Ok(quiet) => Ok(quiet),
     ///         Err(refused) => Err(refused.give_up()),
     ///     }
-    pub fn close<R: Wait>(
+    pub fn close(
         self,
-        rt: &R,
         passes: Vec<Pass<K, V, F>, A>,
     ) -> Result<Quiet<K, V, F, A>, NotClosed<K, V, F, A>>
         requires { All (λ p. p.ledger ≡ self.ledger.id) passes.items }
@@ -105,7 +104,7 @@ impl<
             opened,
         } = self;
         let (n, salt, form) = (bins.n(), bins.salt(), ledger.form());
-        match bins.into_leaves(rt) {
+        match bins.into_leaves() {
             Ok((bins, roles)) => {
                 replayed(&bins);
                 let books = (

@@ -2,8 +2,9 @@
 ghost use Rattle.std.specs.Prelude.{◌≡◌, ◌^◌, ◌≤◌, ◌/◌, true, IfOk, IfSome};
 ghost use Rattle.hashkeys.specs.Classes.{IsTableSize};
 
+use boxcar::slot::{OnceSlot, SlotRule};
+use boxcar::tag::Tag;
 use std::alloc::{AllocError, Allocator};
-use std::sync::OnceLock;
 use std::sync::atomic::Ordering::SeqCst;
 use std::sync::atomic::{AtomicIn, Rule};
 use transfer::{Mover, Strides};
@@ -87,19 +88,27 @@ impl<A: Allocator> Doubling<A> {
     }
 }
 
+/// The rule of a slot for a move: any move may stand there.
+pub(crate) struct AnyMove;
+
+impl<A: Allocator> SlotRule<Doubling<A>> for AnyMove {
+    ghost holds = { λ _ _. Unit {0} };
+}
+
 /// The resize word, and for each size of a table the move from it.
 #[derive(Drop)]
 pub(crate) struct Growth<A: Allocator> {
     word: AtomicIn<ResizeWord>,
-    moves: Vec<OnceLock<Doubling<A>>, A>,
+    moves: Vec<OnceSlot<Doubling<A>, AnyMove>, A>,
 }
 
 impl<A: Allocator + Clone> Growth<A> {
     /// A table of `n` bins, and no move.
     pub(crate) fn new(alloc: A, n: u32) -> Result<Growth<A>, AllocError> {
         let mut moves = Vec::with_capacity(alloc, MOST_EXPONENT as usize)?;
+        let none = Tag::empty();
         for _exponent in 0..MOST_EXPONENT {
-            moves.push_reserved(OnceLock::new());
+            moves.push_reserved(OnceSlot::new(&none));
         }
         let exponent = n.trailing_zeros().min(MOST_EXPONENT);
         let word = AtomicIn::new(word_of(exponent, Phase::Still));
@@ -186,14 +195,14 @@ impl<A: Allocator> Growth<A> {
     }
 
     /// Where the move from this table is kept.
-    pub(crate) fn cell(&self, table: Table) -> Option<&OnceLock<Doubling<A>>> {
+    pub(crate) fn slot(&self, table: Table) -> Option<&OnceSlot<Doubling<A>, AnyMove>> {
         self.moves.get(table.exponent as usize)
     }
 
     /// The move that is open, once its strides are ready.
     pub(crate) fn open_move(&self, table: Table) -> Option<&Doubling<A>> {
         if table.phase == Phase::Moving {
-            self.cell(table)?.get()
+            self.slot(table)?.get()
         } else {
             None
         }

@@ -3,6 +3,7 @@ ghost use Rattle.std.specs.Prelude.{◌≡◌, ◌<◌, true, length, IfOk, OnEr
 ghost use Rattle.hashkeys.specs.Classes.{is_of};
 ghost use Rattle.bin_history.specs.Calls.{after};
 ghost use Rattle.bin_history.specs.Copies.{IsExact};
+ghost use Rattle.bin_history.specs.Hashes.{hash_by};
 ghost use Rattle.bin_history.specs.Ops.{call_on, key_in};
 ghost use Rattle.count_ledger.specs.Agreement.{BinAgrees};
 ghost use Rattle.count_ledger.specs.Fronts.{HasSeen};
@@ -21,13 +22,14 @@ impl<
     F: Remap<K, V> + Clone + Drop,
     A: Allocator + Clone,
 > Map<K, V, F, A> {
-    /// Makes a call on a bin that is held, and posts it. It replies, and says whether the call made
-    /// its key present. For want of memory nothing is posted, and the entries stay.
+    /// Makes a call on a bin that is held, on a key of this hash, and posts it. It replies, and says
+    /// whether the call made its key present. For want of memory nothing is posted, and the entries stay.
     pub(crate) fn call_under(
         &self,
         pass: &mut Pass<K, V, F>,
         bin: &mut Bin<K, V, F, A>,
         role: &mut BinRole<K, V, F>,
+        hash: u32,
         key: Given<'_, K>,
         op: Op<V, F>,
     ) -> Result<(Reply<V>, bool), AllocError>
@@ -37,6 +39,7 @@ impl<
         requires role { role.old.ledger ≡ self.now.ledger.id }
         requires room { length pass.old.made < most_calls self.now.ledger.form }
         requires agree { BinAgrees K.eq (after V.eq F.remapped F.merged) bin.old role.old }
+        requires hash { hash ≡ hash_by K.code bin.old.salt (key_in key) }
         requires of_class { is_of K.code bin.old.salt bin.old.class (key_in key) ≡ true }
         ensures called { IfOk result
             (λ r. IsCalledOn K.eq K.code V.eq F.remapped F.merged self.now.ledger bin.old bin.new
@@ -50,7 +53,8 @@ impl<
         ensures agree { BinAgrees K.eq (after V.eq F.remapped F.merged) bin.new role.new }
     {
         bin.lawful();
-        let (reply, trace) = bin.make_on(key, op, pass.client(), pass.made())?;
+        let alloc = self.growth.allocator();
+        let (reply, trace) = bin.make_on(alloc, hash, key, op, pass.client(), pass.made())?;
         self.ledger.post_trace(pass, role, &trace);
         Ok((reply, trace.delta() == 1))
     }

@@ -10,7 +10,9 @@
 //!
 //! The table grows while it is called. After a call that made its key present, where there are
 //! three keys to four bins, the call's client opens a move to twice the bins, and moves 16 of them
-//! at a time; calls that meet a moved bin help. No refusal in a move is an error of a call.
+//! at a time; calls that meet a moved bin help. Moves wait for nobody: a bin that is held just then
+//! is skipped, and the next call on it moves it. So a call waits for its own bin alone, and no
+//! refusal in a move is an error of a call.
 #![tactic(auto)]
 
 mod balance;
@@ -22,6 +24,7 @@ mod growth;
 mod held;
 mod laws;
 mod lent;
+mod making;
 mod map;
 mod moments;
 mod moving;

@@ -1,5 +1,5 @@
-//! What calls do for the table once their own work is done. No refusal here is an error of the
-//! call.
+//! What calls do for the table once their own work is done. It waits for nobody, and no refusal
+//! here is an error of the call.
 ghost use Rattle.std.specs.Prelude.{◌≡◌, ◌≤◌};
 ghost use Rattle.hashkeys.specs.Classes.{IsTableSize};
 ghost use Rattle.chm.specs.Headline.{AreExact};
@@ -9,9 +9,9 @@ use crate::growth::{Doubling, Table};
 use crate::map::Map;
 use crate::size::{MOST_BINS, threshold};
 use bin_history::Remap;
+use generations::Refused;
 use hashkeys::{Class, HashKey};
-use std::alloc::{AllocError, Allocator};
-use std::sync::Wait;
+use std::alloc::Allocator;
 use transfer::{Finish, Mover, Range};
 
 /// What a call met, and whether it made its key present.
@@ -29,34 +29,35 @@ impl<
 > Map<K, V, F, A> {
     /// Forwards a bin that the table has outgrown, helps an open move with one stride, and opens a
     /// move where there are too many keys.
-    pub(crate) fn after_call<R: Wait>(&self, rt: &R, landed: &Landed)
+    pub(crate) fn after_call(&self, landed: &Landed)
         requires exact { AreExact K.is_clone V.is_clone F.is_clone }
     {
         let table = self.growth.table();
         if landed.class.n() < table.n() {
-            self.move_bin(rt, landed.class);
+            self.move_bin(landed.class);
         }
         if self.bins.n() < landed.class.n() {
-            self.help(rt, table);
+            self.help(table);
         }
         let n = table.n();
         if landed.grew && n < MOST_BINS && self.mapping_count() >= u64::from(threshold(n)) {
-            self.grow(rt, table);
+            self.grow(table);
         }
     }
 
-    /// Forwards one bin. For want of memory, or under a wider bin, it stays.
-    fn move_bin<R: Wait>(&self, rt: &R, class: Class)
+    /// Moves one bin into its halves. Where another call holds it, or for want of memory, it stays,
+    /// and a later call on it moves it; under a wider bin it stays too.
+    fn move_bin(&self, class: Class)
         requires exact { AreExact K.is_clone V.is_clone F.is_clone }
     {
         if self.bins.n() <= class.n() && class.n() < MOST_BINS {
-            let _ = self.bins.forward(rt, &self.ledger, class);
+            let _ = self.bins.try_forward(&self.ledger, class);
         }
     }
 
     /// Moves the bins of a range that the mover claimed, and publishes the wider table where it was
     /// the last.
-    fn move_range<R: Wait>(&self, rt: &R, doubling: &Doubling<A>, mover: &mut Mover, range: Range)
+    fn move_range(&self, doubling: &Doubling<A>, mover: &mut Mover, range: Range)
         requires exact { AreExact K.is_clone V.is_clone F.is_clone }
         requires mover { mover.old.strides ≡ doubling.now.strides }
         requires range { IsUnfinished mover.old range }
@@ -65,7 +66,7 @@ impl<
     {
         let n = doubling.n();
         for index in range.lo..range.hi.min(n as usize) {
-            self.move_bin(rt, Class::new(n, index as u32));
+            self.move_bin(Class::new(n, index as u32));
         }
         if doubling.strides.finish(mover, range) == Finish::Last {
             self.growth.publish(doubling, mover);
@@ -73,7 +74,7 @@ impl<
     }
 
     /// Takes part in the open move with one stride, if there is a mover left.
-    fn help<R: Wait>(&self, rt: &R, table: Table)
+    fn help(&self, table: Table)
         requires exact { AreExact K.is_clone V.is_clone F.is_clone }
     {
         let Some(doubling) = self.growth.open_move(table) else {
@@ -84,17 +85,17 @@ impl<
             return;
         };
         if let Some(range) = strides.claim(&mut mover) {
-            self.move_range(rt, doubling, &mut mover, range);
+            self.move_range(doubling, &mut mover, range);
         }
         strides.leave(mover);
     }
 
     /// Makes the places of a table of twice as many bins.
-    fn widen<R: Wait>(&self, rt: &R, n: u32) -> Result<(), AllocError>
+    fn widen(&self, n: u32) -> Result<(), Refused>
         requires { IsTableSize n }
     {
         if self.bins.n() <= n && n < MOST_BINS {
-            self.bins.widen(rt, 2 * n)
+            self.bins.try_widen(2 * n)
         } else {
             Ok(())
         }
@@ -102,17 +103,17 @@ impl<
 
     /// Tries to open a move, and then moves strides until none is left. For want of memory for its
     /// places or its strides there is no move.
-    fn grow<R: Wait>(&self, rt: &R, table: Table)
+    fn grow(&self, table: Table)
         requires exact { AreExact K.is_clone V.is_clone F.is_clone }
         requires table { table.exponent ≤ 16 }
     {
-        let Some(cell) = self.growth.cell(table) else {
+        let Some(slot) = self.growth.slot(table) else {
             return;
         };
         let Some(opening) = self.growth.open(table) else {
             return;
         };
-        if self.widen(rt, table.n()).is_err() {
+        if self.widen(table.n()).is_err() {
             self.growth.shut(opening);
             return;
         }
@@ -120,14 +121,13 @@ impl<
             self.growth.shut(opening);
             return;
         };
-        let Ok(token) = cell.try_set(doubling) else {
+        let Ok(doubling) = slot.set(doubling) else {
             self.growth.shut(opening);
             return;
         };
         self.growth.ready(opening);
-        let doubling = cell.value(&token);
         while let Some(range) = doubling.strides.claim(&mut mover) {
-            self.move_range(rt, doubling, &mut mover, range);
+            self.move_range(doubling, &mut mover, range);
         }
         doubling.strides.leave(mover);
     }

@@ -6,7 +6,7 @@ ghost use Rattle.bin_history.specs.Records.{RecordView};
 ghost use Rattle.chm.specs.Headline.{IsHistoryOfKey, IsOneOrder, IsQuiet, IsToldInOrder};
 ghost use Rattle.chm.specs.Headline.{entries_of};
 
-use bin_history::{Bin, Form, Remap};
+use bin_history::{Bin, Form, Remap, Walk};
 use count_ledger::{BinRole, Ledger, Pass};
 use hashkeys::{HashKey, Salt};
 use std::alloc::Allocator;
@@ -56,20 +56,6 @@ impl<K: HashKey, V: Clone + Eq, F: Remap<K, V> + Clone, A: Allocator> Quiet<K, V
         ensures { result.now ≡ self.now.bins }
     {
         &self.bins
-    }
-
-    /// The pairs of the bins, bin by bin.
-    ///
-    ///     let mut pairs = quiet.entries();
-    ///     pairs.next().copied() == Some((1, 5))
-    ///     pairs.next().is_none()
-    pub fn entries(&self) -> Entries<'_, K, V, F, A>
-        ensures { result ≡ entries_of self.now.bins }
-    {
-        Entries {
-            own: &[],
-            bins: &self.bins,
-        }
     }
 
     /// The number of keys.
@@ -135,10 +121,35 @@ impl<K: HashKey, V: Clone + Eq, F: Remap<K, V> + Clone, A: Allocator> Quiet<K, V
     }
 }
 
+impl<
+    K: HashKey + Drop,
+    V: Clone + Eq + Drop,
+    F: Remap<K, V> + Clone + Drop,
+    A: Allocator + Clone,
+> Quiet<K, V, F, A> {
+    /// The pairs of the bins, bin by bin.
+    ///
+    ///     let mut pairs = quiet.entries();
+    ///     pairs.next().copied() == Some((1, 5))
+    ///     pairs.next().is_none()
+    pub fn entries(&self) -> Entries<'_, K, V, F, A>
+        ensures { result ≡ entries_of self.now.bins }
+    {
+        self.lawful();
+        let Some((first, bins)) = self.bins().split_first() else {
+            unreachable!()
+        };
+        Entries {
+            own: first.walk(),
+            bins,
+        }
+    }
+}
+
 /// The pairs of bins, bin by bin. Contracts see the pairs that are left.
 #[derive(Drop)]
 pub struct Entries<'a, K: HashKey, V: Clone + Eq, F: Remap<K, V> + Clone, A: Allocator> {
-    own: &'a [(K, V)],
+    own: Walk<'a, K, V, A>,
     bins: &'a [Bin<K, V, F, A>],
 }
 
@@ -149,11 +160,16 @@ impl<'a, K: HashKey, V: Clone + Eq, F: Remap<K, V> + Clone, A: Allocator> Model
 
     ghost Value = { List (K × V) };
 
-    ghost view = { λ e. e.own.now ++ entries_of e.bins.now };
+    ghost view = { λ e. e.own ++ entries_of e.bins.now };
 }
 
-impl<'a, K: HashKey, V: Clone + Eq, F: Remap<K, V> + Clone, A: Allocator + Clone> Iterator
-    for Entries<'a, K, V, F, A> {
+impl<
+    'a,
+    K: HashKey + Drop,
+    V: Clone + Eq + Drop,
+    F: Remap<K, V> + Clone + Drop,
+    A: Allocator + Clone,
+> Iterator for Entries<'a, K, V, F, A> {
     ghost use Rattle.std.specs.Iterator.{YieldsFirstRef, item_count};
 
     type Item = &'a (K, V);
@@ -164,12 +180,11 @@ impl<'a, K: HashKey, V: Clone + Eq, F: Remap<K, V> + Clone, A: Allocator + Clone
 
     fn next(&mut self) -> Option<&'a (K, V)> {
         loop {
-            if let Some((first, others)) = self.own.split_first() {
-                self.own = others;
-                return Some(first);
+            if let Some(entry) = self.own.next() {
+                return Some(entry);
             }
             let (bin, bins) = self.bins.split_first()?;
-            self.own = bin.entries();
+            self.own = bin.walk();
             self.bins = bins;
         }
     }

@@ -20,11 +20,7 @@ fn move_all<
     ensures { result.items ≡ entries_of bins.items }
 {
     for bin in bins {
-        let mut own = bin.into_entries();
-        match room.append(&mut own) {
-            Ok(()) => (),
-            Err(AllocError) => unreachable!(),
-        }
+        room = bin.pour(room);
     }
     room
 }

@@ -44,10 +44,10 @@ impl<
     /// passed before, so it is given back and asked for again.
     pub(crate) fn hold_first<R: Wait>(&self, rt: &R, class: Class) -> Held<'_, K, V, F, A>
         ensures at { AreAt K.eq (after V.eq F.remapped F.merged) result.place.now
-            result.bin.value result.role }
-        ensures first { IsFirstOf class result.bin.value.class }
+            result.bin result.role }
+        ensures first { IsFirstOf class result.bin.class }
         ensures ledger { result.role.ledger ≡ self.now.ledger.id }
-        ensures salt { result.bin.value.salt ≡ self.now.ledger.salt }
+        ensures salt { result.bin.salt ≡ self.now.ledger.salt }
     {
         let backoff = Backoff::new();
         for _ in rt.forever() {
@@ -78,10 +78,10 @@ impl<
     {
         let mut held = self.hold_first(rt, class);
         let lent = &mut held;
-        let bin = lent.bin.as_ref();
+        let bin = &lent.bin;
         bin.lawful();
         let class = bin.class();
-        let entries = bin.copy_entries();
+        let entries = bin.copy_entries(self.growth.allocator());
         self.meet_under(pass, bin, &mut lent.role);
         held.release();
         Ok(Visit {
@@ -153,10 +153,11 @@ impl<
             ≡ run K.eq (lookup K.eq self.now.ledger.opening) pass.new.seen key.now) }
         ensures faults { IfErr result (λ fault. fault ≡ Fault.NoMemory) }
     {
-        let mut held = self.bins.hold(rt, self.salt().hash_of(key));
+        let hash = self.salt().hash_of(key);
+        let mut held = self.bins.hold(rt, hash);
         let lent = &mut held;
-        let bin = lent.bin.as_ref();
-        let value = copied(bin.get(key));
+        let bin = &lent.bin;
+        let value = copied(bin.get(hash, key));
         self.meet_under(pass, bin, &mut lent.role);
         held.release();
         Ok(value?)
@@ -173,8 +174,9 @@ impl<
             (IsShown K.eq K.code (after V.eq F.remapped F.merged) self.now key.now) }
         ensures faults { IfErr result (λ fault. fault ≡ Fault.NoMemory) }
     {
-        let shown = self.bins.read(rt, self.salt().hash_of(key));
-        let value = copied(shown.bin().get(key));
+        let hash = self.salt().hash_of(key);
+        let shown = self.bins.read(rt, hash);
+        let value = copied(shown.bin().get(hash, key));
         shown.release();
         Ok(value?)
     }

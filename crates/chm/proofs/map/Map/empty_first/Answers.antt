@@ -2,7 +2,6 @@ use Rattle.std.proofs.Common.{◌≡◌, true, All, sym, subst, ap, ◌∙◌}
 use Rattle.hashkeys.specs.Classes.{ClassView, is_of}
 use Rattle.hashkeys.specs.declared.hashing.Salt.{Salt}
 use Rattle.bin_history.specs.Calls.{after}
-use Rattle.bin_history.specs.Lawful.{BinView}
 use Rattle.count_ledger.specs.Agreement.{BinAgrees}
 use Rattle.count_ledger.specs.Views.{RoleView}
 use Rattle.chm.specs.Cleared.{HasRemovedIn, IsEmptyIn}
@@ -14,12 +13,11 @@ use Rattle.chm.proofs.map.Map.empty_first.Goals as goal
 pub release-requires : goal.release-requires
 release-requires g c =
     let at = c.hold_first-held.ensures.at in
-    let same_bin = c.as_mut-bin.ensures.value in
     let same = c.meet_under.ensures.same_role in
     record {
-      class = c.empty-done.ensures.class ∙ ap (λ (b : BinView _ _ _). b.class) same_bin ∙ at.class;
-      form = c.empty-done.ensures.form ∙ ap (λ (b : BinView _ _ _). b.form) same_bin ∙ at.form;
-      salt = c.empty-done.ensures.salt ∙ ap (λ (b : BinView _ _ _). b.salt) same_bin ∙ at.salt;
+      class = c.empty-done.ensures.class ∙ at.class;
+      form = c.empty-done.ensures.form ∙ at.form;
+      salt = c.empty-done.ensures.salt ∙ at.salt;
       ledger = ap (λ (r : RoleView _ _ _). r.ledger) same ∙ c.empty-done.ensures.ledger ∙ at.ledger;
       agree = subst
           (λ (r : RoleView _ _ _). BinAgrees g.K.PartialEq.eq
@@ -33,9 +31,9 @@ returns-clause-there g c =
     c.empty-done.new.pass c.meet_under.new.pass
     (subst (λ (k : ClassView). HasRemovedIn g.K.HashKey.code c.args.self.now.ledger.salt k c.args.pass.now
     c.empty-done.new.pass) (sym c.class-class.ensures)
-    (subst (λ (s : Salt). HasRemovedIn g.K.HashKey.code s c.as_mut-bin.result.now.class c.args.pass.now
+    (subst (λ (s : Salt). HasRemovedIn g.K.HashKey.code s c.hold_first-held.result.bin.class c.args.pass.now
     c.empty-done.new.pass)
-    (ap (λ (b : BinView _ _ _). b.salt) c.as_mut-bin.ensures.value ∙ c.hold_first-held.ensures.salt)
+    c.hold_first-held.ensures.salt
     c.empty-done.ensures.removed))
     (HasSeenMore-seen g.K.PartialEq.eq (after g.V.PartialEq.eq g.F.Remap.remapped g.F.Remap.merged)
     c.args.self.now.ledger c.empty-done.new.pass c.meet_under.new.pass c.meet_under.ensures.seen)
@@ -47,9 +45,9 @@ returns-clause-removed g c =
 
 pub returns-in_err-done-clause-removed : goal.returns-in_err-done-clause-removed
 returns-in_err-done-clause-removed g c =
-    removed_in g.K.HashKey.code c.as_mut-bin.result.now.salt c.as_mut-bin.result.now.class c.args.pass.now
+    removed_in g.K.HashKey.code c.hold_first-held.result.bin.salt c.hold_first-held.result.bin.class c.args.pass.now
     c.meet_under.new.pass
-    (removed_in-seen g.K.HashKey.code c.as_mut-bin.result.now.salt c.as_mut-bin.result.now.class c.args.pass.now
+    (removed_in-seen g.K.HashKey.code c.hold_first-held.result.bin.salt c.hold_first-held.result.bin.class c.args.pass.now
     c.empty-done.new.pass c.meet_under.new.pass c.empty-done.ensures.removed
     (HasSeenMore-seen g.K.PartialEq.eq (after g.V.PartialEq.eq g.F.Remap.remapped g.F.Remap.merged)
     c.args.self.now.ledger c.empty-done.new.pass c.meet_under.new.pass c.meet_under.ensures.seen))
@@ -70,8 +68,7 @@ pub returns-in_err-done-clause-left : goal.returns-in_err-done-clause-left
 returns-in_err-done-clause-left g c = λ full.
     let lawful = c.lawful.ensures.lawful in
     let bin = c.empty-done.new.bin in
-    let salt = c.empty-done.ensures.salt ∙ ap (λ (b : BinView _ _ _). b.salt) c.as_mut-bin.ensures.value
-    ∙ c.hold_first-held.ensures.salt in
+    let salt = c.empty-done.ensures.salt ∙ c.hold_first-held.ensures.salt in
     let some =
     c.in_err-done.ensures.left
     (passed_on c.from_residual.result c.in_err-done.field-0.0 PassFull c.from_residual.ensures.1 full) in (

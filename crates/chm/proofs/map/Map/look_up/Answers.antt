@@ -2,28 +2,23 @@ use Rattle.std.proofs.Common.{◌≡◌, ap, sym, subst, ◌∙◌}
 use Rattle.hashkeys.specs.Classes.{covers}
 use Rattle.hashkeys.specs.Hashing.{hash_of}
 use Rattle.bin_history.specs.Calls.{after}
-use Rattle.bin_history.specs.Entries.{lookup}
-use Rattle.bin_history.specs.Lawful.{BinView}
 use Rattle.count_ledger.specs.Views.{RoleView}
 use Rattle.generations.specs.Places.{AreAt}
-use Rattle.chm.proofs.Visiting.{copied-found}
 use Rattle.chm.proofs.map.Map.look_up.Goals as goal
 
 pub release-requires : goal.release-requires
 release-requires g c =
     let At : RoleView _ _ _ → Type 0 = λ r. AreAt g.K.PartialEq.eq
     (after g.V.PartialEq.eq g.F.Remap.remapped g.F.Remap.merged) c.hold-held.result.place.now
-    c.hold-held.result.bin.value r in
+    c.hold-held.result.bin r in
     subst At (sym c.meet_under.ensures.same_role) c.hold-held.ensures.at
 
 pub returns-clause-found : goal.returns-clause-found
 returns-clause-found g c =
     let key = c.args.key.now in
-    let bin = c.as_ref-bin.result.now in
-    let hash : c.hash_of.result ≡ hash_of c.args.self.now.ledger.salt (g.K.HashKey.code key) = c.hash_of.ensures.hash
+    let bin = c.hold-held.result.bin in
+    let hash : c.hash_of-hash.result ≡ hash_of c.args.self.now.ledger.salt (g.K.HashKey.code key) =
+    c.hash_of-hash.ensures.hash
     ∙ (λ i. hash_of (c.salt.ensures i) (g.K.HashKey.code key)) in
-    let on = ap (covers bin.class) (sym hash) ∙ ap (λ (b : BinView _ _ _). covers b.class c.hash_of.result)
-    c.as_ref-bin.ensures ∙ c.hold-held.ensures.covers in
-    let value = c.in_ok-value.ensures ∙ copied-found c.get.result (lookup g.K.PartialEq.eq bin.entries key)
-    c.get.ensures in
-    value ∙ c.meet_under.ensures.met.same_map key on
+    let on = ap (covers bin.class) (sym hash) ∙ c.hold-held.ensures.covers in
+    c.in_ok-value.ensures ∙ c.get.ensures ∙ c.meet_under.ensures.met.same_map key on

@@ -1,9 +1,8 @@
-use Rattle.std.proofs.Common.{◌≡◌, true, List, All, ap, sym, subst, ◌∙◌}
+use Rattle.std.proofs.Common.{◌≡◌, true, List, All, sym, subst, ◌∙◌}
 use Rattle.hashkeys.specs.Classes.{ClassView, is_of}
 use Rattle.hashkeys.specs.declared.hashing.Salt.{Salt}
 use Rattle.bin_history.specs.Calls.{after}
 use Rattle.bin_history.specs.Entries.{HasDistinctKeys}
-use Rattle.bin_history.specs.Lawful.{BinView}
 use Rattle.count_ledger.specs.Views.{RoleView}
 use Rattle.generations.specs.Places.{AreAt}
 use Rattle.chm.specs.Visits.{IsVisit}
@@ -13,7 +12,7 @@ pub release-requires : goal.release-requires
 release-requires g c =
     let At : RoleView _ _ _ → Type 0 = λ r. AreAt g.K.PartialEq.eq
     (after g.V.PartialEq.eq g.F.Remap.remapped g.F.Remap.merged) c.hold_first-held.result.place.now
-    c.hold_first-held.result.bin.value r in
+    c.hold_first-held.result.bin r in
     subst At (sym c.meet_under.ensures.same_role) c.hold_first-held.ensures.at
 
 pub returns-clause-visit : goal.returns-clause-visit
@@ -21,9 +20,9 @@ returns-clause-visit g c =
     let Visited : ClassView → Type 0 = λ class. IsVisit g.K.PartialEq.eq g.K.HashKey.code
     c.args.self.now.ledger c.meet_under.new.pass.seen (record { class = class; entries = c.in_ok-entries.field-0.items }) in
     let lawful = c.lawful.ensures.lawful in
-    let bin = c.as_ref-bin.result.now in
+    let bin = c.hold_first-held.result.bin in
     let class = bin.class in
-    let salt = ap (λ (b : BinView _ _ _). b.salt) c.as_ref-bin.ensures ∙ c.hold_first-held.ensures.salt in
+    let salt = c.hold_first-held.ensures.salt in
     let Of : Salt → List (_ × _) → Type 0 =
     λ salt entries. All (λ e. is_of g.K.HashKey.code salt class e.0 ≡ true) entries in
     subst Visited (sym c.class-class.ensures) (record {
