@@ -63,9 +63,9 @@ impl<K, V, X: Action<K, V>, B: Allocator + Clone> Stepper<K, V> for Acting<'_, X
 }
 
 impl<
-    K: HashKey,
-    V: Clone + Eq,
-    F: Remap<K, V> + Clone,
+    K: HashKey + Drop,
+    V: Clone + Eq + Drop,
+    F: Remap<K, V> + Clone + Drop,
     A: Allocator + Clone,
     X: Action<K, V>,
     B: Allocator + Clone,
@@ -101,9 +101,9 @@ impl<
 ///
 ///     for_each(rt, alloc, quiet, &Plan::new(0, 4), &Values)?.as_slice() == [1, 2].as_slice()
 pub fn for_each<
-    K: HashKey + Send + Sync,
-    V: Clone + Eq + Send + Sync,
-    F: Remap<K, V> + Clone + Send + Sync,
+    K: HashKey + Drop + Send + Sync,
+    V: Clone + Eq + Drop + Send + Sync,
+    F: Remap<K, V> + Clone + Drop + Send + Sync,
     A: Allocator + Clone + Send + Sync,
     B: Allocator + Clone + Send + Sync,
     X: Action<K, V> + Sync,

@@ -10,7 +10,12 @@ use std::alloc::Allocator;
 use steal_pool::Body;
 
 /// What the pairs of bins give.
-pub trait Collector<K: HashKey, V: Clone + Eq, F: Remap<K, V> + Clone, A: Allocator + Clone> {
+pub trait Collector<
+    K: HashKey + Drop,
+    V: Clone + Eq + Drop,
+    F: Remap<K, V> + Clone + Drop,
+    A: Allocator + Clone,
+> {
     type Part: Drop;
 
     // Of the pairs of a list, in order.
@@ -45,9 +50,9 @@ pub(crate) struct Collecting<
 }
 
 impl<
-    K: HashKey,
-    V: Clone + Eq,
-    F: Remap<K, V> + Clone,
+    K: HashKey + Drop,
+    V: Clone + Eq + Drop,
+    F: Remap<K, V> + Clone + Drop,
     A: Allocator + Clone,
     C: Collector<K, V, F, A>,
 > Relation for Collecting<'_, K, V, F, A, C> {
@@ -61,9 +66,9 @@ impl<
 }
 
 impl<
-    K: HashKey,
-    V: Clone + Eq,
-    F: Remap<K, V> + Clone,
+    K: HashKey + Drop,
+    V: Clone + Eq + Drop,
+    F: Remap<K, V> + Clone + Drop,
     A: Allocator + Clone,
     C: Collector<K, V, F, A>,
 > Body for Collecting<'_, K, V, F, A, C> {

@@ -16,9 +16,9 @@ use steal_pool::{Gate, run};
 
 /// What the entries of a closed map give, in walk order, whichever worker took which.
 pub(crate) fn gather<
-    K: HashKey + Send + Sync,
-    V: Clone + Eq + Send + Sync,
-    F: Remap<K, V> + Clone + Send + Sync,
+    K: HashKey + Drop + Send + Sync,
+    V: Clone + Eq + Drop + Send + Sync,
+    F: Remap<K, V> + Clone + Drop + Send + Sync,
     A: Allocator + Clone + Send + Sync,
     B: Allocator + Clone + Send + Sync,
     C: Collector<K, V, F, A> + Sync,

@@ -47,9 +47,9 @@ pub struct Bulk<
 
 impl<
     'a,
-    K: HashKey + Send + Sync,
-    V: Clone + Eq + Send + Sync,
-    F: Remap<K, V> + Clone + Send + Sync,
+    K: HashKey + Drop + Send + Sync,
+    V: Clone + Eq + Drop + Send + Sync,
+    F: Remap<K, V> + Clone + Drop + Send + Sync,
     A: Allocator + Clone + Send + Sync,
     B: Allocator + Clone + Send + Sync,
     G: Gate + Sync,

@@ -11,7 +11,7 @@ use crate::fault::BulkFault;
 use crate::operations::Bulk;
 use crate::plan::Plan;
 use crate::traits::{BasedReducer, Reducer};
-use bin_history::{Bin, Remap};
+use bin_history::{Bin, Remap, Walk};
 use chm::Quiet;
 use hashkeys::HashKey;
 use std::alloc::{AllocError, Allocator};
@@ -19,21 +19,21 @@ use std::sync::Wait;
 use std::thread::Threads;
 use steal_pool::Gate;
 
-// The pairs of a list, lifted and joined onto a value.
-fn fold_onto<K, V, R: Reducer<K, V>>(
+// The pairs of a walk, lifted and joined onto a value.
+fn fold_onto<K, V, A: Allocator, R: Reducer<K, V>>(
     reducer: &R,
     first: R::A,
-    entries: &[(K, V)],
+    walk: Walk<'_, K, V, A>,
 ) -> Result<R::A, AllocError>
-    requires few { (n : ℕ) × R.within reducer.now n first × (n + length entries.now < 2 ^ 64) }
+    requires few { (n : ℕ) × R.within reducer.now n first × (n + length walk < 2 ^ 64) }
     ensures fold { IfOk result
-        (λ a. a ≡ fold_from (R.lifted reducer.now) (R.joined reducer.now) first entries.now) }
+        (λ a. a ≡ fold_from (R.lifted reducer.now) (R.joined reducer.now) first walk.entry) }
     ensures within { (n : ℕ) → R.within reducer.now n first →
-        IfOk result (R.within reducer.now (n + length entries.now)) }
+        IfOk result (R.within reducer.now (n + length walk.entry)) }
     ensures total { IsTrue R.never_refuses → IsOk result }
 {
     let mut folded = first;
-    for (key, value) in entries {
+    for (key, value) in walk {
         let lifted = reducer.lift(key, value)?;
         folded = reducer.join(folded, lifted)?;
     }
@@ -42,9 +42,9 @@ fn fold_onto<K, V, R: Reducer<K, V>>(
 
 // The same of the pairs of bins.
 fn fold_bins_onto<
-    K: HashKey,
-    V: Clone + Eq,
-    F: Remap<K, V> + Clone,
+    K: HashKey + Drop,
+    V: Clone + Eq + Drop,
+    F: Remap<K, V> + Clone + Drop,
     A: Allocator + Clone,
     R: Reducer<K, V>,
 >(reducer: &R, first: R::A, bins: &[Bin<K, V, F, A>]) -> Result<R::A, AllocError>
@@ -59,7 +59,7 @@ fn fold_bins_onto<
 {
     let mut folded = first;
     for bin in bins {
-        folded = fold_onto(reducer, folded, bin.entries())?;
+        folded = fold_onto(reducer, folded, bin.walk())?;
     }
     Ok(folded)
 }
@@ -71,9 +71,9 @@ pub(crate) struct Folding<'a, R> {
 }
 
 impl<
-    K: HashKey,
-    V: Clone + Eq,
-    F: Remap<K, V> + Clone,
+    K: HashKey + Drop,
+    V: Clone + Eq + Drop,
+    F: Remap<K, V> + Clone + Drop,
     A: Allocator + Clone,
     R: Reducer<K, V>,
 > Collector<K, V, F, A> for Folding<'_, R> {
@@ -86,9 +86,10 @@ impl<
 
     fn collect(&self, bins: &[Bin<K, V, F, A>]) -> Result<Option<R::A>, AllocError> {
         for (index, bin) in bins.iter().enumerate() {
-            if let Some((first, others)) = bin.entries().split_first() {
-                let lifted = self.reducer.lift(&first.0, &first.1)?;
-                let begun = fold_onto(self.reducer, lifted, others)?;
+            let mut walk = bin.walk();
+            if let Some((key, value)) = walk.next() {
+                let lifted = self.reducer.lift(key, value)?;
+                let begun = fold_onto(self.reducer, lifted, walk)?;
                 return Ok(Some(fold_bins_onto(self.reducer, begun, &bins[index + 1..])?));
             }
         }
@@ -146,9 +147,9 @@ pub(crate) fn join_onto<K, V, R: Reducer<K, V>>(
 ///
 ///     reduce(rt, alloc, quiet, &Plan::new(0, 4), &Greatest)? == Some(2)
 pub fn reduce<
-    K: HashKey + Send + Sync,
-    V: Clone + Eq + Send + Sync,
-    F: Remap<K, V> + Clone + Send + Sync,
+    K: HashKey + Drop + Send + Sync,
+    V: Clone + Eq + Drop + Send + Sync,
+    F: Remap<K, V> + Clone + Drop + Send + Sync,
     A: Allocator + Clone + Send + Sync,
     B: Allocator + Clone + Send + Sync,
     R: Reducer<K, V> + Sync,
@@ -181,9 +182,9 @@ where
 ///
 ///     reduce_based(rt, alloc, quiet, &Plan::new(0, 4), &Sum)? == 3
 pub fn reduce_based<
-    K: HashKey + Send + Sync,
-    V: Clone + Eq + Send + Sync,
-    F: Remap<K, V> + Clone + Send + Sync,
+    K: HashKey + Drop + Send + Sync,
+    V: Clone + Eq + Drop + Send + Sync,
+    F: Remap<K, V> + Clone + Drop + Send + Sync,
     A: Allocator + Clone + Send + Sync,
     B: Allocator + Clone + Send + Sync,
     R: BasedReducer<K, V> + Sync,

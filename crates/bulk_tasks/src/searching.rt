@@ -94,9 +94,9 @@ impl<K, V, P: Probe<K, V>> Stepper<K, V> for Searching<'_, P> {
 }
 
 impl<
-    K: HashKey,
-    V: Clone + Eq,
-    F: Remap<K, V> + Clone,
+    K: HashKey + Drop,
+    V: Clone + Eq + Drop,
+    F: Remap<K, V> + Clone + Drop,
     A: Allocator + Clone,
     P: Probe<K, V>,
 > Collector<K, V, F, A> for Searching<'_, P> {
@@ -131,9 +131,9 @@ impl<
 
 /// A search by the caller alone, which does not give up.
 pub(crate) fn search_alone<
-    K: HashKey,
-    V: Clone + Eq,
-    F: Remap<K, V> + Clone,
+    K: HashKey + Drop,
+    V: Clone + Eq + Drop,
+    F: Remap<K, V> + Clone + Drop,
     A: Allocator + Clone,
     P: Probe<K, V>,
 >(bins: &[Bin<K, V, F, A>], probe: &P) -> Result<Option<P::U>, BulkFault>
@@ -163,9 +163,9 @@ pub(crate) fn search_alone<
 ///
 ///     search(rt, alloc, quiet, &Plan::new(0, 4), &Above(1))? == Some(2)
 pub fn search<
-    K: HashKey + Send + Sync,
-    V: Clone + Eq + Send + Sync,
-    F: Remap<K, V> + Clone + Send + Sync,
+    K: HashKey + Drop + Send + Sync,
+    V: Clone + Eq + Drop + Send + Sync,
+    F: Remap<K, V> + Clone + Drop + Send + Sync,
     A: Allocator + Clone + Send + Sync,
     B: Allocator + Clone + Send + Sync,
     P: Probe<K, V> + Sync,

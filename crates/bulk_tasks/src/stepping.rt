@@ -2,7 +2,7 @@
 ghost use Rattle.std.specs.Prelude.{◌++◌, ◌∷◌, [], List, IsTrue};
 ghost use Rattle.chm.specs.Headline.{entries_of};
 
-use bin_history::{Bin, Remap};
+use bin_history::{Bin, Remap, Walk};
 use hashkeys::HashKey;
 use std::alloc::Allocator;
 
@@ -31,13 +31,17 @@ pub trait Stepper<K, V> {
             reached self.now (es ++ fs) part.now };
 }
 
-// The part with these pairs more.
-fn add_all<K, V, S: Stepper<K, V>>(stepper: &S, part: S::Part, entries: &[(K, V)]) -> S::Part
+// The part with the pairs of a walk more.
+fn add_all<K, V, A: Allocator, S: Stepper<K, V>>(
+    stepper: &S,
+    part: S::Part,
+    walk: Walk<'_, K, V, A>,
+) -> S::Part
     ensures { (es : List (K × V)) → S.reached stepper.now es part →
-        S.reached stepper.now (es ++ entries.now) result }
+        S.reached stepper.now (es ++ walk.entry) result }
 {
     let mut part = part;
-    for (key, value) in entries {
+    for (key, value) in walk {
         part = stepper.add(part, key, value);
     }
     part
@@ -45,9 +49,9 @@ fn add_all<K, V, S: Stepper<K, V>>(stepper: &S, part: S::Part, entries: &[(K, V)
 
 /// What the pairs of these bins give.
 pub(crate) fn step_through<
-    K: HashKey,
-    V: Clone + Eq,
-    F: Remap<K, V> + Clone,
+    K: HashKey + Drop,
+    V: Clone + Eq + Drop,
+    F: Remap<K, V> + Clone + Drop,
     A: Allocator + Clone,
     S: Stepper<K, V>,
 >(stepper: &S, bins: &[Bin<K, V, F, A>]) -> S::Part
@@ -59,7 +63,7 @@ pub(crate) fn step_through<
         if stepper.is_settled(&part) {
             return part;
         }
-        part = add_all(stepper, part, bin.entries());
+        part = add_all(stepper, part, bin.walk());
     }
     part
 }

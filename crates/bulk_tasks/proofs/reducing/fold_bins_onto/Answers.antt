@@ -11,8 +11,8 @@ fold_onto-requires g c =
     let bins = c.args.bins.now in
     let i = c.loop-bin.bin-index in
     let (n, h, few) = c.requires.few in
-    let own : length c.entries.result.now ≡ length (get_or bins i c.bin-item.result).entries
-    = ap length (c.entries.ensures ∙ ap (λ b. b.entries) c.bin-item.is) in
+    let own : length c.walk.result ≡ length (get_or bins i c.bin-item.result).entries
+    = ap length (c.walk.ensures ∙ ap (λ b. b.entries) c.bin-item.is) in
     let all = entries_few bins i c.bin-item.result c.loop-bin-test.true in
     record { few = (n + length (entries_of (take i bins)), c.loop-bin.invariant.1 n h, omega (arith, own, all, few)) }
 
@@ -25,9 +25,9 @@ loop-bin-preserved g c =
     let bins = c.args.bins.now in
     let i = c.loop-bin.bin-index in
     let before = entries_of (take i bins) in
-    let own = c.entries.result.now in
+    let own = c.walk.result in
     let more : before ++ own ≡ entries_of (take (i + 1) bins)
-    = ap (λ (es : List _). before ++ es) (c.entries.ensures ∙ ap (λ b. b.entries) c.bin-item.is)
+    = ap (λ (es : List _). before ++ es) (c.walk.ensures ∙ ap (λ b. b.entries) c.bin-item.is)
     ∙ entries_more bins i c.bin-item.result c.loop-bin-test.true in (
       c.in_ok-folded.ensures.fold
           ∙ ap (λ a. fold_from lift join a own) c.loop-bin.invariant.0

@@ -18,6 +18,6 @@ loop-bin-preserved g c =
     λ es. g.S.Stepper.reached c.args.stepper.now es c.add_all-part.result in
     let here = ap (λ b. b.entries) c.bin-item.is in
     let before = entries_of (take c.loop-bin.bin-index c.args.bins.now) in
-    subst P (ap (λ es. before ++ es) (c.entries.ensures ∙ here)
+    subst P (ap (λ es. before ++ es) (c.walk.ensures ∙ here)
     ∙ entries_more c.args.bins.now c.loop-bin.bin-index c.bin-item.result c.loop-bin-test.true)
     (c.add_all-part.ensures before (c.look_again-part.ensures before c.loop-bin.invariant))

@@ -15,11 +15,11 @@ returns-in-Some g c =
     let within = g.R.Reducer.within reducer in
     let bins = c.args.bins.now in
     let i = c.loop-index.index in
-    let first = c.in-Some.first.now in
-    let others = c.in-Some.others.now in
+    let first = c.in-Some.field-0.now in
+    let others = c.next.new.self in
     let rest = entries_of (slice_range bins (i + 1) (length bins)) in
     let own : first ∷ others ≡ (get_or bins i c.index-bins-index.result).entries
-    = sym c.in-Some.ensures.cases.0 ∙ c.entries.ensures ∙ ap (λ b. b.entries) c.index-bins-index.is in
+    = sym c.in-Some.ensures.steps ∙ c.walk-walk.ensures ∙ ap (λ b. b.entries) c.index-bins-index.is in
     let all : (first ∷ others) ++ rest ≡ entries_of bins
     = ap (λ (es : List _). es ++ rest) own ∙ entries_after_none bins i c.index-bins-index.result c.loop-index-test.true
     c.loop-index.invariant in
@@ -39,11 +39,11 @@ pub fold_bins_onto-requires : goal.fold_bins_onto-requires
 fold_bins_onto-requires g c =
     let bins = c.args.bins.now in
     let i = c.loop-index.index in
-    let first = c.in-Some.first.now in
-    let others = c.in-Some.others.now in
+    let first = c.in-Some.field-0.now in
+    let others = c.next.new.self in
     let rest = entries_of (slice_range bins (i + 1) (length bins)) in
     let own : first ∷ others ≡ (get_or bins i c.index-bins-index.result).entries
-    = sym c.in-Some.ensures.cases.0 ∙ c.entries.ensures ∙ ap (λ b. b.entries) c.index-bins-index.is in
+    = sym c.in-Some.ensures.steps ∙ c.walk-walk.ensures ∙ ap (λ b. b.entries) c.index-bins-index.is in
     let all : (first ∷ others) ++ rest ≡ entries_of bins
     = ap (λ (es : List _). es ++ rest) own ∙ entries_after_none bins i c.index-bins-index.result c.loop-index-test.true
     c.loop-index.invariant in
@@ -57,3 +57,20 @@ fold_bins_onto-requires g c =
         omega (arith, both, few),
       );
     }
+
+pub fold_onto-requires : goal.fold_onto-requires
+fold_onto-requires g c =
+    let bins = c.args.bins.now in
+    let i = c.loop-index.index in
+    let first = c.in-Some.field-0.now in
+    let others = c.next.new.self in
+    let rest = entries_of (slice_range bins (i + 1) (length bins)) in
+    let own : first ∷ others ≡ (get_or bins i c.index-bins-index.result).entries
+    = sym c.in-Some.ensures.steps ∙ c.walk-walk.ensures ∙ ap (λ b. b.entries) c.index-bins-index.is in
+    let all : (first ∷ others) ++ rest ≡ entries_of bins
+    = ap (λ (es : List _). es ++ rest) own ∙ entries_after_none bins i c.index-bins-index.result c.loop-index-test.true
+    c.loop-index.invariant in
+    let both : suc (length others) + length rest ≡ length (entries_of bins) = sym (length-append (first ∷ others) rest)
+    ∙ ap length all in
+    let few = c.requires.few in
+    record { few = (1, c.in_ok-lifted.ensures.within, omega (arith, both, few)) }
