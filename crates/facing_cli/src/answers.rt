@@ -14,7 +14,7 @@ use crate::text::{push_number_line, push_option, push_pairs};
 use bulk_tasks::{Greatest, Plan, Sum, for_each, reduce, reduce_based, search};
 use hashkeys::Key;
 use script::Query;
-use std::alloc::{AllocError, Allocator, Global};
+use std::alloc::{AllocError, Allocator};
 use std::sync::Wait;
 use std::thread::Threads;
 
@@ -42,7 +42,7 @@ impl<G> Crew<'_, G> {
 /// The exact sum of the values. It is never refused.
 fn sum_of<R: Threads + Wait + Sync, G: ClientGate + Sync, A: Allocator + Clone + Send + Sync>(
     rt: &R,
-    alloc: Global,
+    alloc: A,
     quiet: &ScriptQuiet<A>,
     plan: &Plan<'_, G>,
 ) -> i128
@@ -58,7 +58,7 @@ fn sum_of<R: Threads + Wait + Sync, G: ClientGate + Sync, A: Allocator + Clone +
 /// The greatest value, if there is one. It is never refused.
 fn greatest<R: Threads + Wait + Sync, G: ClientGate + Sync, A: Allocator + Clone + Send + Sync>(
     rt: &R,
-    alloc: Global,
+    alloc: A,
     quiet: &ScriptQuiet<A>,
     plan: &Plan<'_, G>,
 ) -> Option<i64>
@@ -74,7 +74,7 @@ fn greatest<R: Threads + Wait + Sync, G: ClientGate + Sync, A: Allocator + Clone
 /// A value above the bound, if there is one. It is never refused.
 fn above<R: Threads + Wait + Sync, G: ClientGate + Sync, A: Allocator + Clone + Send + Sync>(
     rt: &R,
-    alloc: Global,
+    alloc: A,
     quiet: &ScriptQuiet<A>,
     plan: &Plan<'_, G>,
     bound: i64,
@@ -91,10 +91,10 @@ fn above<R: Threads + Wait + Sync, G: ClientGate + Sync, A: Allocator + Clone + 
 /// The pairs in byte order of their keys.
 fn sorted<R: Threads + Wait + Sync, G: ClientGate + Sync, A: Allocator + Clone + Send + Sync>(
     rt: &R,
-    alloc: Global,
+    alloc: A,
     quiet: &ScriptQuiet<A>,
     plan: &Plan<'_, G>,
-) -> Result<Vec<(Key, i64)>, AllocError>
+) -> Result<Vec<(Key, i64), A>, AllocError>
     ensures permutation { IfOk result (λ v. IsPermutation (entries_of quiet.now.bins) v.items) }
     ensures sorted { IfOk result (λ v. IsSortedByKey (λ e. e.0) (slice_cmp nat_cmp) v.items) }
 {
@@ -108,7 +108,7 @@ fn sorted<R: Threads + Wait + Sync, G: ClientGate + Sync, A: Allocator + Clone +
 /// Appends the lines that answer a query.
 fn push_answer<R: Threads + Wait + Sync, G: ClientGate + Sync, A: Allocator + Clone + Send + Sync>(
     rt: &R,
-    alloc: Global,
+    alloc: A,
     text: &mut Vec<u8, A>,
     quiet: &ScriptQuiet<A>,
     crew: &Crew<'_, G>,
@@ -146,7 +146,7 @@ pub(crate) fn push_answers<
     A: Allocator + Clone + Send + Sync,
 >(
     rt: &R,
-    alloc: Global,
+    alloc: &A,
     text: &mut Vec<u8, A>,
     quiet: &ScriptQuiet<A>,
     crew: &Crew<'_, G>,
@@ -158,7 +158,7 @@ pub(crate) fn push_answers<
         × (text.new.items ≡ text.old.items ++ answers)) }
 {
     for query in queries {
-        push_answer(rt, alloc, text, quiet, crew, query)?;
+        push_answer(rt, alloc.clone()?, text, quiet, crew, query)?;
     }
     Ok(())
 }

@@ -15,7 +15,7 @@ use crate::client::{Client, ScriptMap, ScriptPass};
 use crate::gate::ClientGate;
 use crate::options::Options;
 use bin_history::{MOST_CLIENTS, Reply};
-use chm::{Fault, Map, NotClosed, Quiet};
+use chm::{Fault, Map, Quiet};
 use count_ledger::retire_all;
 use hashkeys::Key;
 use script::{Function, ScriptCall};
@@ -174,19 +174,11 @@ pub(crate) fn play<
             return Err(fault);
         }
     };
-    match map.close(rt, passes) {
+    match map.close(passes) {
         Ok(map) => {
             map.lawful();
             Ok(Played { replies, map })
         }
-        Err(not_closed) => {
-            let NotClosed {
-                fault,
-                map: _,
-                passes,
-            } = not_closed;
-            retire_all(passes);
-            Err(fault)
-        }
+        Err(not_closed) => Err(not_closed.give_up()),
     }
 }

@@ -31,11 +31,13 @@ pub fn parse<A: Allocator + Clone>(alloc: A, text: &[u8]) -> Result<Script<A>, F
 }
 
 /// The output text of the script that the text is.
-fn output_of<
-    R: Threads + Wait + AllocGlobal + Sync,
-    G: ClientGate + Sync,
-    A: Allocator + Clone + Send + Sync,
->(rt: &R, alloc: A, text: &[u8], options: &Options, gate: &G) -> Result<Vec<u8, A>, Fault>
+fn output_of<R: Threads + Wait + Sync, G: ClientGate + Sync, A: Allocator + Clone + Send + Sync>(
+    rt: &R,
+    alloc: A,
+    text: &[u8],
+    options: &Options,
+    gate: &G,
+) -> Result<Vec<u8, A>, Fault>
     ensures { MatchResult result (λ bytes. IsOutputOf text.now bytes.items)
         (λ fault. IsRefusalOf text.now fault) }
 {
@@ -50,7 +52,7 @@ fn output_of<
         workers: options.workers(),
         gate,
     };
-    push_answers(rt, rt.alloc(), &mut bytes, &played.map, &crew, &queries)?;
+    push_answers(rt, &alloc, &mut bytes, &played.map, &crew, &queries)?;
     Ok(bytes)
 }
 
@@ -61,7 +63,7 @@ fn output_of<
 /// answered; where a write fails, a beginning of the output text was written. It waits for its
 /// threads.
 pub fn run<
-    R: Threads + Wait + AllocGlobal + Sync,
+    R: Threads + Wait + Sync,
     I: Input,
     O: Output,
     G: ClientGate + Sync,

@@ -1,6 +1,5 @@
 use Rattle.std.proofs.Common.{◌≡◌, Vec, ap, subst, sym, ◌∙◌, arith, inl, inr}
 use Rattle.std.proofs.lemmas.List.{length-map}
-use Rattle.chm.specs.Closing.{NotClosedView}
 use Rattle.count_ledger.specs.Opening.{lists_of}
 use Rattle.facing_cli.specs.Played.{ArePlayed}
 use Rattle.facing_cli.proofs.Allowed.{IsAllowed-closed}
@@ -20,8 +19,7 @@ returns-in-Ok-close-clause-ok g c =
 pub returns-in-Err-close-clause-fault : goal.returns-in-Err-close-clause-fault
 returns-in-Err-close-clause-fault g c =
     let refused = c.in-Err-close.ensures.refused in
-    let same : c.not_closed.inside.fault ≡ c.in-Err-close.not_closed.fault =
-    ap (λ (e : NotClosedView _ _ _). e.fault) c.not_closed.view_is in
+    let same = c.give_up.ensures in
     elim refused.faults [
       | inl memory ↦ inl (same ∙ memory)
       | inr others ↦
