@@ -10,7 +10,7 @@ use Rattle.hashkeys.specs.contracts.key.Key as Key
 use Rattle.map_bench.specs.contracts.name.Name as Name
 use Rattle.hashkeys.specs.declared.hashing.HashKey as HashKey
 use Rattle.bin_history.specs.declared.call.Remap as Remap
-use Rattle.map_bench.specs.contracts.sum.Sum as Sum
+use Rattle.functions.specs.contracts.numbers.Add as Add
 use Rattle.chm.specs.contracts.map.Map as Map
 use Rattle.chm.proofs.Shared.{map_sync}
 use Rattle.map_bench.specs.contracts.settings.Settings as Settings
@@ -25,11 +25,11 @@ name_send = search (sendable, crosses, key_sync) depth 20
 name_sync : IsSync Name.the_row
 name_sync = search (sendable, crosses, key_sync) depth 20
 
-sum_send : IsSend Sum.the_row
-sum_send = search (sendable, crosses) depth 20
+add_send : IsSend Add.the_row
+add_send = search (sendable, crosses) depth 20
 
-sum_sync : IsSync Sum.the_row
-sum_sync = search (sendable, crosses) depth 20
+add_sync : IsSync Add.the_row
+add_sync = search (sendable, crosses) depth 20
 
 pub settings_sync : IsSync Settings.the_row
 settings_sync = search sendable depth 20
@@ -38,11 +38,11 @@ module _ (V A : RattleType) (hash : HashKey.Ghosts Name.the_row.Denot) (key_eq :
     (key_same : PartialEq.Ghosts Name.the_row.Denot)
     (key_clone : Clone.Ghosts Name.the_row.Denot) (value_clone : Clone.Ghosts V.Denot) (value_eq : Eq.Ghosts V.Denot)
     (value_same : PartialEq.Ghosts V.Denot)
-    (remap : Remap.Ghosts Sum.the_row.Denot Name.the_row.Denot V.Denot)
-    (function_clone : Clone.Ghosts Sum.the_row.Denot) (alloc : Allocator.Ghosts A.Denot)
+    (remap : Remap.Ghosts Add.the_row.Denot Name.the_row.Denot V.Denot)
+    (function_clone : Clone.Ghosts Add.the_row.Denot) (alloc : Allocator.Ghosts A.Denot)
     (sv : IsSend V) (sa : IsSend A) (yv : IsSync V) (ya : IsSync A) (frees : Frees alloc alloc.dealloc_token) where
   pub bench_map_sync : IsSync
-      (Map.the_row Name.the_row V Sum.the_row A hash key_eq key_same key_clone value_clone value_eq value_same
+      (Map.the_row Name.the_row V Add.the_row A hash key_eq key_same key_clone value_clone value_eq value_same
       remap function_clone
       alloc)
-  bench_map_sync = search (map_sync, name_send, name_sync, sum_send, sum_sync) depth 20
+  bench_map_sync = search (map_sync, name_send, name_sync, add_send, add_sync) depth 20

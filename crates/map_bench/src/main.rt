@@ -8,7 +8,6 @@ mod name;
 mod random;
 mod run;
 mod settings;
-mod sum;
 mod work;
 
 use anyhow::Result;

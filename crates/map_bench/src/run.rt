@@ -3,12 +3,11 @@ ghost use Rattle.std.specs.Prelude.{◌≡◌, ◌<◌, All, IfOk, length};
 
 use crate::name::Name;
 use crate::settings::Settings;
-use crate::sum::Sum;
 use crate::work::{BenchMap, BenchPass, fill, names, work_together};
 use anyhow::{Result, anyhow, bail};
 use bin_history::Form;
-use chm::{Map, NotClosed, Opened};
-use count_ledger::retire_all;
+use chm::{Map, Opened};
+use functions::Add;
 use hashkeys::{Key, Salt};
 use std::alloc::Global;
 use std::sync::Wait;
@@ -65,7 +64,7 @@ fn time_passes<R: Threads + Wait + Clock + Sync>(
 }
 
 /// A map of the form that is measured, with a pass for each client.
-fn open(alloc: Global, settings: &Settings, clients: u32) -> Result<Opened<Name, i64, Sum, Global>>
+fn open(alloc: Global, settings: &Settings, clients: u32) -> Result<Opened<Name, i64, Add, Global>>
     ensures { IfOk result (λ r. All (λ p. p.ledger ≡ r.0.ledger.id) r.1.items) }
 {
     let capacity = usize::from(settings.capacity);
@@ -89,16 +88,10 @@ pub(crate) fn measure<R: Threads + Wait + Clock + Sync>(
     let clients = u32::from(settings.threads) + 1;
     let (map, mut passes) = open(alloc, settings, clients)?;
     let taken = time_passes(rt, &map, &names, settings, &mut passes);
-    match map.close(rt, passes) {
+    match map.close(passes) {
         Ok(_) => taken,
-        Err(
-            NotClosed {
-                fault,
-                map: _,
-                passes,
-            },
-        ) => {
-            retire_all(passes);
+        Err(not_closed) => {
+            let fault = not_closed.give_up();
             bail!("the map was not closed: {fault}")
         }
     }

@@ -4,10 +4,9 @@ ghost use Rattle.std.specs.Prelude.{◌≡◌, ◌<◌, All, length};
 use crate::name::Name;
 use crate::random::Random;
 use crate::settings::{Mode, Settings};
-use crate::sum::Sum;
-use bin_history::Call;
 use chm::{Fault, Map};
 use count_ledger::Pass;
+use functions::Add;
 use hashkeys::Key;
 use std::alloc::{AllocError, Global};
 use std::sync::Wait;
@@ -15,10 +14,10 @@ use std::thread;
 use std::thread::Threads;
 
 /// The map that is measured.
-pub(crate) type BenchMap = Map<Name, i64, Sum, Global>;
+pub(crate) type BenchMap = Map<Name, i64, Add, Global>;
 
 /// The right of one thread to make calls of it.
-pub(crate) type BenchPass = Pass<Name, i64, Sum>;
+pub(crate) type BenchPass = Pass<Name, i64, Add>;
 
 /// How many threads make calls at most, beside the one that fills the map.
 const MOST_CALLERS: usize = 31;
@@ -53,21 +52,28 @@ pub(crate) fn fill<R: Wait>(
     Ok(())
 }
 
-/// A call drawn at random on one of the keys, which puts this value if it is a put.
-fn draw(random: &mut Random, names: &'static [Key], mode: Mode, value: i64) -> Call<Name, i64, Sum>
-    requires { 0 < length names.now }
+/// Makes a call on the key: of a hundred that are mixed 80 get, 15 put this value and 5 remove, as
+/// the number drawn says.
+fn make<R: Wait>(
+    rt: &R,
+    map: &BenchMap,
+    mode: Mode,
+    pass: &mut BenchPass,
+    key: Name,
+    drawn: u64,
+    value: i64,
+) -> Result<(), Fault>
+    requires { pass.old.ledger ≡ map.now.ledger.id }
+    ensures { pass.new.ledger ≡ pass.old.ledger }
 {
-    let drawn = random.draw();
-    let key = Name(&names[(drawn >> 16) as usize % names.len()]);
-    match mode {
-        Mode::Merge => Call::Merge(key, 1, Sum),
-        Mode::Get | Mode::Glance => Call::Get(key),
-        Mode::Mix => match drawn % 100 {
-            0..80 => Call::Get(key),
-            80..95 => Call::Put(key, value),
-            _ => Call::Remove(key),
-        },
+    match (mode, drawn % 100) {
+        (Mode::Glance, _) => drop(map.glance(rt, &key)?),
+        (Mode::Merge, _) => drop(map.merge(rt, pass, key, 1, Add)?),
+        (Mode::Get, _) | (Mode::Mix, 0..80) => drop(map.get_by(rt, pass, &key)?),
+        (Mode::Mix, 80..95) => drop(map.put(rt, pass, key, value)?),
+        (Mode::Mix, _) => drop(map.remove_by(rt, pass, &key)?),
     }
+    Ok(())
 }
 
 /// Makes the calls of the thread with this number, up to one that is refused.
@@ -85,12 +91,9 @@ fn work<R: Wait>(
 {
     let mut random = Random::new((number as u64).wrapping_add(1));
     for i in 0..settings.calls {
-        let call = draw(&mut random, names, settings.mode, i64::from(i));
-        let refused = match settings.mode {
-            Mode::Glance => map.glance(rt, call.key()).is_err(),
-            _ => map.call(rt, pass, call).is_err(),
-        };
-        if refused {
+        let drawn = random.draw();
+        let key = Name(&names[(drawn >> 16) as usize % names.len()]);
+        if make(rt, map, settings.mode, pass, key, drawn, i64::from(i)).is_err() {
             return;
         }
     }
