@@ -162,7 +162,7 @@ impl<
             (λ fault. (fault ≡ Fault.NoMemory) ⊎ (fault ≡ Fault.BinMissing)) }
     {
         let Team { map, passes } = self;
-        match map.close(rt, passes) {
+        match map.close(passes) {
             Ok(quiet) => Ok(quiet),
             Err(not_closed) => {
                 let NotClosed {
