@@ -1,15 +1,16 @@
-//! Bins at the program's keys.
+//! Recorded bins at the program's keys.
+use crate::rows::rows;
 use crate::values::{Plus, assert_same, key};
-use bin_history::{Bin, Call, Form, Record, Reply};
+use bin_history::{Call, Form, Record, RecordedBin, Reply};
 use hashkeys::{Class, Key, Salt};
 use std::alloc::{AllocError, Global};
 use std::process::Abort;
 use std::test::Fail;
 
-pub(crate) type KeyBin = Bin<Key, u64, Plus, Global>;
+type KeyBin = RecordedBin<Key, u64, Plus, Global>;
 
-pub(crate) fn empty(alloc: Global, form: Form, class: Class) -> Result<KeyBin, AllocError> {
-    Bin::new(alloc, form, Salt(0), class, Vec::new(alloc))
+fn empty(alloc: Global, class: Class) -> Result<KeyBin, AllocError> {
+    RecordedBin::new(alloc, Form::Recorded, Salt(0), class, Vec::new(alloc))
 }
 
 /// Makes a call on a bin that has its key, as the next of client 7.
@@ -26,68 +27,17 @@ fn make(
     Ok(bin.apply(ready, 7, ordinal).0)
 }
 
-pub(crate) fn assert_entries(rt: &impl Abort, entries: &[(Key, u64)], wanted: &[(&[u8], u64)]) {
+fn assert_entries(rt: &impl Abort, entries: &[(Key, u64)], wanted: &[(&[u8], u64)]) {
     assert_same(rt, &entries.len(), &wanted.len());
     for ((key, value), (text, number)) in entries.iter().zip(wanted) {
         assert_same(rt, &(key.bytes(), *value), &(*text, *number));
     }
 }
 
-/// A call, its reply, and how many keys more there are.
-pub(crate) type Row = (Call<Key, u64, Plus>, Reply<u64>, i64);
-
-/// Calls one after the other.
-pub(crate) fn rows(rt: &impl Abort, alloc: Global) -> Result<Vec<Row>, AllocError> {
-    let a = || key(rt, b"a");
-    let b = || key(rt, b"b");
-    let c = || key(rt, b"c");
-    let none = || Reply::Value(None);
-    let some = |n| Reply::Value(Some(n));
-    let rows = [
-        (Call::Get(a()), none(), 0),
-        (Call::Contains(a()), Reply::Truth(false), 0),
-        (Call::Replace(a(), 9), none(), 0),
-        (Call::ComputeIfPresent(a(), Plus(Some(9))), none(), 0),
-        (Call::Put(a(), 1), none(), 1),
-        (Call::Contains(a()), Reply::Truth(true), 0),
-        (Call::Put(b(), 5), none(), 1),
-        (Call::Put(a(), 2), some(1), 0),
-        (Call::Get(a()), some(2), 0),
-        (Call::PutIfAbsent(a(), 9), some(2), 0),
-        (Call::RemoveIf(a(), 9), Reply::Truth(false), 0),
-        (Call::Replace(a(), 3), some(2), 0),
-        (Call::ReplaceIf(a(), 2, 9), Reply::Truth(false), 0),
-        (Call::ReplaceIf(a(), 3, 4), Reply::Truth(true), 0),
-        (Call::ComputeIfAbsent(a(), Plus(Some(9))), some(4), 0),
-        (Call::ComputeIfPresent(a(), Plus(Some(2))), some(6), 0),
-        (Call::Compute(a(), Plus(Some(1))), some(7), 0),
-        (Call::Merge(a(), 10, Plus(Some(1))), some(18), 0),
-        (Call::RemoveIf(a(), 18), Reply::Truth(true), -1),
-        (Call::Merge(a(), 4, Plus(None)), some(4), 1),
-        (Call::Merge(a(), 9, Plus(None)), none(), -1),
-        (Call::ComputeIfAbsent(a(), Plus(None)), none(), 0),
-        (Call::ComputeIfAbsent(a(), Plus(Some(3))), some(3), 1),
-        (Call::ComputeIfPresent(a(), Plus(None)), none(), -1),
-        (Call::Compute(a(), Plus(Some(8))), some(8), 1),
-        (Call::Compute(a(), Plus(None)), none(), -1),
-        (Call::PutIfAbsent(a(), 6), none(), 1),
-        (Call::Remove(b()), some(5), -1),
-        (Call::Remove(b()), none(), 0),
-        (Call::Put(b(), 7), none(), 1),
-        (Call::ComputeIfPresent(c(), Plus(None)), none(), 0),
-        (Call::Put(c(), 1), none(), 1),
-        (Call::RemoveIf(c(), 2), Reply::Truth(false), 0),
-        (Call::ReplaceIf(c(), 1, 1), Reply::Truth(true), 0),
-        (Call::Put(c(), u64::MAX), some(1), 0),
-        (Call::Merge(c(), 1, Plus(Some(0))), some(u64::MAX), 0),
-    ];
-    Ok(Vec::from_array(alloc, rows)?)
-}
-
 #[test]
 fn each_call_replies_and_leaves_what_its_row_says(rt: HostRuntime) -> Result<(), Fail> {
     let rows = rows(&rt, rt.alloc())?;
-    let mut bin = empty(rt.alloc(), Form::Recorded, Class::new(1, 0))?;
+    let mut bin = empty(rt.alloc(), Class::new(1, 0))?;
     let mut line = 0u64;
     for (call, reply, delta) in rows {
         let answered = make(&rt, &mut bin, call)?;
@@ -109,7 +59,7 @@ fn each_call_replies_and_leaves_what_its_row_says(rt: HostRuntime) -> Result<(),
 /// A bin of class (16, 1) after 1,025 calls on two keys: both are put, one is taken away and put
 /// again.
 fn folded(rt: &impl Abort, alloc: Global) -> Result<KeyBin, AllocError> {
-    let mut bin = empty(alloc, Form::Recorded, Class::new(16, 1))?;
+    let mut bin = empty(alloc, Class::new(16, 1))?;
     let _ = make(rt, &mut bin, Call::Put(key(rt, b"q"), 1))?;
     let _ = make(rt, &mut bin, Call::Put(key(rt, b"a"), 2))?;
     for _ in 0..1021 {
@@ -147,29 +97,9 @@ fn the_oldest_records_are_folded(rt: HostRuntime) -> Result<(), Fail> {
     Ok(())
 }
 
-/// A lean bin of class (16, 1) under the salt 16, by which the hash of `a` is 113 and that of `q`
-/// is 97.
-fn salted(rt: &impl Abort, alloc: Global) -> Result<KeyBin, AllocError> {
-    let class = Class::new(16, 1);
-    let mut bin = Bin::new(alloc, Form::Lean, Salt(16), class, Vec::new(alloc))?;
-    let _ = make(rt, &mut bin, Call::Put(key(rt, b"a"), 1))?;
-    let _ = make(rt, &mut bin, Call::Put(key(rt, b"q"), 2))?;
-    Ok(bin)
-}
-
-#[test]
-fn a_salted_bin_is_split_by_salted_hashes(rt: HostRuntime) -> Result<(), Fail> {
-    let bin = salted(&rt, rt.alloc())?;
-    assert!(rt; bin.class().n() < 65536);
-    let (low, high) = bin.split()?;
-    assert_entries(&rt, low.entries(), &[(b"q", 2)]);
-    assert_entries(&rt, high.entries(), &[(b"a", 1)]);
-    Ok(())
-}
-
 #[test]
 fn a_bin_stores_few_records(rt: HostRuntime) -> Result<(), Fail> {
-    let mut bin = empty(rt.alloc(), Form::Recorded, Class::new(1, 0))?;
+    let mut bin = empty(rt.alloc(), Class::new(1, 0))?;
     let mut calls = 0;
     for (wanted, stored, base) in [
         (512, 512, None),
@@ -189,26 +119,6 @@ fn a_bin_stores_few_records(rt: HostRuntime) -> Result<(), Fail> {
         assert_same(&rt, &(folded, bin.base().len() <= 1), &(base, true));
         assert_entries(&rt, bin.entries(), &[(b"a", wanted)]);
     }
-    Ok(())
-}
-
-/// A lean bin after a call on each of two keys and 10,000 more on one of them.
-fn merged_often(rt: &impl Abort, alloc: Global) -> Result<KeyBin, AllocError> {
-    let mut bin = empty(alloc, Form::Lean, Class::new(1, 0))?;
-    let _ = make(rt, &mut bin, Call::Put(key(rt, b"b"), 5))?;
-    let _ = make(rt, &mut bin, Call::Put(key(rt, b"a"), 0))?;
-    for _ in 0..10_000u32 {
-        let _ = make(rt, &mut bin, Call::Merge(key(rt, b"a"), 1, Plus(Some(0))))?;
-    }
-    Ok(bin)
-}
-
-#[test]
-fn a_lean_bin_stores_its_entries_alone(rt: HostRuntime) -> Result<(), Fail> {
-    let bin = merged_often(&rt, rt.alloc())?;
-    assert_entries(&rt, bin.entries(), &[(b"b", 5), (b"a", 10_000)]);
-    assert_entries(&rt, bin.base(), &[(b"b", 5), (b"a", 10_000)]);
-    assert!(rt; bin.records().is_empty());
     Ok(())
 }
 

@@ -16,6 +16,7 @@ use std::process::Abort;
 /// A bin and its role, which agree. Contracts see the role.
 #[derive(Drop)]
 pub(crate) struct Held<K: HashKey, V: Clone + Eq, F: Remap<K, V> + Clone, A: Allocator> {
+    alloc: A,
     bin: Bin<K, V, F, A>,
     role: BinRole<K, V, F>,
 }
@@ -47,8 +48,9 @@ impl<
         requires kept { role.kept ≡ [] }
         ensures { IfOk result (λ held. held ≡ role) }
     {
-        let bin = Bin::new(alloc.clone()?, form, salt, role.class(), Vec::new(alloc))?;
-        Ok(Held { bin, role })
+        let base = Vec::new(alloc.clone()?);
+        let bin = Bin::new(&alloc, form, salt, role.class(), base)?;
+        Ok(Held { alloc, bin, role })
     }
 
     /// The salt of the bin's hashes.
@@ -84,8 +86,9 @@ impl<
     {
         self.bin.lawful();
         let (client, made) = (pass.client(), pass.made());
+        let hash = self.bin.salt().hash_of(&key);
         let key: Given<'a, K> = Given::Owned(key);
-        let (reply, trace) = self.bin.make_on(key, op, client, made)?;
+        let (reply, trace) = self.bin.make_on(&self.alloc, hash, key, op, client, made)?;
         ledger.post_trace(pass, &mut self.role, &trace);
         Ok(reply)
     }
@@ -100,14 +103,20 @@ impl<
         ensures low { result.0 ≡ part_of_role K.code (low_half self.class) self }
         ensures high { result.1 ≡ part_of_role K.code (high_half self.class) self }
     {
-        let Held { bin, role } = self;
-        let (low_bin, high_bin) = bin.split().expect(rt, "memory");
+        let Held { alloc, bin, role } = self;
+        let other = alloc.clone().expect(rt, "memory");
+        let Ok((low_bin, high_bin)) = bin.split(&alloc) else {
+            assert!(rt; false, "memory");
+            unreachable!()
+        };
         let (low_role, high_role) = ledger.divide(role);
         let low = Held {
+            alloc,
             bin: low_bin,
             role: low_role,
         };
         let high = Held {
+            alloc: other,
             bin: high_bin,
             role: high_role,
         };
@@ -118,7 +127,6 @@ impl<
     pub(crate) fn settle_alone(
         self,
         rt: &impl Abort,
-        alloc: A,
         ledger: Ledger<K, V, F, A>,
         passes: Vec<Pass<K, V, F>, A>,
     ) -> Result<u64, (Ledger<K, V, F, A>, Vec<Pass<K, V, F>, A>, Self)>
@@ -128,8 +136,9 @@ impl<
         ensures passes { IfErr result (λ u. u.1 ≡ passes) }
         ensures role { IfErr result (λ u. u.2 ≡ self) }
     {
-        let Held { bin, role } = self;
-        let roles = Vec::from_array(alloc, [role]).expect(rt, "memory");
+        let Held { alloc, bin, role } = self;
+        let own = alloc.clone().expect(rt, "memory");
+        let roles = Vec::from_array(own, [role]).expect(rt, "memory");
         match ledger.settle(passes, roles) {
             Ok(total) => Ok(total),
             Err(
@@ -140,7 +149,7 @@ impl<
                 },
             ) => {
                 let role = roles.pop().expect(rt, "a role");
-                Err((ledger, passes, Held { bin, role }))
+                Err((ledger, passes, Held { alloc, bin, role }))
             }
         }
     }

@@ -4,6 +4,8 @@
 #[cfg(test)]
 mod bins;
 #[cfg(test)]
+mod chains;
+#[cfg(test)]
 mod held;
 #[cfg(test)]
 mod keys;
@@ -18,6 +20,10 @@ mod moves;
 #[cfg(test)]
 mod plain;
 #[cfg(test)]
+mod rows;
+#[cfg(test)]
 mod settling;
+#[cfg(test)]
+mod twins;
 #[cfg(test)]
 mod values;

@@ -2,13 +2,13 @@
 ghost use Rattle.std.specs.Prelude.{◌<◌};
 
 use crate::values::{Plus, assert_same, key};
-use bin_history::{Bin, Call, Form, Reply};
+use bin_history::{Bin, Call, Form, Given, RecordedBin, Reply};
 use hashkeys::{Class, Key, Salt};
 use std::alloc::{AllocError, Global};
 use std::process::Abort;
 use std::test::Fail;
 
-/// Pairs in order of insertion. A key is the place of its text among `TEXTS`.
+/// Pairs in order of insertion. A key is a number, whose text `text` gives.
 type Pairs = Vec<(usize, u64)>;
 
 /// Two with one code among them.
@@ -125,8 +125,13 @@ impl Plain {
     }
 }
 
-fn text(rt: &impl Abort, place: usize) -> Key {
-    key(rt, TEXTS.get(place).expect(rt, "a text"))
+/// The key of a number: one of the texts and, from 6 to 99, `k` and two digits.
+fn text(rt: &impl Abort, number: usize) -> Key {
+    let digit = |n: usize| b'0' + (n % 10) as u8;
+    match TEXTS.get(number) {
+        Some(known) => key(rt, known),
+        None => key(rt, &[b'k', digit(number / 10), digit(number)]),
+    }
 }
 
 /// Numbers that look random.
@@ -145,14 +150,17 @@ impl Numbers {
         (self.0 >> 33) % end
     }
 
-    fn call(&mut self) -> Plain {
+    /// A call on one of so many keys.
+    fn call(&mut self, keys: u64) -> Plain
+        requires { 0 < keys }
+    {
         let function = match self.below(3) {
             0 => None,
             n => Some(n),
         };
         Plain {
             kind: self.below(12),
-            key: self.below(6) as usize,
+            key: self.below(keys) as usize,
             given: self.below(4),
             other: self.below(4),
             function,
@@ -181,7 +189,7 @@ struct Folded {
 /// left.
 fn are_stored(
     rt: &impl Abort,
-    bin: &Bin<Key, u64, Plus, Global>,
+    bin: &RecordedBin<Key, u64, Plus, Global>,
     made: &[Plain],
     folded: &mut Folded,
 ) -> Result<bool, AllocError> {
@@ -201,8 +209,8 @@ fn are_stored(
 /// Makes 3,000 calls on a recorded bin, and answers which is the first after which its records are
 /// not those calls, or its base is not what those before them left.
 fn first_misstored(rt: &impl Abort, alloc: Global) -> Result<Option<u64>, AllocError> {
-    let form = Form::Recorded;
-    let mut bin = Bin::new(alloc, form, Salt(0), Class::new(1, 0), Vec::new(alloc))?;
+    let class = Class::new(1, 0);
+    let mut bin = RecordedBin::new(alloc, Form::Recorded, Salt(0), class, Vec::new(alloc))?;
     let mut made = Vec::new(alloc);
     let mut folded = Folded {
         pairs: Vec::new(alloc),
@@ -210,7 +218,7 @@ fn first_misstored(rt: &impl Abort, alloc: Global) -> Result<Option<u64>, AllocE
     };
     let mut numbers = Numbers(1);
     for line in 0..3_000u64 {
-        let plain = numbers.call();
+        let plain = numbers.call(6);
         let call = plain.call(rt);
         assert!(rt; bin.class().covers(bin.salt().hash_of(call.key())));
         let ready = bin.prepare(call)?;
@@ -231,19 +239,29 @@ fn a_bin_stores_its_newest_calls_over_what_the_others_left(rt: HostRuntime) -> R
     Ok(())
 }
 
-/// Makes 10,000 calls on a bin of the form and on a plain map, and answers which is the first that
-/// differs in its reply or in what it leaves.
-fn first_difference(rt: &impl Abort, alloc: Global, form: Form) -> Result<Option<u64>, AllocError> {
-    let mut bin = Bin::new(alloc, form, Salt(0), Class::new(1, 0), Vec::new(alloc))?;
+/// Makes so many calls on as many keys of a bin of the form and of a plain map, and answers which
+/// is the first that differs in its reply or in what it leaves.
+fn first_difference(
+    rt: &impl Abort,
+    alloc: Global,
+    form: Form,
+    keys: u64,
+    calls: u64,
+) -> Result<Option<u64>, AllocError>
+    requires { 0 < keys }
+{
+    let mut bin = Bin::new(&alloc, form, Salt(0), Class::new(1, 0), Vec::new(alloc))?;
     let mut pairs = Vec::new(alloc);
     let mut numbers = Numbers(1);
-    for line in 0..10_000u64 {
-        let plain = numbers.call();
+    for line in 0..calls {
+        let plain = numbers.call(keys);
         let call = plain.call(rt);
-        assert!(rt; bin.class().covers(bin.salt().hash_of(call.key())));
-        let ready = bin.prepare(call)?;
-        let (reply, _) = bin.apply(ready, 0, line);
-        if reply != plain.make(&mut pairs)? || !are_same(rt, bin.entries(), &pairs) {
+        let hash = bin.salt().hash_of(call.key());
+        assert!(rt; bin.class().covers(hash));
+        let (key, op) = call.into_parts();
+        let (reply, _) = bin.make_on(&alloc, hash, Given::Owned(key), op, 0, 0)?;
+        let entries = bin.copy_entries(&alloc)?;
+        if reply != plain.make(&mut pairs)? || !are_same(rt, &entries, &pairs) {
             return Ok(Some(line));
         }
     }
@@ -253,8 +271,11 @@ fn first_difference(rt: &impl Abort, alloc: Global, form: Form) -> Result<Option
 #[test]
 fn a_bin_answers_as_a_plain_map(rt: HostRuntime) -> Result<(), Fail> {
     for form in [Form::Recorded, Form::Lean] {
-        let difference = first_difference(&rt, rt.alloc(), form)?;
-        assert_same(&rt, &difference, &None);
+        // On 100 keys a bin has some 50 entries, more than a walk goes past by calls in calls.
+        for (keys, calls) in [(6, 10_000), (100, 3_000)] {
+            let difference = first_difference(&rt, rt.alloc(), form, keys, calls)?;
+            assert_same(&rt, &(keys, difference), &(keys, None));
+        }
     }
     Ok(())
 }

@@ -17,7 +17,7 @@ fn settling_needs_each_pass(rt: HostRuntime) -> Result<(), Fail> {
         &mut bin,
         &put(0, 0, b"a", None, 1),
     );
-    let settled_early = bin.settle_alone(&rt, rt.alloc(), ledger, passes);
+    let settled_early = bin.settle_alone(&rt, ledger, passes);
     let Err((ledger, mut passes, mut bin)) = settled_early else {
         assert!(rt; false, "a pass is missing");
         unreachable!()
@@ -49,7 +49,7 @@ fn settling_needs_each_role(rt: HostRuntime) -> Result<(), Fail> {
         &mut other,
         &put(0, 1, b"a", None, 1),
     );
-    let settled_early = bin.settle_alone(&rt, rt.alloc(), ledger, passes);
+    let settled_early = bin.settle_alone(&rt, ledger, passes);
     let Err((ledger, mut passes, mut bin)) = settled_early else {
         assert!(rt; false, "a role is missing");
         unreachable!()

@@ -19,7 +19,7 @@ impl Clone for Plus {
     }
 }
 
-impl Remap<Key, u64> for Plus {
+impl<K> Remap<K, u64> for Plus {
     ghost use Rattle.std.specs.Prelude.{option_map, unwrap_or, min, ◌+◌, ◌-◌, ◌^◌};
 
     ghost remapped = { λ f k v. option_map (λ n. min (unwrap_or v 0 + n) (2 ^ 64 - 1)) f.0 };
@@ -27,7 +27,7 @@ impl Remap<Key, u64> for Plus {
     ghost merged = { λ f old given. option_map
         (λ n. min (min (old + given) (2 ^ 64 - 1) + n) (2 ^ 64 - 1)) f.0 };
 
-    fn remap(&self, _key: &Key, value: Option<&u64>) -> Result<Option<u64>, AllocError> {
+    fn remap(&self, _key: &K, value: Option<&u64>) -> Result<Option<u64>, AllocError> {
         let old = value.copied().unwrap_or(0);
         Ok(self.0.map(|n| old.saturating_add(n)))
     }

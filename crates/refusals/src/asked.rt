@@ -1,6 +1,6 @@
 //! How often a call asks its function.
 use crate::values::{Alloc, assert_same};
-use bin_history::{Bin, Call, Form, Remap};
+use bin_history::{Bin, Call, Form, Given, Remap};
 use hashkeys::{Class, Key, Salt};
 use refusing_alloc::Refusing;
 use std::alloc::{AllocError, Global};
@@ -60,16 +60,18 @@ fn call_of_kind<'a>(rt: &impl Abort, asked: &'a AtomicU64, kind: usize) -> Count
 }
 
 /// Makes a call, and says whether it was made.
-fn is_made<'a>(rt: &impl Abort, bin: &mut CountedBin<'a>, call: CountedCall<'a>) -> bool {
+fn is_made<'a>(
+    rt: &impl Abort,
+    alloc: Alloc<'a>,
+    bin: &mut CountedBin<'a>,
+    call: CountedCall<'a>,
+) -> bool {
     let (salt, class) = (bin.salt(), bin.class());
-    assert!(rt; class.covers(salt.hash_of(call.key())));
-    match bin.prepare(call) {
-        Ok(ready) => {
-            drop(bin.apply(ready, 0, 0));
-            true
-        }
-        Err(_) => false,
-    }
+    let hash = salt.hash_of(call.key());
+    assert!(rt; class.covers(hash));
+    let (key, op) = call.into_parts();
+    bin.make_on(&alloc, hash, Given::Owned(key), op, 0, 0)
+        .is_ok()
 }
 
 /// Makes the call of a kind on a new bin of all keys, in which `a` has the value 1 or none, with
@@ -84,13 +86,13 @@ fn ask(
 ) -> Result<(bool, u64), AllocError> {
     let alloc = Refusing::new(memory);
     let asked = AtomicU64::new(0);
-    let mut bin = Bin::new(&alloc, form, Salt(0), Class::new(1, 0), Vec::new(&alloc))?;
+    let mut bin = Bin::new(&&alloc, form, Salt(0), Class::new(1, 0), Vec::new(&alloc))?;
     if present {
         let key = Key::read(b"a").expect(rt, "a key");
-        assert_same(rt, &is_made(rt, &mut bin, Call::Put(key, 1)), &true);
+        assert_same(rt, &is_made(rt, &alloc, &mut bin, Call::Put(key, 1)), &true);
     }
     alloc.refuse_after(granted);
-    let made = is_made(rt, &mut bin, call_of_kind(rt, &asked, kind));
+    let made = is_made(rt, &alloc, &mut bin, call_of_kind(rt, &asked, kind));
     alloc.refuse_after(u64::MAX);
     Ok((made, asked.load(SeqCst)))
 }
@@ -114,17 +116,23 @@ fn a_function_is_asked_once_where_its_answer_is_used(rt: HostRuntime) -> Result<
     Ok(())
 }
 
-/// Refuses each of so many requests of the call of a kind, where `a` has none, and then none.
+/// Refuses each of so many requests of the call of a kind, where `a` has none, and then none. Where
+/// one is refused the function was asked so often.
 fn refuse_room(
     rt: &impl Abort,
     memory: Global,
     form: Form,
     kind: usize,
     requests: u64,
+    asked: u64,
 ) -> Result<(), AllocError> {
     for granted in 0..requests {
         let refused = ask(rt, memory, form, (kind, false), granted)?;
-        assert_same(rt, &(kind, granted, refused), &(kind, granted, (false, 0)));
+        assert_same(
+            rt,
+            &(kind, granted, refused),
+            &(kind, granted, (false, asked)),
+        );
     }
     let made = ask(rt, memory, form, (kind, false), requests)?;
     assert_same(rt, &(kind, made), &(kind, (true, 1)));
@@ -132,12 +140,19 @@ fn refuse_room(
 }
 
 #[test]
-fn a_function_is_not_asked_where_room_is_refused(rt: HostRuntime) -> Result<(), Fail> {
-    // Room for the entry, and in a recorded bin for the record.
-    for (form, requests) in [(Form::Recorded, 2), (Form::Lean, 1)] {
-        for kind in [0, 2] {
-            refuse_room(&rt, rt.alloc(), form, kind, requests)?;
-        }
+fn a_recorded_bin_asks_once_there_is_room(rt: HostRuntime) -> Result<(), Fail> {
+    // Room for the entry and for the record.
+    for kind in [0, 2] {
+        refuse_room(&rt, rt.alloc(), Form::Recorded, kind, 2, 0)?;
+    }
+    Ok(())
+}
+
+#[test]
+fn a_lean_bin_asks_before_it_makes_a_node(rt: HostRuntime) -> Result<(), Fail> {
+    // The node of the entry, which the value goes into.
+    for kind in [0, 2] {
+        refuse_room(&rt, rt.alloc(), Form::Lean, kind, 1, 1)?;
     }
     Ok(())
 }

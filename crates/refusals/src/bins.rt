@@ -1,6 +1,6 @@
 //! A bin, each request of its making and of a call refused in turn.
 use crate::values::{Alloc, Answer, Number, assert_same};
-use bin_history::{Bin, Call, Form, Given, Reply};
+use bin_history::{Bin, Call, Form, Given, Kind, Reply};
 use hashkeys::{Class, Key, Salt};
 use refusing_alloc::Refusing;
 use std::alloc::{AllocError, Global};
@@ -29,30 +29,43 @@ pub(crate) fn assert_pairs(rt: &impl Abort, found: &[Pair<'_>], wanted: &[(&[u8]
     }
 }
 
+pub(crate) fn assert_entries(rt: &impl Abort, bin: &NumberBin<'_>, wanted: &[(&[u8], u64)]) {
+    let mut entries = bin.walk();
+    for (text, number) in wanted {
+        let (key, value) = entries.next().expect(rt, "an entry");
+        assert_same(rt, &key.bytes(), text);
+        assert_same(rt, &value.number, number);
+    }
+    assert!(rt; entries.next().is_none());
+}
+
 /// The bin of class (16, 1) without entries.
 pub(crate) fn empty(alloc: Alloc<'_>, form: Form) -> Result<NumberBin<'_>, AllocError> {
-    Bin::new(alloc, form, Salt(0), Class::new(16, 1), Vec::new(alloc))
+    Bin::new(&alloc, form, Salt(0), Class::new(16, 1), Vec::new(alloc))
 }
 
 /// Makes a call on a key of the bin.
 fn make<'a>(
     rt: &impl Abort,
+    alloc: Alloc<'a>,
     bin: &mut NumberBin<'a>,
     call: NumberCall<'a>,
 ) -> Result<Reply<Number<'a>>, AllocError> {
     let (salt, class) = (bin.salt(), bin.class());
-    assert!(rt; class.covers(salt.hash_of(call.key())));
+    let hash = salt.hash_of(call.key());
+    assert!(rt; class.covers(hash));
     let (key, op) = call.into_parts();
-    Ok(bin.make_on(Given::Owned(key), op, 0, 0)?.0)
+    Ok(bin.make_on(&alloc, hash, Given::Owned(key), op, 0, 0)?.0)
 }
 
 /// Makes a call, whose reply nobody asks for.
-pub(crate) fn call<'a>(
+fn call<'a>(
     rt: &impl Abort,
+    alloc: Alloc<'a>,
     bin: &mut NumberBin<'a>,
     call: NumberCall<'a>,
 ) -> Result<(), AllocError> {
-    drop(make(rt, bin, call)?);
+    drop(make(rt, alloc, bin, call)?);
     Ok(())
 }
 
@@ -64,14 +77,14 @@ pub(crate) fn put<'a>(
     number: u64,
 ) -> Result<(), AllocError> {
     let (key, value) = pair(rt, alloc, text, number);
-    call(rt, bin, Call::Put(key, value))
+    call(rt, alloc, bin, Call::Put(key, value))
 }
 
 /// Asserts that a bin was made of one pair, or where a request was refused that none was.
 fn assert_new(rt: &impl Abort, made: Result<NumberBin<'_>, AllocError>, refused: bool) {
     assert_same(rt, &made.is_err(), &refused);
     if let Ok(bin) = made {
-        assert_pairs(rt, bin.entries(), &[(b"q", 1)]);
+        assert_entries(rt, &bin, &[(b"q", 1)]);
     }
 }
 
@@ -87,7 +100,7 @@ fn refuse_new(
     let (key, _) = &base[0];
     assert!(rt; Class::new(16, 1).covers(Salt(0).hash_of(key)));
     alloc.refuse_after(granted);
-    let made = Bin::new(alloc, form, Salt(0), Class::new(16, 1), base);
+    let made = Bin::new(&alloc, form, Salt(0), Class::new(16, 1), base);
     let refused = alloc.has_refused();
     alloc.refuse_after(u64::MAX);
     assert_new(rt, made, refused);
@@ -110,10 +123,11 @@ fn refuse_news(
 }
 
 #[test]
-fn a_new_bin_copies_its_base(rt: HostRuntime) -> Result<(), Fail> {
-    // Of a recorded bin a list, a copy and the log. A lean one keeps the base itself.
-    refuse_news(&rt, rt.alloc(), Form::Recorded, 3)?;
-    refuse_news(&rt, rt.alloc(), Form::Lean, 0)?;
+fn a_new_bin_takes_its_base(rt: HostRuntime) -> Result<(), Fail> {
+    // Of a recorded bin a list, a copy, the log and the bin itself. A lean one makes a node of each
+    // pair, which it moves.
+    refuse_news(&rt, rt.alloc(), Form::Recorded, 4)?;
+    refuse_news(&rt, rt.alloc(), Form::Lean, 1)?;
     Ok(())
 }
 
@@ -162,18 +176,23 @@ fn bin_of<'a>(
     Ok(bin)
 }
 
-/// Asserts that `a` has this value, if any, after so many calls: a recorded bin has a record of
-/// each over no base, a lean one none over its entries.
-fn assert_value(rt: &impl Abort, bin: &NumberBin<'_>, value: Option<u64>, calls: usize) {
+/// Asserts that `a` has this value, if any, after so many calls, of each of which a recorded bin
+/// has a record over no base. Gives the bin back.
+fn assert_value<'a>(
+    rt: &impl Abort,
+    bin: NumberBin<'a>,
+    value: Option<u64>,
+    calls: usize,
+) -> NumberBin<'a> {
     match value {
-        Some(number) => assert_pairs(rt, bin.entries(), &[(b"a", number)]),
-        None => assert!(rt; bin.entries().is_empty()),
+        Some(number) => assert_entries(rt, &bin, &[(b"a", number)]),
+        None => assert!(rt; bin.first().is_none()),
     }
-    let stored = match bin.form() {
-        Form::Recorded => (calls, 0),
-        Form::Lean => (0, bin.entries().len()),
-    };
-    assert_same(rt, &(bin.records().len(), bin.base().len()), &stored);
+    let kind = bin.into_kind();
+    if let Kind::Recorded(own) = &kind {
+        assert_same(rt, &(own.records().len(), own.base().len()), &(calls, 0));
+    }
+    Bin::of_kind(kind)
 }
 
 /// What a call replies: the number of the value, if any, or whether something was so.
@@ -209,16 +228,16 @@ fn refuse_call_after(
     let mut bin = bin_of(rt, alloc, form, value)?;
     let made = if value.is_some() { 1 } else { 0 };
     alloc.refuse_after(granted);
-    let mut found = answer_of(make(rt, &mut bin, call_of_kind(rt, alloc, kind)));
+    let mut found = answer_of(make(rt, alloc, &mut bin, call_of_kind(rt, alloc, kind)));
     let refused = alloc.has_refused();
     alloc.refuse_after(u64::MAX);
     if refused {
         assert_same(rt, &(kind, granted, found), &(kind, granted, None));
-        assert_value(rt, &bin, value, made);
-        found = answer_of(make(rt, &mut bin, call_of_kind(rt, alloc, kind)));
+        bin = assert_value(rt, bin, value, made);
+        found = answer_of(make(rt, alloc, &mut bin, call_of_kind(rt, alloc, kind)));
     }
     assert_same(rt, &(kind, granted, found), &(kind, granted, Some(wanted)));
-    assert_value(rt, &bin, left, made + 1);
+    drop(assert_value(rt, bin, left, made + 1));
     Ok(refused)
 }
 
@@ -243,10 +262,11 @@ fn refuse_call(
 
 /// Of each kind of call what it does where `a` has the value 1, and where it has none.
 ///
-/// The requests, in this order. Where `a` has none and the call may give it one: room for the
-/// entry. A request of the function, where it is asked. A copy for the reply, where that is the
-/// value after the call. In a recorded bin, for the record: a copy of the argument, where it is the
-/// value after the call; of the value before and of the value after, if there is one.
+/// The requests, in this order. In a recorded bin, where `a` has none and the call may give it one:
+/// room for the entry. A request of the function, where it is asked. A copy for the reply, where
+/// that is the value after the call. In a recorded bin, for the record: a copy of the argument,
+/// where it is the value after the call; of the value before and of the value after, if there is
+/// one. In a lean bin, where the call gives `a` a value and it has none: the entry's node.
 const OUTCOMES: [(Outcome, Outcome); 12] = [
     ((SOME_1, Some(1), 3, 1), (NONE, None, 0, 0)),
     ((TRUE, Some(1), 2, 0), (FALSE, None, 0, 0)),

@@ -1,17 +1,41 @@
 //! A bin that folds its records or is split, each request refused in turn.
-use crate::bins::{MANY, NumberBin, assert_pairs, call, call_of_kind, empty, put};
-use crate::values::{Alloc, assert_same};
-use bin_history::{Call, Form};
-use hashkeys::Key;
+use crate::bins::{
+    MANY, NumberBin, NumberCall, assert_entries, assert_pairs, call_of_kind, empty, put,
+};
+use crate::values::{Alloc, Answer, Number, assert_same};
+use bin_history::{Call, Form, Given, Kind, RecordedBin};
+use hashkeys::{Class, Key, Salt};
 use refusing_alloc::Refusing;
 use std::alloc::{AllocError, Global};
 use std::process::Abort;
 use std::test::Fail;
 
+type NumberLog<'a> = RecordedBin<Key, Number<'a>, Answer<'a>, Alloc<'a>>;
+
+/// Makes a call on a key of a recorded bin.
+fn call<'a>(
+    rt: &impl Abort,
+    bin: &mut NumberLog<'a>,
+    call: NumberCall<'a>,
+) -> Result<(), AllocError> {
+    let (salt, class) = (bin.salt(), bin.class());
+    assert!(rt; class.covers(salt.hash_of(call.key())));
+    let (key, op) = call.into_parts();
+    drop(bin.make_on(Given::Owned(key), op, 0, 0)?);
+    Ok(())
+}
+
+/// The call `put q`, of this number.
+fn put_q<'a>(rt: &impl Abort, alloc: Alloc<'a>, number: u64) -> NumberCall<'a> {
+    let key = Key::read(b"q").expect(rt, "a key");
+    Call::Put(key, Number { number, alloc })
+}
+
 /// Makes 1,024 calls: `put q 1`, `put a 2`, 1,021 times `get a`, `remove q`.
-fn fill<'a>(rt: &impl Abort, alloc: Alloc<'a>, bin: &mut NumberBin<'a>) -> Result<(), AllocError> {
-    put(rt, alloc, bin, b"q", 1)?;
-    put(rt, alloc, bin, b"a", 2)?;
+fn fill<'a>(rt: &impl Abort, alloc: Alloc<'a>, bin: &mut NumberLog<'a>) -> Result<(), AllocError> {
+    call(rt, bin, put_q(rt, alloc, 1))?;
+    let key = Key::read(b"a").expect(rt, "a key");
+    call(rt, bin, Call::Put(key, Number { number: 2, alloc }))?;
     for _ in 0..1021 {
         call(rt, bin, call_of_kind(rt, alloc, 0))?;
     }
@@ -22,7 +46,7 @@ fn fill<'a>(rt: &impl Abort, alloc: Alloc<'a>, bin: &mut NumberBin<'a>) -> Resul
 /// Asserts that the base and the entries are these, and that there are so many records.
 fn assert_bin(
     rt: &impl Abort,
-    bin: &NumberBin<'_>,
+    bin: &NumberLog<'_>,
     base: &[(&[u8], u64)],
     entries: &[(&[u8], u64)],
     records: usize,
@@ -35,15 +59,16 @@ fn assert_bin(
 /// Puts to a bin with 1,024 records with the request after so many refused, and once more where
 /// there was one. Answers whether there was.
 fn refuse_fold(rt: &impl Abort, alloc: Alloc<'_>, granted: u64) -> Result<bool, AllocError> {
-    let mut bin = empty(alloc, Form::Recorded)?;
+    let class = Class::new(16, 1);
+    let mut bin = RecordedBin::new(alloc, Form::Recorded, Salt(0), class, Vec::new(alloc))?;
     let filled = fill(rt, alloc, &mut bin);
     alloc.refuse_after(granted);
-    let mut outcome = put(rt, alloc, &mut bin, b"q", 3);
+    let mut outcome = call(rt, &mut bin, put_q(rt, alloc, 3));
     let refused = alloc.has_refused();
     if refused {
         assert_same(rt, &outcome.is_err(), &true);
         assert_bin(rt, &bin, &[], &[(b"a", 2)], 1024);
-        outcome = put(rt, alloc, &mut bin, b"q", 3);
+        outcome = call(rt, &mut bin, put_q(rt, alloc, 3));
     }
     assert_bin(
         rt,
@@ -73,36 +98,30 @@ fn a_refused_fold_leaves_the_base(rt: HostRuntime) -> Result<(), Fail> {
     Ok(())
 }
 
-type Halves<'a> = Result<(NumberBin<'a>, NumberBin<'a>), AllocError>;
-
-/// Asserts that `a` and `q` have a half each with so many records, or where a request was refused
-/// that there is none.
-fn assert_halves(rt: &impl Abort, halves: Halves<'_>, records: (usize, usize), refused: bool) {
-    assert_same(rt, &halves.is_err(), &refused);
-    if let Ok((low, high)) = halves {
-        assert_pairs(rt, low.entries(), &[(b"a", 2)]);
-        assert_pairs(rt, high.entries(), &[(b"q", 3)]);
-        assert_same(rt, &(low.records().len(), high.records().len()), &records);
+/// Asserts that these are the bin's entries, and that a recorded bin has so many records.
+fn assert_stores(rt: &impl Abort, bin: NumberBin<'_>, entries: &[(&[u8], u64)], records: usize) {
+    assert_entries(rt, &bin, entries);
+    if let Kind::Recorded(own) = bin.into_kind() {
+        assert_same(rt, &own.records().len(), &records);
     }
 }
 
-/// Splits a bin with the request after so many refused, and answers whether there was one. The bin
-/// stays as it is.
-fn refuse_split(
-    rt: &impl Abort,
-    alloc: Alloc<'_>,
-    bin: &NumberBin<'_>,
-    granted: u64,
-    records: (usize, usize),
-) -> bool {
+/// Splits a bin in which `q` and then `a` were put, and then `q` again, with the request after so
+/// many refused, and answers whether there was one: the bin is then as it was.
+fn refuse_split<'a>(rt: &impl Abort, alloc: Alloc<'a>, bin: NumberBin<'a>, granted: u64) -> bool {
     assert!(rt; bin.class().n() < 65536);
     alloc.refuse_after(granted);
-    let halves = bin.split();
+    let halves = bin.split(&alloc);
     let refused = alloc.has_refused();
     alloc.refuse_after(u64::MAX);
-    assert_halves(rt, halves, records, refused);
-    assert_pairs(rt, bin.entries(), &[(b"q", 3), (b"a", 2)]);
-    assert_same(rt, &bin.records().len(), &records.0.wrapping_add(records.1));
+    assert_same(rt, &halves.is_err(), &refused);
+    match halves {
+        Ok((low, high)) => {
+            assert_stores(rt, low, &[(b"a", 2)], 1);
+            assert_stores(rt, high, &[(b"q", 3)], 2);
+        }
+        Err((bin, _refused)) => assert_stores(rt, bin, &[(b"q", 3), (b"a", 2)], 3),
+    }
     refused
 }
 
@@ -122,24 +141,23 @@ fn refuse_splits(
     rt: &impl Abort,
     memory: Global,
     form: Form,
-    records: (usize, usize),
     requests: u64,
 ) -> Result<(), AllocError> {
     let alloc = Refusing::new(memory);
-    let mut bin = empty(&alloc, form)?;
-    let filled = put_three(rt, &alloc, &mut bin);
-    for granted in 0..17 {
-        let refused = refuse_split(rt, &alloc, &bin, granted, records);
+    for granted in 0..19 {
+        let mut bin = empty(&alloc, form)?;
+        put_three(rt, &alloc, &mut bin)?;
+        let refused = refuse_split(rt, &alloc, bin, granted);
         assert_same(rt, &(granted, refused), &(granted, granted < requests));
     }
-    filled
+    Ok(())
 }
 
 #[test]
 fn a_refused_split_leaves_the_bin(rt: HostRuntime) -> Result<(), Fail> {
     // Of entries two lists and two copies; in a recorded bin of records two lists and seven copies,
-    // and two logs.
-    refuse_splits(&rt, rt.alloc(), Form::Recorded, (1, 2), 15)?;
-    refuse_splits(&rt, rt.alloc(), Form::Lean, (0, 0), 4)?;
+    // two logs, and the two bins. A lean bin's entries are moved.
+    refuse_splits(&rt, rt.alloc(), Form::Recorded, 17)?;
+    refuse_splits(&rt, rt.alloc(), Form::Lean, 0)?;
     Ok(())
 }

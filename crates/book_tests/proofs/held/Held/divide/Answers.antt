@@ -6,18 +6,14 @@ use Rattle.book_tests.proofs.held.Held.divide.Goals as goal
 
 pub invariant_of-low : goal.invariant_of-low
 invariant_of-low g c =
-    let class = rw c.expect-low_bin.ensures at c.split.ensures.low_class in
-    let part = rw c.expect-low_bin.ensures at c.split.ensures.low in
     BinAgrees-divided g.K.PartialEq.eq (key_tells g.met.K.Eq.laws g.met.K.HashKey.equal_is_same) g.K.HashKey.code
     (after g.V.PartialEq.eq g.F.Remap.remapped g.F.Remap.merged) c.self.inside.bin
-    c.expect-low_bin.result.0 c.self.inside.role c.divide-low_role.result.0 low_half c.self.invariant class part
-    c.divide-low_role.ensures.low
+    c.in-Ok.low_bin c.self.inside.role c.divide-low_role.result.0 low_half c.self.invariant
+    c.in-Ok.ensures.low_class c.in-Ok.ensures.low c.divide-low_role.ensures.low
 
 pub invariant_of-high : goal.invariant_of-high
 invariant_of-high g c =
-    let class = rw c.expect-low_bin.ensures at c.split.ensures.high_class in
-    let part = rw c.expect-low_bin.ensures at c.split.ensures.high in
     BinAgrees-divided g.K.PartialEq.eq (key_tells g.met.K.Eq.laws g.met.K.HashKey.equal_is_same) g.K.HashKey.code
     (after g.V.PartialEq.eq g.F.Remap.remapped g.F.Remap.merged) c.self.inside.bin
-    c.expect-low_bin.result.1 c.self.inside.role c.divide-low_role.result.1 high_half c.self.invariant class part
-    c.divide-low_role.ensures.high
+    c.in-Ok.high_bin c.self.inside.role c.divide-low_role.result.1 high_half c.self.invariant
+    c.in-Ok.ensures.high_class c.in-Ok.ensures.high c.divide-low_role.ensures.high
