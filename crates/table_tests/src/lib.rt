@@ -10,4 +10,6 @@ mod sizes;
 #[cfg(test)]
 mod threads;
 #[cfg(test)]
+mod tries;
+#[cfg(test)]
 mod walks;

@@ -169,6 +169,7 @@ fn make<
     F: Remap<K, V> + Clone + Drop,
     A: Allocator + Clone,
 >(
+    alloc: &A,
     ledger: &Ledger<K, V, F, A>,
     pass: &mut Pass<K, V, F>,
     bin: &'a mut Bin<K, V, F, A>,
@@ -191,9 +192,10 @@ fn make<
     ensures salt { bin.new.salt ≡ bin.old.salt }
 {
     bin.lawful();
+    let hash = bin.salt().hash_of(&key);
     let (client, ordinal) = (pass.client(), pass.made());
     let key: Given<'a, K> = Given::Owned(key);
-    let (_, trace) = bin.make_on(key, op, client, ordinal)?;
+    let (_, trace) = bin.make_on(alloc, hash, key, op, client, ordinal)?;
     ledger.post_trace(pass, role, &trace);
     Ok(())
 }
@@ -201,6 +203,7 @@ fn make<
 /// Puts a value at a key of the map.
 pub(crate) fn put<R: Wait + Abort, A: Allocator + Clone>(
     rt: &R,
+    alloc: &A,
     map: &KeyMap<A>,
     ledger: &KeyLedger<A>,
     pass: &mut KeyPass,
@@ -213,22 +216,35 @@ pub(crate) fn put<R: Wait + Abort, A: Allocator + Clone>(
     let key = Key::read(text).expect(rt, "a key");
     assert!(rt; pass.made() < ledger.most_calls());
     let mut held = map.hold(rt, map.salt().hash_of(&key));
-    let mut bin = held.bin;
-    let mut role = held.role;
-    let result = make(ledger, pass, bin.as_mut(), &mut role, key, Op::Put(0));
-    held.bin = bin;
-    held.role = role;
+    let lent = &mut held;
+    let bin = &mut lent.bin;
+    let result = make(alloc, ledger, pass, bin, &mut lent.role, key, Op::Put(0));
     held.release();
     result
 }
 
+/// How many entries a bin has, up to 9.
+pub(crate) fn count_of<A: Allocator + Clone>(bin: &KeyBin<A>) -> usize {
+    let mut walk = bin.walk();
+    for count in 0..9 {
+        if walk.next().is_none() {
+            return count;
+        }
+    }
+    9
+}
+
+/// The value that a bin has at a key.
+pub(crate) fn value_in<A: Allocator + Clone>(bin: &KeyBin<A>, key: &Key) -> Option<u64> {
+    bin.get(bin.salt().hash_of(key), key).copied()
+}
+
 /// Takes the bins out, and gives how many there are and whether their classes are all of this size.
-pub(crate) fn leaves_of<R: Wait, A: Allocator + Clone>(
-    rt: &R,
+pub(crate) fn leaves_of<A: Allocator + Clone>(
     map: KeyMap<A>,
     n: u32,
 ) -> Option<(usize, usize, bool)> {
-    match map.into_leaves(rt) {
+    match map.into_leaves() {
         Ok((bins, roles)) => Some((
             bins.len(),
             roles.len(),

@@ -1,7 +1,7 @@
 //! Requests for memory that are refused, each in turn.
-use crate::maps::{KeyMap, Single, assert_same, leaves_of, open_quiet, open_single, put};
+use crate::maps::{KeyMap, Single, assert_same, count_of, leaves_of, open_quiet, open_single, put};
 use bin_history::Form;
-use generations::{Moved, NotLeft};
+use generations::{Moved, NotLeft, Refused};
 use hashkeys::{Class, Salt};
 use refusing_alloc::Refusing;
 use std::alloc::{AllocError, Allocator, Global};
@@ -13,10 +13,10 @@ use std::test::Fail;
 /// it is read.
 fn sizes<R: Wait, A: Allocator + Clone>(rt: &R, map: &KeyMap<A>) -> [(u32, usize); 2] {
     let held = map.hold(rt, 97);
-    let of_held = (held.bin.class().n(), held.bin.entries().len());
+    let of_held = (held.bin.class().n(), count_of(&held.bin));
     held.release();
     let shown = map.read(rt, 97);
-    let of_shown = (shown.bin().class().n(), shown.bin().entries().len());
+    let of_shown = (shown.bin().class().n(), count_of(shown.bin()));
     shown.release();
     [of_held, of_shown]
 }
@@ -35,10 +35,10 @@ fn refused_move<R: Wait + Abort>(
         ledger,
         mut pass,
     } = open_single(rt, alloc, form, Salt(0), 1)?;
-    let done = put(rt, &map, &ledger, &mut pass, b"a");
+    let done = put(rt, &alloc, &map, &ledger, &mut pass, b"a");
     pass.retire();
     alloc.refuse_after(granted);
-    let moved = map.forward(rt, &ledger, Class::new(1, 0)).is_ok();
+    let first = map.try_forward(&ledger, Class::new(1, 0));
     let refused = alloc.has_refused();
     alloc.refuse_after(u64::MAX);
     let between = sizes(rt, &map);
@@ -47,22 +47,27 @@ fn refused_move<R: Wait + Abort>(
     drop(map);
     drop(ledger);
     done?;
-    let wanted = if moved {
-        (Moved::Already, [(2, 1); 2])
-    } else {
-        (Moved::Yes, [(1, 1); 2])
+    let wanted = match first {
+        Ok(moved) => {
+            assert_same(rt, &moved, &Moved::Yes);
+            (Moved::Already, [(2, 1); 2])
+        }
+        Err(error) => {
+            assert_same(rt, &error, &Refused::NoMemory);
+            (Moved::Yes, [(1, 1); 2])
+        }
     };
     assert_same(rt, &(again?, between), &wanted);
     assert_same(rt, &after, &[(2, 1); 2]);
-    Ok((moved, refused))
+    Ok((first.is_ok(), refused))
 }
 
 #[test]
 fn a_refused_move_leaves_the_bin(rt: HostRuntime) -> Result<(), Fail> {
     let alloc = Refusing::new(rt.alloc());
-    // The table of two places, the list of entries of the half that has the key, and a room for
-    // each half; of a recorded bin the list of records of that half too, and a log for each half.
-    for (form, needed) in [(Form::Recorded, 7), (Form::Lean, 4)] {
+    // The table of two places; of a recorded bin the list of entries and the list of records of the
+    // half that has the key too, and for each half a log and room for the bin.
+    for (form, needed) in [(Form::Recorded, 7), (Form::Lean, 1)] {
         for granted in 0..9u64 {
             let (moved, refused) = refused_move(&rt, &alloc, form, granted)?;
             assert_same(
@@ -86,13 +91,13 @@ fn refused_leaves<R: Wait + Abort>(
     let (map, ledger) = open_quiet(alloc, Form::Recorded, 4)?;
     drop(ledger);
     alloc.refuse_after(granted);
-    match map.into_leaves(rt) {
+    match map.into_leaves() {
         Ok((bins, roles)) => {
             assert_same(rt, &(bins.len(), roles.len()), &(4, 4));
             Ok(false)
         }
         Err(NotLeft::NoMemory(map)) => {
-            assert_same(rt, &leaves_of(rt, map, 4), &Some((4, 4, true)));
+            assert_same(rt, &leaves_of(map, 4), &Some((4, 4, true)));
             Ok(true)
         }
         Err(NotLeft::BinMissing) => {
@@ -132,9 +137,9 @@ fn refused_map(rt: &impl Abort, alloc: &Refusing<Global>, form: Form, granted: u
 #[test]
 fn a_refused_map_is_made_at_the_next_try(rt: HostRuntime) -> Result<(), Fail> {
     let alloc = Refusing::new(rt.alloc());
-    // Lists of bases, passes, roles and places, the two blocks of the ledger's words, the list of
-    // tables, and a room for each of two bins; of each recorded bin a log.
-    for (form, needed) in [(Form::Recorded, 11), (Form::Lean, 9)] {
+    // Lists of bases, passes, roles and places, the two blocks of the ledger's words, and the list
+    // of tables; of each of two recorded bins a log and room for the bin.
+    for (form, needed) in [(Form::Recorded, 11), (Form::Lean, 7)] {
         for granted in 0..14u64 {
             let refused = refused_map(&rt, &alloc, form, granted);
             assert_same(&rt, &refused, &(granted < needed));

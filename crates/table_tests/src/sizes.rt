@@ -1,7 +1,7 @@
 //! Tables by size: which place a hash is found at, and a table that is made before its move.
 use crate::maps::{KeyMap, assert_same, open_quiet};
 use bin_history::Form;
-use generations::Moved;
+use generations::{Moved, Refused};
 use hashkeys::Class;
 use refusing_alloc::Refusing;
 use std::alloc::{AllocError, Allocator, Global};
@@ -43,19 +43,17 @@ fn the_widest_place_of_a_hash_is_found(rt: HostRuntime) -> Result<(), Fail> {
     Ok(())
 }
 
+/// What a try to make a table answers, and what the move after it does.
+type Widened = (Result<(), Refused>, Result<Moved, Refused>);
+
 /// Makes the table of two places under an allocator that refuses the request after so many, and
-/// then moves the one bin, which is empty, with two requests granted: a room for each half. Answers
-/// both.
-fn widened<R: Wait>(
-    rt: &R,
-    alloc: &Refusing<Global>,
-    granted: u64,
-) -> Result<(bool, bool), AllocError> {
+/// then moves the one lean bin with every request refused.
+fn widened(alloc: &Refusing<Global>, granted: u64) -> Result<Widened, AllocError> {
     let (map, ledger) = open_quiet(alloc, Form::Lean, 1)?;
     alloc.refuse_after(granted);
-    let made = map.widen(rt, 2).is_ok();
-    alloc.refuse_after(2);
-    let moved = map.forward(rt, &ledger, Class::new(1, 0)).is_ok();
+    let made = map.try_widen(2);
+    alloc.refuse_after(0);
+    let moved = map.try_forward(&ledger, Class::new(1, 0));
     alloc.refuse_after(u64::MAX);
     drop(map);
     drop(ledger);
@@ -65,7 +63,8 @@ fn widened<R: Wait>(
 #[test]
 fn a_table_that_is_there_is_not_made_again(rt: HostRuntime) -> Result<(), Fail> {
     let alloc = Refusing::new(rt.alloc());
-    assert_same(&rt, &widened(&rt, &alloc, 0)?, &(false, false));
-    assert_same(&rt, &widened(&rt, &alloc, 1)?, &(true, true));
+    let no_memory = Refused::NoMemory;
+    assert_same(&rt, &widened(&alloc, 0)?, &(Err(no_memory), Err(no_memory)));
+    assert_same(&rt, &widened(&alloc, 1)?, &(Ok(()), Ok(Moved::Yes)));
     Ok(())
 }

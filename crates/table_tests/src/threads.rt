@@ -2,7 +2,7 @@
 ghost use Rattle.std.specs.Prelude.{◌≡◌, All, IfOk};
 
 use crate::maps::{
-    KeyLedger, KeyMap, KeyPass, KeyRole, Opened, assert_same, open, open_quiet, put,
+    KeyLedger, KeyMap, KeyPass, KeyRole, Opened, assert_same, count_of, open, open_quiet, put,
 };
 use bin_history::Form;
 use count_ledger::{Unsettled, retire_all};
@@ -57,6 +57,7 @@ const TEXTS: [&[u8]; 8] = [b"h", b"a", b"b", b"c", b"d", b"e", b"f", b"g"];
 /// Puts to each key in turn, a hundred times.
 fn put_to_all<R: Wait + Abort>(
     rt: &R,
+    alloc: Global,
     map: &KeyMap<Global>,
     ledger: &KeyLedger<Global>,
     pass: &mut KeyPass,
@@ -67,7 +68,7 @@ fn put_to_all<R: Wait + Abort>(
 {
     for _round in 0..100 {
         for text in TEXTS {
-            put(rt, map, ledger, pass, text).expect(rt, "memory");
+            put(rt, &alloc, map, ledger, pass, text).expect(rt, "memory");
         }
     }
 }
@@ -75,6 +76,7 @@ fn put_to_all<R: Wait + Abort>(
 /// Each pass puts to each key, at the same time as the others.
 fn put_from_threads<R: Threads + Wait + Abort + Sync>(
     rt: &R,
+    alloc: Global,
     map: &KeyMap<Global>,
     ledger: &KeyLedger<Global>,
     passes: &mut Vec<KeyPass>,
@@ -87,7 +89,7 @@ fn put_from_threads<R: Threads + Wait + Abort + Sync>(
         rt,
         passes,
         8,
-        &|_number, pass| { put_to_all(rt, map, ledger, pass) },
+        &|_number, pass| { put_to_all(rt, alloc, map, ledger, pass) },
     );
 }
 
@@ -99,13 +101,13 @@ fn roles_of<R: Wait + Abort>(
 ) -> (Vec<KeyRole>, Vec<usize>)
     ensures { All (λ r. r.ledger ≡ map.ledger) result.0.items }
 {
-    let Ok((bins, roles)) = map.into_leaves(rt) else {
+    let Ok((bins, roles)) = map.into_leaves() else {
         assert!(rt; false, "the bins are taken out");
         unreachable!()
     };
     let mut counts = Vec::new(alloc);
     for bin in &bins {
-        counts.push(bin.entries().len()).expect(rt, "memory");
+        counts.push(count_of(bin)).expect(rt, "memory");
     }
     (roles, counts)
 }
@@ -145,7 +147,7 @@ fn eight_threads_post_to_eight_bins(rt: HostRuntime) -> Result<(), Fail> {
         ledger,
         mut passes,
     } = open(rt.alloc(), Form::Lean, Salt(0), 8, 8)?;
-    put_from_threads(&rt, &map, &ledger, &mut passes);
+    put_from_threads(&rt, rt.alloc(), &map, &ledger, &mut passes);
     let (roles, counts) = roles_of(&rt, rt.alloc(), map);
     let all_made = passes.iter().all(|pass| pass.made() == 800);
     let total = settled(&rt, ledger, passes, roles);

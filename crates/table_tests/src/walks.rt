@@ -4,6 +4,7 @@ ghost use Rattle.hashkeys.specs.Classes.{IsTableSize};
 
 use crate::maps::{
     KeyBin, KeyLedger, KeyMap, Single, assert_same, leaves_of, open_quiet, open_single, put,
+    value_in,
 };
 use bin_history::Form;
 use generations::{Moved, next_in_walk};
@@ -24,7 +25,7 @@ fn walk<R: Wait, A: Allocator + Clone>(
     for _ in rt.forever() {
         let held = map.hold(rt, next.index());
         let class = held.bin.class();
-        let added = add_texts(&mut texts, held.bin.as_ref());
+        let added = add_texts(&mut texts, &held.bin);
         held.release();
         added?;
         match next_in_walk(map.n(), class) {
@@ -36,7 +37,7 @@ fn walk<R: Wait, A: Allocator + Clone>(
 }
 
 fn add_texts<A: Allocator + Clone>(texts: &mut Vec<u8>, bin: &KeyBin<A>) -> Result<(), AllocError> {
-    for (key, _) in bin.entries() {
+    for (key, _) in bin.walk() {
         texts.extend_from_slice(key.bytes())?;
         texts.push(b' ')?;
     }
@@ -76,7 +77,7 @@ fn walks_of_four(
     } = open_single(rt, alloc, form, salt, 16)?;
     let mut put_all = Ok(());
     for text in [b"q".as_slice(), b"a", b"Aa", b"zzzzzz"] {
-        put_all = put_all.and(put(rt, &map, &ledger, &mut pass, text));
+        put_all = put_all.and(put(rt, &alloc, &map, &ledger, &mut pass, text));
     }
     pass.retire();
     let before = walk(rt, alloc, &map);
@@ -122,14 +123,11 @@ fn two_readers_are_shown_one_bin_at_once(rt: HostRuntime) -> Result<(), Fail> {
         mut pass,
     } = open_single(&rt, rt.alloc(), Form::Lean, Salt(0), 1)?;
     let key = Key::read(b"a").expect(&rt, "a key");
-    let done = put(&rt, &map, &ledger, &mut pass, b"a");
+    let done = put(&rt, &rt.alloc(), &map, &ledger, &mut pass, b"a");
     pass.retire();
     let first = map.read(&rt, 97);
     let second = map.read(&rt, 97);
-    let found = (
-        first.bin().get(&key).copied(),
-        second.bin().get(&key).copied(),
-    );
+    let found = (value_in(first.bin(), &key), value_in(second.bin(), &key));
     first.release();
     second.release();
     map.hold(&rt, 97).release();
@@ -159,7 +157,7 @@ fn all_bins_are_there_after_moves(rt: HostRuntime) -> Result<(), Fail> {
     let first = forward_all(&rt, &map, &ledger, 4);
     let second = forward_all(&rt, &map, &ledger, 8);
     let astray = first_astray(&rt, &map);
-    let leaves = leaves_of(&rt, map, 16);
+    let leaves = leaves_of(map, 16);
     drop(ledger);
     first.and(second)?;
     assert_same(&rt, &astray, &None);
