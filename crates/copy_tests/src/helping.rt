@@ -54,13 +54,14 @@ fn numbers_of_24(rt: &impl Abort) -> [u32; 24] {
     numbers
 }
 
-/// Puts copies of a value at these 24 keys: a table of 32 bins grows then. Before the last the
-/// copies are told to wait.
+/// Puts copies of a value at the first 23 of these keys, which are told to wait where they are
+/// copied from then on, and the last value at the 24th: a table of 32 bins grows then.
 fn put_24<R: Wait + Abort, V: Clone + Eq + Drop, F: Remap<Key, V> + Clone + Drop>(
     rt: &R,
     map: &Map<Key, V, F, Global>,
     pass: &mut Pass<Key, V, F>,
     value: &V,
+    last: &V,
     told: &AtomicU64,
 )
     requires values { IsExact V.is_clone }
@@ -71,27 +72,32 @@ fn put_24<R: Wait + Abort, V: Clone + Eq + Drop, F: Remap<Key, V> + Clone + Drop
     let mut count = 0u32;
     for number in numbers_of_24(rt) {
         count = count.saturating_add(1);
-        let copy = value.clone().expect(rt, "memory");
-        if count == 24 {
+        let source = if count < 24 {
+            value
+        } else {
             told.store(WAIT, SeqCst);
-        }
+            last
+        };
+        let copy = source.clone().expect(rt, "memory");
         let reply = map.put(rt, pass, numbered(rt, number), copy);
         assert!(rt; reply == Ok(Reply::Value(None)));
     }
 }
 
-/// Client 0 puts keys until the table grows. The first copy that the move makes of a value waits
-/// for a second one. Client 1 then makes a call on the first bin, which was moved before. Answers
+/// Client 0 puts keys until the table of a recorded map grows. The first copy that the move makes
+/// of a value waits for a second one. Client 1 then makes a call on the first bin, which was moved before. Answers
 /// how many keys there are.
 fn call_while_another_moves<
     R: Threads + Wait + Abort + Sync,
     V: Clone + Eq + Drop + Send + Sync,
     F: Remap<Key, V> + Clone + Drop + Send + Sync,
->(rt: &R, alloc: Global, value: &V, event: &Event, told: &AtomicU64) -> u64
+>(rt: &R, alloc: Global, value: &V, last: &V, event: &Event, told: &AtomicU64) -> u64
     requires values { IsExact V.is_clone }
     requires functions { IsExact F.is_clone }
 {
-    let (map, mut passes) = open::<Key, V, F, Global>(alloc, Form::Lean, 32, 2).expect(rt, "a map");
+    let (map, mut passes) = open::<Key, V, F, Global>(alloc, Form::Recorded, 32, 2).expect(
+        rt, "a map",
+    );
     let work = |number: usize, pass: &mut Pass<Key, V, F>|
         requires values { IsExact V.is_clone }
         requires functions { IsExact F.is_clone }
@@ -99,7 +105,7 @@ fn call_while_another_moves<
         ensures { pass.exit.now.ledger ≡ map.ledger.id }
     {
         if number == 0 {
-            put_24(rt, &map, pass, value, told);
+            put_24(rt, &map, pass, value, last, told);
         } else {
             event.wait(1);
             let reply = map.contains_key(rt, pass, key_of_bin_0(rt));
@@ -107,7 +113,7 @@ fn call_while_another_moves<
         }
     };
     thread::for_each_mut(rt, &mut passes, 2, &work);
-    close(rt, map, passes)
+    close(map, passes)
         .expect(rt, "a closed map")
         .mapping_count()
 }
@@ -118,11 +124,14 @@ fn a_call_helps_with_a_stride(rt: HostRuntime) -> Result<(), Fail> {
     // which waits, has not come to them.
     let event = Event::new();
     let told = AtomicU64::new(0);
+    let quiet = AtomicU64::new(0);
     let value = Paired::new(&event, &told);
+    let last = Paired::new(&event, &quiet);
     let keys = call_while_another_moves::<HostRuntime, Paired, ()>(
         &rt,
         rt.alloc(),
         &value,
+        &last,
         &event,
         &told,
     );

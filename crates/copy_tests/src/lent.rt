@@ -175,7 +175,7 @@ fn make_refused<R: Wait + Abort, A: Allocator + Clone>(
     let refused = switch.has_refused();
     switch.refuse_after(u64::MAX);
     let made = pass.made();
-    let closed = close_single(rt, map, pass, place).expect(rt, "a closed map");
+    let closed = close_single(map, pass, place).expect(rt, "a closed map");
     let left = match closed.get(&text(rt, alloc, b"a")) {
         Some(value) => Some(value.bytes().len()),
         None => None,
@@ -320,7 +320,7 @@ fn change_lean<R: Wait + Abort, A: Allocator + Clone>(
         place,
     } = one_text(rt, alloc, Form::Lean);
     let right = right_rounds(rt, switch, alloc, &map, &mut pass, 1000);
-    let closed = close_single(rt, map, pass, place).expect(rt, "a closed map");
+    let closed = close_single(map, pass, place).expect(rt, "a closed map");
     (right, closed.mapping_count())
 }
 

@@ -11,6 +11,10 @@ mod lent;
 #[cfg(test)]
 mod numbers;
 #[cfg(test)]
+mod skipping;
+#[cfg(test)]
+mod trying;
+#[cfg(test)]
 mod twelve;
 #[cfg(test)]
 mod waiting;

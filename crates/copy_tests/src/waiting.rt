@@ -44,7 +44,7 @@ impl Event {
         self.given_up.fetch_add(1, SeqCst);
     }
 
-    fn done(&self) {
+    pub(crate) fn done(&self) {
         self.done.fetch_add(1, SeqCst);
     }
 
@@ -55,9 +55,9 @@ impl Event {
 
 /// Gives a key the value 1, once the event has been done. It tells that it was asked.
 #[derive(Drop)]
-struct OneAfter<'a> {
-    asked: &'a Event,
-    event: &'a Event,
+pub(crate) struct OneAfter<'a> {
+    pub(crate) asked: &'a Event,
+    pub(crate) event: &'a Event,
 }
 
 impl<'a> Clone for OneAfter<'a> {
@@ -118,7 +118,7 @@ fn compute_while_another_puts<
         }
     };
     thread::for_each_mut(rt, &mut passes, 2, &work);
-    close(rt, map, passes)
+    close(map, passes)
         .expect(rt, "a closed map")
         .mapping_count()
 }
@@ -255,7 +255,7 @@ fn glance_together<R: Threads + Wait + Abort + Sync>(
     let glance = || matches!(map.glance(rt, &key(rt, b"a")), Ok(Some(_)));
     let both = thread::join(rt, glance, glance);
     told.store(0, SeqCst);
-    let keys = close(rt, map, passes)
+    let keys = close(map, passes)
         .expect(rt, "a closed map")
         .mapping_count();
     assert!(rt; put);
@@ -287,7 +287,7 @@ fn glance_in_vain<R: Wait + Abort>(
     let refused = map.glance(rt, &key(rt, b"a")).map(|shown| shown.is_some());
     told.store(0, SeqCst);
     let again = map.glance(rt, &key(rt, b"a")).map(|shown| shown.is_some());
-    let keys = close(rt, map, passes)
+    let keys = close(map, passes)
         .expect(rt, "a closed map")
         .mapping_count();
     assert_same(rt, &(put, keys), &(true, 1));

@@ -9,7 +9,6 @@ use chm::{Fault, Map, Opened, Quiet};
 use count_ledger::{Pass, retire_all};
 use hashkeys::{HashKey, Salt};
 use std::alloc::Allocator;
-use std::sync::Wait;
 
 /// The two forms. A test that reads no records is made on a map of each.
 pub const BOTH: [Form; 2] = [Form::Recorded, Form::Lean];
@@ -122,15 +121,14 @@ pub fn open_single<
 
 /// Closes a map, with the passes of all clients. Where it does not close both are lost.
 pub fn close<
-    R: Wait,
     K: HashKey + Drop,
     V: Clone + Eq + Drop,
     F: Remap<K, V> + Clone + Drop,
     A: Allocator + Clone,
->(rt: &R, map: Map<K, V, F, A>, passes: Vec<Pass<K, V, F>, A>) -> Result<Quiet<K, V, F, A>, Fault>
+>(map: Map<K, V, F, A>, passes: Vec<Pass<K, V, F>, A>) -> Result<Quiet<K, V, F, A>, Fault>
     requires { All (λ p. p.ledger ≡ map.ledger.id) passes.items }
 {
-    match map.close(rt, passes) {
+    match map.close(passes) {
         Ok(quiet) => Ok(quiet),
         Err(refused) => Err(refused.give_up()),
     }
@@ -155,13 +153,11 @@ pub fn put_back<
 
 /// Puts a pass back in its place and closes the map.
 pub fn close_single<
-    R: Wait,
     K: HashKey + Drop,
     V: Clone + Eq + Drop,
     F: Remap<K, V> + Clone + Drop,
     A: Allocator + Clone,
 >(
-    rt: &R,
     map: Map<K, V, F, A>,
     pass: Pass<K, V, F>,
     mut place: Vec<Pass<K, V, F>, A>,
@@ -170,5 +166,5 @@ pub fn close_single<
     requires place { All (λ p. p.ledger ≡ map.ledger.id) place.items }
 {
     put_back(&map, pass, &mut place);
-    close(rt, map, place)
+    close(map, place)
 }

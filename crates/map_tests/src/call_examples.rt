@@ -22,6 +22,13 @@ fn call_on<R: Wait>(rt: &R, map: &Numbers, pass: &mut NumberPass) -> Result<bool
     Ok(map.call_on(rt, pass, Given::Lent(&1), Op::Get)? == Reply::Value(Some(5)))
 }
 
+fn try_call(map: &Numbers, pass: &mut NumberPass) -> bool
+    requires { pass.old.ledger ≡ map.now.ledger.id }
+    ensures { pass.new.ledger ≡ map.now.ledger.id }
+{
+    map.try_call(pass, Given::Owned(1), Op::Put(5)) == Some(Ok(Reply::Value(None)))
+}
+
 fn get<R: Wait>(rt: &R, map: &Numbers, pass: &mut NumberPass) -> Result<bool, Fault>
     requires { pass.old.ledger ≡ map.now.ledger.id }
     ensures { pass.new.ledger ≡ map.now.ledger.id }
@@ -263,17 +270,18 @@ fn run<R: Wait>(rt: &R, map: &Numbers, pass: &mut NumberPass, number: u64) -> Re
         21 => compute(rt, map, pass),
         22 => merge(rt, map, pass),
         23 => balance(rt, map, pass),
+        24 => Ok(try_call(map, pass)),
         _ => run_after_put(rt, map, pass, number),
     }
 }
 
-/// How many examples are as they say, each begun without a value at 1. There are 24.
+/// How many examples are as they say, each begun without a value at 1. There are 25.
 pub(crate) fn right_calls<R: Wait>(rt: &R, map: &Numbers, pass: &mut NumberPass) -> u64
     requires { pass.old.ledger ≡ map.now.ledger.id }
     ensures { pass.new.ledger ≡ map.now.ledger.id }
 {
     let mut right = 0u64;
-    for number in 0..24u64 {
+    for number in 0..25u64 {
         let is_clear = map.remove(rt, pass, 1).is_ok();
         let is_right = run(rt, map, pass, number) == Ok(true);
         if is_clear && is_right {

@@ -84,7 +84,7 @@ fn reply_to_all<R: Wait + Abort>(
     let wrong = first_wrong(rt, &map, &mut pass, rows);
     let made = pass.made();
     let live = map.mapping_count();
-    let closed = close_single(rt, map, pass, place).expect(rt, "a closed map");
+    let closed = close_single(map, pass, place).expect(rt, "a closed map");
     (wrong, made, [live, closed.mapping_count()])
 }
 

@@ -92,14 +92,10 @@ fn lean(alloc: Global) -> Result<bool, Fault> {
     Ok(told)
 }
 
-fn close<R: Wait>(
-    rt: &R,
-    map: Numbers,
-    passes: Vec<NumberPass, Global>,
-) -> Result<NumberQuiet, Fault>
+fn close(map: Numbers, passes: Vec<NumberPass, Global>) -> Result<NumberQuiet, Fault>
     requires { All (λ p. p.ledger ≡ map.ledger.id) passes.items }
 {
-    match map.close(rt, passes) {
+    match map.close(passes) {
         Ok(quiet) => Ok(quiet),
         Err(refused) => Err(refused.give_up()),
     }
@@ -139,7 +135,7 @@ fn close_or_give_up<R: Wait>(
 ) -> Result<NumberQuiet, Fault>
     requires { All (λ p. p.ledger ≡ map.ledger.id) passes.items }
 {
-    map.close(rt, passes).map_err(|refused| refused.give_up())
+    map.close(passes).map_err(|refused| refused.give_up())
 }
 
 fn share<R: Threads + Wait + Abort + Sync>(rt: &R, alloc: Global) -> Result<bool, Fault> {
@@ -199,14 +195,14 @@ fn closed<R: Threads + Wait + Abort + Sync>(
 ) -> Result<(NumberQuiet, Vec<u64>), Fault> {
     let (map, mut passes) = open(alloc, Form::Lean, 16, 1).expect(rt, "a map");
     let right = map.share(rt, &mut passes, &Examples).expect(rt, "memory");
-    Ok((close(rt, map, passes)?, right))
+    Ok((close(map, passes)?, right))
 }
 
 #[test]
 fn each_example_of_a_call_is_as_it_says(rt: HostRuntime) -> Result<(), Fail> {
     let (quiet, right) = closed(&rt, rt.alloc())?;
     drop(quiet);
-    assert!(rt; right.as_slice() == [24].as_slice());
+    assert!(rt; right.as_slice() == [25].as_slice());
     Ok(())
 }
 

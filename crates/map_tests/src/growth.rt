@@ -62,7 +62,7 @@ fn grown_again<R: Wait + Abort>(
     let opened = filled(rt, alloc, form, capacity, puts).reopen(2);
     let (map, mut passes) = opened.expect(rt, "a map");
     let counted = count_all(rt, &map, &mut passes);
-    let closed = close(rt, map, passes).expect(rt, "a closed map");
+    let closed = close(map, passes).expect(rt, "a closed map");
     let keys = closed.mapping_count();
     (closed.bins().len(), keys, records_of(&closed), counted)
 }

@@ -26,7 +26,7 @@ fn put_the_twelfth<R: Wait + Abort>(rt: &R, alloc: Global, form: Form) -> ([u64;
     put_back(&map, pass, &mut place);
     let count = count_all(rt, &map, &mut place);
     let live = map.mapping_count();
-    let closed = close(rt, map, place).expect(rt, "a closed map");
+    let closed = close(map, place).expect(rt, "a closed map");
     let counts = [count, live, closed.mapping_count()];
     let entries = closed.entries().count();
     (counts, [closed.bins().len(), entries, records_of(&closed)])
@@ -64,12 +64,12 @@ fn put_twins<R: Wait + Abort>(rt: &R, alloc: Global, form: Form) -> (usize, usiz
     for number in 0..32u32 {
         put_new(rt, &map, &mut pass, twin(rt, number), u64::from(number));
     }
-    let closed = close_single(rt, map, pass, place).expect(rt, "a closed map");
+    let closed = close_single(map, pass, place).expect(rt, "a closed map");
     for ((key, value), number) in closed.entries().zip(0u32..) {
         assert!(rt; *key == twin(rt, number));
         assert_same(rt, value, &u64::from(number));
     }
-    let full = closed.bins().iter().filter(|bin| !bin.entries().is_empty());
+    let full = closed.bins().iter().filter(|bin| bin.first().is_some());
     (closed.bins().len(), full.count(), closed.mapping_count())
 }
 
@@ -96,7 +96,7 @@ fn a_full_pass_makes_no_more_calls(rt: HostRuntime) -> Result<(), Fail> {
     let got = map.get(&rt, &mut pass, key(&rt, b"a"));
     let walked = map.walk(&rt, &mut pass).map(|visits| visits.len());
     let end = pass.made();
-    let closed = close_single(&rt, map, pass, place).expect(&rt, "a closed map");
+    let closed = close_single(map, pass, place).expect(&rt, "a closed map");
     assert_entries(&rt, closed.entries(), &[(b"a", 1), (b"q", 2)]);
     drop(closed);
     assert!(rt; got == Err(Fault::PassFull));
@@ -125,7 +125,7 @@ fn clear_by_the_last_call<R: Wait + Abort>(
     let cleared = map.clear(rt, &mut pass);
     let again = map.clear(rt, &mut pass);
     let made = pass.made();
-    let keys = close_single(rt, map, pass, place)
+    let keys = close_single(map, pass, place)
         .expect(rt, "a closed map")
         .mapping_count();
     ([cleared, again], made, keys)
@@ -149,7 +149,7 @@ fn a_lean_pass_makes_three_million_calls(rt: HostRuntime) -> Result<(), Fail> {
     get_often(&rt, &map, &mut pass, 2_999_998, 1);
     let removed = map.remove(&rt, &mut pass, key(&rt, b"a"));
     let made = pass.made();
-    let closed = close_single(&rt, map, pass, place).expect(&rt, "a closed map");
+    let closed = close_single(map, pass, place).expect(&rt, "a closed map");
     let left = (closed.mapping_count(), records_of(&closed));
     drop(closed);
     assert!(rt; removed == Ok(Reply::Value(Some(1))));
@@ -169,7 +169,7 @@ fn folded<R: Wait + Abort>(rt: &R, alloc: Global) -> KeyQuiet<Global> {
     get_often(rt, &map, &mut pass, 1_021, 2);
     let removed = map.remove(rt, &mut pass, key(rt, b"q"));
     put_texts(rt, &map, &mut pass, &[(b"q", 3)]);
-    let closed = close_single(rt, map, pass, place).expect(rt, "a closed map");
+    let closed = close_single(map, pass, place).expect(rt, "a closed map");
     assert!(rt; removed == Ok(Reply::Value(Some(1))));
     closed
 }

@@ -161,7 +161,7 @@ pub(crate) fn filled<R: Wait + Abort, A: Allocator + Clone>(
         place,
     } = open_single(alloc, form, capacity).expect(rt, "a map");
     put_numbers(rt, &map, &mut pass, 0, count);
-    close_single(rt, map, pass, place).expect(rt, "a closed map")
+    close_single(map, pass, place).expect(rt, "a closed map")
 }
 
 /// Asserts that what was found is what is wanted. A call of it is one step of the caller, which
@@ -218,7 +218,7 @@ pub(crate) fn assert_pairs(rt: &impl Abort, entries: &[(Key, u64)], wanted: &[(&
     }
 }
 
-/// Asserts that the bin of slot 1 has so many records over these pairs.
+/// Asserts that the recorded bin of slot 1 has so many records over these pairs.
 pub(crate) fn assert_slot_1<A: Allocator + Clone>(
     rt: &impl Abort,
     closed: &KeyQuiet<A>,
@@ -226,16 +226,20 @@ pub(crate) fn assert_slot_1<A: Allocator + Clone>(
     base: &[(&[u8], u64)],
 ) {
     let bin = closed.bins().get(1).expect(rt, "a bin of slot 1");
+    let bin = bin.recorded().expect(rt, "records");
     assert_same(rt, &bin.records().len(), &records);
     assert_pairs(rt, bin.base(), base);
 }
 
 /// How many records the bins have in all.
 pub(crate) fn records_of<A: Allocator + Clone>(closed: &KeyQuiet<A>) -> usize {
-    closed.bins().iter().fold(
-        0,
-        |total: usize, bin| total.saturating_add(bin.records().len()),
-    )
+    let mut total = 0usize;
+    for bin in closed.bins() {
+        if let Some(recorded) = bin.recorded() {
+            total = total.saturating_add(recorded.records().len());
+        }
+    }
+    total
 }
 
 /// Gets a key so often, each time with this reply.

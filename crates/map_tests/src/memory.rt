@@ -1,8 +1,9 @@
-//! Calls that ask for no memory.
+//! Calls that ask for no memory, and puts of new keys, which ask once.
 ghost use Rattle.std.specs.Prelude.{◌≡◌};
 
 use crate::maps::{KeyMap, KeyPass, Plus, assert_same, key, numbered, put_numbers, put_texts};
 use bin_history::{Form, Reply};
+use chm::Fault;
 use map_samples::{Single, close_single, open_single};
 use refusing_alloc::Refusing;
 use std::alloc::{Allocator, Global};
@@ -35,9 +36,11 @@ fn call_often<R: Wait + Abort, A: Allocator + Clone>(
 }
 
 /// Takes a thousand keys away and puts them again, one after the other, so many times. Answers how
-/// often both calls replied as they should.
+/// often the remove asked for no memory, a put was refused without memory, and one that was granted
+/// one request was made.
 fn put_again<R: Wait + Abort, A: Allocator + Clone>(
     rt: &R,
+    switch: &Refusing<Global>,
     map: &KeyMap<A>,
     pass: &mut KeyPass,
     times: u32,
@@ -49,17 +52,27 @@ fn put_again<R: Wait + Abort, A: Allocator + Clone>(
     for time in 0..times.saturating_mul(1000) {
         let number = time % 1000;
         let value = u64::from(number);
+        switch.refuse_after(0);
         let removed = map.remove(rt, pass, numbered(rt, number));
+        let refused = map.put(rt, pass, numbered(rt, number), value);
+        switch.refuse_after(1);
         let put = map.put(rt, pass, numbered(rt, number), value);
-        if removed == Ok(Reply::Value(Some(value))) && put == Ok(Reply::Value(None)) {
+        let once = !switch.has_refused();
+        if removed == Ok(Reply::Value(Some(value)))
+            && refused == Err(Fault::NoMemory)
+            && put == Ok(Reply::Value(None))
+            && once
+        {
             right = right.wrapping_add(1);
         }
     }
+    switch.refuse_after(u64::MAX);
     right
 }
 
-/// Makes calls on keys of a lean map that have been there. Answers how many calls replied as they
-/// should, and whether one asked for memory.
+/// Makes calls on keys of a lean map that are there, and then takes keys away and puts them again.
+/// Answers how many of each replied as they should, whether one of the first asked for memory, and
+/// how many keys there are.
 fn asked_for<R: Wait + Abort, A: Allocator + Clone>(
     rt: &R,
     switch: &Refusing<Global>,
@@ -74,19 +87,18 @@ fn asked_for<R: Wait + Abort, A: Allocator + Clone>(
     put_numbers(rt, &map, &mut pass, 0, 1000);
     switch.refuse_after(0);
     let called = call_often(rt, &map, &mut pass, 100_000);
-    let again = put_again(rt, &map, &mut pass, 100);
     let asked = switch.has_refused();
-    switch.refuse_after(u64::MAX);
-    let keys = close_single(rt, map, pass, place)
+    let again = put_again(rt, switch, &map, &mut pass, 10);
+    let keys = close_single(map, pass, place)
         .expect(rt, "a closed map")
         .mapping_count();
     ((called, again), asked, keys)
 }
 
 #[test]
-fn calls_on_keys_of_a_lean_map_ask_for_no_memory(rt: HostRuntime) -> Result<(), Fail> {
+fn calls_on_a_lean_map_ask_for_memory_for_new_keys_alone(rt: HostRuntime) -> Result<(), Fail> {
     let alloc = Refusing::new(rt.alloc());
     let told = asked_for(&rt, &alloc, &alloc);
-    assert_same(&rt, &told, &((100_000, 100_000), false, 1001));
+    assert_same(&rt, &told, &((100_000, 10_000), false, 1001));
     Ok(())
 }

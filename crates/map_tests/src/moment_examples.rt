@@ -49,7 +49,7 @@ fn hand_over<R: Wait + Abort>(
     assert!(rt; place.len() == 1);
     let right = told_and_heard(rt, &map, &mut place[0], &mut pass);
     let made = [place[0].made(), pass.made()];
-    let closed = close_single(rt, map, pass, place).expect(rt, "a closed map");
+    let closed = close_single(map, pass, place).expect(rt, "a closed map");
     (right, made, closed.mapping_count())
 }
 

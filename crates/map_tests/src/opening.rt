@@ -27,7 +27,7 @@ fn of_three<R: Wait + Abort>(
         3,
     ).expect(rt, "a map");
     let told = (map.form(), map.clients(), passes.len());
-    let closed = close(rt, map, passes).expect(rt, "a closed map");
+    let closed = close(map, passes).expect(rt, "a closed map");
     (told, (closed.form(), closed.bins().len()))
 }
 
@@ -63,7 +63,7 @@ fn close_early<R: Wait + Abort, A: Allocator + Clone>(
     ensures id { result.0.ledger.id ≡ map.ledger.id }
     ensures own { All (λ p. p.ledger ≡ result.0.ledger.id) result.1.items }
 {
-    match map.close(rt, passes) {
+    match map.close(passes) {
         Ok(_) => {
             assert!(rt; false, "a pass is missing");
             unreachable!()
@@ -87,7 +87,7 @@ fn close_twice<R: Wait + Abort>(rt: &R, alloc: Global, form: Form) -> u64 {
     let (map, mut passes) = close_early(rt, map, place);
     put_back(&map, pass, &mut passes);
     let count = count_all(rt, &map, &mut passes);
-    let closed = close(rt, map, passes).expect(rt, "a closed map");
+    let closed = close(map, passes).expect(rt, "a closed map");
     assert_entries(rt, closed.entries(), &[(b"a", 1)]);
     count
 }

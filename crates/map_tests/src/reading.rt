@@ -48,7 +48,7 @@ fn walk_twice<R: Wait + Abort>(rt: &R, alloc: Global, form: Form) {
     let removed = map.remove(rt, &mut pass, key(rt, b"q"));
     put_texts(rt, &map, &mut pass, &[(b"q", 5)]);
     let after = map.walk(rt, &mut pass);
-    let closed = close_single(rt, map, pass, place).expect(rt, "a closed map");
+    let closed = close_single(map, pass, place).expect(rt, "a closed map");
     assert_entries(
         rt,
         closed.entries(),
@@ -83,7 +83,7 @@ fn four_and_more<R: Wait + Abort>(
     } = take_pass(open_salted(alloc, form, salt, 16, 1).expect(rt, "a map")).expect(rt, "a pass");
     put_texts(rt, &map, &mut pass, &FOUR);
     put_numbers(rt, &map, &mut pass, 0, more);
-    close_single(rt, map, pass, place).expect(rt, "a closed map")
+    close_single(map, pass, place).expect(rt, "a closed map")
 }
 
 /// The four keys in walk order, in this many bins of the form under this salt.
@@ -103,7 +103,7 @@ fn again<R: Wait + Abort>(rt: &R, opened: Opened<Key, u64, Plus, Global>) -> Key
     requires { All (λ p. p.ledger ≡ opened.0.ledger.id) opened.1.items }
 {
     let (map, passes) = opened;
-    close(rt, map, passes).expect(rt, "a closed map")
+    close(map, passes).expect(rt, "a closed map")
 }
 
 /// The walk order of 16 bins, and of 32.
@@ -165,7 +165,7 @@ fn glances<R: Wait + Abort>(
     let after = map.glance(rt, &key(rt, b"a"));
     let absent = map.glance(rt, &key(rt, b"q"));
     let made = pass.made();
-    let closed = close_single(rt, map, pass, place).expect(rt, "a closed map");
+    let closed = close_single(map, pass, place).expect(rt, "a closed map");
     ([first, before, after, absent], made, closed.bins().len())
 }
 
@@ -194,7 +194,7 @@ fn clear_three<R: Wait + Abort>(
     put_texts(rt, &map, &mut pass, &[(b"a", 1), (b"q", 2), (b"Aa", 3)]);
     let cleared = map.clear(rt, &mut pass);
     let made = pass.made();
-    let closed = close_single(rt, map, pass, place).expect(rt, "a closed map");
+    let closed = close_single(map, pass, place).expect(rt, "a closed map");
     (cleared, made, closed.mapping_count(), records_of(&closed))
 }
 

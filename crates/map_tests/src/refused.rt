@@ -67,14 +67,14 @@ fn put_the_twelfth<R: Wait + Abort, A: Allocator + Clone>(
     let refused = switch.has_refused();
     switch.refuse_after(u64::MAX);
     let live = (map.mapping_count(), pass.made());
-    let closed = close_single(rt, map, pass, place).expect(rt, "a closed map");
+    let closed = close_single(map, pass, place).expect(rt, "a closed map");
     assert_entries(rt, closed.entries(), &IN_ORDER);
     let left = (closed.bins().len(), closed.mapping_count());
     (reply, refused, live, left)
 }
 
-/// Puts a twelfth key, which asks for room for its entry, the first of its bin, and in a recorded
-/// map for room for the record. Where a request of these is refused there are eleven keys as
+/// Puts a twelfth key, which asks for room for its entry, and in a recorded map for room for the
+/// record. Where a request of these is refused there are eleven keys as
 /// before; where one of the move is, there are twelve.
 fn refuse_put<R: Wait + Abort, A: Allocator + Clone>(
     rt: &R,
@@ -121,7 +121,7 @@ fn clear_twice<R: Wait + Abort, A: Allocator + Clone>(
     switch.refuse_after(u64::MAX);
     let between = (map.mapping_count(), pass.made());
     let again = map.clear(rt, &mut pass);
-    let closed = close_single(rt, map, pass, place).expect(rt, "a closed map");
+    let closed = close_single(map, pass, place).expect(rt, "a closed map");
     let keys = closed.mapping_count();
     drop(closed);
     assert_same(rt, &again, &Ok(()));
@@ -166,7 +166,7 @@ fn refuse_walk<R: Wait + Abort, A: Allocator + Clone>(
     let refused = switch.has_refused();
     switch.refuse_after(u64::MAX);
     let made = pass.made();
-    let closed = close_single(rt, map, pass, place).expect(rt, "a closed map");
+    let closed = close_single(map, pass, place).expect(rt, "a closed map");
     assert_entries(rt, closed.entries(), &IN_ORDER);
     drop(closed);
     let wanted = if refused {
@@ -200,17 +200,14 @@ fn refuse_close<R: Wait + Abort, A: Allocator + Clone>(
     } = three_keys(rt, alloc, form);
     put_back(&map, pass, &mut place);
     switch.refuse_after(granted);
-    let result = map.close(rt, place);
+    let result = map.close(place);
     let refused = switch.has_refused();
     switch.refuse_after(u64::MAX);
     let (closed, fault) = match result {
         Ok(closed) => (closed, None),
         Err(NotClosed { fault, map, passes }) => {
             let map = map.expect(rt, "the map comes back");
-            (
-                close(rt, map, passes).expect(rt, "a closed map"),
-                Some(fault),
-            )
+            (close(map, passes).expect(rt, "a closed map"), Some(fault))
         }
     };
     assert_entries(rt, closed.entries(), &IN_ORDER);
@@ -229,16 +226,16 @@ fn refuse_reopening<R: Wait + Abort, A: Allocator + Clone>(
     granted: u64,
 ) -> bool {
     let Single { map, pass, place } = three_keys(rt, alloc, form);
-    let first = close_single(rt, map, pass, place).expect(rt, "a closed map");
+    let first = close_single(map, pass, place).expect(rt, "a closed map");
     switch.refuse_after(granted);
     let result = first.reopen(2);
     let refused = switch.has_refused();
     switch.refuse_after(u64::MAX);
     let (closed, fault) = match result {
-        Ok((map, passes)) => (close(rt, map, passes), None),
+        Ok((map, passes)) => (close(map, passes), None),
         Err(fault) => {
             let (map, passes) = first.reopen(2).expect(rt, "a map");
-            (close(rt, map, passes), Some(fault))
+            (close(map, passes), Some(fault))
         }
     };
     let closed = closed.expect(rt, "a closed map");
@@ -260,7 +257,7 @@ fn refuse_taking<R: Wait + Abort, A: Allocator + Clone>(
     granted: u64,
 ) -> bool {
     let Single { map, pass, place } = three_keys(rt, alloc, form);
-    let closed = close_single(rt, map, pass, place).expect(rt, "a closed map");
+    let closed = close_single(map, pass, place).expect(rt, "a closed map");
     switch.refuse_after(granted);
     let result = closed.into_entries();
     let refused = switch.has_refused();
@@ -333,7 +330,7 @@ fn each_request_is_refused_in_turn(rt: HostRuntime) -> Result<(), Fail> {
     // How many requests there are at least and at most, in a recorded and in a lean map.
     let rows = [
         (Refused::Opening, (5, 999), (5, 999)),
-        (Refused::Put, (10, 999), (10, 999)),
+        (Refused::Put, (10, 999), (5, 5)),
         (Refused::Clear, (1, 1), (0, 0)),
         (Refused::Walk, (3, 999), (3, 999)),
         (Refused::Close, (2, 999), (2, 999)),

@@ -1,0 +1,78 @@
+//! A map that is closed again after each refused close.
+ghost use Rattle.std.specs.Prelude.{◌≡◌, All};
+
+use crate::counted::{Counts, assert_same};
+use crate::maps::{CountedMap, CountedPass, count_below, filled};
+use bin_history::Form;
+use chm::{Fault, NotClosed};
+use map_samples::{BOTH, Single, close, put_back};
+use refusing_alloc::Refusing;
+use std::alloc::Global;
+use std::process::Abort;
+use std::sync::Wait;
+use std::test::Fail;
+
+/// The allocator of a test.
+type Alloc<'a> = &'a Refusing<Global>;
+
+/// A map and its passes.
+type Whole<'a> = (CountedMap<'a, Alloc<'a>>, Vec<CountedPass<'a>, Alloc<'a>>);
+
+/// Closes a map with the request after so many refused, and gets map and passes back.
+fn refuse_close<'a>(
+    rt: &impl Abort,
+    alloc: Alloc<'a>,
+    granted: u64,
+    map: CountedMap<'a, Alloc<'a>>,
+    passes: Vec<CountedPass<'a>, Alloc<'a>>,
+) -> Whole<'a>
+    requires { All (λ p. p.ledger ≡ map.ledger.id) passes.items }
+    ensures id { result.0.ledger.id ≡ map.entry.ledger.id }
+    ensures own { All (λ p. p.ledger ≡ result.0.ledger.id) result.1.items }
+{
+    alloc.refuse_after(granted);
+    match map.close(passes) {
+        Ok(_) => {
+            assert!(rt; false, "a request is refused");
+            unreachable!()
+        }
+        Err(NotClosed { fault, map, passes }) => {
+            assert!(rt; fault == Fault::NoMemory);
+            (map.expect(rt, "the map comes back"), passes)
+        }
+    }
+}
+
+/// Closes a map of 40 keys, in vain with each of its two requests refused. Answers how many bins
+/// and how many of the keys with their numbers it has in the end, and how many keys in all.
+fn close_at_last<'a, R: Wait + Abort>(
+    rt: &R,
+    alloc: Alloc<'a>,
+    counts: &'a Counts,
+    form: Form,
+) -> (usize, u32, u64) {
+    let Single {
+        map,
+        pass,
+        mut place,
+    } = filled(rt, alloc, counts, form, 40);
+    put_back(&map, pass, &mut place);
+    let (map, passes) = refuse_close(rt, alloc, 0, map, place);
+    let (map, passes) = refuse_close(rt, alloc, 1, map, passes);
+    alloc.refuse_after(2);
+    let closed = close(map, passes).expect(rt, "a closed map");
+    assert!(rt; !alloc.has_refused());
+    let found = count_below(&closed, counts, 40);
+    (closed.bins().len(), found, closed.mapping_count())
+}
+
+#[test]
+fn a_map_closes_after_each_refused_close(rt: HostRuntime) -> Result<(), Fail> {
+    let counts = Counts::new();
+    for form in BOTH {
+        let alloc = Refusing::new(rt.alloc());
+        let told = close_at_last(&rt, &alloc, &counts, form);
+        assert_same(&rt, &told, &(64, 40, 40));
+    }
+    Ok(())
+}

@@ -1,0 +1,130 @@
+//! A put that makes the table grow, each of its requests refused in turn, as walks show it.
+ghost use Rattle.std.specs.Prelude.{◌≡◌};
+
+use crate::counted::{Counted, Counts, assert_same};
+use crate::maps::{CountedMap, CountedPass, filled};
+use bin_history::{Form, Reply};
+use chm::Fault;
+use map_samples::{Single, close_single};
+use refusing_alloc::Refusing;
+use std::alloc::Global;
+use std::process::Abort;
+use std::sync::Wait;
+use std::test::Fail;
+
+/// The allocator of a test.
+type Alloc<'a> = &'a Refusing<Global>;
+
+/// What a walk shows: the size and the index of each bin, and how many entries it has and the sum of
+/// their values.
+fn shown<'a, R: Wait + Abort>(
+    rt: &R,
+    memory: Global,
+    map: &CountedMap<'a, Alloc<'a>>,
+    pass: &mut CountedPass<'a>,
+) -> Vec<(u32, u32, usize, u64)>
+    requires { pass.old.ledger ≡ map.now.ledger.id }
+    ensures { pass.new.ledger ≡ map.now.ledger.id }
+{
+    let visits = map.walk(rt, pass).expect(rt, "memory");
+    let mut bins = Vec::new(memory);
+    for visit in &visits {
+        let mut sum = 0u64;
+        for (_key, value) in &visit.entries {
+            sum = sum.wrapping_add(*value);
+        }
+        let class = (visit.class.n(), visit.class.index());
+        bins.push((class.0, class.1, visit.entries.len(), sum))
+            .expect(rt, "memory");
+    }
+    bins
+}
+
+/// What was told of a put of a twelfth key one of whose requests was refused: its reply, whether
+/// there was such a request, and what a walk shows before it and after it.
+#[derive(Drop)]
+struct Told {
+    reply: Result<Reply<u64>, Fault>,
+    refused: bool,
+    before: Vec<(u32, u32, usize, u64)>,
+    after: Vec<(u32, u32, usize, u64)>,
+}
+
+/// Puts the key 11 into a map of the eleven below it, with the request after so many refused.
+fn put_the_twelfth<R: Wait + Abort>(
+    rt: &R,
+    (memory, alloc): (Global, Alloc<'_>),
+    counts: &Counts,
+    form: Form,
+    granted: u64,
+) -> Told {
+    let Single {
+        map,
+        mut pass,
+        place,
+    } = filled(rt, alloc, counts, form, 11);
+    let before = shown(rt, memory, &map, &mut pass);
+    alloc.refuse_after(granted);
+    let reply = map.put(rt, &mut pass, Counted { number: 11, counts }, 11);
+    let refused = alloc.has_refused();
+    alloc.refuse_after(u64::MAX);
+    let after = shown(rt, memory, &map, &mut pass);
+    drop(close_single(map, pass, place).expect(rt, "a closed map"));
+    Told {
+        reply,
+        refused,
+        before,
+        after,
+    }
+}
+
+/// How many entries the bins have, and the sum of their values.
+fn sums(bins: &[(u32, u32, usize, u64)]) -> (usize, u64) {
+    let mut entries = 0usize;
+    let mut values = 0u64;
+    for (_n, _index, len, sum) in bins {
+        entries = entries.saturating_add(*len);
+        values = values.saturating_add(*sum);
+    }
+    (entries, values)
+}
+
+/// Refuses each request of the put in turn, of which so many are its own, and answers how many there
+/// are. Where one of its own is refused a walk shows what it showed before; where one of the move is,
+/// the twelve keys.
+fn refuse_each<R: Wait + Abort>(
+    rt: &R,
+    memory: Global,
+    counts: &Counts,
+    form: Form,
+    own: u64,
+) -> u64 {
+    for granted in 0..1000u64 {
+        let alloc = Refusing::new(memory);
+        let told = put_the_twelfth(rt, (memory, &alloc), counts, form, granted);
+        if granted < own {
+            assert!(rt; told.reply == Err(Fault::NoMemory));
+            assert_same(rt, &told.after, &told.before);
+        } else {
+            assert!(rt; told.reply == Ok(Reply::Value(None)));
+            assert_same(rt, &sums(&told.after), &(12, 66));
+        }
+        if !told.refused {
+            return granted;
+        }
+    }
+    1000
+}
+
+#[test]
+fn a_walk_shows_what_a_refused_put_left(rt: HostRuntime) -> Result<(), Fail> {
+    // The put asks for room for the entry, and in a recorded map for the record. The move asks for
+    // the table, three times for the strides, and in a recorded map twice for each half of a bin and
+    // twice more for each of the twelve that have a key.
+    let counts = Counts::new();
+    for (form, own, wanted) in [(Form::Recorded, 2, 2 + 92), (Form::Lean, 1, 1 + 4)] {
+        let requests = refuse_each(&rt, rt.alloc(), &counts, form, own);
+        assert_same(&rt, &requests, &wanted);
+    }
+    Ok(())
+}

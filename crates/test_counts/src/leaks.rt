@@ -1,0 +1,192 @@
+//! All memory comes back, whatever a map was used for.
+ghost use Rattle.std.specs.Prelude.{◌≡◌};
+
+use crate::counted::assert_same;
+use crate::texts::{Alloc, TextMap, call_often, closed, filled, key};
+use bin_history::Form;
+use count_ledger::retire_all;
+use map_samples::{BOTH, Single, close, close_single, open, open_single};
+use refusing_alloc::Refusing;
+use std::alloc::Global;
+use std::process::Abort;
+use std::sync::Wait;
+use std::test::Fail;
+
+/// Asserts that memory was asked for, and all of it came back.
+fn assert_all_back(rt: &impl Abort, alloc: Alloc<'_>) {
+    assert!(rt; alloc.requests() > 0);
+    assert_same(rt, &(alloc.blocks_out(), alloc.bytes_out()), &(0, 0));
+}
+
+/// Opens a map of 16 bins and three clients, and drops it.
+fn open_and_drop(rt: &impl Abort, alloc: Alloc<'_>, form: Form) {
+    let (map, passes) = open(alloc, form, 16, 3).expect(rt, "a map");
+    let map: TextMap<'_> = map;
+    assert!(rt; alloc.blocks_out() > 0);
+    retire_all(passes);
+    drop(map);
+}
+
+#[test]
+fn a_new_map_gives_all_back(rt: HostRuntime) -> Result<(), Fail> {
+    for form in BOTH {
+        let alloc = Refusing::new(rt.alloc());
+        open_and_drop(&rt, &alloc, form);
+        assert_all_back(&rt, &alloc);
+    }
+    Ok(())
+}
+
+/// Puts so many keys that the table grows twice, and drops the map as it is.
+fn grow_and_drop<R: Wait + Abort>(rt: &R, alloc: Alloc<'_>, form: Form) {
+    let Single { map, pass, place } = filled(rt, alloc, form, 30);
+    pass.retire();
+    retire_all(place);
+    drop(map);
+}
+
+#[test]
+fn a_map_that_is_not_closed_gives_all_back(rt: HostRuntime) -> Result<(), Fail> {
+    for form in BOTH {
+        let alloc = Refusing::new(rt.alloc());
+        grow_and_drop(&rt, &alloc, form);
+        assert_all_back(&rt, &alloc);
+    }
+    Ok(())
+}
+
+#[test]
+fn a_map_that_grew_gives_all_back(rt: HostRuntime) -> Result<(), Fail> {
+    for form in BOTH {
+        let alloc = Refusing::new(rt.alloc());
+        let quiet = closed(&rt, &alloc, form, 30);
+        assert_same(&rt, &quiet.bins().len(), &64);
+        drop(quiet);
+        assert_all_back(&rt, &alloc);
+    }
+    Ok(())
+}
+
+/// Makes each kind of call two hundred times. So a recorded map folds records of each kind.
+fn call_and_close<R: Wait + Abort>(rt: &R, alloc: Alloc<'_>, form: Form) {
+    let Single {
+        map,
+        mut pass,
+        place,
+    } = open_single(alloc, form, 1).expect(rt, "a map");
+    call_often(rt, alloc, &map, &mut pass, 2400);
+    drop(close_single(map, pass, place).expect(rt, "a closed map"));
+}
+
+#[test]
+fn calls_of_each_kind_give_all_back(rt: HostRuntime) -> Result<(), Fail> {
+    for form in BOTH {
+        let alloc = Refusing::new(rt.alloc());
+        call_and_close(&rt, &alloc, form);
+        assert_all_back(&rt, &alloc);
+    }
+    Ok(())
+}
+
+/// Looks, glances, walks and clears.
+fn read_and_clear<R: Wait + Abort>(rt: &R, alloc: Alloc<'_>, form: Form) {
+    let Single {
+        map,
+        mut pass,
+        place,
+    } = filled(rt, alloc, form, 5);
+    let key = key(rt, alloc, 0);
+    let looked = map.look_up(rt, &mut pass, &key).is_ok();
+    let glanced = map.glance(rt, &key).is_ok();
+    let walked = map.walk(rt, &mut pass).is_ok();
+    let cleared = map.clear(rt, &mut pass).is_ok();
+    drop(close_single(map, pass, place).expect(rt, "a closed map"));
+    assert!(rt; looked && glanced && walked && cleared);
+}
+
+#[test]
+fn readings_and_a_clear_give_all_back(rt: HostRuntime) -> Result<(), Fail> {
+    for form in BOTH {
+        let alloc = Refusing::new(rt.alloc());
+        read_and_clear(&rt, &alloc, form);
+        assert_all_back(&rt, &alloc);
+    }
+    Ok(())
+}
+
+/// Opens a closed map again, closes both, and takes the pairs of one out.
+fn open_again<R: Wait + Abort>(rt: &R, alloc: Alloc<'_>, form: Form) {
+    let first = closed(rt, alloc, form, 30);
+    let (map, passes) = first.reopen(2).expect(rt, "a map");
+    let second = close(map, passes).expect(rt, "a closed map");
+    drop(first);
+    let pairs = second.into_entries().ok().expect(rt, "memory");
+    assert_same(rt, &pairs.len(), &30);
+    drop(pairs);
+}
+
+#[test]
+fn a_map_that_is_opened_again_gives_all_back(rt: HostRuntime) -> Result<(), Fail> {
+    for form in BOTH {
+        let alloc = Refusing::new(rt.alloc());
+        open_again(&rt, &alloc, form);
+        assert_all_back(&rt, &alloc);
+    }
+    Ok(())
+}
+
+/// Closes a map without the pass of its client, which ends, and gives it up.
+fn give_up<R: Wait + Abort>(rt: &R, alloc: Alloc<'_>, form: Form) {
+    let Single { map, pass, place } = filled(rt, alloc, form, 5);
+    pass.retire();
+    assert!(rt; close(map, place).is_err());
+}
+
+#[test]
+fn a_map_that_is_given_up_gives_all_back(rt: HostRuntime) -> Result<(), Fail> {
+    for form in BOTH {
+        let alloc = Refusing::new(rt.alloc());
+        give_up(&rt, &alloc, form);
+        assert_all_back(&rt, &alloc);
+    }
+    Ok(())
+}
+
+/// Puts a twelfth key into a map of eleven, with the request after so many refused. Answers whether
+/// there was such a request.
+fn refuse_put<R: Wait + Abort>(rt: &R, alloc: Alloc<'_>, form: Form, granted: u64) -> bool {
+    let Single {
+        map,
+        mut pass,
+        place,
+    } = filled(rt, alloc, form, 11);
+    let (key, value) = (key(rt, alloc, 11), key(rt, alloc, 0));
+    alloc.refuse_after(granted);
+    drop(map.put(rt, &mut pass, key, value));
+    let refused = alloc.has_refused();
+    alloc.refuse_after(u64::MAX);
+    drop(close_single(map, pass, place).expect(rt, "a closed map"));
+    refused
+}
+
+/// Refuses each request of the put in turn, and answers how many there are.
+fn refuse_each<R: Wait + Abort>(rt: &R, memory: Global, form: Form) -> u64 {
+    for granted in 0..1000u64 {
+        let alloc = Refusing::new(memory);
+        let refused = refuse_put(rt, &alloc, form, granted);
+        assert_all_back(rt, &alloc);
+        if !refused {
+            return granted;
+        }
+    }
+    1000
+}
+
+#[test]
+fn a_refused_put_or_move_gives_all_back(rt: HostRuntime) -> Result<(), Fail> {
+    for form in BOTH {
+        let requests = refuse_each(&rt, rt.alloc(), form);
+        assert!(rt; requests > 4 && requests < 1000);
+    }
+    Ok(())
+}

@@ -1,0 +1,86 @@
+//! Maps at keys that are their own codes.
+ghost use Rattle.std.specs.Prelude.{◌≡◌, All};
+
+use crate::counted::{Counted, Counts, Seven};
+use bin_history::{Form, Reply};
+use chm::{Map, Quiet};
+use count_ledger::Pass;
+use map_samples::{Single, open_single};
+use std::alloc::Allocator;
+use std::process::Abort;
+use std::sync::Wait;
+
+pub(crate) type CountedMap<'a, A> = Map<Counted<'a>, u64, Seven<'a>, A>;
+
+pub(crate) type CountedPass<'a> = Pass<Counted<'a>, u64, Seven<'a>>;
+
+pub(crate) type CountedQuiet<'a, A> = Quiet<Counted<'a>, u64, Seven<'a>, A>;
+
+pub(crate) type CountedSingle<'a, A> = Single<Counted<'a>, u64, Seven<'a>, A>;
+
+/// Puts a number at a key that is not there: at the key of that number.
+pub(crate) fn put_new<'a, R: Wait + Abort, A: Allocator + Clone>(
+    rt: &R,
+    map: &CountedMap<'a, A>,
+    pass: &mut CountedPass<'a>,
+    counts: &'a Counts,
+    number: u32,
+)
+    requires { pass.old.ledger ≡ map.now.ledger.id }
+    ensures { pass.new.ledger ≡ map.now.ledger.id }
+{
+    let reply = map.put(rt, pass, Counted { number, counts }, u64::from(number));
+    assert!(rt; reply == Ok(Reply::Value(None)));
+}
+
+/// The same of each number below this one.
+pub(crate) fn put_below<'a, R: Wait + Abort, A: Allocator + Clone>(
+    rt: &R,
+    map: &CountedMap<'a, A>,
+    pass: &mut CountedPass<'a>,
+    counts: &'a Counts,
+    end: u32,
+)
+    requires { pass.old.ledger ≡ map.now.ledger.id }
+    ensures { pass.new.ledger ≡ map.now.ledger.id }
+{
+    for number in 0..end {
+        put_new(rt, map, pass, counts, number);
+    }
+}
+
+/// A map of one client in 16 bins that put each number below this one.
+pub(crate) fn filled<'a, R: Wait + Abort, A: Allocator + Clone>(
+    rt: &R,
+    alloc: A,
+    counts: &'a Counts,
+    form: Form,
+    end: u32,
+) -> CountedSingle<'a, A>
+    ensures pass { result.pass.ledger ≡ result.map.ledger.id }
+    ensures place { All (λ p. p.ledger ≡ result.map.ledger.id) result.place.items }
+{
+    let Single {
+        map,
+        mut pass,
+        place,
+    } = open_single(alloc, form, 16).expect(rt, "a map");
+    put_below(rt, &map, &mut pass, counts, end);
+    Single { map, pass, place }
+}
+
+/// How many of the numbers below this one a closed map has at their keys.
+pub(crate) fn count_below<'a, A: Allocator + Clone>(
+    closed: &CountedQuiet<'a, A>,
+    counts: &'a Counts,
+    end: u32,
+) -> u32 {
+    let mut found = 0u32;
+    for number in 0..end {
+        let value = closed.get(&Counted { number, counts }).copied();
+        if value == Some(u64::from(number)) {
+            found = found.saturating_add(1);
+        }
+    }
+    found
+}

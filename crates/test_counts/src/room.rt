@@ -1,0 +1,205 @@
+//! How much memory an opening, calls, folds and moves ask for, and how often.
+ghost use Rattle.std.specs.Prelude.{◌≡◌};
+
+use crate::counted::{Counted, Counts, assert_same};
+use crate::maps::{CountedMap, CountedPass, filled, put_new};
+use bin_history::{Form, Reply};
+use count_ledger::retire_all;
+use map_samples::{Single, close_single, open, open_single};
+use refusing_alloc::Refusing;
+use std::alloc::Global;
+use std::process::Abort;
+use std::sync::Wait;
+use std::test::Fail;
+
+/// The allocator of a test.
+type Alloc<'a> = &'a Refusing<Global>;
+
+/// How many requests the opening of a map makes, and how many bytes it keeps.
+fn opening(
+    rt: &impl Abort,
+    alloc: Alloc<'_>,
+    form: Form,
+    capacity: usize,
+    clients: u32,
+) -> (u64, u64) {
+    let (map, passes) = open(alloc, form, capacity, clients).expect(rt, "a map");
+    let map: CountedMap<'_, Alloc<'_>> = map;
+    let told = (alloc.requests(), alloc.bytes_out());
+    retire_all(passes);
+    drop(map);
+    told
+}
+
+#[test]
+fn an_opening_asks_once_for_each_of_its_lists(rt: HostRuntime) -> Result<(), Fail> {
+    // The bases, the moves, the words of the books and the slots beside them, of which there are
+    // none, the passes, the roles, the places and the tables. A recorded map asks twice for each bin,
+    // too: for the bin and for its records.
+    for clients in [1, 32] {
+        for bins in [1u64, 16, 4096] {
+            let (lean, recorded) = (Refusing::new(rt.alloc()), Refusing::new(rt.alloc()));
+            let of_lean = opening(&rt, &lean, Form::Lean, bins as usize, clients).0;
+            let of_recorded = opening(&rt, &recorded, Form::Recorded, bins as usize, clients).0;
+            assert_same(
+                &rt,
+                &(of_lean, of_recorded),
+                &(8, bins.wrapping_mul(2).wrapping_add(8)),
+            );
+        }
+    }
+    Ok(())
+}
+
+/// How many bytes a lean map of so many bins keeps.
+fn bytes_of(rt: &impl Abort, memory: Global, bins: usize) -> u64 {
+    let alloc = Refusing::new(memory);
+    opening(rt, &alloc, Form::Lean, bins, 1).1
+}
+
+#[test]
+fn a_lean_map_has_room_for_its_own_bins_alone(rt: HostRuntime) -> Result<(), Fail> {
+    let one = bytes_of(&rt, rt.alloc(), 1);
+    let thousand = bytes_of(&rt, rt.alloc(), 1024);
+    let two = bytes_of(&rt, rt.alloc(), 2048);
+    let four = bytes_of(&rt, rt.alloc(), 4096);
+    // Less than a byte for each bin of the widest table, and at most 128 bytes for each of its own.
+    assert!(rt; one < 16_384 && thousand < two && two < four);
+    let more = two.wrapping_sub(thousand);
+    assert!(rt; more <= 1024 * 128);
+    assert_same(&rt, &four.wrapping_sub(two), &more.wrapping_mul(2));
+    Ok(())
+}
+
+/// How many requests the put of a twelfth key into 16 bins makes, where no two keys share one.
+fn requests_of_growth<R: Wait + Abort>(
+    rt: &R,
+    alloc: Alloc<'_>,
+    counts: &Counts,
+    form: Form,
+) -> u64 {
+    let Single {
+        map,
+        mut pass,
+        place,
+    } = filled(rt, alloc, counts, form, 11);
+    let before = alloc.requests();
+    put_new(rt, &map, &mut pass, counts, 11);
+    let after = alloc.requests();
+    drop(close_single(map, pass, place).expect(rt, "a closed map"));
+    after.wrapping_sub(before)
+}
+
+#[test]
+fn a_move_asks_for_its_table_its_strides_and_copies(rt: HostRuntime) -> Result<(), Fail> {
+    // The put asks for room for the entry, and in a recorded map for the record; the move for the
+    // table, and three times for the strides. Each half of a recorded bin asks for the bin and for
+    // its records, and where it has the entry and the record of a key for room for both.
+    let counts = Counts::new();
+    for (form, wanted) in [
+        (Form::Lean, 1 + 1 + 3),
+        (Form::Recorded, 2 + 1 + 3 + 32 * 2 + 12 * 2),
+    ] {
+        let alloc = Refusing::new(rt.alloc());
+        let requests = requests_of_growth(&rt, &alloc, &counts, form);
+        assert_same(&rt, &requests, &wanted);
+    }
+    Ok(())
+}
+
+/// Gets the key 1 so often.
+fn get_often<'a, R: Wait + Abort>(
+    rt: &R,
+    map: &CountedMap<'a, Alloc<'a>>,
+    pass: &mut CountedPass<'a>,
+    counts: &'a Counts,
+    times: u32,
+)
+    requires { pass.old.ledger ≡ map.now.ledger.id }
+    ensures { pass.new.ledger ≡ map.now.ledger.id }
+{
+    for _time in 0..times {
+        let reply = map.get(rt, pass, Counted { number: 1, counts });
+        assert!(rt; reply == Ok(Reply::Value(Some(1))));
+    }
+}
+
+/// How many requests the put of a key and so many gets of it make.
+fn requests_of_calls<'a, R: Wait + Abort>(
+    rt: &R,
+    alloc: Alloc<'a>,
+    counts: &'a Counts,
+    form: Form,
+    gets: u32,
+) -> u64 {
+    let Single {
+        map,
+        mut pass,
+        place,
+    } = open_single(alloc, form, 16).expect(rt, "a map");
+    let before = alloc.requests();
+    put_new(rt, &map, &mut pass, counts, 1);
+    get_often(rt, &map, &mut pass, counts, gets);
+    let after = alloc.requests();
+    drop(close_single(map, pass, place).expect(rt, "a closed map"));
+    after.wrapping_sub(before)
+}
+
+#[test]
+fn calls_on_one_key_ask_for_records_and_for_one_fold(rt: HostRuntime) -> Result<(), Fail> {
+    // Room for the entry; for four records, and for twice as many whenever they are full, up to
+    // 1,024; and in the base for the key, in the first fold.
+    let counts = Counts::new();
+    let rows = [
+        (1u32, 2u64),
+        (4, 2),
+        (5, 3),
+        (8, 3),
+        (9, 4),
+        (512, 9),
+        (513, 10),
+        (1024, 10),
+        (1025, 11),
+        (5000, 11),
+    ];
+    for (calls, wanted) in rows {
+        let gets = calls.wrapping_sub(1);
+        let (recorded, lean) = (Refusing::new(rt.alloc()), Refusing::new(rt.alloc()));
+        let of_recorded = requests_of_calls(&rt, &recorded, &counts, Form::Recorded, gets);
+        let of_lean = requests_of_calls(&rt, &lean, &counts, Form::Lean, gets);
+        assert_same(&rt, &(calls, of_recorded, of_lean), &(calls, wanted, 1));
+    }
+    Ok(())
+}
+
+/// How many bytes of a lean map are out before a key is put, with it, after another call on it, and
+/// once it is removed.
+fn bytes_of_a_key<R: Wait + Abort>(rt: &R, alloc: Alloc<'_>, counts: &Counts) -> [u64; 4] {
+    let Single {
+        map,
+        mut pass,
+        place,
+    } = filled(rt, alloc, counts, Form::Lean, 5);
+    let before = alloc.bytes_out();
+    put_new(rt, &map, &mut pass, counts, 21);
+    let with = alloc.bytes_out();
+    let put = map.put(rt, &mut pass, Counted { number: 21, counts }, 7);
+    let again = alloc.bytes_out();
+    let removed = map.remove(rt, &mut pass, Counted { number: 21, counts });
+    let without = alloc.bytes_out();
+    drop(close_single(map, pass, place).expect(rt, "a closed map"));
+    assert!(rt; put == Ok(Reply::Value(Some(21))) && removed == Ok(Reply::Value(Some(7))));
+    [before, with, again, without]
+}
+
+#[test]
+fn a_key_of_a_lean_map_has_room_for_itself_alone(rt: HostRuntime) -> Result<(), Fail> {
+    let alloc = Refusing::new(rt.alloc());
+    let counts = Counts::new();
+    let [before, with, again, without] = bytes_of_a_key(&rt, &alloc, &counts);
+    // The key has 16 bytes, its value 8, and what leads to the next entry at most 24.
+    let size = with.wrapping_sub(before);
+    assert!(rt; 24 <= size && size <= 48);
+    assert_same(&rt, &(again, without), &(with, before));
+    Ok(())
+}
