@@ -231,38 +231,51 @@ fn a_failed_write_leaves_a_beginning(rt: HostRuntime) {
     assert!(rt; left.is_done());
 }
 
-/// A run that is granted so many requests: whether it ended well, and what it wrote. Where one is
-/// refused the run says so and has written nothing.
+/// A script with a query of each kind, the numbers and the list by more than one task.
+const ALL_QUERIES: &[u8] =
+    b"client\nput b 1\nput a 2\nmerge a 3 sum\nclient\nget c\nquery\ncount\nreduce sum 1\nreduce max 1\nsearch above 4 1\nlist 1\n";
+
+/// Its output text.
+const ALL_ANSWERS: &[u8] =
+    b"client 0\nnone\nnone\nsome 5\nclient 1\nnone\n2\n6\nsome 5\nsome 5\na 5\nb 1\n";
+
+/// A run that is granted so many requests, and refused the next: whether it was made, and whether
+/// the run ended well. Where it did it has written its whole output text, since what a worker is
+/// refused memory for is done without; and else it says so and has written nothing.
 fn run_granted<R: Threads + Wait + Sync + Abort + AllocGlobal>(
     rt: &R,
     refusing: &Refusing<Global>,
     granted: u64,
-) -> (bool, Vec<u8>) {
+) -> (bool, bool) {
     let mut input = Reader::new(ALL_QUERIES);
     let mut output = Writer::new(Vec::new(rt.alloc()));
     let options = options(rt);
     refusing.refuse_after(granted);
     let ended = run(rt, refusing, &mut input, &mut output, &options, &OpenGate);
-    let is_refused = matches!(ended, Err(Fault::NoMemory)) && output.inner.is_empty();
-    assert!(rt; ended.is_ok() != is_refused, "at {granted}");
-    (ended.is_ok(), output.inner)
+    let was_refused = refusing.has_refused();
+    let written = output.inner.as_slice();
+    match &ended {
+        Ok(()) => assert!(rt; written == ALL_ANSWERS, "at {granted}"),
+        Err(Fault::NoMemory) => assert!(rt; was_refused && written.is_empty(), "at {granted}"),
+        Err(_) => panic!(rt; "another fault at {granted}"),
+    }
+    (was_refused, ended.is_ok())
 }
 
-const ALL_QUERIES: &[u8] =
-    b"client\nput b 1\nput a 2\nmerge a 3 sum\nclient\nget c\nquery\ncount\nreduce sum 1\nreduce max 1\nsearch above 4 1\nlist 1\n";
-
-/// Each request for memory is refused in turn, until a run asks for no more.
+/// Each request for memory is refused in turn, those of the queries too, until a run asks for no
+/// more.
 #[test]
-fn a_refused_request_leaves_nothing_written(rt: HostRuntime) {
+fn a_refused_request_leaves_all_written_or_nothing(rt: HostRuntime) {
     let refusing = Refusing::new(rt.alloc());
+    let (mut ended_well, mut ended_early) = (0u64, 0u64);
     for granted in 0..1000 {
-        let (is_done, written) = run_granted(&rt, &refusing, granted);
-        if is_done {
-            let wanted =
-                b"client 0\nnone\nnone\nsome 5\nclient 1\nnone\n2\n6\nsome 5\nsome 5\na 5\nb 1\n";
-            let is_same = written.as_slice() == wanted.as_slice();
-            assert!(rt; is_same && !refusing.has_refused() && granted > 10);
-            return;
+        match run_granted(&rt, &refusing, granted) {
+            (false, _) => {
+                assert!(rt; ended_well > 0 && ended_early > 10);
+                return;
+            }
+            (true, true) => ended_well = ended_well.wrapping_add(1),
+            (true, false) => ended_early = ended_early.wrapping_add(1),
         }
     }
     panic!(rt; "each of 1000 requests was refused")

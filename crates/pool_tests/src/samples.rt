@@ -84,7 +84,7 @@ pub(crate) fn closed<Rt: Wait>(
     if let Some(pass) = passes.first_mut() {
         all = put_all(rt, &map, pass, pairs);
     }
-    match map.close(rt, passes) {
+    match map.close(passes) {
         Ok(quiet) => {
             if all {
                 return Some(quiet);

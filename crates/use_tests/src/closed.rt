@@ -32,7 +32,7 @@ impl Sharing<u64, u64, Add, Global> for Numbers {
 fn shared<R: Threads + Wait + Sync>(rt: &R, alloc: Global) -> Option<Quiet<u64, u64, Add, Global>> {
     let (map, mut passes) = Map::lean(alloc, 16, 3, Salt(0)).ok()?;
     let answers = map.share(rt, &mut passes, &Numbers);
-    match map.close(rt, passes) {
+    match map.close(passes) {
         Ok(closed) => (answers.ok()?.as_slice() == [Ok(()); 3].as_slice()).then_some(closed),
         Err(
             NotClosed {
