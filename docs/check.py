@@ -302,6 +302,7 @@ def old_pages():
     for made in (api, tests):
         if not is_file(made.PATH) or text_of(made.PATH) != made.page():
             yield f"{made.PATH}: the sources say something else; python3 docs/check.py --fix"
+    yield from (f"docs/tests.py: there is no test {name}" for name in tests.lost(list(tests.all_tests())))
 
 
 def other_refusals():

@@ -250,6 +250,8 @@ def test_examples(tests, run):
     for _ in range(20):
         ran = run("examples/two_clients.script")
         tests.want("SCRIPTS: one of the three texts", (ran.status, ran.output in texts) == (0, True), ran)
+    ran = run("--version")
+    tests.want("--version: the file VERSION", (ran.status, ran.output, ran.errors) == (0, f"mapcli {text_of('VERSION')}", ""), ran)
     told = run("--help")
     example = re.search(r"(?m)^  client .*(?:\n  .*)+", told.output)
     lines = [re.match(r"  (.*?)(?:  +(\S.*))?$", it) for it in example[0].splitlines()]
@@ -305,7 +307,7 @@ def test_messages(tests, run, program):
     for words in ((), ("a", "b"), ("--workers", "17", "a"), ("--capacity=0", "a"), ("--nothing", "a")):
         ran = run(*words)
         tests.want(f"the words {words}", (ran.status, ran.output, ran.errors[:7]) == (2, "", "error: "), ran)
-    for words in ("examples/first.script", "--help"):
+    for words in ("examples/first.script", "--help", "--version"):
         for what, more in (("full", "> /dev/full"), ("closed", ">&-"), ("a pipe that nobody reads", None)):
             if more:
                 ran = subprocess.run(["sh", "-c", f'"$0" "$1" {more}', program, words], cwd=TOP, stderr=subprocess.PIPE, text=True, check=False)
