@@ -1,0 +1,81 @@
+//! `example_limiter` lets each user make three requests a second: the map's value is what a user
+//! asked for, and its function is a request.
+#![tactic(auto)]
+
+use anyhow::Result;
+use facingberyl::{Client, Fault, Loan, Remap, Team, Work};
+use std::alloc::{AllocError, Global};
+use std::sync::Wait;
+
+/// How many requests a user made in a second.
+#[derive(Clone, Copy, PartialEq, Eq)]
+struct Used {
+    second: u64,
+    requests: u64,
+}
+
+/// A request in this second.
+#[derive(Clone, Copy)]
+struct Ask {
+    second: u64,
+}
+
+impl Remap<u64, Used> for Ask {
+    ghost use Rattle.example_limiter.specs.Requests.{asked};
+    ghost use Rattle.std.specs.Prelude.{Some};
+
+    ghost remapped = { λ ask _ used. Some (asked ask.second used) };
+
+    ghost merged = { λ _ _ given. Some given };
+
+    fn remap(&self, _key: &u64, used: Option<&Used>) -> Result<Option<Used>, AllocError> {
+        let requests = match used {
+            Some(used) if used.second == self.second => used.requests.saturating_add(1),
+            _ => 1,
+        };
+        Ok(Some(Used {
+            second: self.second,
+            requests,
+        }))
+    }
+
+    fn merge(&self, _old: &Used, given: &Used) -> Result<Option<Used>, AllocError> {
+        Ok(Some(*given))
+    }
+}
+
+/// Asks ten times a second for each of four users, in three seconds, and counts what is let
+/// through.
+#[derive(Clone, Copy)]
+struct Asking;
+
+impl Work<u64, Used, Ask, Global> for Asking {
+    type Out = Result<u64, Fault>;
+
+    fn work<L: Loan, R: Wait>(
+        &self,
+        rt: &R,
+        client: &mut Client<'_, L, u64, Used, Ask, Global>,
+    ) -> Result<u64, Fault> {
+        let user = client.number() as u64;
+        let mut passed = 0u64;
+        for number in 0..30u64 {
+            let second = number / 10;
+            if let Some(used) = client.compute(rt, user, Ask { second })? {
+                if used.requests <= 3 {
+                    passed = passed.saturating_add(1);
+                }
+            }
+        }
+        Ok(passed)
+    }
+}
+
+fn main(rt: HostRuntime) -> Result<()> {
+    let mut team = Team::new(rt.alloc(), 16, 4)?;
+    for passed in team.work(&rt, &Asking)? {
+        let passed = passed?;
+        println!(rt; "{passed} of 30")?;
+    }
+    Ok(())
+}
