@@ -8,7 +8,7 @@ It proves nothing. It looks whether
   a link whose text is one name in backticks, as [`IsFront`](..), leads to a file that defines it, and where it names a
     line (`#L12`) to that line; clauses in parentheses behind it, as (`called`, `refused`), are clauses of that function;
   what stands in a block `antt` stands so, but for line breaks, in the file that the last comment with a path names;
-  each other block is told of by a comment before it, as `<!-- crates/hit_counter/stdout -->`: its parts stand so, but
+  each other block is told of by a comment before it, as `<!-- crates/example_cache/stdout -->`: its parts stand so, but
     for line breaks and indents where they are code, in that file; or by `<!-- typed -->`: it is a command, or a form;
   each line of an example that stands with a call of the library stands in the tests that run it;
   each crate of crates.txt has a README and a link in ARCHITECTURE.md;

@@ -1,4 +1,4 @@
-//! `hit_counter` shares a cache of squares among four clients, who look numbers up, work out what
+//! `example_cache` shares a cache of squares among four clients, who look numbers up, work out what
 //! is missing and answer how often each was the case. The cache is then closed, read, opened again
 //! for one client, and emptied.
 #![tactic(auto)]
