@@ -10,7 +10,7 @@ use lib.ListN.{get_elem?}
 use Rattle.std.specs.Prelude.{Option, Some, None}
 use Rattle.atomic_table.specs.Table.{takes, gives, chain, homes_after, Allows}
 use Rattle.atomic_table.proofs.Lists.{set_here, set_else, at_map}
-use Rattle.completers.proofs.Weights.{total_at, same}
+use Rattle.completers.proofs.Weights.{total_at, indexed_same, same}
 use Rattle.completers.proofs.Cells.{within, reachable_more, Ticketed, St, Homes, Alike, moved, has_filling}
 use Rattle.completers.proofs.Cells.{keeps_waiting}
 use Rattle.completers.proofs.Moves.{one_right, elsewhere, beside, few_of, restaged, going_set, given_out_set}
@@ -27,7 +27,7 @@ use Rattle.completers.specs.Steps.{Knowledge, Arrives}
 use Rattle.completers.specs.declared.relation.Partial.{Partial}
 use Rattle.completers.specs.declared.rule.Above.{Above}
 use Rattle.completers.specs.declared.rule.Right.{Right}
-use Rattle.completers.specs.declared.rule.Right.TheVariants.{Waits, Fills}
+use Rattle.completers.specs.declared.rule.Right.TheVariants.{Waits, Fills, Counted}
 
 stage_arrived : (lo hi : ℕ) (st : Stage) → missing record { lo = lo; hi = hi; stage = st } ≡ 0 → st ≡ arrived
 stage_arrived lo hi held e = absurd (omega arith)
@@ -43,17 +43,6 @@ all_arrived : (ps : List Piece) → total missing ps ≡ 0 → (j : ℕ) (p : Pi
 all_arrived ps z j p e = let m : missing p ≤ total missing ps = total_at missing ps j p e in let n : ℕ = missing p in
     let t : ℕ = total missing ps in let m' : n ≤ t = m in let z' : t ≡ 0 = z in
     none_missing p (let g : n ≡ 0 = omega arith in g)
-
-all_zero : (f : ℕ → Piece → ℕ) (k : ℕ) (ps : List Piece) →
-    ((i : ℕ) (p : Piece) → get_elem? ps i ≡ some p → f (k + i) p ≡ 0)
-    → indexed f k ps ≡ 0
-all_zero f k [] e = refl
-all_zero f k (p ∷ ps) e = let z : k + 0 ≡ k = omega arith in
-    let one : f k p ≡ 0 = subst (λ (j : ℕ). f j p ≡ 0) z (e 0 p refl) in
-    let more : indexed f (k + 1) ps ≡ 0 = all_zero f (k + 1) ps
-    (λ i q at. let w : k + suc i ≡ k + 1 + i = omega arith in subst (λ (j : ℕ). f j q ≡ 0) w (e (suc i) q at)) in
-    let a : ℕ = f k p in let b : ℕ = indexed f (k + 1) ps in let a' : a ≡ 0 = one in let b' : b ≡ 0 = more in
-    let g : a + b ≡ 0 = omega arith in g
 
 less_one : (x : ℕ) → 0 < x → x < 2 ^ 64 → (x + (2 ^ 64 - 1)) % 2 ^ 64 + 1 ≡ x
 less_one x pos small = let g : (x + (18446744073709551616 - 1)) % 18446744073709551616 + 1 ≡ x = omega arith in g
@@ -193,7 +182,7 @@ module _ {P : Type 0} (fits : ℕ → ℕ → P → Type 0) (bins : ℕ) where
           w,
           chain gives (chain (takes_up n value 7) (takes (8 * n) (value 0))),
           (tt, (up_valid n value 7 homes' car (omega arith) there, first)),
-          moved fits bins s r n (going t.low t.top t.above ps) over t.cell_is id v w at words' (set hs (8 * n) none)
+          moved fits bins s r n (going t.low t.top t.above ps) (over qs) t.cell_is id v w at words' (set hs (8 * n) none)
               (length-set s.words (2 * n) y) (length-set hs (8 * n) none
               ∙ (up_long n value 7 homes' car ∙ length-set s.homes k (some (Some xp))))
               (λ m apart. let o = others m apart in (
@@ -205,15 +194,17 @@ module _ {P : Type 0} (fits : ℕ → ℕ → P → Type 0) (bins : ℕ) where
               tt
               (λ h. let a = given_out_set h n t.low t.top t.above ps i (piece lo hi fills)
               (piece lo hi arrived) t.piece_is in
-              let z : given_out h n (going t.low t.top t.above qs) ≡ 0 =
-              all_zero _ 0 qs (λ j p e. ap (λ (st : Stage). right_of h n t.above (length qs) (0 + j) p.lo p.hi st)
-              (all j p e)) in
+              let z : given_out h n (going t.low t.top t.above qs) ≡ given_out h n (over qs) =
+              indexed_same (λ (j : ℕ) (p : Piece). right_of h n t.above (length qs) j p.lo p.hi p.stage)
+              (λ (j : ℕ) (p : Piece). h (Counted n j)) 0 qs
+              (λ j p e. ap (λ (st : Stage). right_of h n t.above (length qs) (0 + j) p.lo p.hi st) (all j p e)) in
               let u : ℕ = given_out h n (going t.low t.top t.above qs) in
               let u' : ℕ = given_out h n (going t.low t.top t.above ps) in
               let c : ℕ = h (Fills n i lo hi (known_forks i (length ps)) (code t.above) (path_of t.above)) in
-              let c' : ℕ = h (Fills n i lo hi fk d up) in let a' : u + c ≡ u' + 0 = a in let z' : u ≡ 0 = z in
+              let c' : ℕ = h (Fills n i lo hi fk d up) in let x' : ℕ = h (Counted n i) in
+              let o : ℕ = given_out h n (over qs) in let a' : u + c ≡ u' + x' = a in let z' : u ≡ o = z in
               let e : c' ≡ c = λ k. h (Fills n i lo hi (f.1 k) (f.2 k) (f.3 k)) in let b : ℕ = total h t.above in
-              let q : b + 0 + u' ≤ c' + 0 + b + 0 = omega arith in q),
+              let q : b + 0 + u' ≤ c' + 0 + b + o = omega arith in q),
           (
             told,
             (λ _. record {
@@ -230,9 +221,10 @@ module _ {P : Type 0} (fits : ℕ → ℕ → P → Type 0) (bins : ℕ) where
               path = sym f.3;
               inside = λ there. above_in s r slots wide n t.low t.top t.above ps t.cell_is g.above_is there;
             }),
+            (λ more. absurd (more one)),
           ),
         ))
-        (λ more. let w : List Right = [] in (
+        (λ more. let w : List Right = Counted n i ∷ [] in (
           w,
           gives,
           tt,
@@ -242,8 +234,8 @@ module _ {P : Type 0} (fits : ℕ → ℕ → P → Type 0) (bins : ℕ) where
               (λ h. let c : ℕ = h (Fills n i lo hi (known_forks i (length ps)) (code t.above) (path_of t.above)) in
               let c' : ℕ = h (Fills n i lo hi fk d up) in
               let e : c' ≡ c = λ k. h (Fills n i lo hi (f.1 k) (f.2 k) (f.3 k)) in
-              let q : 0 + c ≤ c' + 0 + 0 = omega arith in q),
-          (told, (λ one. absurd (more one))),
+              let x' : ℕ = h (Counted n i) in let q : x' + 0 + c ≤ c' + 0 + x' = omega arith in q),
+          (told, (λ one. absurd (more one)), (λ _. refl)),
         ))
 
   pub arrives : (slots id : ℕ) (found : Knowledge P) (n i lo hi fk d : ℕ) (up : List Above) (xp : Partial P)

@@ -79,6 +79,9 @@ no_free n m above k j a b waits pos = absurd (omega arith)
 no_free n m above k j a b fills pos = absurd (omega arith)
 no_free n m above k j a b arrived pos = absurd (omega arith)
 
+none_of : 0 < 0 → ⊥
+none_of pos = absurd (omega arith)
+
 -- the cell of the node n, with the ticket i
 pub record Ticketed (cells : List Cell) (n i lo hi : ℕ) (st : Stage) : Type 0 where
   pub low : ℕ
@@ -119,7 +122,8 @@ found_waiting cells n i lo hi fk up m (going low top above ps) at pos = let f : 
       subst (λ (x : ℕ). fk ≡ known_forks x (length ps)) (sym q.2) q.5,
       q.6,
     )
-found_waiting cells n i lo hi fk up m over at pos = absurd (omega arith)
+found_waiting cells n i lo hi fk up m (over ps) at pos = let r = some_indexed (λ (j : ℕ) (p : Piece). 0) 0 ps pos in
+    absurd (none_of r.3)
 
 found_filling : (cells : List Cell) (n i lo hi fk c : ℕ) (up : List Above) (m : ℕ) (x : Cell) →
     get_elem? cells m ≡ some x
@@ -137,7 +141,8 @@ found_filling cells n i lo hi fk c up m (going low top above ps) at pos = let f 
       q.6,
       q.7,
     )
-found_filling cells n i lo hi fk c up m over at pos = absurd (omega arith)
+found_filling cells n i lo hi fk c up m (over ps) at pos = let r = some_indexed (λ (j : ℕ) (p : Piece). 0) 0 ps pos in
+    absurd (none_of r.3)
 
 found_opened : (cells : List Cell) (n lo hi k : ℕ) (up : List Above) (m : ℕ) (x : Cell) → get_elem? cells m ≡ some x
     → 0 < given_out (same (Opened n lo hi k up)) m x → (j : ℕ) × (t : Ticketed cells n j lo hi held)
@@ -149,7 +154,8 @@ found_opened cells n lo hi k up m (going low top above ps) at pos = let f : ℕ 
     let r = some_indexed f 0 ps pos in
     let q = is_opened n lo hi k up m above (length ps) r.0 r.1.lo r.1.hi r.1.stage (plus_zero (λ j. f j r.1) r.0 r.3) in
     (r.0, ticketed cells n r.0 lo hi held low top above ps m r.0 r.1 at r.2 q.0 q.1 refl q.2 q.3, q.4, q.5)
-found_opened cells n lo hi k up m over at pos = absurd (omega arith)
+found_opened cells n lo hi k up m (over ps) at pos = let r = some_indexed (λ (j : ℕ) (p : Piece). 0) 0 ps pos in
+    absurd (none_of r.3)
 
 found_unopened : (cells : List Cell) (n m : ℕ) (x : Cell) → get_elem? cells m ≡ some x →
     0 < given_out (same (Unopened n)) m x
@@ -159,7 +165,8 @@ found_unopened cells n m (going low top above ps) at pos = let f : ℕ → Piece
     → ℕ = λ j p. right_of (same (Unopened n)) m above (length ps) j p.lo p.hi p.stage in
     let r = some_indexed f 0 ps pos in
     absurd (no_free n m above (length ps) r.0 r.1.lo r.1.hi r.1.stage (plus_zero (λ j. f j r.1) r.0 r.3))
-found_unopened cells n m over at pos = absurd (omega arith)
+found_unopened cells n m (over ps) at pos = let r = some_indexed (λ (j : ℕ) (p : Piece). 0) 0 ps pos in
+    absurd (none_of r.3)
 
 module _ {P : Type 0} (fits : ℕ → ℕ → P → Type 0) (bins : ℕ) where
   abbrev pub Homes : Type 0
@@ -224,7 +231,7 @@ module _ {P : Type 0} (fits : ℕ → ℕ → P → Type 0) (bins : ℕ) where
     others = λ i far small. e.2 i small ∙ x.others i far small;
     reachable = x.reachable;
   }
-  frame words words' homes homes' n e over x = tt
+  frame words words' homes homes' n e (over ps) x = tt
 
   pub moved : (s : St) (r : Holds fits bins s) (m : ℕ) (c c' : Cell) → get_elem? r.cells m ≡ some c →
       (id : ℕ) (v w : List Right)

@@ -9,7 +9,7 @@ use lib.ListN.{get_elem?}
 use Rattle.completers.specs.Rule.{total, indexed}
 use Rattle.completers.specs.declared.rule.Above.{Above}
 use Rattle.completers.specs.declared.rule.Right.{Right}
-use Rattle.completers.specs.declared.rule.Right.TheVariants.{Unopened, Opened, Waits, Fills}
+use Rattle.completers.specs.declared.rule.Right.TheVariants.{Unopened, Opened, Waits, Fills, Counted}
 
 module _ {A : Type 0} where
   pub total_set : (f : A → ℕ) (l : List A) (i : ℕ) (a b : A) → get_elem? l i ≡ some a →
@@ -139,6 +139,7 @@ same (Opened a b c d u) (Opened a' b' c' d' u') = hit a a' (hit b b' (hit c c' (
 same (Waits a b c d e u) (Waits a' b' c' d' e' u') = hit a a' (hit b b' (hit c c' (hit d d' (hit e e' (hits u u' 1)))))
 same (Fills a b c d e x u) (Fills a' b' c' d' e' x' u') =
     hit a a' (hit b b' (hit c c' (hit d d' (hit e e' (hit x x' (hits u u' 1))))))
+same (Counted a b) (Counted a' b') = hit a a' (hit b b' 1)
 same _ _ = 0
 
 pub same_self : (x : Right) → same x x ≡ 1
@@ -148,3 +149,4 @@ same_self (Waits a b c d e u) =
     hit_self a _ ∙ (hit_self b _ ∙ (hit_self c _ ∙ (hit_self d _ ∙ (hit_self e _ ∙ hits_self u 1))))
 same_self (Fills a b c d e x u) = hit_self a _
     ∙ (hit_self b _ ∙ (hit_self c _ ∙ (hit_self d _ ∙ (hit_self e _ ∙ (hit_self x _ ∙ hits_self u 1)))))
+same_self (Counted a b) = hit_self a _ ∙ hit_self b 1

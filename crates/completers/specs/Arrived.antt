@@ -4,16 +4,16 @@ use Rattle.completers.specs.declared.relation.Partial.{Partial}
 use Rattle.completers.specs.declared.arrive.Arrival.{Arrival}
 use Rattle.completers.specs.declared.arrive.Arrival.TheVariants.{Early, Last}
 use Rattle.completers.specs.Parts.{AreParts}
-use Rattle.completers.specs.Views.{TicketView, TreeView, nearest, opened_from, opened_to}
+use Rattle.completers.specs.Views.{CountedView, TicketView, TreeView, nearest, opened_from, opened_to}
 use Rattle.completers.specs.declared.rule.Above.{Above}
 
 module _ {P : Type 0} where
-  abbrev pub MatchArrival : Arrival P → Type 0 → (List (Partial P) → Option TicketView → Type 0) → Type 0
-  MatchArrival Early early last = early
+  abbrev pub MatchArrival : Arrival P → (CountedView → Type 0) → (List (Partial P) → Option TicketView → Type 0) → Type 0
+  MatchArrival (Early counted) early last = early counted
   MatchArrival (Last parts above) early last = last parts above
 
   abbrev pub IsLast : Arrival P → Type 0
-  IsLast Early = ⊥
+  IsLast (Early counted) = ⊥
   IsLast (Last parts above) = Unit {0}
 
 -- the parts of a whole node of the tree, side by side over the range that it was opened for, and the nearest of the

@@ -14,7 +14,7 @@ use Rattle.completers.specs.Parts.{IsPart}
 use Rattle.completers.specs.Rights.{IsTicketAbove, code, path_of}
 use Rattle.completers.specs.declared.relation.Partial.{Partial}
 use Rattle.completers.specs.declared.rule.Right.{Right}
-use Rattle.completers.specs.declared.rule.Right.TheVariants.{Unopened, Opened, Waits, Fills}
+use Rattle.completers.specs.declared.rule.Right.TheVariants.{Unopened, Opened, Waits, Fills, Counted}
 
 abbrev pub total : {A : Type 0} → (A → ℕ) → List A → ℕ
 total f [] = 0
@@ -53,11 +53,12 @@ pub record Piece : Type 0 where
 abbrev pub piece : ℕ → ℕ → Stage → Piece
 piece lo hi st = record { lo = lo; hi = hi; stage = st }
 
--- the range that the node was opened for, the right above it, and its tickets in the order of their numbers
+-- the range that the node was opened for, the right above it, and its tickets in the order of their numbers, which are
+-- left of it once all have arrived
 pub data Cell : Type 0 where
   fresh : Cell
   going : ℕ → ℕ → List Right → List Piece → Cell
-  over : Cell
+  over : List Piece → Cell
 
 abbrev pub missing : Piece → ℕ
 missing p = if has_arrived p.stage then 0 else 1
@@ -79,19 +80,19 @@ abbrev pub right_of : (Right → ℕ) → ℕ → List Right → ℕ → ℕ →
 right_of h m above n i lo hi held = h (Opened m lo hi n (path_of above))
 right_of h m above n i lo hi waits = h (Waits m i lo hi (known_forks i n) (path_of above))
 right_of h m above n i lo hi fills = h (Fills m i lo hi (known_forks i n) (code above) (path_of above))
-right_of h m above n i lo hi arrived = 0
+right_of h m above n i lo hi arrived = h (Counted m i)
 
 -- the rights that tokens have on a node
 abbrev pub given_out : (Right → ℕ) → ℕ → Cell → ℕ
 given_out h m fresh = h (Unopened m)
 given_out h m (going lo top above ps) = indexed (λ i p. right_of h m above (length ps) i p.lo p.hi p.stage) 0 ps
-given_out h m over = 0
+given_out h m (over ps) = indexed (λ i p. h (Counted m i)) 0 ps
 
 -- the rights that a node keeps
 abbrev pub kept_by : (Right → ℕ) → Cell → ℕ
 kept_by h fresh = 0
 kept_by h (going lo top above ps) = total h above
-kept_by h over = 0
+kept_by h (over ps) = 0
 
 -- the forked ranges, each below the ones before it
 abbrev pub AreBelow : ℕ → ℕ → List Piece → Type 0
@@ -126,7 +127,7 @@ module _ {P : Type 0} (fits : ℕ → ℕ → P → Type 0) (bins : ℕ) where
     abbrev pub CellOk : Cell → Type 0
     CellOk fresh = (slice_index words (2 * m) ≡ 1) × ((i : ℕ) → i < 8 → get_elem? homes (8 * m + i) ≡ some (some None))
     CellOk (going lo top above ps) = IsGoing words homes m lo top above ps
-    CellOk over = Unit {0}
+    CellOk (over ps) = Unit {0}
 
   -- Each right is with one token or one node at most, and each node's words and slots are as its tickets say
   pub record Holds (s : State (Option (Partial P)) (List Right)) : Type 0 where

@@ -8,7 +8,7 @@ use Rattle.completers.specs.Rights.{up_in}
 use Rattle.completers.specs.declared.relation.Partial.{Partial}
 use Rattle.completers.specs.declared.rule.Above.{Above}
 use Rattle.completers.specs.declared.rule.Right.{Right}
-use Rattle.completers.specs.declared.rule.Right.TheVariants.{Unopened, Opened, Waits, Fills}
+use Rattle.completers.specs.declared.rule.Right.TheVariants.{Unopened, Opened, Waits, Fills, Counted}
 
 -- the ticket has its slot, and has read this code
 abbrev pub filling_rights : ℕ → List Right → List Right
@@ -17,6 +17,7 @@ filling_rights c (Unopened n ∷ rs) = []
 filling_rights c (Opened n lo hi k up ∷ rs) = []
 filling_rights c (Waits n i lo hi f up ∷ rs) = Fills n i lo hi f c up ∷ []
 filling_rights c (Fills n i lo hi f d up ∷ rs) = []
+filling_rights c (Counted n i ∷ rs) = []
 
 -- the node's new ticket, and the node with the range that is left
 abbrev pub forked_rights : ℕ → List Right → List Right
@@ -25,6 +26,7 @@ forked_rights mid (Unopened n ∷ rs) = []
 forked_rights mid (Opened n lo hi k up ∷ rs) = Waits n k mid hi 0 up ∷ Opened n lo mid (k + 1) up ∷ rs
 forked_rights mid (Waits n i lo hi f up ∷ rs) = []
 forked_rights mid (Fills n i lo hi f c up ∷ rs) = []
+forked_rights mid (Counted n i ∷ rs) = []
 
 -- the own ticket
 abbrev pub own_rights : List Right → List Right
@@ -33,6 +35,7 @@ own_rights (Unopened n ∷ rs) = []
 own_rights (Opened n lo hi k up ∷ rs) = Waits n 0 lo hi (k - 1) up ∷ []
 own_rights (Waits n i lo hi f up ∷ rs) = []
 own_rights (Fills n i lo hi f c up ∷ rs) = []
+own_rights (Counted n i ∷ rs) = []
 
 -- the first node of a supply, opened for a range, with the supply that is left
 abbrev pub opened_rights_for : ℕ → ℕ → List Above → List Right → List Right
@@ -41,6 +44,7 @@ opened_rights_for lo hi up (Unopened n ∷ rs) = Opened n lo hi 1 up ∷ rs
 opened_rights_for lo hi up (Opened n lo' hi' k up' ∷ rs) = []
 opened_rights_for lo hi up (Waits n i lo' hi' f up' ∷ rs) = []
 opened_rights_for lo hi up (Fills n i lo' hi' f c up' ∷ rs) = []
+opened_rights_for lo hi up (Counted n i ∷ rs) = []
 
 -- the root's range is the whole one, another node's that of the ticket in front, which goes to the node
 abbrev pub opened_rights : ℕ → List Right → List Right
@@ -50,6 +54,7 @@ opened_rights bins (Opened n lo hi k up ∷ rs) = []
 opened_rights bins (Waits n i lo hi f up ∷ rs) =
     opened_rights_for lo hi (record { node = n; number = i; lo = lo; hi = hi; forks = f } ∷ up) rs
 opened_rights bins (Fills n i lo hi f c up ∷ rs) = []
+opened_rights bins (Counted n i ∷ rs) = []
 
 abbrev pub Knowledge : Type 0 → Type 0
 Knowledge P = Me (Option (Partial P)) (List Right)
@@ -94,3 +99,4 @@ module _ {P : Type 0} where
       IsPossible (arrive (ticket_in m.0))
       (λ p. (number p ≡ found) × (ticket_in m.0 ≡ 0 → length p.arrived ≡ forks_in m.0 + 1))
       × (found ≡ 1 → TakesAll fits bins slots m m')
+      × (found ≢ 1 → m' ≡ (Counted (node_in m.0) (ticket_in m.0) ∷ [], rest m.1))

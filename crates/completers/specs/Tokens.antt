@@ -4,7 +4,7 @@ use Rattle.atomic_table.specs.Table.{Me}
 use Rattle.atomic_table.specs.Seated.{TableId}
 use Rattle.completers.specs.Limits.{most_nodes}
 use Rattle.completers.specs.declared.rule.Right.{Right}
-use Rattle.completers.specs.declared.rule.Right.TheVariants.{Opened, Waits}
+use Rattle.completers.specs.declared.rule.Right.TheVariants.{Opened, Waits, Counted}
 use Rattle.completers.specs.Rights.{nodes, forks_in, up_in}
 
 -- a table of two words and eight slots a node
@@ -31,3 +31,6 @@ module _ {S : Type 0} where
     pub small : number < 8
     pub inside : 8 * node + 8 ≤ table.slots
     pub range : lo < hi
+
+  pub record IsCounted (me : Me S (List Right)) (node number : ℕ) : Type 0 where
+    pub rights : me ≡ (Counted node number ∷ [], [])

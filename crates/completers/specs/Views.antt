@@ -39,6 +39,12 @@ pub record TicketView : Type 0 where
   pub forks : ℕ
   pub above : List Above
 
+-- a ticket that has arrived at a node of a tree, where others had not: its number
+pub record CountedView : Type 0 where
+  pub tree : TableId
+  pub node : ℕ
+  pub number : ℕ
+
 -- a ticket, and then those above it: what stands above a node that is opened with it. Nothing stands above the root
 abbrev pub path_from : Option TicketView → List Above
 path_from None = []
@@ -62,6 +68,9 @@ opened_to bins (t ∷ up) = t.hi
 -- how many tickets are above a ticket's node
 abbrev pub depth : TicketView → ℕ
 depth t = length t.above
+
+abbrev pub counted_ticket : TicketView → CountedView
+counted_ticket t = record { tree = t.tree; node = t.node; number = t.number }
 
 abbrev pub new_node : SupplyView → List Above → ℕ → ℕ → NodeView
 new_node s up lo hi = record { tree = s.tree; node = s.first; lo = lo; hi = hi; forks = 0; level = s.level; above = up }

@@ -5,13 +5,14 @@ ghost use Rattle.atomic_table.specs.Table.{rest, turned};
 ghost use Rattle.completers.specs.Limits.{most_slots};
 ghost use Rattle.completers.specs.Parts.{AreParts, pile, slots_of, present};
 ghost use Rattle.completers.specs.Rights.{IsTicketAbove, code as code_of, node_in, path_of};
+ghost use Rattle.completers.specs.Views.{counted_ticket};
 ghost use Rattle.completers.specs.declared.rule.Right.TheVariants.{Fills};
 
 use crate::parts::{Parts, Slots};
 use crate::relation::{Partial, Relation};
 use crate::rule::TokenSeat;
 use crate::steps::{First, TakeStep};
-use crate::tokens::Ticket;
+use crate::tokens::{Counted, Ticket};
 use crate::tree::Tree;
 use crate::words::count_down;
 use std::alloc::Allocator;
@@ -20,8 +21,8 @@ use std::marker::Brand;
 /// What an arrival is told.
 #[derive(Drop)]
 pub enum Arrival<P: Drop> {
-    /// Some ticket of the node has not arrived yet.
-    Early,
+    /// Another ticket of the node has not arrived yet. This one is counted.
+    Early(Counted<P>),
     /// All have arrived: the parts of the whole node, and the ticket above it. The root has none.
     Last(Parts<P>, Option<Ticket<P>>),
 }
@@ -128,16 +129,18 @@ impl<B: Relation, A: Allocator> Tree<B, A> {
         requires tree { ticket.tree ≡ self.now.identity }
         requires range { (partial.lo ≡ ticket.lo) × (partial.hi ≡ ticket.hi) }
         requires part { B.relates self.now.relation partial.lo partial.hi partial.part }
-        ensures last { MatchArrival result (Unit {0})
+        ensures early { MatchArrival result (λ counted. counted ≡ counted_ticket ticket)
+            (λ _ _. Unit {0}) }
+        ensures last { MatchArrival result (λ _. Unit {0})
             (λ parts above. Contains parts partial
             × IsWholeNode self.now (B.relates self.now.relation) ticket.above parts above) }
         // The own ticket of a node that forked nothing.
         ensures alone { ticket.number ≡ 0 → ticket.forks ≡ 0 → IsLast result }
     {
-        let node = ticket.node;
+        let (node, number) = (ticket.node, ticket.number);
         let (mut seat, code) = self.fill(ticket, partial);
         if count_down::<B, Brand>(&self.board.shared, &mut seat, node) != 1 {
-            return Arrival::Early;
+            return Arrival::Early(Counted { seat, node, number });
         }
         let slots = self.empty_all(&mut seat, node);
         let above = self.above(seat, code, &slots);

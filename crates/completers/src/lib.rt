@@ -27,5 +27,5 @@ pub use found::{Finds, Found};
 pub use limits::MOST_NODES;
 pub use parts::Parts;
 pub use relation::{Partial, Relation};
-pub use tokens::{Node, Supply, Ticket};
+pub use tokens::{Counted, Node, Supply, Ticket};
 pub use tree::Tree;

@@ -31,6 +31,8 @@ pub enum Right {
     /// The same while the ticket's slot is with the token, which has read the code of the ticket
     /// above.
     Fills(u64, u64, u64, u64, u64, u64, Path),
+    /// Nothing more: the ticket of this number has arrived at the node, and was not the last there.
+    Counted(u64, u64),
 }
 
 /// What a token may do, in all. No value of it is made.

@@ -86,6 +86,26 @@ impl<P: Drop> Model for Ticket<P> {
     ghost invariant = { λ t. IsTicket t.seat.table_id t.seat.me t.node t.number t.lo t.hi };
 }
 
+/// That a ticket has arrived at its node, where another had not: it gives no right. Whoever has it
+/// was told so by the node's number.
+#[derive(Drop)]
+pub struct Counted<P: Drop> {
+    pub(crate) seat: TokenSeat<P>,
+    pub(crate) node: usize,
+    pub(crate) number: usize,
+}
+
+impl<P: Drop> Model for Counted<P> {
+    ghost use Rattle.completers.specs.Views.{CountedView};
+    ghost use Rattle.completers.specs.Tokens.{IsCounted};
+
+    ghost Value = { CountedView };
+
+    ghost view = { λ c. record { tree = c.seat.table_id; node = c.node; number = c.number } };
+
+    ghost invariant = { λ c. IsCounted c.seat.me c.node c.number };
+}
+
 impl<P: Drop> Supply<P> {
     /// How many times the number of its nodes can be halved: it has 2 to this power.
     pub fn level(&self) -> u32

@@ -9,17 +9,21 @@ use std::alloc::AllocError;
 pub struct NoFunction;
 
 impl<K, V> Remap<K, V> for NoFunction {
-    ghost use Rattle.std.specs.Prelude.{None};
+    ghost use Rattle.std.specs.Prelude.{◌≡◌, None, Ok};
 
     ghost remapped = { λ _ _ _. None };
 
     ghost merged = { λ _ _ _. None };
 
-    fn remap(&self, _key: &K, _value: Option<&V>) -> Result<Option<V>, AllocError> {
+    fn remap(&self, _key: &K, _value: Option<&V>) -> Result<Option<V>, AllocError>
+        ensures none { result ≡ Ok None }
+    {
         Ok(None)
     }
 
-    fn merge(&self, _old: &V, _given: &V) -> Result<Option<V>, AllocError> {
+    fn merge(&self, _old: &V, _given: &V) -> Result<Option<V>, AllocError>
+        ensures none { result ≡ Ok None }
+    {
         Ok(None)
     }
 }
