@@ -1,12 +1,13 @@
 -- The part of a run is the run of the part.
 use Rattle.std.proofs.Common.{◌≡◌, Bool, true, false, cond, Option, Some, None, Decides, List, [], ◌∷◌, refl, sym, ap}
-use Rattle.std.proofs.Common.{◌∙◌, subst, arith}
+use Rattle.std.proofs.Common.{◌++◌, ◌∙◌, subst, arith}
 use Rattle.std.proofs.lemmas.Grind.{common_steps}
 use Rattle.bin_history.specs.Entries.{lookup, HasDistinctKeys, put, remove, store, replay}
 use Rattle.bin_history.specs.Calls.{key_of}
-use Rattle.bin_history.specs.Plain.{step, run, IsLegal}
+use Rattle.bin_history.specs.Plain.{step, run, IsLegal, IsLegalStep}
 use Rattle.bin_history.specs.Part.{part_of_map, part_of_entries, part_of_records}
 use Rattle.bin_history.proofs.Entries.{cond_same}
+use Rattle.bin_history.proofs.Runs.{IsLegal-append}
 use Rattle.bin_history.specs.declared.call.Call.{Call}
 use Rattle.bin_history.specs.Records.{RecordView}
 
@@ -82,3 +83,25 @@ module _ {K V F : Type 0} (same : K → K → Bool) (tells : (x y : K) → Decid
     go rest false p =
         let legal : (K → Option V) → Type 0 = λ f. IsLegal same after f (part_of_records test rs) in
         subst legal (λ i q. sym (step_apart m r p q) i) rest
+
+  -- at the keys of a part, calls leave what the part's calls make of the part of the map
+  pub run_of_part : (opening : List (K × V)) (calls : List (RecordView K V F)) (k : K) → test k ≡ true
+      → run same (lookup same (part_of_entries test opening)) (part_of_records test calls) k
+      ≡ run same (lookup same opening) calls k
+  run_of_part opening calls k on =
+      ap (λ (m : K → Option V). run same m (part_of_records test calls) k)
+      (λ i q. lookup-part same tells test opening q i)
+      ∙ ap (λ (m : K → Option V). m k) (run-part (lookup same opening) calls)
+      ∙ ap (λ (b : Bool). cond b (run same (lookup same opening) calls k) None) on
+
+  -- a call on what the calls of a part leave is one on what all calls leave
+  pub IsLegal-posted : (after : Call K V F → Option V → Option V) (opening pairs : List (K × V))
+      (calls kept : List (RecordView K V F)) (r : RecordView K V F)
+      → pairs ≡ part_of_entries test opening → part_of_records test calls ≡ kept → test (key_of r.call) ≡ true
+      → IsLegalStep same after (run same (lookup same pairs) kept) r → IsLegal same after (lookup same opening) calls
+      → IsLegal same after (lookup same opening) (calls ++ r ∷ [])
+  IsLegal-posted after opening pairs calls kept r pairs_is kept_is on step legal =
+      let found : r.before ≡ run same (lookup same opening) calls (key_of r.call) =
+      step.0 ∙ (λ i. run same (lookup same (pairs_is i)) (sym kept_is i) (key_of r.call))
+      ∙ run_of_part opening calls (key_of r.call) on in
+      IsLegal-append same tells after (lookup same opening) calls (r ∷ []) legal ((found, step.1), tt)

@@ -1,5 +1,5 @@
 -- What the books of a pass and of the role of a bin tell of the bin.
-use Rattle.std.proofs.Common.{◌≡◌, ℕ, Bool, true, Option, Decides, List, length, sym, ap}
+use Rattle.std.proofs.Common.{◌≡◌, ℕ, Bool, true, Option, Decides, List, length, sym}
 use Rattle.std.proofs.Common.{◌∙◌}
 use Rattle.hashkeys.specs.Classes.{is_of}
 use Rattle.bin_history.specs.Calls.{key_of, after}
@@ -7,18 +7,16 @@ use Rattle.bin_history.specs.Entries.{lookup, replay}
 use Rattle.bin_history.specs.Lawful.{BinView, IsLawful}
 use Rattle.bin_history.specs.Made.{IsMadeOn}
 use Rattle.bin_history.specs.Part.{part_of_entries, part_of_records}
-use Rattle.bin_history.specs.Plain.{run, IsLegalStep}
+use Rattle.bin_history.specs.Plain.{run}
 use Rattle.bin_history.specs.declared.call.Call.{Call}
 use Rattle.bin_history.specs.Records.{RecordView}
 use Rattle.bin_history.specs.declared.call.Reply.{Reply}
-use Rattle.bin_history.proofs.Parts.{replay-part}
-use Rattle.bin_history.proofs.Runs.{lookup-replay}
+use Rattle.bin_history.proofs.Parts.{replay-part, run_of_part}
 use Rattle.count_ledger.specs.Agreement.{BinAgrees}
 use Rattle.count_ledger.specs.Books.{IsRoleOf}
 use Rattle.count_ledger.specs.Fronts.{IsPosted}
 use Rattle.count_ledger.specs.Views.{LedgerView, PassView, RoleView}
-use Rattle.count_ledger.proofs.Agreements.{BinAgrees-replay}
-use Rattle.count_ledger.proofs.Fronts.{run_of_part}
+use Rattle.count_ledger.proofs.Agreements.{BinAgrees-replay, BinAgrees-map}
 use Rattle.chm.specs.Headline.{IsCalled}
 use Rattle.chm.specs.Histories.{IsCalledOn, IsMet}
 
@@ -31,17 +29,7 @@ module _ {K V F : Type 0} (same : K → K → Bool) (tells : (x y : K) → Decid
   entries_by_role = (BinAgrees-replay same tells code after b r agree lawful replayed).1
 
   map_by_role : lookup same b.entries ≡ run same (lookup same r.opening) r.kept
-  map_by_role = ap (lookup same) entries_by_role
-      ∙ lookup-replay same tells r.opening r.kept agree.history.1.distinct
-
-  -- a call on what the bin has is one on what the role's records leave
-  pub IsLegalStep-met : (x : RecordView K V F) (call : Call K V F) → x.call ≡ call
-      → x.before ≡ lookup same b.entries (key_of call) → x.after ≡ after call x.before
-      → IsLegalStep same after (run same (lookup same r.opening) r.kept) x
-  IsLegalStep-met x call call_is found left = (
-    found ∙ (λ i. map_by_role i (key_of (sym call_is i))),
-    left ∙ ap (λ (c : Call K V F). after c x.before) (sym call_is),
-  )
+  map_by_role = BinAgrees-map same tells code after b r agree lawful replayed
 
   module _ (ledger : LedgerView K V) (role : IsRoleOf code ledger r) (front : List (RecordView K V F))
       (kept : r.kept ≡ part_of_records (is_of code r.salt r.class) front) where

@@ -47,7 +47,7 @@ module _ (K V F A : RattleType) (hash : HashKey.Ghosts K.Denot) (key_eq : Eq.Gho
       generations.map_sync K V F A hash key_eq key_same key_clone value_clone value_eq value_same remap function_clone
           alloc sk sv sf sa yk yv yf ya frees,
       (
-        search (sendable, crosses, ruled.the_sync, once.the_send, once.the_sync, transfer.strides_send, transfer.strides_sync) depth 30,
+        search (sendable, crosses, ruled.the_sync, once.the_sync, transfer.strides_send, transfer.strides_sync) depth 30,
         (search sendable depth 20, tt),
       ),
     ),

@@ -19,6 +19,7 @@ mod balance;
 mod calls;
 mod clear;
 mod close;
+mod debug;
 mod fault;
 mod growth;
 mod held;

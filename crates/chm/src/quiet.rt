@@ -146,6 +146,28 @@ impl<
     }
 }
 
+/// A loop over a closed map goes over its pairs as `entries` does.
+impl<
+    'a,
+    K: HashKey + Drop,
+    V: Clone + Eq + Drop,
+    F: Remap<K, V> + Clone + Drop,
+    A: Allocator + Clone,
+> IntoIterator for &'a Quiet<K, V, F, A> {
+    ghost use Rattle.std.specs.Prelude.{◌≡◌};
+    ghost use Rattle.chm.specs.Headline.{entries_of};
+
+    type Item = &'a (K, V);
+
+    type IntoIter = Entries<'a, K, V, F, A>;
+
+    ghost into_iter_gives = { λ quiet pairs. pairs ≡ entries_of quiet.now.bins };
+
+    fn into_iter(self) -> Entries<'a, K, V, F, A> {
+        self.entries()
+    }
+}
+
 /// The pairs of bins, bin by bin. Contracts see the pairs that are left.
 #[derive(Drop)]
 pub struct Entries<'a, K: HashKey, V: Clone + Eq, F: Remap<K, V> + Clone, A: Allocator> {

@@ -1,19 +1,23 @@
 -- A bin and its role go on agreeing through each step.
-use Rattle.std.proofs.Common.{◌≡◌, ℕ, Bool, Option, Decides, List, [], ◌++◌, length, pos, ◌+ℤ◌, ap, subst, ◌∙◌}
+use Rattle.std.proofs.Common.{◌≡◌, ℕ, Bool, Option, Decides, List, [], ◌++◌, length, pos, ◌+ℤ◌, sym, ap, subst, ◌∙◌}
 use Rattle.hashkeys.specs.Classes.{ClassView, is_of}
 use Rattle.bin_history.specs.BinPart.{IsPartOf}
+use Rattle.bin_history.specs.Calls.{key_of, after}
 use Rattle.bin_history.specs.Deltas.{sum_of_deltas}
 use Rattle.bin_history.specs.Entries.{lookup, HasDistinctKeys, replay}
 use Rattle.bin_history.specs.Histories.{HasHistory, GoesOn}
 use Rattle.bin_history.specs.Lawful.{BinView, IsLawful}
+use Rattle.bin_history.specs.Made.{IsMadeOn}
 use Rattle.bin_history.specs.Part.{part_of_entries, part_of_records}
-use Rattle.bin_history.specs.Plain.{IsLegal}
+use Rattle.bin_history.specs.Plain.{run, IsLegal, IsLegalStep}
 use Rattle.bin_history.specs.Readiness.{KeepsOrFolds}
 use Rattle.bin_history.specs.declared.call.Call.{Call}
+use Rattle.bin_history.specs.declared.call.Reply.{Reply}
 use Rattle.bin_history.specs.Records.{RecordView}
 use Rattle.bin_history.proofs.Counts.{length-replay}
 use Rattle.bin_history.proofs.Histories.{HasHistory-new, HasHistory-gone_on, HasHistory-prepared, HasHistory-part}
 use Rattle.bin_history.proofs.Histories.{HasHistory-replay}
+use Rattle.bin_history.proofs.Runs.{lookup-replay}
 use Rattle.count_ledger.specs.Agreement.{BinAgrees, part_of_role}
 use Rattle.count_ledger.specs.Views.{RoleView}
 
@@ -69,6 +73,13 @@ module _ {K V F : Type 0} (same : K → K → Bool) (tells : (x y : K) → Decid
   BinAgrees-replay b r a lawful replayed =
       HasHistory-replay same tells code after r.opening r.kept b a.history lawful.legal replayed
 
+  -- its map is the one that the role's records leave
+  pub BinAgrees-map : (b : BinView K V F) (r : RoleView K V F) → BinAgrees same after b r → IsLawful same code after b
+      → b.entries ≡ replay same b.base b.records → lookup same b.entries ≡ run same (lookup same r.opening) r.kept
+  BinAgrees-map b r a lawful replayed =
+      ap (lookup same) (BinAgrees-replay b r a lawful replayed).1
+      ∙ lookup-replay same tells r.opening r.kept a.history.1.distinct
+
   pub BinAgrees-count : (b : BinView K V F) (r : RoleView K V F) → BinAgrees same after b r → IsLawful same code after b
       → b.entries ≡ replay same b.base b.records →
       pos (length b.entries) ≡ pos (length r.opening) +ℤ sum_of_deltas r.kept
@@ -76,3 +87,19 @@ module _ {K V F : Type 0} (same : K → K → Bool) (tells : (x y : K) → Decid
       let (legal, is) = BinAgrees-replay b r a lawful replayed in
       ap (λ (es : List (K × V)). pos (length es)) is
       ∙ length-replay same tells after r.opening r.kept a.history.1.distinct legal
+
+module _ {K V F : Type 0} (same : K → K → Bool) (tells : (x y : K) → Decides (same x y) (x ≡ y)) (code : K → ℕ)
+    (same_value : V → V → Bool) (remapped : F → K → Option V → Option V) (merged : F → V → V → Option V) where
+  -- a call that was made on a bin is one on what the role's records leave
+  pub IsLegalStep-made : {client ordinal : ℕ} {call : Call K V F} {c : BinView K V F} {answer : Reply V}
+      (b : BinView K V F) (r : RoleView K V F) (x : RecordView K V F)
+      → BinAgrees same (after same_value remapped merged) b r
+      → IsLawful same code (after same_value remapped merged) b → b.entries ≡ replay same b.base b.records
+      → IsMadeOn same same_value remapped merged client ordinal call b c answer x
+      → IsLegalStep same (after same_value remapped merged) (run same (lookup same r.opening) r.kept) x
+  IsLegalStep-made b r x a lawful replayed made =
+      let then = after same_value remapped merged in
+      let map = BinAgrees-map same tells code then b r a lawful replayed in (
+        made.found ∙ (λ i. map i (key_of (sym made.call_is i))),
+        made.left ∙ ap (λ (call : Call K V F). then call x.before) (sym made.call_is),
+      )

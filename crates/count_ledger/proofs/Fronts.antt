@@ -1,5 +1,5 @@
 -- Fronts of the one order of all calls.
-use Rattle.std.proofs.Common.{◌≡◌, Bool, true, cond, Option, None, Decides, List, [], ◌∷◌, ◌++◌, sym, ap, ◌∙◌}
+use Rattle.std.proofs.Common.{◌≡◌, Bool, Option, Decides, List, [], ◌∷◌, ◌++◌, sym, ap, ◌∙◌}
 use Rattle.std.proofs.Common.{append_assoc, ℕ, ◌<◌, ◌==◌, All, subst, arith}
 use Rattle.std.proofs.lemmas.Bool.{eq-eqb}
 use Rattle.std.proofs.lemmas.List.Elements.{All-filter, All-push, filter-append, filter_passes}
@@ -9,12 +9,12 @@ use Rattle.bin_history.specs.Calls.{key_of}
 use Rattle.bin_history.specs.Cells.{records_on}
 use Rattle.bin_history.specs.Clients.{by_client}
 use Rattle.bin_history.specs.Entries.{lookup}
-use Rattle.bin_history.specs.Part.{part_of_entries, part_of_records}
+use Rattle.bin_history.specs.Part.{part_of_records}
 use Rattle.bin_history.specs.Plain.{run, IsLegal, IsLegalStep}
 use Rattle.bin_history.specs.Records.{RecordView}
 use Rattle.bin_history.specs.declared.call.Call.{Call}
 use Rattle.bin_history.proofs.Cells.{IsLegal-cell}
-use Rattle.bin_history.proofs.Parts.{lookup-part, run-part, IsLegal-part}
+use Rattle.bin_history.proofs.Parts.{lookup-part, IsLegal-part}
 use Rattle.bin_history.proofs.Runs.{IsLegal-append}
 use Rattle.count_ledger.specs.Fronts.{BeginsWith, IsFront, IsHistory, IsHistoryOn}
 use Rattle.count_ledger.specs.Rule.{IsSoundPass, ledger_of}
@@ -36,29 +36,6 @@ BeginsWith-more {X} xs ys zs (more, is) (rest, its) = (
   rest ++ more,
   is ∙ ap (λ (l : List X). l ++ more) its ∙ append_assoc zs rest more,
 )
-
-module _ {K V F : Type 0} (same : K → K → Bool) (tells : (x y : K) → Decides (same x y) (x ≡ y)) (test : K → Bool) where
-  -- at the keys of a part, calls leave what the part's calls make of the part of the map
-  pub run_of_part : (opening : List (K × V)) (calls : List (RecordView K V F)) (k : K) → test k ≡ true
-      → run same (lookup same (part_of_entries test opening)) (part_of_records test calls) k
-      ≡ run same (lookup same opening) calls k
-  run_of_part opening calls k on =
-      ap (λ (m : K → Option V). run same m (part_of_records test calls) k)
-      (λ i q. lookup-part same tells test opening q i)
-      ∙ ap (λ (m : K → Option V). m k) (run-part same tells test (lookup same opening) calls)
-      ∙ ap (λ (b : Bool). cond b (run same (lookup same opening) calls k) None) on
-
-  -- a call on what the calls of a part leave is one on what all calls leave
-  pub IsLegal-posted : (after : Call K V F → Option V → Option V) (opening pairs : List (K × V))
-      (calls kept : List (RecordView K V F)) (r : RecordView K V F)
-      → pairs ≡ part_of_entries test opening → part_of_records test calls ≡ kept → test (key_of r.call) ≡ true
-      → IsLegalStep same after (run same (lookup same pairs) kept) r → IsLegal same after (lookup same opening) calls
-      → IsLegal same after (lookup same opening) (calls ++ r ∷ [])
-  IsLegal-posted after opening pairs calls kept r pairs_is kept_is on step legal =
-      let found : r.before ≡ run same (lookup same opening) calls (key_of r.call) =
-      step.0 ∙ (λ i. run same (lookup same (pairs_is i)) (sym kept_is i) (key_of r.call))
-      ∙ run_of_part opening calls (key_of r.call) on in
-      IsLegal-append same tells after (lookup same opening) calls (r ∷ []) legal ((found, step.1), tt)
 
 module _ {K V F : Type 0} (same : K → K → Bool) (after : Call K V F → Option V → Option V) where
   -- all calls so far are a front, for each pass

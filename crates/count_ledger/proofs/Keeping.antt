@@ -17,6 +17,7 @@ use Rattle.bin_history.specs.Entries.{lookup}
 use Rattle.bin_history.specs.Plain.{run, IsLegalStep}
 use Rattle.bin_history.specs.declared.call.Call.{Call}
 use Rattle.bin_history.specs.Records.{RecordView}
+use Rattle.bin_history.proofs.Parts.{IsLegal-posted}
 use Rattle.count_ledger.specs.declared.books.Book.{Book}
 use Rattle.count_ledger.specs.declared.books.Book.TheVariants.{Moment, Pass, Role}
 use Rattle.count_ledger.specs.Limits.{most_calls}
@@ -25,7 +26,6 @@ use Rattle.count_ledger.specs.Words.{word_of}
 use Rattle.count_ledger.specs.Rule.{AmongSeats, IsSound, AreTogether, Holds}
 use Rattle.count_ledger.specs.Steps.{Keeps, Tells, books_with_record, books_with_halves, with_halves, books_seeing}
 use Rattle.count_ledger.specs.Steps.{first_of, rest_of, only_view, seen_by}
-use Rattle.count_ledger.proofs.Fronts.{IsLegal-posted}
 use Rattle.count_ledger.proofs.Seeing.{seen_fit, seen_others, shown_fit, shown_others}
 use Rattle.count_ledger.proofs.Holding.{AmongSeats-changed, AmongSeats-more, AmongSeats-parted, AmongSeats-joined}
 use Rattle.count_ledger.proofs.Posting.{words_after, posted_fit, posted_others}

@@ -1,7 +1,6 @@
 use Rattle.bin_history.proofs.Keys.{key_tells}
-use Rattle.bin_history.proofs.Parts.{replay-part}
+use Rattle.bin_history.proofs.Parts.{replay-part, run_of_part}
 use Rattle.count_ledger.proofs.Fronts.{BeginsWith-more, IsFront-called, IsHistory-front, IsHistoryOn-front, others_behind}
-use Rattle.count_ledger.proofs.Fronts.{run_of_part}
 use Rattle.count_ledger.proofs.laws.laws_of_fronts.Goals as goal
 
 pub returns-clause-history : goal.returns-clause-history

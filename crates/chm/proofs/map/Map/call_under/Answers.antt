@@ -1,21 +1,18 @@
 use Rattle.std.proofs.Common.{◌≡◌, [], ◌∷◌, ap, subst}
-use Rattle.bin_history.specs.Calls.{after}
 use Rattle.bin_history.specs.Ops.{call_on, key_in}
 use Rattle.bin_history.proofs.Keys.{key_tells}
 use Rattle.count_ledger.specs.Views.{LedgerView}
-use Rattle.count_ledger.proofs.Agreements.{BinAgrees-gone_on}
+use Rattle.count_ledger.proofs.Agreements.{BinAgrees-gone_on, IsLegalStep-made}
 use Rattle.chm.specs.Histories.{IsCalledOn}
 use Rattle.chm.specs.Views.{MapView}
-use Rattle.chm.proofs.Meeting.{IsLegalStep-met, IsMet-front, IsCalledOn-posted}
+use Rattle.chm.proofs.Meeting.{IsMet-front, IsCalledOn-posted}
 use Rattle.chm.proofs.map.Map.call_under.Goals as goal
 
 pub post_trace-requires-clause-legal : goal.post_trace-requires-clause-legal
 post_trace-requires-clause-legal g c =
-    let made = c.in_ok-reply.ensures.made in
-    IsLegalStep-met g.K.PartialEq.eq (key_tells g.met.K.Eq.laws g.met.K.HashKey.equal_is_same) g.K.HashKey.code
-    (after g.V.PartialEq.eq g.F.Remap.remapped g.F.Remap.merged) c.args.bin.now c.args.role.now c.requires.agree
-    c.lawful.ensures.lawful c.lawful.ensures.replayed c.in_ok-reply.trace (call_on (key_in c.args.key) c.args.op)
-    made.call_is made.found made.left
+    IsLegalStep-made g.K.PartialEq.eq (key_tells g.met.K.Eq.laws g.met.K.HashKey.equal_is_same) g.K.HashKey.code
+    g.V.PartialEq.eq g.F.Remap.remapped g.F.Remap.merged c.args.bin.now c.args.role.now c.in_ok-reply.trace
+    c.requires.agree c.lawful.ensures.lawful c.lawful.ensures.replayed c.in_ok-reply.ensures.made
 
 pub returns-clause-called : goal.returns-clause-called
 returns-clause-called g c =

@@ -1,4 +1,4 @@
-use Rattle.std.proofs.Common.{◌≡◌, ◌++◌, List, All, IsSome, map, take, drop, length, sym, ap, subst, ◌∙◌}
+use Rattle.std.proofs.Common.{◌≡◌, List, All, IsSome, map, drop, length, sym, ap, subst, ◌∙◌}
 use Rattle.count_ledger.specs.Views.{PassView}
 use Rattle.chm.specs.Shares.{HaveWorked}
 use Rattle.chm.specs.declared.share.Seat.{Seat}
