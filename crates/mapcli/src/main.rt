@@ -2,7 +2,7 @@
 //! and answers queries of it.
 #![tactic(auto)]
 
-use facing_cli::{Fault, OpenGate, Options, Output, Reader, Writer, run, status, tell, words};
+use mapcli_core::{Fault, OpenGate, Options, Output, Reader, Writer, run, status, tell, words};
 use std::alloc::Global;
 use std::fs::File;
 use std::process::ExitCode;
