@@ -98,7 +98,7 @@ impl<
     /// The value at the key. It waits for the key's bin.
     ///
     ///     client.put(rt, 1, 5)?;
-    ///     client.get(rt, &1)? == Some(5)
+    ///     assert_eq!(client.get(rt, &1)?, Some(5));
     ///
     /// # Errors
     ///
@@ -117,7 +117,7 @@ impl<
     /// Whether the key has a value. It waits for the key's bin.
     ///
     ///     client.put(rt, 1, 5)?;
-    ///     client.contains_key(rt, &1)?
+    ///     assert!(client.contains_key(rt, &1)?);
     ///
     /// # Errors
     ///
@@ -136,7 +136,7 @@ impl<
     /// Gives the key this value. It answers the value before. It waits for the key's bin.
     ///
     ///     client.put(rt, 1, 5)?;
-    ///     client.put(rt, 1, 6)? == Some(5)
+    ///     assert_eq!(client.put(rt, 1, 6)?, Some(5));
     ///
     /// # Errors
     ///
@@ -156,7 +156,7 @@ impl<
     /// key's bin.
     ///
     ///     client.put(rt, 1, 5)?;
-    ///     client.put_if_absent(rt, 1, 6)? == Some(5)
+    ///     assert_eq!(client.put_if_absent(rt, 1, 6)?, Some(5));
     ///
     /// # Errors
     ///
@@ -175,7 +175,7 @@ impl<
     /// Takes the key away. It answers the value before. It waits for the key's bin.
     ///
     ///     client.put(rt, 1, 5)?;
-    ///     client.remove(rt, &1)? == Some(5)
+    ///     assert_eq!(client.remove(rt, &1)?, Some(5));
     ///
     /// # Errors
     ///
@@ -195,7 +195,7 @@ impl<
     /// key's bin.
     ///
     ///     client.put(rt, 1, 5)?;
-    ///     !client.remove_if(rt, 1, 6)?
+    ///     assert!(!client.remove_if(rt, 1, 6)?);
     ///
     /// # Errors
     ///
@@ -215,7 +215,7 @@ impl<
     /// key's bin.
     ///
     ///     client.remove(rt, &1)?;
-    ///     client.replace(rt, &1, 6)? == None
+    ///     assert_eq!(client.replace(rt, &1, 6)?, None);
     ///
     /// # Errors
     ///
@@ -235,7 +235,7 @@ impl<
     /// for the key's bin.
     ///
     ///     client.put(rt, 1, 5)?;
-    ///     client.replace_if(rt, 1, 5, 6)?
+    ///     assert!(client.replace_if(rt, 1, 5, 6)?);
     ///
     /// # Errors
     ///
@@ -255,7 +255,7 @@ impl<
     /// The function is used at each such call. It waits for the key's bin.
     ///
     ///     client.put(rt, 1, 5)?;
-    ///     client.compute(rt, 1, Add)? == Some(5)
+    ///     assert_eq!(client.compute(rt, 1, Add)?, Some(5));
     ///
     /// # Errors
     ///

@@ -26,7 +26,7 @@ impl<
     ///
     ///     client.put(rt, 1, 5)?;
     ///     client.clear(rt)?;
-    ///     client.get(rt, &1)? == None
+    ///     assert_eq!(client.get(rt, &1)?, None);
     ///
     /// # Errors
     ///

@@ -38,7 +38,7 @@ impl<L: Loan, K: HashKey, V: Clone + Eq, F: Remap<K, V> + Clone, A: Allocator> C
     ///     client.remove(rt, &1)?;
     ///     let before = client.balance();
     ///     client.put(rt, 1, 5)?;
-    ///     client.balance() == before.wrapping_add(1)
+    ///     assert_eq!(client.balance(), before.wrapping_add(1));
     pub fn balance(&mut self) -> u64
         ensures sum { result ≡ word_of (sum_of_deltas self.old.pass.now.made) }
         ensures same { self.new.pass.now ≡ self.old.pass.now }
@@ -59,7 +59,7 @@ impl<
     /// whether the function was used. It waits for the key's bin.
     ///
     ///     client.put(rt, 1, 5)?;
-    ///     client.compute_if_absent(rt, 1, Add)? == Computed { value: Some(5), used: false }
+    ///     assert_eq!(client.compute_if_absent(rt, 1, Add)?, Computed { value: Some(5), used: false });
     ///
     /// # Errors
     ///
@@ -91,7 +91,7 @@ impl<
     /// whether the function was used. It waits for the key's bin.
     ///
     ///     client.put(rt, 1, 5)?;
-    ///     client.compute_if_present(rt, 1, Add)? == Computed { value: Some(5), used: true }
+    ///     assert_eq!(client.compute_if_present(rt, 1, Add)?, Computed { value: Some(5), used: true });
     ///
     /// # Errors
     ///
@@ -124,7 +124,7 @@ impl<
     /// bin.
     ///
     ///     client.put(rt, 1, 5)?;
-    ///     client.merge(rt, 1, 2, Add)? == Computed { value: Some(7), used: true }
+    ///     assert_eq!(client.merge(rt, 1, 2, Add)?, Computed { value: Some(7), used: true });
     ///
     /// # Errors
     ///

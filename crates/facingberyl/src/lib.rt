@@ -3,25 +3,36 @@
 #![tactic(auto)]
 
 mod calls;
+mod chair;
 mod clearing;
 mod client;
 mod computed;
+mod desk;
+mod filling;
+mod folding;
 mod letter;
 mod moments;
+mod owned;
 mod reading;
+mod server;
+mod shown;
 mod team;
+mod update;
 mod work;
 
 /// Bulk operations on a closed map.
 pub use bulk_tasks as bulk;
 pub use chm::{
-    ByteString, Bytes, Call, Class, Entries, Fault, Form, HashKey, Key, MOST_BINS, MOST_CALLS,
-    MOST_CLIENTS, MOST_LEAN_CALLS, Map, Moment, NotClosed, Opened, Pass, Quiet, Remap, Reply, Salt,
-    Sharing, Visit, retire_all,
+    ByteString, Bytes, Call, Class, Entries, Fault, Form, Given, HashKey, Key, MOST_BINS,
+    MOST_CALLS, MOST_CLIENTS, MOST_LEAN_CALLS, Map, Moment, NotClosed, Op, Opened, Pass, Quiet,
+    Remap, Reply, Salt, Sharing, Visit, retire_all,
 };
 pub use client::{Client, Loan};
 pub use computed::Computed;
 pub use functions::{Add, Greatest, NoFunction, Set};
 pub use letter::{About, Letter};
+pub use owned::OwnedClient;
+pub use server::{NotEnded, Server};
 pub use team::Team;
+pub use update::{ByValue, Update};
 pub use work::Work;

@@ -37,7 +37,7 @@ impl<L: Loan, K: HashKey, V: Clone + Eq, F: Remap<K, V> + Clone, A: Allocator> C
     /// Where another client put 5 at 1 before the moment of its letter, and no call on 1 came after:
     ///
     ///     client.learn(&mut letter.open());
-    ///     client.get(rt, &1)? == Some(5)
+    ///     assert_eq!(client.get(rt, &1)?, Some(5));
     pub fn learn(&mut self, moment: &mut Moment<K, V, F>)
         requires { moment.old.ledger ≡ self.old.map.now.ledger.id }
         ensures seen { HasSeen K.eq (after V.eq F.remapped F.merged) self.old.map.now.ledger

@@ -25,7 +25,7 @@ impl<
     /// seen. It waits for the key's bin.
     ///
     ///     client.put(rt, 1, 5)?;
-    ///     client.look_up(rt, &1)? == Some(5)
+    ///     assert_eq!(client.look_up(rt, &1)?, Some(5));
     ///
     /// # Errors
     ///
@@ -47,7 +47,7 @@ impl<
     /// is not said. It waits for who writes in the key's bin.
     ///
     ///     client.put(rt, 1, 5)?;
-    ///     client.glance(rt, &1)? == Some(5)
+    ///     assert_eq!(client.glance(rt, &1)?, Some(5));
     ///
     /// # Errors
     ///
@@ -68,7 +68,7 @@ impl<
     ///
     ///     client.put(rt, 1, 5)?;
     ///     let visits = client.walk(rt)?;
-    ///     visits.iter().any(|visit| visit.entries.as_slice() == [(1, 5)].as_slice())
+    ///     assert!(visits.iter().any(|visit| visit.entries.as_slice() == [(1, 5)].as_slice()));
     ///
     /// # Errors
     ///
@@ -105,7 +105,7 @@ impl<L: Loan, K: HashKey, V: Clone + Eq, F: Remap<K, V> + Clone, A: Allocator> C
     /// promised. It waits for nobody.
     ///
     ///     client.put(rt, 1, 5)?;
-    ///     client.mapping_count() == 1
+    ///     assert_eq!(client.mapping_count(), 1);
     pub fn mapping_count(&self) -> u64
         ensures { result < 2 ^ 63 }
     {

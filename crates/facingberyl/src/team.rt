@@ -154,7 +154,7 @@ impl<
 
     /// Closes the map, as `Map::close` does. Where it is refused the passes end, and the map with
     /// them: to try again take the team apart and close the map itself.
-    pub fn close<R: Wait>(self, rt: &R) -> Result<Quiet<K, V, F, A>, Fault>
+    pub fn close(self) -> Result<Quiet<K, V, F, A>, Fault>
         ensures ledger { IfOk result (λ q. q.ledger ≡ self.map.ledger) }
         ensures n { IfOk result (λ q. q.n ≡ self.map.n) }
         ensures passes { IfOk result (λ q. q.passes ≡ self.passes) }

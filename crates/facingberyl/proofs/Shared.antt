@@ -1,0 +1,137 @@
+-- Servers and their clients may go to other threads.
+use denote.RattleType.{RattleType}
+use denote.Struct.Declared.{shape}
+use denote.Param.Send.{IsSend, IsSync, Frees, AllSend, AllSync, part_keyless, sendable}
+use Rattle.std.proofs.CrossingOver.{crosses}
+use Rattle.std.proofs.Crossing as wide
+use Rattle.std.specs.declared.alloc.Allocator as Allocator
+use Rattle.std.specs.declared.clone.Clone as Clone
+use Rattle.std.specs.declared.cmp.Eq as Eq
+use Rattle.std.specs.declared.cmp.PartialEq as PartialEq
+use Rattle.atomic_table.specs.contracts.shared.Seat as seat
+use Rattle.atomic_table.proofs.shared.Seat.TheSendSync as the_seat
+use Rattle.atomic_table.proofs.shared.Shared.TheSendSync as the_words
+use Rattle.atomic_table.proofs.send_lease.SendLease.TheSendSync as the_lease
+use Rattle.boxcar.proofs.slot.OnceSlot.TheSendSync as once
+use Rattle.counted_slot.proofs.Counted.TheSendSync as counted
+use Rattle.hashkeys.specs.declared.hashing.HashKey as HashKey
+use Rattle.bin_history.specs.declared.call.Remap as Remap
+use Rattle.count_ledger.specs.contracts.ledger.Ledger as Ledger
+use Rattle.count_ledger.specs.contracts.ledger.Ledger.TheInside as LedgerInside
+use Rattle.count_ledger.specs.contracts.tokens.Pass as Pass
+use Rattle.generations.proofs.Shared as generations
+use Rattle.transfer.proofs.Shared as transfer
+use Rattle.chm.specs.contracts.map.Map as Map
+use Rattle.chm.specs.contracts.map.Map.TheInside as MapInside
+use Rattle.chm.proofs.Shared.{map_sync}
+use Rattle.facingberyl.specs.contracts.chair.Waiting as Waiting
+use Rattle.facingberyl.specs.contracts.chair.Chair as Chair
+use Rattle.facingberyl.specs.contracts.desk.Desk as Desk
+use Rattle.facingberyl.specs.contracts.desk.Desk.TheInside as DeskInside
+use Rattle.facingberyl.specs.contracts.owned.OwnedClient as OwnedClient
+use Rattle.facingberyl.specs.contracts.owned.OwnedClient.TheInside as OwnedInside
+use Rattle.facingberyl.specs.contracts.server.Server as Server
+use Rattle.facingberyl.specs.contracts.server.Server.TheInside as ServerInside
+
+seat_sync : (S V : RattleType) → IsSend S → IsSync (seat.the_row S V)
+seat_sync S V s = record { shared = λ d b o κ q. part_keyless (seat.the_row S V) (the_seat.the_send S V s) q d b o }
+
+module _ (K V F : RattleType) where
+  pub pass_send : IsSend (Pass.the_row K V F)
+  pass_send = search (sendable, the_seat.the_send) depth 30
+
+  pub pass_sync : IsSync (Pass.the_row K V F)
+  pass_sync = search (sendable, seat_sync) depth 30
+
+  waiting_send : IsSend (Waiting.the_row K V F)
+  waiting_send = search (sendable, crosses, pass_send) depth 30
+
+  waiting_sync : IsSync (Waiting.the_row K V F)
+  waiting_sync = search (sendable, crosses, pass_sync) depth 30
+
+  chair_send : IsSend (Chair.the_row K V F)
+  chair_send = search (sendable, counted.the_send, waiting_send) depth 30
+
+  chair_sync : IsSync (Chair.the_row K V F)
+  chair_sync = search (sendable, counted.the_sync, waiting_send, waiting_sync) depth 30
+
+module _ (K V F A : RattleType) (hash : HashKey.Ghosts K.Denot) (key_eq : Eq.Ghosts K.Denot)
+    (key_same : PartialEq.Ghosts K.Denot)
+    (key_clone : Clone.Ghosts K.Denot) (value_clone : Clone.Ghosts V.Denot) (value_eq : Eq.Ghosts V.Denot)
+    (value_same : PartialEq.Ghosts V.Denot)
+    (remap : Remap.Ghosts F.Denot K.Denot V.Denot) (function_clone : Clone.Ghosts F.Denot)
+    (alloc : Allocator.Ghosts A.Denot)
+    (sk : IsSend K) (sv : IsSend V) (sf : IsSend F) (sa : IsSend A) (yk : IsSync K) (yv : IsSync V) (yf : IsSync F)
+    (ya : IsSync A)
+    (frees : Frees alloc alloc.dealloc_token) where
+  ledger_fields : AllSend (shape (LedgerInside.the_type K V F A hash key_eq key_same key_clone value_eq value_same remap alloc)).fields
+  ledger_fields = (
+    search (sendable, the_words.the_send, the_lease.the_send) depth 20,
+    (search sendable depth 20, (search sendable depth 20, tt)),
+  )
+
+  ledger_send : IsSend (Ledger.the_row K V F A hash key_eq key_same key_clone value_eq value_same remap alloc)
+  ledger_send = search (sendable, ledger_fields) depth 20
+
+  map_fields : AllSend
+      (shape (MapInside.the_type K V F A hash key_eq key_same key_clone value_clone value_eq value_same remap
+      function_clone alloc)).fields
+  map_fields = (
+    ledger_send,
+    (
+      generations.map_send K V F A hash key_eq key_same key_clone value_clone value_eq value_same remap function_clone
+          alloc sk sv sf sa yk yv yf ya frees,
+      (
+        search (sendable, crosses, wide.crosses, once.the_send, transfer.strides_send) depth 30,
+        (search sendable depth 20, tt),
+      ),
+    ),
+  )
+
+  pub map_send : IsSend
+      (Map.the_row K V F A hash key_eq key_same key_clone value_clone value_eq value_same remap function_clone alloc)
+  map_send = search (sendable, map_fields) depth 30
+
+  desk_fields_send : AllSend
+      (shape (DeskInside.the_type K V F A hash key_eq key_same key_clone value_clone value_eq value_same remap
+      function_clone alloc)).fields
+  desk_fields_send = (map_send, (search (sendable, crosses, chair_send) depth 30, tt))
+
+  desk_fields_sync : AllSync
+      (shape (DeskInside.the_type K V F A hash key_eq key_same key_clone value_clone value_eq value_same remap
+      function_clone alloc)).fields
+  desk_fields_sync = (
+    map_sync K V F A hash key_eq key_same key_clone value_clone value_eq value_same remap function_clone
+        alloc sk sv sf sa yk yv yf ya frees,
+    (search (sendable, crosses, chair_sync) depth 30, tt),
+  )
+
+  desk_send : IsSend
+      (Desk.the_row K V F A hash key_eq key_same key_clone value_clone value_eq value_same remap function_clone alloc)
+  desk_send = search (sendable, desk_fields_send) depth 30
+
+  desk_sync : IsSync
+      (Desk.the_row K V F A hash key_eq key_same key_clone value_clone value_eq value_same remap function_clone alloc)
+  desk_sync = search (sendable, desk_fields_sync) depth 30
+
+  owned_fields : AllSend
+      (shape (OwnedInside.the_type K V F A hash key_eq key_same key_clone value_clone value_eq value_same remap
+      function_clone alloc)).fields
+  owned_fields = (
+    search (sendable, crosses, desk_send, desk_sync) depth 30,
+    (search sendable depth 20, (pass_send K V F, tt)),
+  )
+
+  -- a client that owns its pass
+  pub owned_send : IsSend
+      (OwnedClient.the_row K V F A hash key_eq key_same key_clone value_clone value_eq value_same remap function_clone alloc)
+  owned_send = search (sendable, owned_fields) depth 30
+
+  server_fields : AllSend
+      (shape (ServerInside.the_type K V F A hash key_eq key_same key_clone value_clone value_eq value_same remap
+      function_clone alloc)).fields
+  server_fields = (search (sendable, crosses, desk_send, desk_sync) depth 30, tt)
+
+  pub server_send : IsSend
+      (Server.the_row K V F A hash key_eq key_same key_clone value_clone value_eq value_same remap function_clone alloc)
+  server_send = search (sendable, server_fields) depth 30

@@ -1,0 +1,148 @@
+//! A client that lives as long as it likes.
+ghost use Rattle.std.specs.Prelude.{◌≡◌};
+ghost use Rattle.std.specs.Arc.{arc_value};
+ghost use Rattle.bin_history.specs.Calls.{after};
+ghost use Rattle.chm.specs.Headline.{AreExact, IsAnswered};
+ghost use Rattle.count_ledger.specs.Fronts.{BeginsWith, HasSeen};
+
+use crate::desk::Desk;
+use crate::work::{Lent, Work};
+use bin_history::{Call, Remap, Reply};
+use chm::{Fault, Map, Sharing};
+use count_ledger::{Moment, Pass};
+use hashkeys::HashKey;
+use std::alloc::Allocator;
+use std::marker::Model;
+use std::sync::{Arc, Wait};
+
+/// A client that owns its pass, and keeps the map for as long as it lives: it moves into a thread,
+/// through a channel or out of a join. That its pass is of its map is known of each, so its work
+/// has no precondition. Dropped, in whichever thread, it gives its pass back to the server.
+pub struct OwnedClient<K: HashKey, V: Clone + Eq, F: Remap<K, V> + Clone, A: Allocator> {
+    desk: Arc<Desk<K, V, F, A>, A>,
+    chair: usize,
+    pass: Pass<K, V, F>,
+}
+
+impl<K: HashKey, V: Clone + Eq, F: Remap<K, V> + Clone, A: Allocator> Model
+    for OwnedClient<K, V, F, A> {
+    ghost use Rattle.std.specs.Prelude.{◌≡◌};
+    ghost use Rattle.std.specs.Arc.{arc_value};
+    ghost use Rattle.facingberyl.specs.Desks.{ClientView};
+
+    ghost Value = { ClientView K V F };
+
+    ghost view = { λ c. record { map = arc_value c.desk; pass = c.pass } };
+
+    ghost invariant = { λ c. c.pass.ledger ≡ (arc_value c.desk).ledger.id };
+}
+
+impl<K: HashKey, V: Clone + Eq, F: Remap<K, V> + Clone, A: Allocator> Drop
+    for OwnedClient<K, V, F, A> {
+    fn drop(self) {
+        let OwnedClient { desk, chair, pass } = self;
+        desk.bring(chair, pass);
+    }
+}
+
+impl<K: HashKey, V: Clone + Eq, F: Remap<K, V> + Clone, A: Allocator> OwnedClient<K, V, F, A> {
+    /// The client that sits on this chair of the desk.
+    pub(crate) fn of(
+        desk: Arc<Desk<K, V, F, A>, A>,
+        chair: usize,
+        pass: Pass<K, V, F>,
+    ) -> OwnedClient<K, V, F, A>
+        requires { pass.ledger ≡ (arc_value desk).ledger.id }
+        ensures map { result.map ≡ arc_value desk }
+        ensures pass { result.pass ≡ pass }
+    {
+        OwnedClient { desk, chair, pass }
+    }
+
+    /// The map, which shows what needs no pass.
+    pub fn map(&self) -> &Map<K, V, F, A>
+        ensures { result.now ≡ self.now.map }
+    {
+        self.desk.map()
+    }
+
+    /// The client's number: 0 for the first of a team, and so on.
+    ///
+    ///     assert_eq!(client.number(), 0);
+    pub fn number(&self) -> usize
+        ensures { result ≡ self.now.pass.client }
+    {
+        self.pass.client() as usize
+    }
+
+    /// The client works, here and now: the work gets an ordinary client, by which it makes typed
+    /// calls, as the work of a team does. It answers what the work answers. By itself it waits for
+    /// nobody and takes no memory.
+    ///
+    /// Where the work puts 5 at the client's number and gets it:
+    ///
+    ///     assert_eq!(client.work(rt, &PutFive)?, Some(5));
+    pub fn work<R: Wait, W: Work<K, V, F, A>>(&mut self, rt: &R, work: &W) -> W::Out
+        requires { W.fits work.now self.old.map.ledger.id }
+        ensures done { W.does work.now self.old.pass self.new.pass result }
+        ensures map { self.new.map ≡ self.old.map }
+    {
+        let lent = Lent { work };
+        lent.work(rt, self.desk.map(), &mut self.pass)
+    }
+
+    /// What the client has seen of the calls on the map, as a client of a team tells it. It takes no
+    /// memory and waits for nobody.
+    ///
+    ///     second.learn(&mut first.moment());
+    pub fn moment(&mut self) -> Moment<K, V, F>
+        ensures moment { result ≡ record {
+          ledger = self.old.map.ledger.id;
+          seen = self.old.pass.seen;
+        } }
+        ensures same { self.new ≡ self.old }
+    {
+        self.desk.map().moment(&mut self.pass)
+    }
+
+    /// The client learns of a moment: the calls that it makes from now on stand behind all calls of
+    /// the moment. It takes no memory and waits for nobody.
+    ///
+    ///     second.learn(&mut first.moment());
+    pub fn learn(&mut self, moment: &mut Moment<K, V, F>)
+        requires { moment.old.ledger ≡ self.old.map.ledger.id }
+        ensures seen { HasSeen K.eq (after V.eq F.remapped F.merged) self.old.map.ledger
+            self.old.pass self.new.pass }
+        ensures learned { BeginsWith self.new.pass.seen moment.old.seen }
+        ensures same { moment.new ≡ moment.old }
+        ensures map { self.new.map ≡ self.old.map }
+    {
+        self.desk.map().learn(&mut self.pass, moment);
+    }
+}
+
+impl<
+    K: HashKey + Drop,
+    V: Clone + Eq + Drop,
+    F: Remap<K, V> + Clone + Drop,
+    A: Allocator + Clone,
+> OwnedClient<K, V, F, A> {
+    /// Makes a call, whose reply is a value or a truth. It waits for the key's bin, and takes memory
+    /// where an entry is made or copied.
+    ///
+    ///     client.call(rt, Call::Put(1, 5))?;
+    ///     assert_eq!(client.call(rt, Call::Get(1))?, Reply::Value(Some(5)));
+    ///
+    /// # Errors
+    ///
+    /// `PassFull` where the client has made all the calls that it may, and `NoMemory`. Nothing is
+    /// changed then.
+    pub fn call<R: Wait>(&mut self, rt: &R, call: Call<K, V, F>) -> Result<Reply<V>, Fault>
+        requires exact { AreExact K.is_clone V.is_clone F.is_clone }
+        ensures answered { IsAnswered K.eq V.eq F.remapped F.merged self.old.map.ledger
+            call self.old.pass self.new.pass result }
+        ensures map { self.new.map ≡ self.old.map }
+    {
+        self.desk.map().call(rt, &mut self.pass, call)
+    }
+}

@@ -1,0 +1,41 @@
+//! What teams, servers and clients show of themselves: their map, and a client's number.
+use crate::client::{Client, Loan};
+use crate::owned::OwnedClient;
+use crate::server::Server;
+use crate::team::Team;
+use bin_history::Remap;
+use hashkeys::HashKey;
+use std::alloc::Allocator;
+use std::fmt::{self, Debug, Formatter};
+
+impl<K: HashKey, V: Clone + Eq, F: Remap<K, V> + Clone, A: Allocator> Debug for Team<K, V, F, A> {
+    fn fmt<W: fmt::Write>(&self, f: &mut Formatter<W>) -> fmt::Result {
+        f.debug_struct("Team").field("map", self.map()).finish()
+    }
+}
+
+impl<K: HashKey, V: Clone + Eq, F: Remap<K, V> + Clone, A: Allocator> Debug for Server<K, V, F, A> {
+    fn fmt<W: fmt::Write>(&self, f: &mut Formatter<W>) -> fmt::Result {
+        f.debug_struct("Server").field("map", self.map()).finish()
+    }
+}
+
+impl<K: HashKey, V: Clone + Eq, F: Remap<K, V> + Clone, A: Allocator> Debug
+    for OwnedClient<K, V, F, A> {
+    fn fmt<W: fmt::Write>(&self, f: &mut Formatter<W>) -> fmt::Result {
+        f.debug_struct("OwnedClient")
+            .field("number", &self.number())
+            .field("map", self.map())
+            .finish()
+    }
+}
+
+impl<L: Loan, K: HashKey, V: Clone + Eq, F: Remap<K, V> + Clone, A: Allocator> Debug
+    for Client<'_, L, K, V, F, A> {
+    fn fmt<W: fmt::Write>(&self, f: &mut Formatter<W>) -> fmt::Result {
+        f.debug_struct("Client")
+            .field("number", &self.number())
+            .field("map", self.map)
+            .finish()
+    }
+}
