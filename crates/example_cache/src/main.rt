@@ -106,7 +106,7 @@ fn share<R: Threads + Wait + Sync>(rt: &R, alloc: Global) -> Result<(Cache, Look
             sum.misses = sum.misses.saturating_add(misses);
         }
     }
-    Ok((team.close(rt)?, sum))
+    Ok((team.close()?, sum))
 }
 
 /// Opens the cache again for one client, who empties it. It answers how many entries the client
@@ -117,7 +117,7 @@ fn reopen_alone<R: Threads + Wait + Sync>(rt: &R, cache: &Cache) -> Result<(usiz
     for seen in alone.work(rt, &Empty)? {
         sum = sum.saturating_add(seen?);
     }
-    Ok((sum, alone.close(rt)?.mapping_count()))
+    Ok((sum, alone.close()?.mapping_count()))
 }
 
 fn main(rt: HostRuntime) -> Result<()> {

@@ -31,7 +31,7 @@ fn main(rt: HostRuntime) -> Result<()> {
     for answer in team.work(&rt, &CountUp)? {
         answer?;
     }
-    let counts = team.close(&rt)?;
+    let counts = team.close()?;
     for key in 0..10u64 {
         let count = counts.get(&key).copied().unwrap_or(0);
         println!(rt; "{key}: {count}")?;

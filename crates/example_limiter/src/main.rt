@@ -3,8 +3,8 @@
 #![tactic(auto)]
 
 use anyhow::Result;
-use facingberyl::{Client, Fault, Loan, Remap, Team, Work};
-use std::alloc::{AllocError, Global};
+use facingberyl::{ByValue, Client, Fault, Loan, Team, Update, Work};
+use std::alloc::Global;
 use std::sync::Wait;
 
 /// How many requests a user made in a second.
@@ -20,27 +20,20 @@ struct Ask {
     second: u64,
 }
 
-impl Remap<u64, Used> for Ask {
+impl Update<Used> for Ask {
     ghost use Rattle.example_limiter.specs.Requests.{asked};
-    ghost use Rattle.std.specs.Prelude.{Some};
 
-    ghost remapped = { λ ask _ used. Some (asked ask.second used) };
+    ghost updated = { λ ask used. asked ask.second used };
 
-    ghost merged = { λ _ _ given. Some given };
-
-    fn remap(&self, _key: &u64, used: Option<&Used>) -> Result<Option<Used>, AllocError> {
+    fn update(&self, used: Option<&Used>) -> Used {
         let requests = match used {
             Some(used) if used.second == self.second => used.requests.saturating_add(1),
             _ => 1,
         };
-        Ok(Some(Used {
+        Used {
             second: self.second,
             requests,
-        }))
-    }
-
-    fn merge(&self, _old: &Used, given: &Used) -> Result<Option<Used>, AllocError> {
-        Ok(Some(*given))
+        }
     }
 }
 
@@ -49,19 +42,19 @@ impl Remap<u64, Used> for Ask {
 #[derive(Clone, Copy)]
 struct Asking;
 
-impl Work<u64, Used, Ask, Global> for Asking {
+impl Work<u64, Used, ByValue<Ask>, Global> for Asking {
     type Out = Result<u64, Fault>;
 
     fn work<L: Loan, R: Wait>(
         &self,
         rt: &R,
-        client: &mut Client<'_, L, u64, Used, Ask, Global>,
+        client: &mut Client<'_, L, u64, Used, ByValue<Ask>, Global>,
     ) -> Result<u64, Fault> {
         let user = client.number() as u64;
         let mut passed = 0u64;
         for number in 0..30u64 {
             let second = number / 10;
-            if let Some(used) = client.compute(rt, user, Ask { second })? {
+            if let Some(used) = client.compute(rt, user, ByValue(Ask { second }))? {
                 if used.requests <= 3 {
                     passed = passed.saturating_add(1);
                 }

@@ -4,9 +4,9 @@
 
 use anyhow::Result;
 use facingberyl::{Add, Client, Fault, Loan, Team, Work};
-use refusing_alloc::Refusing;
 use std::alloc::Global;
 use std::sync::Wait;
+use test_support::Refusing;
 
 /// An allocator that refuses where it is told to.
 type Alloc<'a> = &'a Refusing<Global>;

@@ -1,5 +1,5 @@
 -- What the clients of a new map made of the parts.
-use Rattle.std.proofs.Common.{◌≡◌, ℕ, ◌+◌, ◌<◌, ◌≤◌, ◌++◌, List, [], ◌∷◌, Vec, length, map, take, slice_index_or, refl}
+use Rattle.std.proofs.Common.{◌≡◌, ℕ, ◌+◌, ◌<◌, ◌≤◌, ◌++◌, List, [], ◌∷◌, Vec, length, map, take, slice_index_or}
 use Rattle.std.proofs.Common.{sym, ap, subst, ◌∙◌, arith, All, Result, Ok, Err, IsOk, OnOk}
 use Rattle.std.proofs.lemmas.List.{map-append, length_push, take_more, get_or-map, length-map}
 use Rattle.std.proofs.lemmas.List.Elements.{All-push}
@@ -95,7 +95,3 @@ module _ (id : LedgerId) (n : ℕ) (passes : List WordPass) (new : passes ≡ ne
       → All IsOk answers → All (λ v. length v.items ≤ most_calls Lean) parts
   all-few {A} parts as_many after answers worked ok = λ c v lt.
       (counted-at parts as_many after answers worked ok c (new_pass id c) v lt).1.few
-
-pub pairs-same : {X Y : Type 0} (es : List (X × Y)) → map (λ (e : X × Y). (e.0, e.1)) es ≡ es
-pairs-same [] = refl
-pairs-same {X} {Y} (e ∷ es) = ap (λ (l : List (X × Y)). e ∷ l) (pairs-same es)

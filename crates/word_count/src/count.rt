@@ -3,14 +3,13 @@ ghost use Rattle.std.specs.Prelude.{◌≡◌, [], map, All, IfOk, IsOk, OnOk};
 ghost use Rattle.word_count.specs.Counted.{AreCounts, HasCounted};
 
 use anyhow::bail;
-use facingberyl::bulk::{Action, Plan, for_each};
 use facingberyl::{Add, Bytes, Client, Fault, Loan, Team, Work};
-use std::alloc::{AllocError, Global};
+use std::alloc::Global;
 use std::sync::Wait;
 use std::thread::Threads;
 
-/// A word, and how often it was counted.
-pub(crate) type Count<'a> = (Bytes<'a>, u64);
+/// Words, each with how often it was counted.
+pub(crate) type Counts<'a> = Vec<(Bytes<'a>, u64)>;
 
 /// Counts the words of each part, which are one client's.
 #[derive(Clone, Copy)]
@@ -53,20 +52,6 @@ impl<'a> Work<Bytes<'a>, u64, Add, Global> for Counting<'a, '_> {
     }
 }
 
-/// Answers each word with its count.
-#[derive(Clone, Copy)]
-struct Counts;
-
-impl<'a> Action<Bytes<'a>, u64> for Counts {
-    type R = Count<'a>;
-
-    ghost acted = { λ _ word count. (word, count) };
-
-    fn act(&self, word: &Bytes<'a>, count: &u64) -> Result<Count<'a>, AllocError> {
-        Ok((Bytes(word.0), *count))
-    }
-}
-
 /// Whether all clients are done, or else why one is not.
 fn all_done(answers: Vec<Result<(), Fault>>) -> Result<(), Fault>
     ensures { OnOk result (All IsOk answers.items) }
@@ -82,7 +67,7 @@ pub(crate) fn count<'a, R: Threads + Wait + Sync>(
     rt: &R,
     alloc: Global,
     parts: &[Vec<Bytes<'a>>],
-) -> anyhow::Result<Vec<Count<'a>>>
+) -> anyhow::Result<Counts<'a>>
     ensures { IfOk result (λ counts. AreCounts (map (λ part. part.items) parts.now) counts.items) }
 {
     if parts.len() > 32 {
@@ -91,7 +76,10 @@ pub(crate) fn count<'a, R: Threads + Wait + Sync>(
     let mut team = Team::new(alloc, 4096, parts.len() as u32)?;
     let answers = team.work(rt, &Counting { parts })?;
     all_done(answers)?;
-    let map = team.close(rt)?;
+    let map = team.close()?;
     map.histories();
-    Ok(for_each(rt, alloc, &map, &Plan::new(1000, 4), &Counts)?)
+    match map.into_entries() {
+        Ok(counts) => Ok(counts),
+        Err(_map) => Err(Fault::NoMemory.into()),
+    }
 }

@@ -26,16 +26,12 @@ fn deal(alloc: Global, text: &[u8], clients: usize) -> Result<Vec<Vec<Bytes<'_>>
     for _ in 0..clients {
         parts.push(Vec::new(alloc))?;
     }
-    let mut next = 0;
-    for word in text.split(|byte| !is_word_byte(*byte)) {
-        if !word.is_empty() {
-            if next >= parts.len() {
-                next = 0;
-            }
-            if let Some(part) = parts.get_mut(next) {
-                part.push(Bytes(word))?;
-                next += 1;
-            }
+    let words = text
+        .split(|byte| !is_word_byte(*byte))
+        .filter(|word| !word.is_empty());
+    for (number, word) in words.enumerate() {
+        if let Some(part) = parts.get_mut(number % clients.max(1)) {
+            part.push(Bytes(word))?;
         }
     }
     Ok(parts)

@@ -2,7 +2,7 @@ use Rattle.std.proofs.Common.{◌≡◌, ◌+◌, ◌<◌, ◌^◌, ℕ, Option,
 use Rattle.std.proofs.Common.{◌∙◌, subst, refl, arith, rules}
 use Rattle.std.proofs.lemmas.List.{length-map}
 use Rattle.bin_history.specs.Calls.{after}
-use Rattle.bin_history.specs.Entries.{lookup, HasDistinctKeys}
+use Rattle.bin_history.specs.Entries.{lookup}
 use Rattle.bin_history.specs.declared.call.Call.{Call}
 use Rattle.count_ledger.specs.Views.{LedgerView}
 use Rattle.chm.specs.Headline.{entries_of}
@@ -10,7 +10,7 @@ use Rattle.functions.specs.declared.numbers.Add.{Add}
 use Rattle.facingberyl.proofs.Tallies.{stored_count-of-key, times-few}
 use Rattle.facingberyl.specs.Tallies.{AllCounted, times_in_all}
 use Rattle.facingberyl.proofs.Passes.{length-new_passes}
-use Rattle.word_count.proofs.Worked.{all-counted, all-few, pairs-same}
+use Rattle.word_count.proofs.Worked.{all-counted, all-few}
 use Rattle.word_count.specs.Counted.{WordPass, same_word}
 use Rattle.word_count.proofs.count.count.Goals as goal
 
@@ -18,8 +18,8 @@ use Rattle.word_count.proofs.count.count.Goals as goal
 exact : (n : ℕ) → n + 1 < 2 ^ 64 → Some (min (n + 1) 18446744073709551615) ≡ Some (n + 1)
 exact n room = ap Some (omega arith)
 
-pub returns : goal.returns
-returns g c =
+pub returns-in-Ok : goal.returns-in-Ok
+returns-in-Ok g c =
     let after_calls : Call (List ℕ) ℕ Add → Option ℕ
     → Option ℕ = after nat_eq (λ (f : Add) (k : List ℕ) (v : Option ℕ). v)
     (λ (f : Add) (old given : ℕ). Some (min (old + given) 18446744073709551615)) in
@@ -43,10 +43,9 @@ returns g c =
     ∙ length-new_passes team.map.ledger.id n team.passes new
     ∙ sym wide in
     let counted : AllCounted parts q.passes = subst (AllCounted parts) (sym c.in_ok-map.ensures.passes) made in
-    let items : c.in_ok-for_each.field-0.items ≡ entries_of q.bins = c.in_ok-for_each.ensures.answers
-    ∙ pairs-same (entries_of q.bins) in
+    let items : c.in-Ok.counts.items ≡ entries_of q.bins = c.in-Ok.ensures.entries in
     record {
-      distinct = subst (HasDistinctKeys same_word) (sym items) c.histories.ensures.distinct;
+      distinct = c.in-Ok.ensures.distinct;
       each = λ w.
           let few = times-few same_word w 144115188075855872 c.args.parts.now
           (all-few team.map.ledger.id n team.passes new c.args.parts.now refl passes c.in_ok-answers.answers.items
