@@ -2,11 +2,11 @@
 use crate::counted::{Counted, Counts, Seven, assert_same};
 use crate::maps::{filled, put_new};
 use bin_history::{Call, Form};
-use map_samples::{BOTH, Single, close_single, open_single};
 use std::alloc::Global;
 use std::process::Abort;
 use std::sync::Wait;
 use std::test::Fail;
+use test_maps::{BOTH, Single, close_single, open_single};
 
 type CountedCall<'a> = Call<Counted<'a>, u64, Seven<'a>>;
 

@@ -5,15 +5,11 @@ use crate::counted::{Counts, assert_same};
 use crate::maps::{CountedMap, CountedPass, count_below, filled};
 use bin_history::Form;
 use chm::{Fault, NotClosed};
-use map_samples::{BOTH, Single, close, put_back};
-use refusing_alloc::Refusing;
-use std::alloc::Global;
 use std::process::Abort;
 use std::sync::Wait;
 use std::test::Fail;
-
-/// The allocator of a test.
-type Alloc<'a> = &'a Refusing<Global>;
+use test_maps::{BOTH, Single, close, put_back};
+use test_support::{Alloc, Refusing};
 
 /// A map and its passes.
 type Whole<'a> = (CountedMap<'a, Alloc<'a>>, Vec<CountedPass<'a>, Alloc<'a>>);

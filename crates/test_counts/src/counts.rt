@@ -5,12 +5,12 @@ use crate::counted::assert_same;
 use bin_history::{Form, Remap, Reply};
 use chm::Map;
 use count_ledger::{Pass, retire_all};
-use map_samples::{BOTH, close, open};
 use std::alloc::{AllocError, Global};
 use std::process::Abort;
 use std::sync::Wait;
 use std::test::Fail;
 use std::thread::{self, Threads};
+use test_maps::{BOTH, close, open};
 
 /// The function that takes each value away.
 #[derive(Drop)]

@@ -5,15 +5,12 @@ use crate::counted::{Counted, Counts, assert_same};
 use crate::maps::{CountedMap, CountedPass, filled};
 use bin_history::{Form, Reply};
 use chm::Fault;
-use map_samples::{Single, close_single};
-use refusing_alloc::Refusing;
 use std::alloc::Global;
 use std::process::Abort;
 use std::sync::Wait;
 use std::test::Fail;
-
-/// The allocator of a test.
-type Alloc<'a> = &'a Refusing<Global>;
+use test_maps::{Single, close_single};
+use test_support::{Alloc, Refusing};
 
 /// What a walk shows: the size and the index of each bin, and how many entries it has and the sum of
 /// their values.

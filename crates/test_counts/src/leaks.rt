@@ -2,15 +2,15 @@
 ghost use Rattle.std.specs.Prelude.{◌≡◌};
 
 use crate::counted::assert_same;
-use crate::texts::{Alloc, TextMap, call_often, closed, filled, key};
+use crate::texts::{TextMap, call_often, closed, filled, key};
 use bin_history::Form;
 use count_ledger::retire_all;
-use map_samples::{BOTH, Single, close, close_single, open, open_single};
-use refusing_alloc::Refusing;
 use std::alloc::Global;
 use std::process::Abort;
 use std::sync::Wait;
 use std::test::Fail;
+use test_maps::{BOTH, Single, close, close_single, open, open_single};
+use test_support::{Alloc, Refusing};
 
 /// Asserts that memory was asked for, and all of it came back.
 fn assert_all_back(rt: &impl Abort, alloc: Alloc<'_>) {

@@ -5,10 +5,10 @@ use crate::counted::{Counted, Counts, Seven};
 use bin_history::{Form, Reply};
 use chm::{Map, Quiet};
 use count_ledger::Pass;
-use map_samples::{Single, open_single};
 use std::alloc::Allocator;
 use std::process::Abort;
 use std::sync::Wait;
+use test_maps::{Single, open_single};
 
 pub(crate) type CountedMap<'a, A> = Map<Counted<'a>, u64, Seven<'a>, A>;
 

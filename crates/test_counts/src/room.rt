@@ -5,15 +5,12 @@ use crate::counted::{Counted, Counts, assert_same};
 use crate::maps::{CountedMap, CountedPass, filled, put_new};
 use bin_history::{Form, Reply};
 use count_ledger::retire_all;
-use map_samples::{Single, close_single, open, open_single};
-use refusing_alloc::Refusing;
 use std::alloc::Global;
 use std::process::Abort;
 use std::sync::Wait;
 use std::test::Fail;
-
-/// The allocator of a test.
-type Alloc<'a> = &'a Refusing<Global>;
+use test_maps::{Single, close_single, open, open_single};
+use test_support::{Alloc, Refusing};
 
 /// How many requests the opening of a map makes, and how many bytes it keeps.
 fn opening(

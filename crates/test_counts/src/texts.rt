@@ -5,14 +5,11 @@ use bin_history::{Call, Form, Remap, Reply};
 use chm::{Map, Quiet};
 use count_ledger::Pass;
 use hashkeys::ByteString;
-use map_samples::{Single, close_single, numbered_text, open_single};
-use refusing_alloc::Refusing;
-use std::alloc::{AllocError, Global};
+use std::alloc::AllocError;
 use std::process::Abort;
 use std::sync::Wait;
-
-/// The allocator of a test.
-pub(crate) type Alloc<'a> = &'a Refusing<Global>;
+use test_maps::{Single, close_single, numbered_text, open_single};
+use test_support::Alloc;
 
 pub(crate) type Text<'a> = ByteString<Alloc<'a>>;
 

@@ -1,4 +1,0 @@
-use Rattle.pool_tests.proofs.trees.+fill.Given as goal
-
-abbrev pub decreases-fill : goal.decreases-fill
-decreases-fill g l = l.level

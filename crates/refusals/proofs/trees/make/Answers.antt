@@ -1,5 +1,0 @@
-use Rattle.std.proofs.Common.{arith, refl}
-use Rattle.refusals.proofs.trees.make.Goals as goal
-
-pub new-requires-clause-nodes : goal.new-requires-clause-nodes
-new-requires-clause-nodes g = (2, omega arith, refl)

@@ -1,0 +1,146 @@
+//! Recorded bins at the program's keys.
+use crate::asserts::{assert_same, key};
+use crate::rows::rows;
+use bin_history::{Call, Form, Record, RecordedBin, Reply};
+use hashkeys::{Class, Key, Salt};
+use std::alloc::{AllocError, Global};
+use std::process::Abort;
+use std::test::Fail;
+use test_support::Plus;
+
+type KeyBin = RecordedBin<Key, u64, Plus, Global>;
+
+fn empty(alloc: Global, class: Class) -> Result<KeyBin, AllocError> {
+    RecordedBin::new(alloc, Form::Recorded, Salt(0), class, Vec::new(alloc))
+}
+
+/// Makes a call on a bin that has its key, as the next of client 7.
+fn make(
+    rt: &impl Abort,
+    bin: &mut KeyBin,
+    call: Call<Key, u64, Plus>,
+) -> Result<Reply<u64>, AllocError> {
+    let (salt, class) = (bin.salt(), bin.class());
+    assert!(rt; class.covers(salt.hash_of(call.key())));
+    let ordinal = bin.records().len() as u64;
+    assert!(rt; ordinal <= 1024);
+    let ready = bin.prepare(call)?;
+    Ok(bin.apply(ready, 7, ordinal).0)
+}
+
+fn assert_entries(rt: &impl Abort, entries: &[(Key, u64)], wanted: &[(&[u8], u64)]) {
+    assert_same(rt, &entries.len(), &wanted.len());
+    for ((key, value), (text, number)) in entries.iter().zip(wanted) {
+        assert_same(rt, &(key.bytes(), *value), &(*text, *number));
+    }
+}
+
+#[test]
+fn each_call_replies_and_leaves_what_its_row_says(rt: HostRuntime) -> Result<(), Fail> {
+    let rows = rows(&rt, rt.alloc())?;
+    let mut bin = empty(rt.alloc(), Class::new(1, 0))?;
+    let mut line = 0u64;
+    for (call, reply, delta) in rows {
+        let answered = make(&rt, &mut bin, call)?;
+        assert!(rt; answered == reply, "call {line} replied {answered:?}");
+        let last = bin.records().last().expect(&rt, "a record");
+        let found = (last.client(), last.ordinal(), last.delta());
+        assert_same(&rt, &found, &(7, line, delta));
+        line = line.wrapping_add(1);
+    }
+    assert_entries(
+        &rt,
+        bin.entries(),
+        &[(b"a", 6), (b"b", 7), (b"c", u64::MAX)],
+    );
+    assert_same(&rt, &bin.base().len(), &0);
+    Ok(())
+}
+
+/// A bin of class (16, 1) after 1,025 calls on two keys: both are put, one is taken away and put
+/// again.
+fn folded(rt: &impl Abort, alloc: Global) -> Result<KeyBin, AllocError> {
+    let mut bin = empty(alloc, Class::new(16, 1))?;
+    let _ = make(rt, &mut bin, Call::Put(key(rt, b"q"), 1))?;
+    let _ = make(rt, &mut bin, Call::Put(key(rt, b"a"), 2))?;
+    for _ in 0..1021 {
+        let _ = make(rt, &mut bin, Call::Get(key(rt, b"a")))?;
+    }
+    let _ = make(rt, &mut bin, Call::Remove(key(rt, b"q")))?;
+    let _ = make(rt, &mut bin, Call::Put(key(rt, b"q"), 3))?;
+    Ok(bin)
+}
+
+/// Splits the folded bin into its halves.
+fn assert_halves(rt: &impl Abort, bin: &KeyBin) -> Result<(), AllocError> {
+    let (low, high) = {
+        assert!(rt; bin.class().n() < 65536);
+        bin.split()?
+    };
+    assert_entries(rt, low.base(), &[(b"a", 2)]);
+    assert_entries(rt, low.entries(), &[(b"a", 2)]);
+    assert_same(rt, &low.records().len(), &511);
+    assert_entries(rt, high.base(), &[(b"q", 1)]);
+    assert_entries(rt, high.entries(), &[(b"q", 3)]);
+    assert_same(rt, &high.records().len(), &2);
+    Ok(())
+}
+
+#[test]
+fn the_oldest_records_are_folded(rt: HostRuntime) -> Result<(), Fail> {
+    let bin = folded(&rt, rt.alloc())?;
+    assert_same(&rt, &bin.records().len(), &513);
+    assert_entries(&rt, bin.base(), &[(b"q", 1), (b"a", 2)]);
+    assert_entries(&rt, &bin.copy_entries()?, &[(b"a", 2), (b"q", 3)]);
+    assert!(rt; bin.get(&key(&rt, b"q")) == Some(&3));
+    assert!(rt; bin.get(&key(&rt, b"A")).is_none());
+    assert_halves(&rt, &bin)?;
+    Ok(())
+}
+
+#[test]
+fn a_bin_stores_few_records(rt: HostRuntime) -> Result<(), Fail> {
+    let mut bin = empty(rt.alloc(), Class::new(1, 0))?;
+    let mut calls = 0;
+    for (wanted, stored, base) in [
+        (512, 512, None),
+        (1024, 1024, None),
+        (1025, 513, Some(512)),
+        (1536, 1024, Some(512)),
+        (1537, 513, Some(1024)),
+        (2000, 976, Some(1024)),
+        (1_000_000, 576, Some(999_424)),
+    ] {
+        for _ in calls..wanted {
+            let _ = make(&rt, &mut bin, Call::Merge(key(&rt, b"a"), 1, Plus(Some(0))))?;
+        }
+        calls = wanted;
+        assert_same(&rt, &bin.records().len(), &stored);
+        let folded = bin.base().first().map(|pair| pair.1);
+        assert_same(&rt, &(folded, bin.base().len() <= 1), &(base, true));
+        assert_entries(&rt, bin.entries(), &[(b"a", wanted)]);
+    }
+    Ok(())
+}
+
+#[test]
+fn a_record_tells_its_call_and_both_values(rt: HostRuntime) -> Result<(), Fail> {
+    for (before, after, delta) in [
+        (None, None, 0),
+        (None, Some(1), 1),
+        (Some(1), None, -1),
+        (Some(1), Some(2), 0),
+    ] {
+        let call: Call<Key, u64, Plus> = Call::Get(key(&rt, b"a"));
+        let entry = Record::new(3, 5, call, before, after);
+        let of = (entry.client(), entry.ordinal(), entry.call().key().bytes());
+        let found = (
+            entry.before().copied(),
+            entry.after().copied(),
+            entry.delta(),
+        );
+        assert_same(&rt, &of, &(3, 5, b"a".as_slice()));
+        assert_same(&rt, &found, &(before, after, delta));
+    }
+    Ok(())
+}

@@ -1,0 +1,29 @@
+//! Tests of keys, bins, ledgers and moves, by what these crates make public.
+#![tactic(auto)]
+
+#[cfg(test)]
+mod asserts;
+#[cfg(test)]
+mod bins;
+#[cfg(test)]
+mod chains;
+#[cfg(test)]
+mod held;
+#[cfg(test)]
+mod keys;
+#[cfg(test)]
+mod ledgers;
+#[cfg(test)]
+mod made;
+#[cfg(test)]
+mod moments;
+#[cfg(test)]
+mod moves;
+#[cfg(test)]
+mod plain;
+#[cfg(test)]
+mod rows;
+#[cfg(test)]
+mod settling;
+#[cfg(test)]
+mod twins;

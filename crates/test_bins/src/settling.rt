@@ -1,0 +1,70 @@
+//! Ledgers that are not settled at first.
+use crate::asserts::assert_same;
+use crate::held::roles_of;
+use crate::ledgers::{make, open, put};
+use std::test::Fail;
+use test_support::settled;
+
+#[test]
+fn settling_needs_each_pass(rt: HostRuntime) -> Result<(), Fail> {
+    let (ledger, mut passes, mut bins) = open(&rt, rt.alloc(), 2, 1)?;
+    let mut bin = bins.pop().expect(&rt, "a bin");
+    let pass = passes.pop().expect(&rt, "a pass");
+    assert!(rt; passes.len() == 1);
+    make(
+        &rt,
+        &ledger,
+        &mut passes[0],
+        &mut bin,
+        &put(0, 0, b"a", None, 1),
+    );
+    let settled_early = bin.settle_alone(&rt, ledger, passes);
+    let Err((ledger, mut passes, mut bin)) = settled_early else {
+        assert!(rt; false, "a pass is missing");
+        unreachable!()
+    };
+    make(
+        &rt,
+        &ledger,
+        &mut passes[0],
+        &mut bin,
+        &put(0, 0, b"q", None, 2),
+    );
+    passes.push_reserved(pass);
+    bins.push_reserved(bin);
+    let total = settled(ledger, passes, roles_of(&rt, bins));
+    assert_same(&rt, &total, &Some(2));
+    Ok(())
+}
+
+#[test]
+fn settling_needs_each_role(rt: HostRuntime) -> Result<(), Fail> {
+    let (ledger, mut passes, mut bins) = open(&rt, rt.alloc(), 2, 2)?;
+    let mut other = bins.pop().expect(&rt, "a bin");
+    let bin = bins.pop().expect(&rt, "a bin");
+    assert!(rt; passes.len() == 2);
+    make(
+        &rt,
+        &ledger,
+        &mut passes[0],
+        &mut other,
+        &put(0, 1, b"a", None, 1),
+    );
+    let settled_early = bin.settle_alone(&rt, ledger, passes);
+    let Err((ledger, mut passes, mut bin)) = settled_early else {
+        assert!(rt; false, "a role is missing");
+        unreachable!()
+    };
+    make(
+        &rt,
+        &ledger,
+        &mut passes[1],
+        &mut bin,
+        &put(1, 0, b"b", None, 2),
+    );
+    bins.push_reserved(bin);
+    bins.push_reserved(other);
+    let total = settled(ledger, passes, roles_of(&rt, bins));
+    assert_same(&rt, &total, &Some(2));
+    Ok(())
+}

@@ -1,0 +1,229 @@
+//! The examples of opening, sharing and closing a map, and of a closed one, each as it stands with
+//! its call.
+ghost use Rattle.std.specs.Prelude.{◌≡◌, All};
+
+use crate::call_examples::right_calls;
+use bin_history::{Form, Remap};
+use chm::{Fault, Map, Opened, Quiet, Sharing};
+use count_ledger::{Pass, retire_all};
+use hashkeys::Salt;
+use std::alloc::{AllocError, Global};
+use std::process::Abort;
+use std::sync::Wait;
+use std::test::Fail;
+use std::thread::Threads;
+use test_maps::open;
+
+/// Adds a number to a value, or to 0 where there is none; a merge adds it to the sum of both.
+#[derive(Drop)]
+pub(crate) struct Plus(pub(crate) u64);
+
+impl Clone for Plus {
+    ghost use Rattle.std.specs.Prelude.{◌≡◌};
+
+    ghost is_clone = { λ x y. y ≡ x };
+
+    fn clone(&self) -> Result<Plus, AllocError> {
+        Ok(Plus(self.0))
+    }
+}
+
+impl Remap<u64, u64> for Plus {
+    ghost use Rattle.std.specs.Prelude.{Some, unwrap_or, min, ◌+◌, ◌-◌, ◌^◌};
+
+    ghost remapped = { λ f _ value. Some (min (unwrap_or value 0 + f.0) (2 ^ 64 - 1)) };
+
+    ghost merged = { λ f old given. Some
+        (min (min (old + given) (2 ^ 64 - 1) + f.0) (2 ^ 64 - 1)) };
+
+    fn remap(&self, _key: &u64, value: Option<&u64>) -> Result<Option<u64>, AllocError> {
+        let old = value.copied().unwrap_or(0);
+        Ok(Some(old.saturating_add(self.0)))
+    }
+
+    fn merge(&self, old: &u64, given: &u64) -> Result<Option<u64>, AllocError> {
+        let both = old.saturating_add(*given);
+        Ok(Some(both.saturating_add(self.0)))
+    }
+}
+
+/// A map of the examples.
+pub(crate) type Numbers = Map<u64, u64, Plus, Global>;
+
+/// The right of a client to call it.
+pub(crate) type NumberPass = Pass<u64, u64, Plus>;
+
+/// Such a map, closed.
+pub(crate) type NumberQuiet = Quiet<u64, u64, Plus, Global>;
+
+/// Runs the examples of the calls of a map of one client, answers how many are right, and leaves 5
+/// at 1.
+#[derive(Clone, Copy)]
+struct Examples;
+
+impl Sharing<u64, u64, Plus, Global> for Examples {
+    type Out = u64;
+
+    fn work<R: Wait>(&self, rt: &R, map: &Numbers, pass: &mut NumberPass) -> u64 {
+        let right = right_calls(rt, map, pass);
+        let _ = map.put(rt, pass, 1, 5);
+        right
+    }
+}
+
+fn new(alloc: Global) -> Result<bool, Fault> {
+    let (map, passes): Opened<u64, u64, Plus, Global> = Map::new(alloc, 16, 4)?;
+    let told = map.clients() == 4 && passes.len() == 4;
+    retire_all(passes);
+    Ok(told)
+}
+
+fn with_salt(alloc: Global) -> Result<bool, Fault> {
+    let (map, passes): Opened<u64, u64, Plus, Global> = Map::with_salt(alloc, 16, 4, Salt(7))?;
+    let told = map.salt() == Salt(7);
+    retire_all(passes);
+    Ok(told)
+}
+
+fn lean(alloc: Global) -> Result<bool, Fault> {
+    let (map, passes): Opened<u64, u64, Plus, Global> = Map::lean(alloc, 16, 4, Salt(0))?;
+    let told = map.form() == Form::Lean;
+    retire_all(passes);
+    Ok(told)
+}
+
+fn close(map: Numbers, passes: Vec<NumberPass, Global>) -> Result<NumberQuiet, Fault>
+    requires { All (λ p. p.ledger ≡ map.ledger.id) passes.items }
+{
+    match map.close(passes) {
+        Ok(quiet) => Ok(quiet),
+        Err(refused) => Err(refused.give_up()),
+    }
+}
+
+/// Adds 1 at 1, and answers the client's number.
+#[derive(Clone, Copy)]
+struct AddOne;
+
+impl Sharing<u64, u64, Plus, Global> for AddOne {
+    type Out = u32;
+
+    fn work<R: Wait>(&self, rt: &R, map: &Numbers, pass: &mut NumberPass) -> u32 {
+        let _ = map.merge(rt, pass, 1, 1, Plus(0));
+        pass.client()
+    }
+}
+
+/// Whether the answers come in order and the sum is right.
+fn are_added<R: Threads + Wait + Sync>(
+    rt: &R,
+    map: &Numbers,
+    passes: &mut Vec<NumberPass, Global>,
+) -> Result<bool, Fault>
+    requires { All (λ p. p.ledger ≡ map.now.ledger.id) passes.old.items }
+    ensures { All (λ p. p.ledger ≡ map.now.ledger.id) passes.new.items }
+{
+    let answered = map.share(rt, passes, &AddOne)?.as_slice() == [0, 1, 2, 3].as_slice();
+    Ok(answered && map.glance(rt, &1)? == Some(4))
+}
+
+/// Closes a map that is asked for nothing more.
+fn close_or_give_up<R: Wait>(
+    rt: &R,
+    map: Numbers,
+    passes: Vec<NumberPass, Global>,
+) -> Result<NumberQuiet, Fault>
+    requires { All (λ p. p.ledger ≡ map.ledger.id) passes.items }
+{
+    map.close(passes).map_err(|refused| refused.give_up())
+}
+
+fn share<R: Threads + Wait + Abort + Sync>(rt: &R, alloc: Global) -> Result<bool, Fault> {
+    let (map, mut passes): Opened<u64, u64, Plus, Global> = open(alloc, Form::Lean, 16, 4).expect(
+        rt, "a map",
+    );
+    let told = are_added(rt, &map, &mut passes);
+    drop(close_or_give_up(rt, map, passes)?);
+    told
+}
+
+fn mapping_count_all(rt: &impl Abort, alloc: Global) -> bool {
+    let (map, mut passes): Opened<u64, u64, Plus, Global> = open(alloc, Form::Lean, 16, 4).expect(
+        rt, "a map",
+    );
+    assert!(rt; passes.len() == map.clients() as usize);
+    let told = map.mapping_count_all(&mut passes) == 0;
+    retire_all(passes);
+    told
+}
+
+fn quiet_get(quiet: &NumberQuiet) -> bool {
+    quiet.get(&1).copied() == Some(5) && quiet.get(&2).is_none()
+}
+
+fn entries(quiet: &NumberQuiet) -> bool {
+    let mut pairs = quiet.entries();
+    let first = pairs.next().copied() == Some((1, 5));
+    first && pairs.next().is_none()
+}
+
+fn reopen(quiet: &NumberQuiet) -> Result<bool, Fault> {
+    let (map, passes) = quiet.reopen(2)?;
+    let told = map.clients() == 2 && map.mapping_count() == 1;
+    retire_all(passes);
+    Ok(told)
+}
+
+fn reopen_with(quiet: &NumberQuiet) -> Result<bool, Fault> {
+    let (map, passes) = quiet.reopen_with(2, Salt(7))?;
+    let told = map.salt() == Salt(7);
+    retire_all(passes);
+    Ok(told)
+}
+
+fn into_entries(quiet: NumberQuiet) -> bool {
+    match quiet.into_entries() {
+        Ok(pairs) => pairs.as_slice() == [(1, 5)].as_slice(),
+        Err(_) => false,
+    }
+}
+
+/// The closed map of the examples of calls, and how many were right.
+fn closed<R: Threads + Wait + Abort + Sync>(
+    rt: &R,
+    alloc: Global,
+) -> Result<(NumberQuiet, Vec<u64>), Fault> {
+    let (map, mut passes) = open(alloc, Form::Lean, 16, 1).expect(rt, "a map");
+    let right = map.share(rt, &mut passes, &Examples).expect(rt, "memory");
+    Ok((close(map, passes)?, right))
+}
+
+#[test]
+fn each_example_of_a_call_is_as_it_says(rt: HostRuntime) -> Result<(), Fail> {
+    let (quiet, right) = closed(&rt, rt.alloc())?;
+    drop(quiet);
+    assert!(rt; right.as_slice() == [25].as_slice());
+    Ok(())
+}
+
+#[test]
+fn each_example_of_opening_and_sharing_is_as_it_says(rt: HostRuntime) -> Result<(), Fail> {
+    let told = [new(rt.alloc()), with_salt(rt.alloc()), lean(rt.alloc())];
+    assert!(rt; told == [Ok(true), Ok(true), Ok(true)]);
+    assert!(rt; share(&rt, rt.alloc()) == Ok(true));
+    assert!(rt; mapping_count_all(&rt, rt.alloc()));
+    Ok(())
+}
+
+#[test]
+fn each_example_of_a_closed_map_is_as_it_says(rt: HostRuntime) -> Result<(), Fail> {
+    let (quiet, _) = closed(&rt, rt.alloc())?;
+    let has_five = quiet_get(&quiet);
+    let has_one = quiet.mapping_count() == 1;
+    let shows_five = entries(&quiet);
+    let reopened = [reopen(&quiet), reopen_with(&quiet)];
+    let gives_five = into_entries(quiet);
+    assert!(rt; has_five && has_one && shows_five && gives_five);
+    assert!(rt; reopened == [Ok(true), Ok(true)]);
+    Ok(())
+}

@@ -1,0 +1,38 @@
+//! Tests of the map by what it makes public: its calls, growth, loads, moments, opening and
+//! closing, readings, refused requests and threads.
+#![tactic(auto)]
+
+#[cfg(test)]
+mod ample;
+#[cfg(test)]
+mod call_examples;
+#[cfg(test)]
+mod calls;
+#[cfg(test)]
+mod examples;
+#[cfg(test)]
+mod growth;
+#[cfg(test)]
+mod loads;
+#[cfg(test)]
+mod maps;
+#[cfg(test)]
+mod memory;
+#[cfg(test)]
+mod moment_examples;
+#[cfg(test)]
+mod moves;
+#[cfg(test)]
+mod opening;
+#[cfg(test)]
+mod reading;
+#[cfg(test)]
+mod refused;
+#[cfg(test)]
+mod rows;
+#[cfg(test)]
+mod shown;
+#[cfg(test)]
+mod sizes;
+#[cfg(test)]
+mod threads;

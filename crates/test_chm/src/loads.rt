@@ -1,0 +1,186 @@
+//! Many calls of one client.
+use crate::maps::{
+    KeyQuiet, assert_entries, assert_same, assert_slot_1, count_all, filled, get_often, key,
+    put_new, put_numbers, put_texts, records_of,
+};
+use bin_history::{Form, Reply};
+use chm::Fault;
+use hashkeys::Key;
+use std::alloc::Global;
+use std::process::Abort;
+use std::sync::Wait;
+use std::test::Fail;
+use test_maps::{BOTH, Single, close, close_single, open_single, put_back, take_pass};
+
+/// Puts a twelfth key into a map of 16 bins that was opened again with eleven. Answers how many
+/// keys the pass and the words count, how many bins and keys the closed map has, how many entries,
+/// and how many records.
+fn put_the_twelfth<R: Wait + Abort>(rt: &R, alloc: Global, form: Form) -> ([u64; 3], [usize; 3]) {
+    let first = filled(rt, alloc, form, 16, 11).reopen(1);
+    let Single {
+        map,
+        mut pass,
+        mut place,
+    } = take_pass(first.expect(rt, "a map")).expect(rt, "a pass");
+    put_numbers(rt, &map, &mut pass, 11, 1);
+    put_back(&map, pass, &mut place);
+    let count = count_all(rt, &map, &mut place);
+    let live = map.mapping_count();
+    let closed = close(map, place).expect(rt, "a closed map");
+    let counts = [count, live, closed.mapping_count()];
+    let entries = closed.entries().count();
+    (counts, [closed.bins().len(), entries, records_of(&closed)])
+}
+
+#[test]
+fn a_map_that_is_opened_again_counts_its_opening_entries(rt: HostRuntime) -> Result<(), Fail> {
+    for (form, records) in [(Form::Recorded, 1), (Form::Lean, 0)] {
+        let told = put_the_twelfth(&rt, rt.alloc(), form);
+        assert_same(&rt, &told, &([12; 3], [32, 12, records]));
+    }
+    Ok(())
+}
+
+/// The key of five blocks `Aa` or `BB`, by the number's bits.
+fn twin(rt: &impl Abort, number: u32) -> Key {
+    let mut text = *b"AaAaAaAaAa";
+    for block in 0..5usize {
+        if number >> block & 1 == 1 {
+            text[2 * block] = b'B';
+            text[2 * block + 1] = b'B';
+        }
+    }
+    key(rt, &text)
+}
+
+/// Puts 32 keys of one hash into a map of 16 bins. Answers how many bins there are, how many have
+/// entries, and how many keys.
+fn put_twins<R: Wait + Abort>(rt: &R, alloc: Global, form: Form) -> (usize, usize, u64) {
+    let Single {
+        map,
+        mut pass,
+        place,
+    } = open_single(alloc, form, 16).expect(rt, "a map");
+    for number in 0..32u32 {
+        put_new(rt, &map, &mut pass, twin(rt, number), u64::from(number));
+    }
+    let closed = close_single(map, pass, place).expect(rt, "a closed map");
+    for ((key, value), number) in closed.entries().zip(0u32..) {
+        assert!(rt; *key == twin(rt, number));
+        assert_same(rt, value, &u64::from(number));
+    }
+    let full = closed.bins().iter().filter(|bin| bin.first().is_some());
+    (closed.bins().len(), full.count(), closed.mapping_count())
+}
+
+#[test]
+fn keys_of_one_hash_stand_in_one_bin(rt: HostRuntime) -> Result<(), Fail> {
+    for form in BOTH {
+        let told = put_twins(&rt, rt.alloc(), form);
+        assert_same(&rt, &told, &(64, 1, 32));
+    }
+    Ok(())
+}
+
+#[test]
+fn a_full_pass_makes_no_more_calls(rt: HostRuntime) -> Result<(), Fail> {
+    let Single {
+        map,
+        mut pass,
+        place,
+    } = open_single(rt.alloc(), Form::Recorded, 16).expect(&rt, "a map");
+    put_texts(&rt, &map, &mut pass, &[(b"a", 1), (b"q", 2), (b"Aa", 3)]);
+    get_often(&rt, &map, &mut pass, 999_996, 1);
+    let made = pass.made();
+    let cleared = map.clear(&rt, &mut pass);
+    let got = map.get(&rt, &mut pass, key(&rt, b"a"));
+    let walked = map.walk(&rt, &mut pass).map(|visits| visits.len());
+    let end = pass.made();
+    let closed = close_single(map, pass, place).expect(&rt, "a closed map");
+    assert_entries(&rt, closed.entries(), &[(b"a", 1), (b"q", 2)]);
+    drop(closed);
+    assert!(rt; got == Err(Fault::PassFull));
+    let told = (made, end, cleared, walked);
+    assert_same(
+        &rt,
+        &told,
+        &(999_999, 1_000_000, Err(Fault::PassFull), Ok(16)),
+    );
+    Ok(())
+}
+
+/// Clears a map of one key by the last call of a pass, and then once more. Answers what both clears
+/// answered, and how many calls and keys there are in the end.
+fn clear_by_the_last_call<R: Wait + Abort>(
+    rt: &R,
+    alloc: Global,
+) -> ([Result<(), Fault>; 2], u64, u64) {
+    let Single {
+        map,
+        mut pass,
+        place,
+    } = open_single(alloc, Form::Recorded, 16).expect(rt, "a map");
+    put_texts(rt, &map, &mut pass, &[(b"a", 1)]);
+    get_often(rt, &map, &mut pass, 999_998, 1);
+    let cleared = map.clear(rt, &mut pass);
+    let again = map.clear(rt, &mut pass);
+    let made = pass.made();
+    let keys = close_single(map, pass, place)
+        .expect(rt, "a closed map")
+        .mapping_count();
+    ([cleared, again], made, keys)
+}
+
+#[test]
+fn a_full_pass_clears_where_nothing_is_left(rt: HostRuntime) -> Result<(), Fail> {
+    let told = clear_by_the_last_call(&rt, rt.alloc());
+    assert_same(&rt, &told, &([Ok(()), Ok(())], 1_000_000, 0));
+    Ok(())
+}
+
+#[test]
+fn a_lean_pass_makes_three_million_calls(rt: HostRuntime) -> Result<(), Fail> {
+    let Single {
+        map,
+        mut pass,
+        place,
+    } = open_single(rt.alloc(), Form::Lean, 16).expect(&rt, "a map");
+    put_texts(&rt, &map, &mut pass, &[(b"a", 1)]);
+    get_often(&rt, &map, &mut pass, 2_999_998, 1);
+    let removed = map.remove(&rt, &mut pass, key(&rt, b"a"));
+    let made = pass.made();
+    let closed = close_single(map, pass, place).expect(&rt, "a closed map");
+    let left = (closed.mapping_count(), records_of(&closed));
+    drop(closed);
+    assert!(rt; removed == Ok(Reply::Value(Some(1))));
+    assert_same(&rt, &(made, left), &(3_000_000, (0, 0)));
+    Ok(())
+}
+
+/// A recorded map with 1,025 calls on two keys of one bin: both are put, one is taken away and put
+/// again.
+fn folded<R: Wait + Abort>(rt: &R, alloc: Global) -> KeyQuiet<Global> {
+    let Single {
+        map,
+        mut pass,
+        place,
+    } = open_single(alloc, Form::Recorded, 16).expect(rt, "a map");
+    put_texts(rt, &map, &mut pass, &[(b"q", 1), (b"a", 2)]);
+    get_often(rt, &map, &mut pass, 1_021, 2);
+    let removed = map.remove(rt, &mut pass, key(rt, b"q"));
+    put_texts(rt, &map, &mut pass, &[(b"q", 3)]);
+    let closed = close_single(map, pass, place).expect(rt, "a closed map");
+    assert!(rt; removed == Ok(Reply::Value(Some(1))));
+    closed
+}
+
+#[test]
+fn old_records_are_folded_into_the_base(rt: HostRuntime) -> Result<(), Fail> {
+    let closed = folded(&rt, rt.alloc());
+    assert_entries(&rt, closed.entries(), &[(b"a", 2), (b"q", 3)]);
+    assert_slot_1(&rt, &closed, 513, &[(b"q", 1), (b"a", 2)]);
+    let records = records_of(&closed);
+    drop(closed);
+    assert_same(&rt, &records, &513);
+    Ok(())
+}

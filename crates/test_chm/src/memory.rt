@@ -1,0 +1,104 @@
+//! Calls that ask for no memory, and puts of new keys, which ask once.
+ghost use Rattle.std.specs.Prelude.{◌≡◌};
+
+use crate::maps::{KeyMap, KeyPass, assert_same, key, numbered, put_numbers, put_texts};
+use bin_history::{Form, Reply};
+use chm::Fault;
+use std::alloc::{Allocator, Global};
+use std::process::Abort;
+use std::sync::Wait;
+use std::test::Fail;
+use test_maps::{Single, close_single, open_single};
+use test_support::{Plus, Refusing};
+
+/// Gets, puts and merges at a key that is there, in turn, three calls a time. Answers how many
+/// times all three replied the value as it should be.
+fn call_often<R: Wait + Abort, A: Allocator + Clone>(
+    rt: &R,
+    map: &KeyMap<A>,
+    pass: &mut KeyPass,
+    times: u64,
+) -> u64
+    requires { pass.old.ledger ≡ map.now.ledger.id }
+    ensures { pass.new.ledger ≡ map.now.ledger.id }
+{
+    let mut right = 0u64;
+    for time in 0..times {
+        let got = map.get(rt, pass, key(rt, b"a"));
+        let put = map.put(rt, pass, key(rt, b"a"), time);
+        let merged = map.merge(rt, pass, key(rt, b"a"), 1, Plus(Some(0)));
+        let next = Ok(Reply::Value(Some(time.wrapping_add(1))));
+        if got == put && merged == next {
+            right = right.wrapping_add(1);
+        }
+    }
+    right
+}
+
+/// Takes a thousand keys away and puts them again, one after the other, so many times. Answers how
+/// often the remove asked for no memory, a put was refused without memory, and one that was granted
+/// one request was made.
+fn put_again<R: Wait + Abort, A: Allocator + Clone>(
+    rt: &R,
+    switch: &Refusing<Global>,
+    map: &KeyMap<A>,
+    pass: &mut KeyPass,
+    times: u32,
+) -> u64
+    requires { pass.old.ledger ≡ map.now.ledger.id }
+    ensures { pass.new.ledger ≡ map.now.ledger.id }
+{
+    let mut right = 0u64;
+    for time in 0..times.saturating_mul(1000) {
+        let number = time % 1000;
+        let value = u64::from(number);
+        switch.refuse_after(0);
+        let removed = map.remove(rt, pass, numbered(rt, number));
+        let refused = map.put(rt, pass, numbered(rt, number), value);
+        switch.refuse_after(1);
+        let put = map.put(rt, pass, numbered(rt, number), value);
+        let once = !switch.has_refused();
+        if removed == Ok(Reply::Value(Some(value)))
+            && refused == Err(Fault::NoMemory)
+            && put == Ok(Reply::Value(None))
+            && once
+        {
+            right = right.wrapping_add(1);
+        }
+    }
+    switch.refuse_after(u64::MAX);
+    right
+}
+
+/// Makes calls on keys of a lean map that are there, and then takes keys away and puts them again.
+/// Answers how many of each replied as they should, whether one of the first asked for memory, and
+/// how many keys there are.
+fn asked_for<R: Wait + Abort, A: Allocator + Clone>(
+    rt: &R,
+    switch: &Refusing<Global>,
+    alloc: A,
+) -> ((u64, u64), bool, u64) {
+    let Single {
+        map,
+        mut pass,
+        place,
+    } = open_single(alloc, Form::Lean, 4096).expect(rt, "a map");
+    put_texts(rt, &map, &mut pass, &[(b"a", 0)]);
+    put_numbers(rt, &map, &mut pass, 0, 1000);
+    switch.refuse_after(0);
+    let called = call_often(rt, &map, &mut pass, 100_000);
+    let asked = switch.has_refused();
+    let again = put_again(rt, switch, &map, &mut pass, 10);
+    let keys = close_single(map, pass, place)
+        .expect(rt, "a closed map")
+        .mapping_count();
+    ((called, again), asked, keys)
+}
+
+#[test]
+fn calls_on_a_lean_map_ask_for_memory_for_new_keys_alone(rt: HostRuntime) -> Result<(), Fail> {
+    let alloc = Refusing::new(rt.alloc());
+    let told = asked_for(&rt, &alloc, &alloc);
+    assert_same(&rt, &told, &((100_000, 10_000), false, 1001));
+    Ok(())
+}

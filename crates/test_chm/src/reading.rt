@@ -1,0 +1,208 @@
+//! Walks, glances and clears.
+ghost use Rattle.std.specs.Prelude.{◌≡◌, All};
+
+use crate::maps::{
+    KeyQuiet, assert_entries, assert_pairs, assert_same, key, put_numbers, put_texts, records_of,
+};
+use bin_history::{Form, Reply};
+use chm::{Fault, Opened, Visit};
+use hashkeys::{Key, Salt};
+use std::alloc::{Allocator, Global};
+use std::process::Abort;
+use std::sync::Wait;
+use std::test::Fail;
+use test_maps::{BOTH, Single, close, close_single, open_salted, open_single, take_pass};
+use test_support::Plus;
+
+/// The keys of four bins of 16.
+const FOUR: [(&[u8], u64); 4] = [(b"q", 1), (b"a", 2), (b"Aa", 3), (b"zzzzzz", 4)];
+
+/// Sixteen visits, one for each class, of which the first and the last show one of the four keys,
+/// and the second shows these pairs.
+fn assert_walk<A: Allocator>(
+    rt: &impl Abort,
+    visits: &[Visit<Key, u64, A>],
+    second: &[(&[u8], u64)],
+) {
+    assert_same(rt, &visits.len(), &16);
+    for (visit, index) in visits.iter().zip(0..16u32) {
+        assert_same(rt, &(visit.class.n(), visit.class.index()), &(16, index));
+        match index {
+            0 => assert_pairs(rt, &visit.entries, &[(b"Aa", 3)]),
+            1 => assert_pairs(rt, &visit.entries, second),
+            15 => assert_pairs(rt, &visit.entries, &[(b"zzzzzz", 4)]),
+            _ => assert!(rt; visit.entries.is_empty()),
+        }
+    }
+}
+
+/// Walks before and after a key is taken away and put again.
+fn walk_twice<R: Wait + Abort>(rt: &R, alloc: Global, form: Form) {
+    let Single {
+        map,
+        mut pass,
+        place,
+    } = open_single(alloc, form, 16).expect(rt, "a map");
+    put_texts(rt, &map, &mut pass, &FOUR);
+    let before = map.walk(rt, &mut pass);
+    let removed = map.remove(rt, &mut pass, key(rt, b"q"));
+    put_texts(rt, &map, &mut pass, &[(b"q", 5)]);
+    let after = map.walk(rt, &mut pass);
+    let closed = close_single(map, pass, place).expect(rt, "a closed map");
+    assert_entries(
+        rt,
+        closed.entries(),
+        &[(b"Aa", 3), (b"a", 2), (b"q", 5), (b"zzzzzz", 4)],
+    );
+    drop(closed);
+    assert!(rt; removed == Ok(Reply::Value(Some(1))));
+    assert_walk(rt, &before.expect(rt, "memory"), &[(b"q", 1), (b"a", 2)]);
+    assert_walk(rt, &after.expect(rt, "memory"), &[(b"a", 2), (b"q", 5)]);
+}
+
+#[test]
+fn a_walk_shows_each_bin_in_turn(rt: HostRuntime) -> Result<(), Fail> {
+    for form in BOTH {
+        walk_twice(&rt, rt.alloc(), form);
+    }
+    Ok(())
+}
+
+/// The closed map of one client that puts the four keys in 16 bins, and then so many others.
+fn four_and_more<R: Wait + Abort>(
+    rt: &R,
+    alloc: Global,
+    form: Form,
+    salt: Salt,
+    more: u32,
+) -> KeyQuiet<Global> {
+    let Single {
+        map,
+        mut pass,
+        place,
+    } = take_pass(open_salted(alloc, form, salt, 16, 1).expect(rt, "a map")).expect(rt, "a pass");
+    put_texts(rt, &map, &mut pass, &FOUR);
+    put_numbers(rt, &map, &mut pass, 0, more);
+    close_single(map, pass, place).expect(rt, "a closed map")
+}
+
+/// The four keys in walk order, in this many bins of the form under this salt.
+fn assert_four(
+    rt: &impl Abort,
+    closed: &KeyQuiet<Global>,
+    wanted: (Form, Salt, usize),
+    pairs: &[(&[u8], u64)],
+) {
+    let found = (closed.form(), closed.salt(), closed.bins().len());
+    assert_same(rt, &found, &wanted);
+    assert_entries(rt, closed.entries(), pairs);
+}
+
+/// A map that was just opened again, closed again.
+fn again<R: Wait + Abort>(rt: &R, opened: Opened<Key, u64, Plus, Global>) -> KeyQuiet<Global>
+    requires { All (λ p. p.ledger ≡ opened.0.ledger.id) opened.1.items }
+{
+    let (map, passes) = opened;
+    close(map, passes).expect(rt, "a closed map")
+}
+
+/// The walk order of 16 bins, and of 32.
+const OF_16: [(&[u8], u64); 4] = [(b"Aa", 3), (b"q", 1), (b"a", 2), (b"zzzzzz", 4)];
+
+const OF_32: [(&[u8], u64); 4] = [(b"Aa", 3), (b"a", 2), (b"q", 1), (b"zzzzzz", 4)];
+
+/// The same under the salt 1.
+const SALTED_16: [(&[u8], u64); 4] = [(b"q", 1), (b"a", 2), (b"Aa", 3), (b"zzzzzz", 4)];
+
+const SALTED_32: [(&[u8], u64); 4] = [(b"a", 2), (b"q", 1), (b"Aa", 3), (b"zzzzzz", 4)];
+
+#[test]
+fn a_walk_shows_four_keys_in_order(rt: HostRuntime) -> Result<(), Fail> {
+    for form in BOTH {
+        let closed = four_and_more(&rt, rt.alloc(), form, Salt(0), 0);
+        assert_four(&rt, &closed, (form, Salt(0), 16), &OF_16);
+        let salted = again(&rt, closed.reopen_with(1, Salt(1)).expect(&rt, "a map"));
+        assert_four(&rt, &salted, (form, Salt(1), 16), &SALTED_16);
+    }
+    for form in BOTH {
+        let wider = four_and_more(&rt, rt.alloc(), form, Salt(0), 8);
+        assert_four(&rt, &wider, (form, Salt(0), 32), &OF_32);
+    }
+    Ok(())
+}
+
+#[test]
+fn four_keys_stand_in_the_walk_order_of_a_salt(rt: HostRuntime) -> Result<(), Fail> {
+    for form in BOTH {
+        let closed = four_and_more(&rt, rt.alloc(), form, Salt(1), 0);
+        assert_four(&rt, &closed, (form, Salt(1), 16), &SALTED_16);
+        let same = again(&rt, closed.reopen(1).expect(&rt, "a map"));
+        assert_four(&rt, &same, (form, Salt(1), 16), &SALTED_16);
+    }
+    for form in BOTH {
+        let wider = four_and_more(&rt, rt.alloc(), form, Salt(1), 8);
+        assert_four(&rt, &wider, (form, Salt(1), 32), &SALTED_32);
+    }
+    Ok(())
+}
+
+/// Glances at two keys before any call, and before and after a move. Answers what was shown, how
+/// many calls were made, and how many bins there are in the end.
+fn glances<R: Wait + Abort>(
+    rt: &R,
+    alloc: Global,
+    form: Form,
+) -> ([Result<Option<u64>, Fault>; 4], u64, usize) {
+    let Single {
+        map,
+        mut pass,
+        place,
+    } = open_single(alloc, form, 16).expect(rt, "a map");
+    let first = map.glance(rt, &key(rt, b"a"));
+    put_texts(rt, &map, &mut pass, &[(b"a", 7)]);
+    let before = map.glance(rt, &key(rt, b"a"));
+    put_numbers(rt, &map, &mut pass, 0, 11);
+    let after = map.glance(rt, &key(rt, b"a"));
+    let absent = map.glance(rt, &key(rt, b"q"));
+    let made = pass.made();
+    let closed = close_single(map, pass, place).expect(rt, "a closed map");
+    ([first, before, after, absent], made, closed.bins().len())
+}
+
+#[test]
+fn a_glance_shows_the_value_before_and_after_a_move(rt: HostRuntime) -> Result<(), Fail> {
+    for form in BOTH {
+        let (shown, made, bins) = glances(&rt, rt.alloc(), form);
+        assert!(rt; shown == [Ok(None), Ok(Some(7)), Ok(Some(7)), Ok(None)]);
+        assert_same(&rt, &(made, bins), &(12, 32));
+    }
+    Ok(())
+}
+
+/// Clears a map of three keys. Answers what the clear answered, how many calls were made, and how
+/// many keys and records there are in the end.
+fn clear_three<R: Wait + Abort>(
+    rt: &R,
+    alloc: Global,
+    form: Form,
+) -> (Result<(), Fault>, u64, u64, usize) {
+    let Single {
+        map,
+        mut pass,
+        place,
+    } = open_single(alloc, form, 16).expect(rt, "a map");
+    put_texts(rt, &map, &mut pass, &[(b"a", 1), (b"q", 2), (b"Aa", 3)]);
+    let cleared = map.clear(rt, &mut pass);
+    let made = pass.made();
+    let closed = close_single(map, pass, place).expect(rt, "a closed map");
+    (cleared, made, closed.mapping_count(), records_of(&closed))
+}
+
+#[test]
+fn a_clear_removes_each_entry_by_a_call(rt: HostRuntime) -> Result<(), Fail> {
+    for (form, records) in [(Form::Recorded, 6), (Form::Lean, 0)] {
+        let told = clear_three(&rt, rt.alloc(), form);
+        assert_same(&rt, &told, &(Ok(()), 6, 0, records));
+    }
+    Ok(())
+}

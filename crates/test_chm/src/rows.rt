@@ -1,0 +1,185 @@
+//! When tables grow, and what a put leaves whose requests are refused.
+ghost use Rattle.std.specs.Prelude.{◌≡◌, All};
+
+use crate::maps::{KeyMap, KeyPass, KeySingle, filled, key, numbered, open_with, put_numbers};
+use bin_history::{Form, Reply};
+use chm::Fault;
+use std::alloc::{Allocator, Global};
+use std::process::Abort;
+use std::sync::Wait;
+use std::test::Fail;
+use test_maps::{BOTH, Single, close_single};
+use test_support::Refusing;
+
+#[test]
+fn a_table_grows_at_three_quarters_of_its_bins(rt: HostRuntime) -> Result<(), Fail> {
+    let rows = [
+        (2, 1, 2),
+        (2, 2, 4),
+        (4, 2, 4),
+        (4, 3, 8),
+        (8, 5, 8),
+        (8, 6, 16),
+        (32, 23, 32),
+        (32, 24, 64),
+        (4096, 3071, 4096),
+        (4096, 3072, 8192),
+    ];
+    for form in BOTH {
+        for (capacity, puts, wanted) in rows {
+            let bins = filled(&rt, rt.alloc(), form, capacity, puts).bins().len();
+            assert_eq!(rt; bins, wanted, "{capacity} with {puts} keys");
+        }
+    }
+    Ok(())
+}
+
+/// Three keys of two bins.
+const THREE: [(&[u8], u64); 3] = [(b"a", 100), (b"q", 200), (b"Aa", 300)];
+
+/// A map of 16 bins with eleven keys: the three, and the numbered ones from 0 to 7.
+fn eleven<R: Wait + Abort, A: Allocator + Clone>(rt: &R, alloc: A, form: Form) -> KeySingle<A>
+    ensures pass { result.pass.ledger ≡ result.map.ledger.id }
+    ensures place { All (λ p. p.ledger ≡ result.map.ledger.id) result.place.items }
+{
+    let Single {
+        map,
+        mut pass,
+        place,
+    } = open_with(rt, alloc, form, &THREE);
+    put_numbers(rt, &map, &mut pass, 0, 8);
+    Single { map, pass, place }
+}
+
+/// How many of these keys are found with their values.
+fn count_texts<R: Wait + Abort, A: Allocator + Clone>(
+    rt: &R,
+    map: &KeyMap<A>,
+    pass: &mut KeyPass,
+    pairs: &[(&[u8], u64)],
+) -> u64
+    requires { pass.old.ledger ≡ map.now.ledger.id }
+    ensures { pass.new.ledger ≡ map.now.ledger.id }
+{
+    let mut found = 0u64;
+    for (text, value) in pairs {
+        let reply = map.get(rt, pass, key(rt, text));
+        if reply == Ok(Reply::Value(Some(*value))) {
+            found = found.wrapping_add(1);
+        }
+    }
+    found
+}
+
+/// How many of the numbered keys from 0 to 99 are found with their numbers.
+fn count_numbers<R: Wait + Abort, A: Allocator + Clone>(
+    rt: &R,
+    map: &KeyMap<A>,
+    pass: &mut KeyPass,
+) -> u64
+    requires { pass.old.ledger ≡ map.now.ledger.id }
+    ensures { pass.new.ledger ≡ map.now.ledger.id }
+{
+    let mut found = 0u64;
+    for number in 0..100u32 {
+        let reply = map.get(rt, pass, numbered(rt, number));
+        if reply == Ok(Reply::Value(Some(u64::from(number)))) {
+            found = found.wrapping_add(1);
+        }
+    }
+    found
+}
+
+/// How many of the three keys and of the numbered keys are found with the value that they were put
+/// with.
+fn count_found<R: Wait + Abort, A: Allocator + Clone>(
+    rt: &R,
+    map: &KeyMap<A>,
+    pass: &mut KeyPass,
+) -> u64
+    requires { pass.old.ledger ≡ map.now.ledger.id }
+    ensures { pass.new.ledger ≡ map.now.ledger.id }
+{
+    let texts = count_texts(rt, map, pass, &THREE);
+    texts.wrapping_add(count_numbers(rt, map, pass))
+}
+
+/// What a map of eleven keys told: the reply of the put of a twelfth, whether a request of it was
+/// refused, how many keys were found with their values then, and how many after the put of one
+/// more, and how many bins there were in the end.
+#[derive(Drop)]
+struct Told {
+    reply: Result<Reply<u64>, Fault>,
+    refused: bool,
+    found: [u64; 2],
+    bins: usize,
+}
+
+/// Puts a twelfth key into a map of eleven, with the request after so many refused, and then one
+/// more.
+fn put_the_twelfth<R: Wait + Abort, A: Allocator + Clone>(
+    rt: &R,
+    switch: &Refusing<Global>,
+    alloc: A,
+    form: Form,
+    granted: u64,
+) -> Told {
+    let Single {
+        map,
+        mut pass,
+        place,
+    } = eleven(rt, alloc, form);
+    switch.refuse_after(granted);
+    let reply = map.put(rt, &mut pass, numbered(rt, 8), 8);
+    let refused = switch.has_refused();
+    switch.refuse_after(u64::MAX);
+    let before = count_found(rt, &map, &mut pass);
+    put_numbers(rt, &map, &mut pass, 9, 1);
+    let after = count_found(rt, &map, &mut pass);
+    let bins = close_single(map, pass, place)
+        .expect(rt, "a closed map")
+        .bins()
+        .len();
+    Told {
+        reply,
+        refused,
+        found: [before, after],
+        bins,
+    }
+}
+
+/// Refuses each request of the twelfth put in turn, and answers how many there are. Its own are the
+/// first ones: room for the entry, and in a recorded map for the record. Where one of them is
+/// refused the key is not there; where one of the move is, each key has its value, and later calls
+/// move what was not moved.
+fn refuse_each<R: Wait + Abort>(rt: &R, memory: Global, form: Form, own: u64) -> u64 {
+    for granted in 0..1000u64 {
+        let alloc = Refusing::new(memory);
+        let told = put_the_twelfth(rt, &alloc, &alloc, form, granted);
+        let (reply, found) = if granted < own {
+            (Err(Fault::NoMemory), [11, 12])
+        } else {
+            (Ok(Reply::Value(None)), [12, 13])
+        };
+        assert!(rt; told.reply == reply, "{granted} granted");
+        assert_eq!(rt; (told.found, told.bins), (found, 32), "{granted} granted");
+        if !told.refused {
+            return granted;
+        }
+    }
+    1000
+}
+
+#[test]
+fn each_key_has_its_value_where_a_move_is_refused(rt: HostRuntime) -> Result<(), Fail> {
+    // The put's own, the wider table and three for the strides; and in a recorded map at least a
+    // room for each of 32 halves.
+    for (form, own, least, most) in [(Form::Recorded, 2, 38, 999), (Form::Lean, 1, 5, 5)] {
+        let requests = refuse_each(&rt, rt.alloc(), form, own);
+        assert!(rt;
+            least <= requests && requests <= most,
+            "{requests} requests"
+        );
+    }
+    Ok(())
+}

@@ -1,0 +1,19 @@
+//! Keys of the program, and what is asserted of what was found.
+use hashkeys::Key;
+use std::fmt::Debug;
+use std::process::Abort;
+use test_maps::numbered_text;
+
+pub(crate) fn key(rt: &impl Abort, text: &[u8]) -> Key {
+    Key::read(text).expect(rt, "a key")
+}
+
+/// The key `k` with the lowest five hexadecimal digits of a number.
+pub(crate) fn numbered(rt: &impl Abort, number: u32) -> Key {
+    key(rt, &numbered_text(number))
+}
+
+/// Asserts that what was found is what is wanted.
+pub(crate) fn assert_same<T: PartialEq + Debug>(rt: &impl Abort, found: &T, wanted: &T) {
+    assert_eq!(rt; found, wanted);
+}

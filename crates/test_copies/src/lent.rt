@@ -1,0 +1,333 @@
+//! Calls that borrow their key, on maps whose keys and values take memory to copy.
+ghost use Rattle.std.specs.Prelude.{◌≡◌, All};
+
+use crate::asserts::assert_same;
+use bin_history::{Form, Remap, Reply};
+use chm::{Fault, Map};
+use count_ledger::Pass;
+use hashkeys::ByteString;
+use std::alloc::{AllocError, Allocator, Global};
+use std::process::Abort;
+use std::sync::Wait;
+use std::test::Fail;
+use test_maps::{BOTH, Single, close_single, open_single};
+use test_support::Refusing;
+
+type Text<A> = ByteString<A>;
+
+type TextMap<A> = Map<Text<A>, Text<A>, TakesAway, A>;
+
+type TextPass<A> = Pass<Text<A>, Text<A>, TakesAway>;
+
+/// The function that takes each value away.
+#[derive(Drop)]
+struct TakesAway;
+
+impl Clone for TakesAway {
+    ghost use Rattle.std.specs.Prelude.{◌≡◌};
+
+    ghost is_clone = { λ x y. y ≡ x };
+
+    fn clone(&self) -> Result<TakesAway, AllocError> {
+        Ok(TakesAway)
+    }
+}
+
+impl<A: Allocator> Remap<Text<A>, Text<A>> for TakesAway {
+    ghost use Rattle.std.specs.Prelude.{None};
+
+    ghost remapped = { λ f k v. None };
+
+    ghost merged = { λ f old given. None };
+
+    fn remap(
+        &self,
+        _key: &Text<A>,
+        _value: Option<&Text<A>>,
+    ) -> Result<Option<Text<A>>, AllocError> {
+        Ok(None)
+    }
+
+    fn merge(&self, _old: &Text<A>, _given: &Text<A>) -> Result<Option<Text<A>>, AllocError> {
+        Ok(None)
+    }
+}
+
+/// A call that borrows its key.
+#[derive(Clone, Copy, Debug, Drop)]
+enum Lent {
+    Get,
+    Contains,
+    Remove,
+    Replace,
+}
+
+const ALL: [Lent; 4] = [Lent::Get, Lent::Contains, Lent::Remove, Lent::Replace];
+
+type Texts<A> = Single<Text<A>, Text<A>, TakesAway, A>;
+
+fn text<A: Allocator + Clone>(rt: &impl Abort, alloc: &A, bytes: &[u8]) -> Text<A> {
+    let alloc = alloc.clone().expect(rt, "an allocator");
+    ByteString::new(bytes.to_vec(alloc).expect(rt, "memory"))
+}
+
+/// Puts `one` at `a`, which has no value.
+fn put_one<R: Wait + Abort, A: Allocator + Clone>(
+    rt: &R,
+    alloc: &A,
+    map: &TextMap<A>,
+    pass: &mut TextPass<A>,
+)
+    requires { pass.old.ledger ≡ map.now.ledger.id }
+    ensures { pass.new.ledger ≡ map.now.ledger.id }
+{
+    let put = map.put(rt, pass, text(rt, alloc, b"a"), text(rt, alloc, b"one"));
+    assert_same(rt, &told(put), &Ok(Reply::Value(None)));
+}
+
+/// A map of one client in which `a` has the value `one`.
+fn one_text<R: Wait + Abort, A: Allocator + Clone>(rt: &R, alloc: &A, form: Form) -> Texts<A>
+    ensures pass { result.pass.ledger ≡ result.map.ledger.id }
+    ensures place { All (λ p. p.ledger ≡ result.map.ledger.id) result.place.items }
+{
+    let own = alloc.clone().expect(rt, "an allocator");
+    let Single {
+        map,
+        mut pass,
+        place,
+    } = open_single(own, form, 16).expect(rt, "a map");
+    put_one(rt, alloc, &map, &mut pass);
+    Single { map, pass, place }
+}
+
+/// A reply, with the length of its value.
+fn told<A: Allocator>(reply: Result<Reply<Text<A>>, Fault>) -> Result<Reply<usize>, Fault> {
+    match reply {
+        Ok(Reply::Value(Some(value))) => Ok(Reply::Value(Some(value.bytes().len()))),
+        Ok(Reply::Value(None)) => Ok(Reply::Value(None)),
+        Ok(Reply::Truth(truth)) => Ok(Reply::Truth(truth)),
+        Err(fault) => Err(fault),
+    }
+}
+
+/// Makes a call that takes no value.
+fn make_plain<R: Wait, A: Allocator + Clone>(
+    rt: &R,
+    map: &TextMap<A>,
+    pass: &mut TextPass<A>,
+    call: Lent,
+    key: &Text<A>,
+) -> Result<Reply<Text<A>>, Fault>
+    requires { pass.old.ledger ≡ map.now.ledger.id }
+    ensures { pass.new.ledger ≡ map.now.ledger.id }
+{
+    match call {
+        Lent::Get => map.get_by(rt, pass, key),
+        Lent::Contains => map.contains_key_by(rt, pass, key),
+        _ => map.remove_by(rt, pass, key),
+    }
+}
+
+/// Makes a call; a replace is by this value.
+fn make<R: Wait, A: Allocator + Clone>(
+    rt: &R,
+    map: &TextMap<A>,
+    pass: &mut TextPass<A>,
+    call: Lent,
+    key: &Text<A>,
+    value: Text<A>,
+) -> Result<Reply<usize>, Fault>
+    requires { pass.old.ledger ≡ map.now.ledger.id }
+    ensures { pass.new.ledger ≡ map.now.ledger.id }
+{
+    if let Lent::Replace = call {
+        return told(map.replace_by(rt, pass, key, value));
+    }
+    drop(value);
+    told(make_plain(rt, map, pass, call, key))
+}
+
+/// The reply of a call, whether a request of it was refused, how many calls were made with the put
+/// of `a`, and the length of the value at `a` once the map is closed.
+type Made = (Result<Reply<usize>, Fault>, bool, u64, Option<usize>);
+
+fn assert_made(rt: &impl Abort, call: Lent, found: &Made, wanted: &Made) {
+    assert_eq!(rt; found, wanted, "{call:?}");
+}
+
+/// Makes a call on `a` or `b`, with the request after so many refused; a replace is by `other`.
+fn make_refused<R: Wait + Abort, A: Allocator + Clone>(
+    rt: &R,
+    (switch, alloc): (&Refusing<Global>, &A),
+    form: Form,
+    (call, present): (Lent, bool),
+    granted: u64,
+) -> Made {
+    let Single {
+        map,
+        mut pass,
+        place,
+    } = one_text(rt, alloc, form);
+    let key = text(rt, alloc, if present { b"a" } else { b"b" });
+    let other = text(rt, alloc, b"other");
+    switch.refuse_after(granted);
+    let reply = make(rt, &map, &mut pass, call, &key, other);
+    let refused = switch.has_refused();
+    switch.refuse_after(u64::MAX);
+    let made = pass.made();
+    let closed = close_single(map, pass, place).expect(rt, "a closed map");
+    let left = match closed.get(&text(rt, alloc, b"a")) {
+        Some(value) => Some(value.bytes().len()),
+        None => None,
+    };
+    (reply, refused, made, left)
+}
+
+/// What a call replies, and the length of the value that it leaves at `a`.
+fn wanted(call: Lent, present: bool) -> (Reply<usize>, Option<usize>) {
+    match (call, present) {
+        (Lent::Get, true) => (Reply::Value(Some(3)), Some(3)),
+        (Lent::Get, false) => (Reply::Value(None), Some(3)),
+        (Lent::Contains, true) => (Reply::Truth(true), Some(3)),
+        (Lent::Contains, false) => (Reply::Truth(false), Some(3)),
+        (Lent::Remove, true) => (Reply::Value(Some(3)), None),
+        (Lent::Remove, false) => (Reply::Value(None), Some(3)),
+        (Lent::Replace, true) => (Reply::Value(Some(3)), Some(5)),
+        (Lent::Replace, false) => (Reply::Value(None), Some(3)),
+    }
+}
+
+#[test]
+fn calls_that_borrow_their_key_reply_as_those_that_take_it(rt: HostRuntime) -> Result<(), Fail> {
+    for form in BOTH {
+        for call in ALL {
+            for present in [true, false] {
+                let alloc = Refusing::new(rt.alloc());
+                let (reply, left) = wanted(call, present);
+                let found = make_refused(&rt, (&alloc, &&alloc), form, (call, present), u64::MAX);
+                assert_made(&rt, call, &found, &(Ok(reply), false, 2, left));
+            }
+        }
+    }
+    Ok(())
+}
+
+/// How many requests for memory a call makes. A lean map copies the value that a get answers. A
+/// recorded one copies the key, the values before and after, and the value that is both stored and
+/// recorded; in the bin of `b` there is no room for a record yet.
+fn requests_of(form: Form, call: Lent, present: bool) -> u64 {
+    match (form, call, present) {
+        (Form::Lean, Lent::Get, true) => 1,
+        (Form::Lean, _, _) => 0,
+        (Form::Recorded, Lent::Get, true) => 4,
+        (Form::Recorded, Lent::Contains, true) => 3,
+        (Form::Recorded, Lent::Remove, true) => 2,
+        (Form::Recorded, Lent::Replace, true) => 4,
+        (Form::Recorded, _, false) => 2,
+    }
+}
+
+/// Refuses each request of a call in turn, which leaves the map as it was.
+fn refuse_each<R: Wait + Abort>(rt: &R, memory: Global, form: Form, call: Lent, present: bool) {
+    let requests = requests_of(form, call, present);
+    for granted in 0..requests {
+        let alloc = Refusing::new(memory);
+        let found = make_refused(rt, (&alloc, &&alloc), form, (call, present), granted);
+        assert_made(rt, call, &found, &(Err(Fault::NoMemory), true, 1, Some(3)));
+    }
+    let alloc = Refusing::new(memory);
+    let (reply, left) = wanted(call, present);
+    let found = make_refused(rt, (&alloc, &&alloc), form, (call, present), requests);
+    assert_made(rt, call, &found, &(Ok(reply), false, 2, left));
+}
+
+#[test]
+fn a_refused_call_that_borrows_its_key_leaves_the_map(rt: HostRuntime) -> Result<(), Fail> {
+    for form in BOTH {
+        for call in ALL {
+            refuse_each(&rt, rt.alloc(), form, call, true);
+            refuse_each(&rt, rt.alloc(), form, call, false);
+        }
+    }
+    Ok(())
+}
+
+/// Puts, replaces and removes at `a`, which has the value `one`, by value and by reference, and
+/// puts `one` there again. Answers whether each call replied the value before it, and none of them
+/// but the last asked for memory.
+fn change_often<R: Wait + Abort, A: Allocator + Clone>(
+    rt: &R,
+    switch: &Refusing<Global>,
+    alloc: &A,
+    map: &TextMap<A>,
+    pass: &mut TextPass<A>,
+) -> bool
+    requires { pass.old.ledger ≡ map.now.ledger.id }
+    ensures { pass.new.ledger ≡ map.now.ledger.id }
+{
+    let key = text(rt, alloc, b"a");
+    let (first, second) = (text(rt, alloc, b"a"), text(rt, alloc, b"a"));
+    let (four, fives) = (text(rt, alloc, b"four"), text(rt, alloc, b"fives"));
+    let sixths = text(rt, alloc, b"sixths");
+    switch.refuse_after(0);
+    let put = told(map.put(rt, pass, first, four));
+    let replaced = told(map.replace(rt, pass, second, fives));
+    let again = told(map.replace_by(rt, pass, &key, sixths));
+    let has = told(map.contains_key_by(rt, pass, &key));
+    let removed = told(map.remove_by(rt, pass, &key));
+    let asked = switch.has_refused();
+    switch.refuse_after(u64::MAX);
+    let last = told(map.put(rt, pass, key, text(rt, alloc, b"one")));
+    let replies = put == Ok(Reply::Value(Some(3)))
+        && replaced == Ok(Reply::Value(Some(4)))
+        && again == Ok(Reply::Value(Some(5)))
+        && has == Ok(Reply::Truth(true))
+        && removed == Ok(Reply::Value(Some(6)));
+    replies && !asked && last == Ok(Reply::Value(None))
+}
+
+/// How many of so many rounds of changes are right.
+fn right_rounds<R: Wait + Abort, A: Allocator + Clone>(
+    rt: &R,
+    switch: &Refusing<Global>,
+    alloc: &A,
+    map: &TextMap<A>,
+    pass: &mut TextPass<A>,
+    rounds: u64,
+) -> u64
+    requires { pass.old.ledger ≡ map.now.ledger.id }
+    ensures { pass.new.ledger ≡ map.now.ledger.id }
+{
+    let mut right = 0u64;
+    for _round in 0..rounds {
+        if change_often(rt, switch, alloc, map, pass) {
+            right = right.wrapping_add(1);
+        }
+    }
+    right
+}
+
+/// Makes a thousand rounds of changes on a lean map. Answers how many were right, and how many keys
+/// there are.
+fn change_lean<R: Wait + Abort, A: Allocator + Clone>(
+    rt: &R,
+    switch: &Refusing<Global>,
+    alloc: &A,
+) -> (u64, u64) {
+    let Single {
+        map,
+        mut pass,
+        place,
+    } = one_text(rt, alloc, Form::Lean);
+    let right = right_rounds(rt, switch, alloc, &map, &mut pass, 1000);
+    let closed = close_single(map, pass, place).expect(rt, "a closed map");
+    (right, closed.mapping_count())
+}
+
+#[test]
+fn changes_of_a_lean_map_move_their_values(rt: HostRuntime) -> Result<(), Fail> {
+    let alloc = Refusing::new(rt.alloc());
+    let told = change_lean(&rt, &alloc, &&alloc);
+    assert_same(&rt, &told, &(1000, 1));
+    Ok(())
+}

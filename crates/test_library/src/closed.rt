@@ -1,0 +1,97 @@
+//! Threads that share a map without a team, and the pairs of a closed map.
+use facingberyl::{
+    Add, Bytes, Client, Fault, Loan, Map, NotClosed, Pass, Quiet, Salt, Sharing, Team, Work,
+    retire_all,
+};
+use std::alloc::Global;
+use std::sync::Wait;
+use std::test::Fail;
+use std::thread::Threads;
+
+/// Each client adds 1 at key 0, and its number at its number.
+#[derive(Clone, Copy)]
+struct Numbers;
+
+impl Sharing<u64, u64, Add, Global> for Numbers {
+    type Out = Result<(), Fault>;
+
+    fn work<R: Wait>(
+        &self,
+        rt: &R,
+        map: &Map<u64, u64, Add, Global>,
+        pass: &mut Pass<u64, u64, Add>,
+    ) -> Result<(), Fault> {
+        let number = u64::from(pass.client());
+        map.merge(rt, pass, 0, 1, Add)?;
+        map.merge(rt, pass, number, number, Add)?;
+        Ok(())
+    }
+}
+
+/// A closed map on which three clients worked.
+fn shared<R: Threads + Wait + Sync>(rt: &R, alloc: Global) -> Option<Quiet<u64, u64, Add, Global>> {
+    let (map, mut passes) = Map::lean(alloc, 16, 3, Salt(0)).ok()?;
+    let answers = map.share(rt, &mut passes, &Numbers);
+    match map.close(passes) {
+        Ok(closed) => (answers.ok()?.as_slice() == [Ok(()); 3].as_slice()).then_some(closed),
+        Err(
+            NotClosed {
+                fault: _,
+                map: _,
+                passes,
+            },
+        ) => {
+            retire_all(passes);
+            None
+        }
+    }
+}
+
+#[test]
+fn threads_share_a_map_without_a_team(rt: HostRuntime) -> Result<(), Fail> {
+    let closed = shared(&rt, rt.alloc());
+    let mut pairs = Vec::new(rt.alloc());
+    if let Some(Ok(taken)) = closed.map(|quiet| quiet.into_entries()) {
+        pairs = taken;
+    }
+    pairs.sort_unstable();
+    assert_eq!(rt; pairs.as_slice(), [(0, 3), (1, 1), (2, 2)].as_slice());
+    Ok(())
+}
+
+/// Puts two words.
+#[derive(Clone, Copy)]
+struct Words;
+
+impl Work<Bytes<'static>, u64, Add, Global> for Words {
+    type Out = Result<(), Fault>;
+
+    fn work<L: Loan, R: Wait>(
+        &self,
+        rt: &R,
+        client: &mut Client<'_, L, Bytes<'static>, u64, Add, Global>,
+    ) -> Result<(), Fault> {
+        client.put(rt, Bytes(b"one"), 1)?;
+        client.put(rt, Bytes(b"two"), 2)?;
+        Ok(())
+    }
+}
+
+#[test]
+fn the_pairs_of_a_team_are_taken_out(rt: HostRuntime) -> Result<(), Fail> {
+    let mut team = Team::new(rt.alloc(), 1, 1)?;
+    for answer in team.work(&rt, &Words)? {
+        answer?;
+    }
+    let mut sum = 0;
+    let mut bytes = 0;
+    if let Ok(pairs) = team.close()?.into_entries() {
+        for (word, count) in pairs {
+            bytes = word.0.len().wrapping_add(bytes);
+            sum = count.wrapping_add(sum);
+        }
+    }
+    assert_eq!(rt; bytes, 6);
+    assert_eq!(rt; sum, 3);
+    Ok(())
+}

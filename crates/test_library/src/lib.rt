@@ -1,0 +1,28 @@
+//! Tests of the library as a program meets it: typed calls, teams and their answers, moments, keys
+//! and functions that are ready to use.
+#![tactic(auto)]
+
+#[cfg(test)]
+mod answers;
+#[cfg(test)]
+mod borrowed;
+#[cfg(test)]
+mod closed;
+#[cfg(test)]
+mod examples;
+#[cfg(test)]
+mod keys;
+#[cfg(test)]
+mod letters;
+#[cfg(test)]
+mod live;
+#[cfg(test)]
+mod moments;
+#[cfg(test)]
+mod servers;
+#[cfg(test)]
+mod shown;
+#[cfg(test)]
+mod teams;
+#[cfg(test)]
+mod updates;

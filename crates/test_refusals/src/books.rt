@@ -1,0 +1,104 @@
+//! A ledger and a move, each request of their making refused in turn.
+ghost use Rattle.std.specs.Prelude.{◌≡◌, All, IfOk};
+
+use crate::asserts::assert_same;
+use bin_history::Form;
+use count_ledger::{BinRole, Ledger, Pass};
+use hashkeys::{Key, Salt};
+use std::alloc::{AllocError, Global};
+use std::process::Abort;
+use std::test::Fail;
+use test_support::{Alloc, Answer, Number, Refusing, settled};
+use transfer::{Finish, Range, Strides};
+
+/// More than any call's requests.
+const MANY: u64 = 1000;
+
+type NumberLedger<'a> = Ledger<Key, Number<'a>, Answer<'a>, Alloc<'a>>;
+
+type NumberPass<'a> = Pass<Key, Number<'a>, Answer<'a>>;
+
+type NumberRole<'a> = BinRole<Key, Number<'a>, Answer<'a>>;
+
+type Made<'a> = (
+    NumberLedger<'a>,
+    Vec<NumberPass<'a>, Alloc<'a>>,
+    Vec<NumberRole<'a>, Alloc<'a>>,
+);
+
+/// Settles a ledger of two clients over two bins that nobody called.
+fn assert_settles(rt: &impl Abort, made: Made<'_>)
+    requires passes { All (λ p. p.ledger ≡ made.0.id) made.1.items }
+    requires roles { All (λ r. r.ledger ≡ made.0.id) made.2.items }
+{
+    let (ledger, passes, roles) = made;
+    let sizes = (passes.len(), roles.len());
+    let total = settled(ledger, passes, roles).expect(rt, "the ledger settles");
+    assert_same(rt, &(sizes, total), &((2, 2), 0));
+}
+
+/// A ledger of two clients over two empty bins.
+fn make(alloc: Alloc<'_>) -> Result<Made<'_>, AllocError>
+    ensures passes { IfOk result (λ made. All (λ p. p.ledger ≡ made.0.id) made.1.items) }
+    ensures roles { IfOk result (λ made. All (λ r. r.ledger ≡ made.0.id) made.2.items) }
+{
+    let bases = Vec::from_array(alloc, [Vec::new(alloc), Vec::new(alloc)])?;
+    Ledger::new(alloc, Form::Recorded, Salt(0), 2, &bases)
+}
+
+/// Makes a ledger with the request after so many refused, and again where there was one. Answers
+/// whether there was.
+fn refuse_ledger(rt: &impl Abort, alloc: Alloc<'_>, granted: u64) -> Result<bool, AllocError> {
+    alloc.refuse_after(granted);
+    if let Ok(made) = make(alloc) {
+        assert_settles(rt, made);
+        assert!(rt; !alloc.has_refused());
+        return Ok(false);
+    }
+    assert!(rt; alloc.has_refused());
+    assert_settles(rt, make(alloc)?);
+    Ok(true)
+}
+
+#[test]
+fn a_refused_ledger_is_made_again(rt: HostRuntime) -> Result<(), Fail> {
+    let alloc = Refusing::new(rt.alloc());
+    let mut refusals = 0u64;
+    for granted in 0..MANY {
+        if !refuse_ledger(&rt, &alloc, granted)? {
+            break;
+        }
+        refusals = refusals.wrapping_add(1);
+    }
+    // The lists of bases, passes and roles, and the table's two blocks.
+    assert_same(&rt, &refusals, &5);
+    Ok(())
+}
+
+/// Makes the move of one bin, again where a request was refused, and moves the bin. Answers its
+/// range and its finish.
+fn move_one(rt: &impl Abort, alloc: Alloc<'_>) -> Result<(Range, Finish), AllocError> {
+    let made = Strides::new(alloc, 1).or_else(|_| Strides::new(alloc, 1));
+    let (strides, mut opener) = made?;
+    let range = strides.claim(&mut opener).expect(rt, "a range");
+    let finish = strides.finish(&mut opener, range);
+    Ok((range, finish))
+}
+
+#[test]
+fn a_refused_move_is_made_again(rt: HostRuntime) -> Result<(), Fail> {
+    let alloc = Refusing::new(rt.alloc());
+    let mut refusals = 0u64;
+    for granted in 0..MANY {
+        alloc.refuse_after(granted);
+        let moved = move_one(&rt, &alloc)?;
+        assert_same(&rt, &moved, &(Range { lo: 0, hi: 1 }, Finish::Last));
+        if !alloc.has_refused() {
+            break;
+        }
+        refusals = refusals.wrapping_add(1);
+    }
+    // The list of spare movers, and the table's two blocks.
+    assert_same(&rt, &refusals, &3);
+    Ok(())
+}
