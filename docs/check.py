@@ -36,9 +36,9 @@ BODIES = "docs/wrong_bodies.csv"
 COLUMNS_OF_BODIES = ["crate", "body", "function", "clauses", "test", "edit"]
 LINK = r"\[((?:[^\[\]]|\[[^\]]*\])+)\]\(([^()\s]+)\)"
 EXAMPLES = {
-    "crates/facingberyl/src/*.rt": "crates/use_tests/src/*.rt",
-    "crates/chm/src/*.rt": "crates/map_tests/src/*.rt",
-    "crates/bulk_tasks/src/*.rt": "crates/pool_tests/src/*.rt",
+    "crates/facingberyl/src/*.rt": "crates/test_library/src/*.rt",
+    "crates/chm/src/*.rt": "crates/test_chm/src/*.rt",
+    "crates/bulk_tasks/src/*.rt": "crates/test_pool/src/*.rt",
 }
 
 
@@ -224,8 +224,9 @@ def squeezed(code):
 def forms_of(line):
     """Returns the forms in which a test may have a line of an example: an assertion is a comparison there, or the other way."""
     yield squeezed(line).rstrip(",")
-    if asserted := re.fullmatch(r"assert_eq!\((.*), (.*)\);?", line.strip()):
-        yield squeezed(f"{asserted[1]} == {asserted[2]}")
+    if asserted := re.fullmatch(r"assert_eq!\((.*)\);?", line.strip()):
+        for comma in re.finditer(", ", asserted[1]):
+            yield squeezed(f"{asserted[1][:comma.start()]} == {asserted[1][comma.end():]}")
     if asserted := re.fullmatch(r"assert!\((.*)\);?", line.strip()):
         yield squeezed(asserted[1])
 
@@ -293,9 +294,9 @@ def wrong_body(where, row, every_test):
 
 def other_version():
     """The version that mapcli tells, where it tells one."""
-    told = re.search(r'const VERSION: &str = "([^"]*)"', "\n".join(text_of(it) for it in sources.sources_of("facing_cli")))
+    told = re.search(r'const VERSION: &str = "([^"]*)"', "\n".join(text_of(it) for it in sources.sources_of("mapcli_core")))
     if told and (not is_file("VERSION") or text_of("VERSION").strip() != told[1]):
-        yield f"VERSION: facing_cli tells {told[1]}"
+        yield f"VERSION: mapcli_core tells {told[1]}"
 
 
 def old_pages():

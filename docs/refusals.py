@@ -87,7 +87,7 @@ def places_of(text):
 
 def is_tested_with(path):
     crate = path.split("/")[1]
-    return crate.endswith("_tests") or crate.startswith("test_") or crate in ("refusing_alloc", "refusals", "map_samples") or path.endswith("/tests.rt")
+    return crate.startswith("test_") or path.endswith("/tests.rt")
 
 
 def places():

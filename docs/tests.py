@@ -36,6 +36,7 @@ THINGS = (
     ("a full pass", "a_full_pass_makes_no_more_calls", "a_full_pass_clears_where_nothing_is_left"),
     ("walks, looks, glances, clears", "a_walk_shows_each_bin_in_turn", "a_clear_removes_each_entry_by_a_call", "a_glance_shows_the_value_before_and_after_a_move"),
     ("one client tells another", "a_client_gets_what_another_told_it_of", "a_client_learns_what_another_put", "a_moment_is_learned_in_another_thread"),
+    ("clients that come and go", "a_server_is_closed_when_all_clients_are_back", "a_client_comes_back_and_is_taken_out_again"),
     ("a close: a missing pass, settling", "a_map_closes_with_the_passes_of_all_clients", "settling_needs_each_pass"),
     ("what clients answer", "answers_stand_in_the_order_of_the_clients"),
     ("clients at the same time", "one_of_32_clients_finds_no_value", "clients_call_at_the_same_time_each_after_its_gate"),
