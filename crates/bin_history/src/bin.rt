@@ -25,7 +25,7 @@ use crate::op::Op;
 use crate::recorded::RecordedBin;
 use crate::trace::Trace;
 use crate::walk::Walk;
-use hashkeys::{Class, HashKey, Salt};
+use hashkeys::{AsKey, Class, HashKey, Salt};
 use std::alloc::{AllocError, Allocator};
 use std::marker::Model;
 
@@ -159,15 +159,23 @@ impl<K: HashKey, V: Clone + Eq, F: Remap<K, V> + Clone, A: Allocator + Clone> Bi
         }
     }
 
+    /// The value at the key that this stands for, which is of this hash.
+    pub fn get_as<Q: AsKey<K>>(&self, hash: u32, query: Q) -> Option<&V>
+        requires hash { hash ≡ hash_by K.code self.now.salt (Q.stands_for query) }
+        ensures { option_copied result ≡ lookup K.eq self.now.entries (Q.stands_for query) }
+    {
+        match &self.kind {
+            Kind::Lean(bin) => bin.get_as(hash, query),
+            Kind::Recorded(bin) => bin.get_as(query),
+        }
+    }
+
     /// The value at a key of this hash.
     pub fn get(&self, hash: u32, key: &K) -> Option<&V>
         requires hash { hash ≡ hash_by K.code self.now.salt key.now }
         ensures { option_copied result ≡ lookup K.eq self.now.entries key.now }
     {
-        match &self.kind {
-            Kind::Lean(bin) => bin.get(hash, key),
-            Kind::Recorded(bin) => bin.get(key),
-        }
+        self.get_as(hash, key)
     }
 
     /// What holds of each bin. It does nothing when it runs.

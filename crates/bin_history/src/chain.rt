@@ -1,10 +1,10 @@
 //! The entries of a bin, one behind the other.
-ghost use Rattle.std.specs.Prelude.{◌≡◌, ◌∷◌, [], ◌++◌, ℕ, true, None, filter, not, is_some, option_copied};
+ghost use Rattle.std.specs.Prelude.{◌≡◌, ◌∷◌, [], ◌++◌, ℕ, None, filter, not};
 ghost use Rattle.std.specs.Prelude.{IfOk, IfSome, IsOk, MatchOption, reverse, ◌+◌, ◌≤◌, length, vec_len, vec_capacity};
 ghost use Rattle.hashkeys.specs.Classes.{covers};
 ghost use Rattle.bin_history.specs.Chains.{entries_of, IsHashed};
 ghost use Rattle.bin_history.specs.Copies.{IsExact};
-ghost use Rattle.bin_history.specs.Entries.{StartsAt, lookup, put, remove};
+ghost use Rattle.bin_history.specs.Entries.{StartsAt, lookup};
 ghost use Rattle.bin_history.specs.Hashes.{hash_by};
 ghost use Rattle.bin_history.specs.declared.chain.Chain.TheVariants.{End};
 ghost use Rattle.bin_history.specs.declared.chain.Chain.TheViews.{Link};
@@ -16,7 +16,7 @@ use std::mem::replace;
 
 /// A walk that writes goes past so many entries by calls in calls, and past those behind them by
 /// taking the chain apart: so a long chain does not use up the stack.
-const NEAR: u32 = 32;
+pub(crate) const NEAR: u32 = 32;
 
 /// Entries in order of insertion.
 #[cycle(chain)]
@@ -83,7 +83,8 @@ impl<K: Drop, V: Drop, A: Allocator> Chain<K, V, A> {
         Chain::Link(hash, node)
     }
 
-    /// The same as `append`, where so many entries are gone past by calls in calls.
+    /// Puts a chain at the end, past so many entries by calls in calls, and past more by taking the
+    /// chain apart.
     fn append_near(&mut self, steps: u32, other: Chain<K, V, A>)
         ensures entries { entries_of self.new ≡ entries_of self.old ++ entries_of other }
         ensures hashed { (hash_of : K → ℕ) → IsHashed hash_of self.old → IsHashed hash_of other →
@@ -109,7 +110,7 @@ impl<K: Drop, V: Drop, A: Allocator> Chain<K, V, A> {
     }
 
     /// The entries, the last one first, and behind them those of another chain.
-    fn onto(mut self, rest: Chain<K, V, A>) -> Chain<K, V, A>
+    pub(crate) fn onto(mut self, rest: Chain<K, V, A>) -> Chain<K, V, A>
         ensures entries { entries_of result ≡ reverse (entries_of self) ++ entries_of rest }
         ensures hashed { (hash_of : K → ℕ) → IsHashed hash_of self → IsHashed hash_of rest →
             IsHashed hash_of result }
@@ -126,7 +127,7 @@ impl<K: Drop, V: Drop, A: Allocator> Chain<K, V, A> {
         }
     }
 
-    /// The same as `append`, for a long chain.
+    /// Puts a chain at the end of a long one, which is taken apart and put together again.
     #[cold]
     #[inline(never)]
     fn append_far(&mut self, other: Chain<K, V, A>)
@@ -266,30 +267,9 @@ pub fn linked<K: Drop, V: Drop, A: Allocator + Clone>(
     }
 }
 
-impl<K: HashKey, V, A: Allocator> Chain<K, V, A> {
-    /// The value at a key.
-    pub fn get(&self, hash: u32, key: &K) -> Option<&V>
-        requires hashed { (hash_of : K → ℕ) × IsHashed hash_of self.now × (hash ≡ hash_of key.now) }
-        ensures { option_copied result ≡ lookup K.eq (entries_of self.now) key.now }
-    {
-        let mut at = self;
-        loop {
-            match at {
-                Chain::End => return None,
-                Chain::Link(own, node) => {
-                    if *own == hash && node.entry.0 == *key {
-                        return Some(&node.entry.1);
-                    }
-                    at = &node.next;
-                }
-            }
-        }
-    }
-}
-
 impl<K: HashKey + Drop, V: Drop, A: Allocator> Chain<K, V, A> {
     /// The entries before a key, the last one first, and those from it on.
-    fn parted(mut self, hash: u32, key: &K) -> (Chain<K, V, A>, Chain<K, V, A>)
+    pub(crate) fn parted(mut self, hash: u32, key: &K) -> (Chain<K, V, A>, Chain<K, V, A>)
         requires hashed { (hash_of : K → ℕ) × IsHashed hash_of self × (hash ≡ hash_of key.now) }
         ensures parts { reverse (entries_of result.0) ++ entries_of result.1 ≡ entries_of self }
         ensures absent { lookup K.eq (reverse (entries_of result.0)) key.now ≡ None }
@@ -310,135 +290,5 @@ impl<K: HashKey + Drop, V: Drop, A: Allocator> Chain<K, V, A> {
                 }
             }
         }
-    }
-
-    /// The first key, if it is this one, gets the value. It gives back the value before.
-    fn assign_first(&mut self, key: &K, value: V) -> Option<V>
-        requires starts { StartsAt K.eq (entries_of self.old) key.now }
-        requires there { is_some (lookup K.eq (entries_of self.old) key.now) ≡ true }
-        ensures entries { entries_of self.new ≡ put K.eq (entries_of self.old) key.now value }
-        ensures hashed { (hash_of : K → ℕ) → IsHashed hash_of self.old → IsHashed hash_of self.new }
-        ensures value { result ≡ lookup K.eq (entries_of self.old) key.now }
-    {
-        let _ = key;
-        match self {
-            Chain::End => unreachable!(),
-            Chain::Link(_, node) => Some(replace(&mut node.entry.1, value)),
-        }
-    }
-
-    /// Takes the first entry, which is this key's, out, if there is one. It gives back the value.
-    fn take_first(&mut self, key: &K) -> Option<V>
-        requires starts { StartsAt K.eq (entries_of self.old) key.now }
-        ensures entries { entries_of self.new ≡ remove K.eq (entries_of self.old) key.now }
-        ensures hashed { (hash_of : K → ℕ) → IsHashed hash_of self.old → IsHashed hash_of self.new }
-        ensures value { result ≡ lookup K.eq (entries_of self.old) key.now }
-    {
-        let _ = key;
-        match replace(self, Chain::End).pop() {
-            Some((entry, next)) => {
-                let (_key, value) = entry;
-                *self = next;
-                Some(value)
-            }
-            None => None,
-        }
-    }
-
-    /// The same as `assign`, for a long chain.
-    #[cold]
-    #[inline(never)]
-    fn assign_far(&mut self, hash: u32, key: &K, value: V) -> Option<V>
-        requires hashed { (hash_of : K → ℕ) × IsHashed hash_of self.old × (hash ≡ hash_of key.now) }
-        requires there { is_some (lookup K.eq (entries_of self.old) key.now) ≡ true }
-        ensures entries { entries_of self.new ≡ put K.eq (entries_of self.old) key.now value }
-        ensures hashed { (hash_of : K → ℕ) → IsHashed hash_of self.old → IsHashed hash_of self.new }
-        ensures value { result ≡ lookup K.eq (entries_of self.old) key.now }
-    {
-        let (before, mut rest) = replace(self, Chain::End).parted(hash, key);
-        let taken = rest.assign_first(key, value);
-        *self = before.onto(rest);
-        taken
-    }
-
-    /// The same as `take`, for a long chain.
-    #[cold]
-    #[inline(never)]
-    fn take_far(&mut self, hash: u32, key: &K) -> Option<V>
-        requires hashed { (hash_of : K → ℕ) × IsHashed hash_of self.old × (hash ≡ hash_of key.now) }
-        ensures entries { entries_of self.new ≡ remove K.eq (entries_of self.old) key.now }
-        ensures hashed { (hash_of : K → ℕ) → IsHashed hash_of self.old → IsHashed hash_of self.new }
-        ensures value { result ≡ lookup K.eq (entries_of self.old) key.now }
-    {
-        let (before, mut rest) = replace(self, Chain::End).parted(hash, key);
-        let taken = rest.take_first(key);
-        *self = before.onto(rest);
-        taken
-    }
-
-    /// The same as `assign`, where so many entries are gone past by calls in calls.
-    fn assign_near(&mut self, steps: u32, hash: u32, key: &K, value: V) -> Option<V>
-        requires hashed { (hash_of : K → ℕ) × IsHashed hash_of self.old × (hash ≡ hash_of key.now) }
-        requires there { is_some (lookup K.eq (entries_of self.old) key.now) ≡ true }
-        ensures entries { entries_of self.new ≡ put K.eq (entries_of self.old) key.now value }
-        ensures hashed { (hash_of : K → ℕ) → IsHashed hash_of self.old → IsHashed hash_of self.new }
-        ensures value { result ≡ lookup K.eq (entries_of self.old) key.now }
-    {
-        if steps == 0 {
-            return self.assign_far(hash, key, value);
-        }
-        match self {
-            Chain::End => unreachable!(),
-            Chain::Link(own, node) => {
-                if *own == hash && node.entry.0 == *key {
-                    Some(replace(&mut node.entry.1, value))
-                } else {
-                    node.next.assign_near(steps - 1, hash, key, value)
-                }
-            }
-        }
-    }
-
-    /// A key that is there gets the value. It gives back the value before.
-    pub fn assign(&mut self, hash: u32, key: &K, value: V) -> Option<V>
-        requires hashed { (hash_of : K → ℕ) × IsHashed hash_of self.old × (hash ≡ hash_of key.now) }
-        requires there { is_some (lookup K.eq (entries_of self.old) key.now) ≡ true }
-        ensures entries { entries_of self.new ≡ put K.eq (entries_of self.old) key.now value }
-        ensures hashed { (hash_of : K → ℕ) → IsHashed hash_of self.old → IsHashed hash_of self.new }
-        ensures value { result ≡ lookup K.eq (entries_of self.old) key.now }
-    {
-        self.assign_near(NEAR, hash, key, value)
-    }
-
-    /// The same as `take`, where so many entries are gone past by calls in calls.
-    fn take_near(&mut self, steps: u32, hash: u32, key: &K) -> Option<V>
-        requires hashed { (hash_of : K → ℕ) × IsHashed hash_of self.old × (hash ≡ hash_of key.now) }
-        ensures entries { entries_of self.new ≡ remove K.eq (entries_of self.old) key.now }
-        ensures hashed { (hash_of : K → ℕ) → IsHashed hash_of self.old → IsHashed hash_of self.new }
-        ensures value { result ≡ lookup K.eq (entries_of self.old) key.now }
-    {
-        if steps == 0 {
-            return self.take_far(hash, key);
-        }
-        match self {
-            Chain::End => None,
-            Chain::Link(own, node) => {
-                if *own == hash && node.entry.0 == *key {
-                    self.take_first(key)
-                } else {
-                    node.next.take_near(steps - 1, hash, key)
-                }
-            }
-        }
-    }
-
-    /// Takes the entry of a key out, if there is one. It gives back the value.
-    pub fn take(&mut self, hash: u32, key: &K) -> Option<V>
-        requires hashed { (hash_of : K → ℕ) × IsHashed hash_of self.old × (hash ≡ hash_of key.now) }
-        ensures entries { entries_of self.new ≡ remove K.eq (entries_of self.old) key.now }
-        ensures hashed { (hash_of : K → ℕ) → IsHashed hash_of self.old → IsHashed hash_of self.new }
-        ensures value { result ≡ lookup K.eq (entries_of self.old) key.now }
-    {
-        self.take_near(NEAR, hash, key)
     }
 }

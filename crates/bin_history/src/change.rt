@@ -9,7 +9,7 @@ ghost use Rattle.bin_history.specs.Ops.{key_in};
 
 use crate::effect::Effect;
 use crate::given::Given;
-use hashkeys::HashKey;
+use hashkeys::{AsKey, HashKey};
 use std::alloc::{AllocError, Allocator};
 use std::mem::replace;
 
@@ -26,12 +26,12 @@ pub enum Change<K, V> {
     Take(usize),
 }
 
-/// The index of a key.
-pub(crate) fn find<K: HashKey, V>(entries: &[(K, V)], key: &K) -> Option<usize>
-    ensures { IsIndexOf K.eq entries.now key.now result }
+/// The index of the key that this stands for.
+pub(crate) fn find<K: HashKey, V, Q: AsKey<K>>(entries: &[(K, V)], query: Q) -> Option<usize>
+    ensures { IsIndexOf K.eq entries.now (Q.stands_for query) result }
 {
     for (i, entry) in entries.iter().enumerate() {
-        if entry.0 == *key {
+        if query.is_key(&entry.0) {
             return Some(i);
         }
     }
@@ -82,8 +82,8 @@ impl<K: Drop, V> Change<K, V> {
 }
 
 impl<K: Clone + Drop, V: Drop> Change<K, V> {
-    /// The same of a key that was given: it is copied at most where it was lent and an entry is
-    /// made.
+    /// Returns the change by which a given key gets this value, or none. The key is copied only
+    /// where it was lent and an entry is made.
     fn given(
         key: Given<'_, K>,
         found: Option<usize>,

@@ -1,6 +1,7 @@
 //! One bin of a map: its entries, and the records of the calls that made them.
 #![tactic(auto)]
 
+mod at_key;
 mod bin;
 mod call;
 mod chain;
@@ -12,6 +13,7 @@ mod form;
 mod given;
 mod laws;
 mod lean;
+mod lean_entries;
 mod limits;
 mod log;
 mod make;
@@ -35,6 +37,7 @@ pub use form::Form;
 pub use given::Given;
 pub use laws::{cells_of_a_run, count_after_a_run, part_of_a_run};
 pub use lean::LeanBin;
+pub use lean_entries::LeanEntries;
 pub use limits::{MOST_CALLS, MOST_CLIENTS, MOST_LEAN_CALLS};
 pub use op::Op;
 pub use ready::{Kept, Ready};

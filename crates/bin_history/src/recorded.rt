@@ -13,7 +13,7 @@ use crate::record::Record;
 use crate::room::make_room_for;
 use crate::split::part_of_entries;
 use crate::trace::Trace;
-use hashkeys::{Class, HashKey, Salt};
+use hashkeys::{AsKey, Class, HashKey, Salt};
 use std::alloc::{AllocError, Allocator};
 use std::marker::Model;
 
@@ -64,7 +64,7 @@ impl<K: HashKey, V: Clone + Eq, F: Remap<K, V> + Clone, A: Allocator + Clone> Re
     F,
     A,
 > {
-    ghost use Rattle.std.specs.Prelude.{[], true, Some, None, All, IfOk, IsOk, MatchOption};
+    ghost use Rattle.std.specs.Prelude.{[], true, Some, None, All, IfOk, IsOk, MatchOption, option_copied};
     ghost use Rattle.hashkeys.specs.Classes.{is_of};
     ghost use Rattle.bin_history.specs.Calls.{after};
     ghost use Rattle.bin_history.specs.Copies.{IsExact};
@@ -165,15 +165,22 @@ impl<K: HashKey, V: Clone + Eq, F: Remap<K, V> + Clone, A: Allocator + Clone> Re
         self.entries.as_slice()
     }
 
+    /// The value at the key that this stands for.
+    pub fn get_as<Q: AsKey<K>>(&self, query: Q) -> Option<&V>
+        ensures { option_copied result ≡ lookup K.eq self.now.entries (Q.stands_for query) }
+    {
+        match find(&self.entries, query) {
+            Some(i) => Some(&self.entries[i].1),
+            None => None,
+        }
+    }
+
     /// The value at a key.
     pub fn get(&self, key: &K) -> Option<&V>
         ensures { MatchOption result (lookup K.eq self.now.entries key.now ≡ None)
             (λ value. lookup K.eq self.now.entries key.now ≡ Some value.now) }
     {
-        match find(&self.entries, key) {
-            Some(i) => Some(&self.entries[i].1),
-            None => None,
-        }
+        self.get_as(key)
     }
 
     /// A copy of the entries, in order.
@@ -254,9 +261,8 @@ impl<K: HashKey, V: Clone + Eq, F: Remap<K, V> + Clone, A: Allocator + Clone> Re
         self.prepare_on(key, op)
     }
 
-    /// The same of a call whose key is given beside it, handed over or lent. A lent key is copied
-    /// where an entry is made of it, and for the record in a recorded bin. A lean bin copies no
-    /// value but one that is both stored and answered.
+    /// Prepares a call, as `prepare` does, whose key is given beside it, owned or borrowed. A
+    /// borrowed key is copied where an entry is made of it, and for the record.
     pub fn prepare_on(
         &mut self,
         key: Given<'_, K>,

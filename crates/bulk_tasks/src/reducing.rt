@@ -40,7 +40,7 @@ fn fold_onto<K, V, A: Allocator, R: Reducer<K, V>>(
     Ok(folded)
 }
 
-// The same of the pairs of bins.
+// The pairs of bins, lifted and joined onto a value.
 fn fold_bins_onto<
     K: HashKey + Drop,
     V: Clone + Eq + Drop,

@@ -21,7 +21,8 @@ pub trait Stepper<K, V> {
         ensures { (es : List (K × V)) → reached self.now es part →
             reached self.now (es ++ (key.now, value.now) ∷ []) result };
 
-    /// The same part, or one that says that the stepper gives up. It is asked for before each bin.
+    /// Returns the part as it is, or one that says that the stepper gives up. It is asked for
+    /// before each bin.
     fn look_again(&self, part: Self::Part) -> Self::Part
         ensures { (es : List (K × V)) → reached self.now es part → reached self.now es result };
 

@@ -20,9 +20,9 @@ use Rattle.count_ledger.proofs.Filters.{eqb_turn, length_is_sum}
 use Rattle.count_ledger.proofs.Tallies.{upto, upto-none, upto-same, upto-more, upto-one, upto-count}
 use Rattle.count_ledger.proofs.Totals.{count-settled}
 use Rattle.count_ledger.proofs.WordSums.{total_made_bounds, word_of-add, word_of_natural}
-use Rattle.generations.specs.BinsWithRoles.{AreBinsWithRoles, classes_of_bins}
-use Rattle.generations.specs.Views.{GenerationsView}
-use Rattle.generations.specs.Walks.{IsWalk}
+use Rattle.places.specs.BinsWithRoles.{AreBinsWithRoles, classes_of_bins}
+use Rattle.places.specs.Views.{HomeView}
+use Rattle.places.specs.Walks.{IsWalk}
 use Rattle.chm.specs.Closing.{IsNotClosed}
 use Rattle.chm.specs.Headline.{QuietView, entries_of, IsQuiet}
 use Rattle.chm.specs.Views.{MapView, bins_of}
@@ -30,7 +30,7 @@ use Rattle.chm.specs.declared.fault.Fault.TheVariants.{NoMemory, PassMissing, Bi
 
 module _ {K V F : Type 0} (same : K → K → Bool) (tells : (x y : K) → Decides (same x y) (x ≡ y)) (code : K → ℕ)
     (after : Call K V F → Option V → Option V)
-    (g : GenerationsView) where
+    (g : HomeView) where
   -- the roles of a map's bins are of its ledger
   pub ledgers_of_roles : (bins : List (BinView K V F)) (roles : List (RoleView K V F)) →
       AreBinsWithRoles same code after g bins roles

@@ -1,4 +1,5 @@
 pub mod Meeting
+pub mod Lying
 pub mod Counting
 pub mod Sizes
 pub mod Empty

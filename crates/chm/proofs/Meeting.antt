@@ -75,6 +75,23 @@ module _ {K V F : Type 0} (same : K → K → Bool) (code : K → ℕ) (same_val
     m.stored,
   )
 
+  -- the same of a bin that agreed with the role
+  pub IsCalledOn-agreed : (tells : (x y : K) → Decides (same x y) (x ≡ y)) (ledger : LedgerView K V)
+      (call : Call K V F) (old new : PassView K V F) (answer : Reply V) (b c : BinView K V F) (role : RoleView K V F)
+      (r : RecordView K V F) (client ordinal : ℕ) (front : List (RecordView K V F))
+      → BinAgrees same (after same_value remapped merged) b role
+      → IsLawful same code (after same_value remapped merged) b → b.entries ≡ replay same b.base b.records
+      → IsRoleOf code ledger role
+      → IsMadeOn same same_value remapped merged client ordinal call b c answer r → client ≡ old.client →
+      ordinal ≡ length old.made
+      → IsPosted same (after same_value remapped merged) code ledger old new role r front
+      → IsCalledOn same code same_value remapped merged ledger b c call old new answer
+  IsCalledOn-agreed tells ledger call old new answer b c role r client ordinal front agree lawful replayed of m by
+      next posted =
+      IsCalledOn-posted ledger call old new answer b c role r client ordinal front m by next posted
+      (IsMet-front same tells code (after same_value remapped merged) b role agree lawful replayed ledger of front
+      posted.kept)
+
   -- such a call found what all calls before it left at the key
   pub IsCalled-met : (ledger : LedgerView K V) (call : Call K V F) (old new : PassView K V F) (answer : Reply V)
       (b c : BinView K V F)

@@ -22,7 +22,7 @@ use Rattle.count_ledger.specs.Fronts.{BeginsWith}
 use Rattle.count_ledger.specs.Views.{PassView, RoleView}
 use Rattle.count_ledger.proofs.Filters.{filter_within, filter_turn}
 use Rattle.count_ledger.proofs.Fronts.{BeginsWith-more}
-use Rattle.generations.specs.Views.{GenerationsView}
+use Rattle.places.specs.Views.{HomeView}
 use Rattle.chm.specs.Headline.{QuietView, IsQuiet, entries_of, IsOneOrder, IsHistoryOfKey, IsToldInOrder}
 use Rattle.chm.specs.Views.{bins_of}
 use Rattle.count_ledger.specs.Settled.{IsOrder}
@@ -32,7 +32,7 @@ module _ {K V F : Type 0} (same : K → K → Bool) (tells : (x y : K) → Decid
     (after : Call K V F → Option V → Option V)
     (q : QuietView K V F) (calls : List (RecordView K V F)) (quiet : IsQuiet same code after q)
     (order : IsOrder code q.ledger q.passes q.roles calls) where
-  abbrev g : GenerationsView
+  abbrev g : HomeView
   g = bins_of (record { ledger = q.ledger; n = q.n })
 
   -- what the books tell of the role of a bin

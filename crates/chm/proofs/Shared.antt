@@ -1,7 +1,7 @@
 -- Threads may share a map.
 use denote.RattleType.{RattleType}
 use denote.Struct.Declared.{shape}
-use denote.Param.Send.{IsSend, IsSync, Frees, AllSync, sendable}
+use denote.Param.Send.{IsSend, IsSync, Frees, AllSend, AllSync, sendable}
 use Rattle.std.proofs.CrossingOver.{crosses}
 use Rattle.std.proofs.sync.atomic.AtomicIn.TheSendSync as ruled
 use Rattle.std.specs.declared.alloc.Allocator as Allocator
@@ -15,10 +15,26 @@ use Rattle.hashkeys.specs.declared.hashing.HashKey as HashKey
 use Rattle.bin_history.specs.declared.call.Remap as Remap
 use Rattle.count_ledger.specs.contracts.ledger.Ledger as Ledger
 use Rattle.count_ledger.specs.contracts.ledger.Ledger.TheInside as LedgerInside
-use Rattle.generations.proofs.Shared as generations
+use Rattle.homes.proofs.Shared as homes
 use Rattle.transfer.proofs.Shared as transfer
 use Rattle.chm.specs.contracts.map.Map as Map
 use Rattle.chm.specs.contracts.map.Map.TheInside as MapInside
+use Rattle.chm.specs.contracts.turns.Turns as Turns
+use Rattle.chm.specs.contracts.turns.Turns.TheInside as TurnsInside
+
+-- the strides of a move, of either form
+module _ (A : RattleType) (g : Allocator.Ghosts A.Denot) (s : IsSend A) (y : IsSync A) (f : Frees g g.dealloc_token) where
+  turns_fields_send : AllSend (shape (TurnsInside.the_type A g)).fields
+  turns_fields_send = (search (sendable, transfer.strides_send, transfer.shared_send) depth 20, tt)
+
+  turns_fields_sync : AllSync (shape (TurnsInside.the_type A g)).fields
+  turns_fields_sync = (search (sendable, transfer.strides_sync, transfer.shared_sync) depth 20, tt)
+
+  pub turns_send : IsSend (Turns.the_row A g)
+  turns_send = search (sendable, turns_fields_send) depth 20
+
+  pub turns_sync : IsSync (Turns.the_row A g)
+  turns_sync = search (sendable, turns_fields_sync) depth 20
 
 module _ (K V F A : RattleType) (hash : HashKey.Ghosts K.Denot) (key_eq : Eq.Ghosts K.Denot)
     (key_same : PartialEq.Ghosts K.Denot)
@@ -44,10 +60,10 @@ module _ (K V F A : RattleType) (hash : HashKey.Ghosts K.Denot) (key_eq : Eq.Gho
   fields = (
     ledger_sync,
     (
-      generations.map_sync K V F A hash key_eq key_same key_clone value_clone value_eq value_same remap function_clone
+      homes.map_sync K V F A hash key_eq key_same key_clone value_clone value_eq value_same remap function_clone
           alloc sk sv sf sa yk yv yf ya frees,
       (
-        search (sendable, crosses, ruled.the_sync, once.the_sync, transfer.strides_send, transfer.strides_sync) depth 30,
+        search (sendable, crosses, ruled.the_sync, once.the_sync, turns_send, turns_sync) depth 30,
         (search sendable depth 20, tt),
       ),
     ),

@@ -1,8 +1,12 @@
 -- Sizes of tables are powers of two.
-use Rattle.std.proofs.Common.{◌≡◌, ℕ, ◌+◌, ◌*◌, ◌^◌, ◌<◌, ◌≤◌, inl, inr, arith}
+use Rattle.std.proofs.Common.{◌≡◌, ℕ, ◌+◌, ◌*◌, ◌^◌, ◌<◌, ◌≤◌, inl, inr, lit≤, arith}
 use Rattle.std.proofs.lemmas.Bool.{cases_lt}
 use lib.Pow.{pow_mono, pow-add}
 use Rattle.hashkeys.specs.Classes.{IsTableSize}
+use Rattle.hashkeys.specs.Limits.{most_bins}
+use Rattle.bin_history.specs.declared.form.Form.{Form}
+use Rattle.bin_history.specs.declared.form.Form.TheVariants.{Recorded, Lean}
+use Rattle.chm.specs.Sizes.{most_bins_of}
 
 -- a wider table is at least twice as wide
 pub IsTableSize-wider : (n m : ℕ) → IsTableSize n → IsTableSize m → n < m → 2 * n ≤ m
@@ -12,3 +16,11 @@ IsTableSize-wider n m (e, _, is) (f, _, at) lt =
     let double : 2 ^ (e + 1) ≡ 2 ^ e * 2 = pow-add 2 e 1 in
     let up : 2 ^ (e + 1) ≤ 2 ^ f = pow_mono (omega arith) in
     omega arith
+
+pub size_few : (n : ℕ) → IsTableSize n → n ≤ most_bins
+size_few n (e, le, is) = let top : 2 ^ e ≤ 67108864 = pow_mono {i = e} {j = 26} le in omega (arith, is)
+
+-- no form has wider tables than hashes have classes
+pub most_bins_few : (form : Form) → most_bins_of form ≤ most_bins
+most_bins_few Recorded = lit≤ tt
+most_bins_few Lean = lit≤ tt

@@ -19,9 +19,10 @@ use Rattle.bin_history.proofs.Parts.{replay-part}
 use Rattle.count_ledger.specs.Fronts.{IsFront, HasSeen, HasSeenMore}
 use Rattle.count_ledger.specs.Views.{LedgerView, PassView, RoleView}
 use Rattle.count_ledger.proofs.Fronts.{BeginsWith-all, BeginsWith-more}
-use Rattle.generations.specs.BinsWithRoles.{IsBinWithRole}
-use Rattle.generations.specs.Views.{GenerationsView}
+use Rattle.places.specs.BinsWithRoles.{IsBinWithRole}
+use Rattle.places.specs.Views.{HomeView}
 use Rattle.chm.specs.Views.{MapView, bins_of}
+use Rattle.homes.specs.Glances.{IsGlanced}
 use Rattle.chm.specs.Visits.{VisitView, classes_of_visits, shown_by, AreVisited, AreVisits, IsVisit, IsOwn, IsShown}
 use Rattle.chm.proofs.Homes.{OwnsItsKeys, distinct_all}
 
@@ -114,20 +115,14 @@ pub classes-push : {K V : Type 0} (vs : List (VisitView K V)) (v : VisitView K V
 classes-push vs v = map-append (λ (x : VisitView _ _). x.class) vs (v ∷ [])
 
 -- what a reader of a bin for the key's hash looks up
-pub IsShown-read : {K V F : Type 0} (same : K → K → Bool) (code : K → ℕ) (after : Call K V F → Option V → Option V)
-    (map : MapView K V) (g : GenerationsView)
-    (key : K) (value : Option V) (b : BinView K V F) (o : Option (BinView K V F × RoleView K V F)) (hash : ℕ)
-    → g ≡ bins_of map → hash ≡ hash_of map.ledger.salt (code key)
-    → IsSomeAnd o (λ p. covers p.0.class hash ≡ true) → IsSomeAnd o (λ p. IsBinWithRole same code after g p.0 p.1) →
-    IsSomeAnd o (λ p. b ≡ p.0)
-    → value ≡ lookup same b.entries key
-    → IsShown same code after map key value
-IsShown-read same code after map g key value b (Some (c, r)) hash home hashed covered with_role is found = (
-  c,
+pub IsShown-glanced : {K V F : Type 0} (same : K → K → Bool) (code : K → ℕ) (after : Call K V F → Option V → Option V)
+    (map : MapView K V) (home : HomeView) (key : K) (value : Option V) (hash : ℕ)
+    → home ≡ bins_of map → hash ≡ hash_of map.ledger.salt (code key)
+    → IsGlanced same code after home hash key value → IsShown same code after map key value
+IsShown-glanced same code after map home key value hash home_is hashed (b, r, with_role, covered, found) = (
+  b,
   r,
-  subst (λ h. IsBinWithRole same code after h c r) home with_role,
-  ap (covers c.class) (sym hashed) ∙ covered,
-  found
-      ∙ ap (λ (x : BinView _ _ _). lookup same x.entries key) is,
+  subst (λ h. IsBinWithRole same code after h b r) home_is with_role,
+  ap (covers b.class) (sym hashed) ∙ covered,
+  found,
 )
-IsShown-read same code after map g key value b None hash home hashed covered with_role is found = absurd covered

@@ -27,8 +27,8 @@ use Rattle.count_ledger.specs.Fronts.{BeginsWith, IsFront}
 use Rattle.count_ledger.specs.Limits.{most_calls}
 use Rattle.count_ledger.specs.Settled.{AreReconciled, IsOrder}
 use Rattle.count_ledger.specs.Views.{LedgerView, PassView, RoleView}
-use Rattle.generations.specs.BinsWithRoles.{AreBinsWithRoles, classes_of_bins}
-use Rattle.generations.specs.Walks.{IsWalk}
+use Rattle.places.specs.BinsWithRoles.{AreBinsWithRoles, classes_of_bins}
+use Rattle.places.specs.Walks.{IsWalk}
 use Rattle.chm.specs.Refusals.{IsOfCall}
 use Rattle.chm.specs.Views.{bins_of}
 use Rattle.chm.specs.declared.fault.Fault.{Fault}

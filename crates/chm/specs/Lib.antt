@@ -10,3 +10,4 @@ pub mod Closing
 pub mod Cleared
 pub mod Reopened
 pub mod Shares
+pub mod Turns

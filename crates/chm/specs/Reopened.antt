@@ -30,6 +30,6 @@ pub record IsReopened {K V F : Type 0} (same_key : K → K → Bool) (code : K �
   pub clients : map.ledger.clients ≡ n
   pub opening : map.ledger.opening ≡ in_classes code s map.n (entries_of closed.bins)
   pub same_map : (k : K) → lookup same_key map.ledger.opening k ≡ lookup same_key (entries_of closed.bins) k
-  pub size : IsSizeFrom closed.n (length (entries_of closed.bins)) map.n
+  pub size : IsSizeFrom closed.ledger.form closed.n (length (entries_of closed.bins)) map.n
   pub passes : all ≡ new_passes map.ledger.id n
   pub own : All (λ p. p.ledger ≡ map.ledger.id) all

@@ -1,7 +1,9 @@
 -- How many bins a table has.
-use Rattle.std.specs.Prelude.{◌≡◌, ℕ, ◌-◌, ◌/◌, ◌<◌, ◌≤◌, ◌⊎◌}
+use Rattle.std.specs.Prelude.{◌≡◌, ℕ, ◌+◌, ◌-◌, ◌/◌, ◌<◌, ◌≤◌, ◌⊎◌}
 use Rattle.hashkeys.specs.Classes.{IsTableSize}
 use Rattle.hashkeys.specs.Limits.{most_bins}
+use Rattle.bin_history.specs.declared.form.Form.{Form}
+use Rattle.bin_history.specs.declared.form.Form.TheVariants.{Recorded, Lean}
 
 -- the least table of at least this capacity
 pub record IsSizeFor (capacity n : ℕ) : Type 0 where
@@ -9,17 +11,24 @@ pub record IsSizeFor (capacity n : ℕ) : Type 0 where
   pub enough : capacity ≤ n
   pub least : (m : ℕ) → IsTableSize m → capacity ≤ m → n ≤ m
 
--- the number of keys from which on a table of n bins is too small: three quarters of n, rounded up
-abbrev pub threshold : ℕ → ℕ
-threshold n = n - n / 4
+-- how many bins a table of the form has at most
+abbrev pub most_bins_of : Form → ℕ
+most_bins_of Recorded = 65536
+most_bins_of Lean = most_bins
 
--- a table of n bins has room for this many keys, or there is no wider one
-abbrev pub IsWideEnough : ℕ → ℕ → Type 0
-IsWideEnough count n = (count < threshold n) ⊎ (n ≡ most_bins)
+-- the number of keys from which on a table of n bins of the form is too small: three quarters of n, rounded up, or
+-- three halves
+abbrev pub threshold : Form → ℕ → ℕ
+threshold Recorded n = n - n / 4
+threshold Lean n = n + n / 2
+
+-- a table of n bins of the form has room for this many keys, or there is no wider one
+abbrev pub IsWideEnough : Form → ℕ → ℕ → Type 0
+IsWideEnough form count n = (count < threshold form n) ⊎ (most_bins_of form ≤ n)
 
 -- the least table from n0 bins on that has room
-pub record IsSizeFrom (n0 count n : ℕ) : Type 0 where
+pub record IsSizeFrom (form : Form) (n0 count n : ℕ) : Type 0 where
   pub size : IsTableSize n
   pub from : n0 ≤ n
-  pub room : IsWideEnough count n
-  pub least : (m : ℕ) → IsTableSize m → n0 ≤ m → IsWideEnough count m → n ≤ m
+  pub room : IsWideEnough form count n
+  pub least : (m : ℕ) → IsTableSize m → n0 ≤ m → IsWideEnough form count m → n ≤ m

@@ -3,7 +3,7 @@ use Rattle.std.specs.Prelude.{◌≡◌, ℕ, ◌≤◌, List, length}
 use Rattle.hashkeys.specs.Classes.{ClassView, is_of}
 use Rattle.bin_history.specs.Part.{part_of_entries}
 use Rattle.count_ledger.specs.Views.{LedgerView}
-use Rattle.generations.specs.Views.{GenerationsView}
+use Rattle.places.specs.Views.{HomeView}
 
 -- its books, and the number of bins that it opened with
 pub record MapView (K V : Type 0) : Type 0 where
@@ -15,7 +15,7 @@ abbrev pub opening_in : {K V : Type 0} → (K → ℕ) → LedgerView K V → Cl
 opening_in code ledger class = part_of_entries (is_of code ledger.salt class) ledger.opening
 
 -- what a map keeps: its bins are under its books and of their form, and it counted its opening pairs
-pub record IsMap {K V : Type 0} (ledger : LedgerView K V) (bins : GenerationsView) (opened : ℕ) : Type 0 where
+pub record IsMap {K V : Type 0} (ledger : LedgerView K V) (bins : HomeView) (opened : ℕ) : Type 0 where
   pub id : bins.ledger ≡ ledger.id
   pub form : bins.form ≡ ledger.form
   pub salt : bins.salt ≡ ledger.salt
@@ -24,5 +24,5 @@ pub record IsMap {K V : Type 0} (ledger : LedgerView K V) (bins : GenerationsVie
   pub clients : ledger.clients ≤ 32
 
 -- the map's bins, as its layer of bins names them
-abbrev pub bins_of : {K V : Type 0} → MapView K V → GenerationsView
+abbrev pub bins_of : {K V : Type 0} → MapView K V → HomeView
 bins_of m = record { ledger = m.ledger.id; form = m.ledger.form; salt = m.ledger.salt; n = m.n }

@@ -43,7 +43,7 @@ impl<
         self.call_owned(rt, pass, key, op)
     }
 
-    /// The same of a call whose key is handed over beside it.
+    /// Makes a call whose key is handed over beside it.
     fn call_owned<'a, R: Wait>(
         &'a self,
         rt: &R,
@@ -60,8 +60,8 @@ impl<
         self.call_on(rt, pass, key, op)
     }
 
-    /// The same of a call whose key is given beside it, handed over or lent. A lent key is copied
-    /// where an entry is made of it, and for the record in a recorded map.
+    /// Makes a call whose key is given beside it, owned or borrowed. A borrowed key is copied where
+    /// an entry is made of it, and for the record in a recorded map. It waits for the key's bin.
     ///
     ///     map.call_on(rt, pass, Given::Owned(1), Op::Put(5))?;
     ///     map.call_on(rt, pass, Given::Lent(&1), Op::Get)? == Reply::Value(Some(5))

@@ -14,8 +14,8 @@ use crate::fault::Fault;
 use crate::map::Map;
 use bin_history::{Bin, Given, Op, Remap};
 use count_ledger::{BinRole, Pass};
-use generations::{next_in_walk, walk_laws};
 use hashkeys::{Class, HashKey};
+use places::{next_in_walk, walk_laws};
 use std::alloc::Allocator;
 use std::sync::Wait;
 

@@ -1,16 +1,18 @@
 //! How a map's table grows: one move at a time, from a table of n bins to one of 2n.
 ghost use Rattle.std.specs.Prelude.{◌≡◌, ◌^◌, ◌≤◌, ◌/◌, true, IfOk, IfSome};
-ghost use Rattle.hashkeys.specs.Classes.{IsTableSize};
+ghost use Rattle.chm.specs.Refusals.{AreClients};
 
+use crate::turns::Turns;
+use bin_history::Form;
 use boxcar::slot::{OnceSlot, SlotRule};
 use boxcar::tag::Tag;
 use std::alloc::{AllocError, Allocator};
 use std::sync::atomic::Ordering::SeqCst;
 use std::sync::atomic::{AtomicIn, Rule};
-use transfer::{Mover, Strides};
+use transfer::Mover;
 
 /// The widest table has 2 to this many bins, and there is a move from each narrower one.
-const MOST_EXPONENT: u32 = 16;
+const MOST_EXPONENT: u32 = 26;
 
 /// The rule of the resize word, which is four times the exponent of the table's size, and the
 /// phase.
@@ -19,7 +21,7 @@ pub(crate) struct ResizeWord;
 impl Rule for ResizeWord {
     ghost use Rattle.std.specs.Prelude.{◌/◌, ◌≤◌};
 
-    ghost invariant = { λ word. word / 4 ≤ 16 };
+    ghost invariant = { λ word. word / 4 ≤ 26 };
 }
 
 /// Whether a move is open.
@@ -44,7 +46,7 @@ pub(crate) struct Table {
 impl Table {
     /// The number of bins.
     pub(crate) fn n(&self) -> u32
-        requires { self.now.exponent ≤ 16 }
+        requires { self.now.exponent ≤ 26 }
         ensures { result ≡ 2 ^ self.now.exponent }
     {
         1 << self.exponent
@@ -52,7 +54,7 @@ impl Table {
 }
 
 fn word_of(exponent: u32, phase: Phase) -> u64
-    requires { exponent ≤ 16 }
+    requires { exponent ≤ 26 }
     ensures { result / 4 ≡ exponent }
 {
     let number = match phase {
@@ -67,22 +69,22 @@ fn word_of(exponent: u32, phase: Phase) -> u64
 /// who has it says that the move is `ready`, or `shut`s it for a later call to open.
 pub(crate) struct Opening {
     table: Table,
-    ghost size: { table.exponent ≤ 16 },
+    ghost size: { table.exponent ≤ 26 },
 }
 
 /// A move from a table of 2 to the exponent bins to one of twice as many, with its strides.
 #[derive(Drop)]
 pub(crate) struct Doubling<A: Allocator> {
     exponent: u32,
-    pub(crate) strides: Strides<A>,
-    ghost size: { exponent ≤ 16 },
-    ghost whole: { strides.bins ≡ 2 ^ exponent },
+    pub(crate) turns: Turns<A>,
+    ghost size: { exponent ≤ 26 },
+    ghost whole: { turns.bins ≡ 2 ^ exponent },
 }
 
 impl<A: Allocator> Doubling<A> {
     /// The number of bins that it moves.
     pub(crate) fn n(&self) -> u32
-        ensures { result ≡ self.now.strides.bins }
+        ensures { result ≡ self.now.turns.bins }
     {
         1 << self.exponent
     }
@@ -115,22 +117,21 @@ impl<A: Allocator + Clone> Growth<A> {
         Ok(Growth { word, moves })
     }
 
-    /// The strides of a move of `n` bins, and its opener's mover.
-    fn make_strides(&self, n: u32) -> Result<(Strides<A>, Mover), AllocError>
-        requires { IsTableSize n }
-        ensures bins { IfOk result (λ r. r.0.bins ≡ n) }
-        ensures mover { IfOk result (λ r. r.1.strides ≡ r.0) }
-    {
-        Strides::new(self.allocator().clone()?, n as usize)
-    }
-
-    /// The move that is being opened, and its opener's mover.
-    pub(crate) fn make_move(&self, opening: &Opening) -> Result<(Doubling<A>, Mover), AllocError>
-        ensures { IfOk result (λ r. r.1.strides ≡ r.0.strides) }
+    /// The move that is being opened, in a map of the form with so many clients, and in a recorded
+    /// map its opener's mover.
+    pub(crate) fn make_move(
+        &self,
+        opening: &Opening,
+        form: Form,
+        clients: u32,
+    ) -> Result<(Doubling<A>, Option<Mover>), AllocError>
+        requires { AreClients clients }
+        ensures { IfOk result (λ r. IfSome r.1 (λ m. m.strides ≡ r.0.turns)) }
     {
         let exponent = opening.table.exponent;
-        let (strides, mover) = self.make_strides(opening.table.n())?;
-        Ok((Doubling { exponent, strides }, mover))
+        let alloc = self.allocator().clone()?;
+        let (turns, mover) = Turns::new(alloc, form, opening.table.n(), clients)?;
+        Ok((Doubling { exponent, turns }, mover))
     }
 }
 
@@ -142,7 +143,7 @@ impl<A: Allocator> Growth<A> {
 
     /// What the resize word says now.
     pub(crate) fn table(&self) -> Table
-        ensures { result.exponent ≤ 16 }
+        ensures { result.exponent ≤ 26 }
     {
         let word = self.word.load(SeqCst);
         let phase = match word % 4 {
@@ -158,7 +159,7 @@ impl<A: Allocator> Growth<A> {
 
     /// Tries once to open a move from this table.
     pub(crate) fn open(&self, table: Table) -> Option<Opening>
-        requires { table.exponent ≤ 16 }
+        requires { table.exponent ≤ 26 }
         ensures { IfSome result (λ opening. opening.table ≡ table) }
     {
         let still = word_of(table.exponent, Phase::Still);
@@ -186,7 +187,7 @@ impl<A: Allocator> Growth<A> {
     /// Makes the table of twice the size the one that calls go by. The mover was told that all bins
     /// of the move are finished, which one is.
     pub(crate) fn publish(&self, doubling: &Doubling<A>, mover: &Mover)
-        requires mover { mover.now.strides ≡ doubling.now.strides }
+        requires mover { mover.now.strides ≡ doubling.now.turns }
         requires last { mover.now.last ≡ true }
     {
         let _ = mover;

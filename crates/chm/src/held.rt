@@ -1,6 +1,6 @@
 //! What is done with a bin while it is held.
 ghost use Rattle.std.specs.Prelude.{◌≡◌, ◌<◌, true, length, IfOk, OnErr};
-ghost use Rattle.hashkeys.specs.Classes.{is_of};
+ghost use Rattle.hashkeys.specs.Classes.{covers, is_of};
 ghost use Rattle.bin_history.specs.Calls.{after};
 ghost use Rattle.bin_history.specs.Copies.{IsExact};
 ghost use Rattle.bin_history.specs.Hashes.{hash_by};
@@ -8,12 +8,17 @@ ghost use Rattle.bin_history.specs.Ops.{call_on, key_in};
 ghost use Rattle.count_ledger.specs.Agreement.{BinAgrees};
 ghost use Rattle.count_ledger.specs.Fronts.{HasSeen};
 ghost use Rattle.count_ledger.specs.Limits.{most_calls};
+ghost use Rattle.places.specs.Views.{place_of};
+ghost use Rattle.lean_bins.specs.Lying.{LiesAt};
+ghost use Rattle.chm.specs.Headline.{IsCalled};
 ghost use Rattle.chm.specs.Histories.{IsCalledOn, IsMet};
+ghost use Rattle.chm.specs.Views.{bins_of};
 
 use crate::map::Map;
 use bin_history::{Bin, Given, Op, Remap, Reply};
 use count_ledger::{BinRole, Pass};
-use hashkeys::HashKey;
+use hashkeys::{Class, HashKey};
+use lean_bins::Lying;
 use std::alloc::{AllocError, Allocator};
 
 impl<
@@ -56,6 +61,44 @@ impl<
         let alloc = self.growth.allocator();
         let (reply, trace) = bin.make_on(alloc, hash, key, op, pass.client(), pass.made())?;
         self.ledger.post_trace(pass, role, &trace);
+        Ok((reply, trace.delta() == 1))
+    }
+
+    /// The same on what lies at the place of a lean bin of the class, which has the hash. The bin and
+    /// its role stay there.
+    #[inline(always)]
+    pub(crate) fn call_lying(
+        &self,
+        pass: &mut Pass<K, V, F>,
+        lying: &mut Lying<K, V, F, A>,
+        class: Class,
+        hash: u32,
+        key: Given<'_, K>,
+        op: Op<V, F>,
+    ) -> Result<(Reply<V>, bool), AllocError>
+        requires keys { IsExact K.is_clone }
+        requires values { IsExact V.is_clone }
+        requires pass { pass.old.ledger ≡ self.now.ledger.id }
+        requires room { length pass.old.made < most_calls self.now.ledger.form }
+        requires lies { LiesAt K.eq (after V.eq F.remapped F.merged)
+            (place_of (bins_of self.now) class) lying.old }
+        requires hash { hash ≡ hash_by K.code self.now.ledger.salt (key_in key) }
+        requires covers { covers class hash ≡ true }
+        ensures called { IfOk result
+            (λ r. IsCalled K.eq V.eq F.remapped F.merged self.now.ledger
+            (call_on (key_in key.entry) op) pass.old pass.new r.0) }
+        ensures refused { OnErr result (pass.new ≡ pass.old) }
+        ensures lies { LiesAt K.eq (after V.eq F.remapped F.merged)
+            (place_of (bins_of self.now) class) lying.new }
+    {
+        lying.entries.lawful::<F>();
+        let alloc = self.growth.allocator();
+        let (reply, trace) = lying
+            .entries
+            .make_on(alloc, hash, key, op, pass.client(), pass.made())?;
+        let mut role = lying.take_role(class);
+        self.ledger.post_trace(pass, &mut role, &trace);
+        lying.put_role(role);
         Ok((reply, trace.delta() == 1))
     }
 

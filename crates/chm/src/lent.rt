@@ -17,7 +17,7 @@ impl<
     F: Remap<K, V> + Clone + Drop,
     A: Allocator + Clone,
 > Map<K, V, F, A> {
-    /// The same as `get`, with the key borrowed. The value at the key.
+    /// Returns the value at a borrowed key.
     ///
     ///     map.put(rt, pass, 1, 5)?;
     ///     map.get_by(rt, pass, &1)? == Reply::Value(Some(5))
@@ -35,7 +35,7 @@ impl<
         self.call_on(rt, pass, Given::Lent(key), Op::Get)
     }
 
-    /// The same as `contains_key`, with the key borrowed. Whether the key has a value.
+    /// Returns whether a borrowed key has a value.
     ///
     ///     map.put(rt, pass, 1, 5)?;
     ///     map.contains_key_by(rt, pass, &1)? == Reply::Truth(true)
@@ -53,8 +53,7 @@ impl<
         self.call_on(rt, pass, Given::Lent(key), Op::Contains)
     }
 
-    /// The same as `remove`, with the key borrowed. Takes the key away, and replies the value
-    /// before.
+    /// Takes a borrowed key away. Returns the value before.
     ///
     ///     map.put(rt, pass, 1, 5)?;
     ///     map.remove_by(rt, pass, &1)? == Reply::Value(Some(5))
@@ -73,8 +72,7 @@ impl<
         self.call_on(rt, pass, Given::Lent(key), Op::Remove)
     }
 
-    /// The same as `replace`, with the key borrowed. Gives the key this value where it has one, and
-    /// replies the value before.
+    /// Gives a borrowed key this value where it has one. Returns the value before.
     ///
     ///     map.put(rt, pass, 1, 5)?;
     ///     map.replace_by(rt, pass, &1, 6)? == Reply::Value(Some(5))

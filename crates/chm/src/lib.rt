@@ -9,10 +9,12 @@
 //! contract says which of them stands first.
 //!
 //! The table grows while it is called. After a call that made its key present, where there are
-//! three keys to four bins, the call's client opens a move to twice the bins, and moves 16 of them
-//! at a time; calls that meet a moved bin help. Moves wait for nobody: a bin that is held just then
-//! is skipped, and the next call on it moves it. So a call waits for its own bin alone, and no
-//! refusal in a move is an error of a call.
+//! three keys to four bins of records, or three to two lean bins, the call's client opens a move to
+//! twice the bins, and moves 16 of them at a time: in a recorded map until none is left, in a lean
+//! one once, as does each other call while the move is open. From 1,024 lean bins on a client looks
+//! how many keys there are once for 16 keys that it adds. Moves wait for nobody: a bin that is held
+//! just then is skipped, and the next call on it moves it. So a call waits for its own bin alone,
+//! and no refusal in a move is an error of a call.
 #![tactic(auto)]
 
 mod balance;
@@ -35,16 +37,17 @@ mod share;
 mod single;
 mod size;
 mod taken;
+mod turns;
 mod visit;
 
 pub use bin_history::{Call, Form, Given, Op, Remap, Reply};
 pub use close::NotClosed;
 pub use count_ledger::{MOST_CALLS, MOST_CLIENTS, MOST_LEAN_CALLS, Moment, Pass, retire_all};
 pub use fault::Fault;
-pub use hashkeys::{ByteString, Bytes, Class, HashKey, Key, Salt};
+pub use hashkeys::{ByteString, Bytes, Class, HashKey, Key, MOST_BINS, Salt};
 pub use laws::laws_of_classes;
 pub use map::{Map, Opened};
 pub use quiet::{Entries, Quiet};
 pub use share::Sharing;
-pub use size::MOST_BINS;
+pub use turns::MOST_RECORDED_BINS;
 pub use visit::Visit;

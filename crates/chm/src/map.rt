@@ -9,15 +9,16 @@ ghost use Rattle.count_ledger.specs.Opening.{AreOfTheirClasses, lists_of, new_pa
 ghost use Rattle.count_ledger.specs.Words.{total_made};
 ghost use Rattle.bin_history.specs.declared.form.Form.TheVariants.{Recorded, Lean};
 ghost use Rattle.chm.specs.Opened.{IsLimited, IsNew};
-ghost use Rattle.chm.specs.Refusals.{AreClients, IsCapacity};
+ghost use Rattle.chm.specs.Refusals.{AreClients, IsCapacity, IsCapacityOf};
 
 use crate::fault::Fault;
 use crate::growth::Growth;
 use crate::size::size_for;
+use crate::turns::most_capacity;
 use bin_history::{Form, Remap};
 use count_ledger::{Ledger, Pass, retire_all};
-use generations::Generations;
 use hashkeys::{HashKey, Salt};
+use homes::Home;
 use std::alloc::{AllocError, Allocator};
 use std::marker::Model;
 
@@ -31,7 +32,7 @@ use std::marker::Model;
 #[derive(Drop)]
 pub struct Map<K: HashKey, V: Clone + Eq, F: Remap<K, V> + Clone, A: Allocator> {
     pub(crate) ledger: Ledger<K, V, F, A>,
-    pub(crate) bins: Generations<K, V, F, A>,
+    pub(crate) bins: Home<K, V, F, A>,
     pub(crate) growth: Growth<A>,
     pub(crate) opened: u64,
 }
@@ -89,7 +90,7 @@ impl<
         Map::with_salt(alloc, capacity, clients, Salt(0))
     }
 
-    /// The same with a salt, with which the codes of keys are mixed.
+    /// Opens a map as `new` does, with a salt with which the codes of keys are mixed.
     ///
     ///     let (map, passes): Opened<u64, u64, Plus, Global> = Map::with_salt(alloc, 16, 4, Salt(7))?;
     ///     map.salt() == Salt(7)
@@ -107,8 +108,8 @@ impl<
         Map::with_form(alloc, Form::Recorded, capacity, clients, salt)
     }
 
-    /// The same as `with_salt`, but the map is lean: its bins store no records of calls, and a pass
-    /// makes 2^57 calls. What is proved of its calls is the same.
+    /// Opens a lean map, with a salt: its bins store no records of calls, its capacity is 1 to 2^26,
+    /// and a pass makes 2^57 calls. What is proved of its calls is what is of a recorded map's.
     ///
     ///     let (map, passes): Opened<u64, u64, Plus, Global> = Map::lean(alloc, 16, 4, Salt(0))?;
     ///     map.form() == Form::Lean
@@ -121,7 +122,7 @@ impl<
         requires keys { IsExact K.is_clone }
         requires values { IsExact V.is_clone }
         ensures new { IfOk result (λ r. IsNew Lean salt capacity clients r.0 r.1.items) }
-        ensures limits { IsLimited (IsCapacity capacity) clients result }
+        ensures limits { IsLimited (IsCapacityOf Lean capacity) clients result }
     {
         Map::with_form(alloc, Form::Lean, capacity, clients, salt)
     }
@@ -137,9 +138,9 @@ impl<
         requires keys { IsExact K.is_clone }
         requires values { IsExact V.is_clone }
         ensures new { IfOk result (λ r. IsNew form salt capacity clients r.0 r.1.items) }
-        ensures limits { IsLimited (IsCapacity capacity) clients result }
+        ensures limits { IsLimited (IsCapacityOf form capacity) clients result }
     {
-        if capacity < 1 || capacity > 4096 {
+        if capacity < 1 || capacity > most_capacity(form) {
             return Err(Fault::BadCapacity);
         }
         if clients < 1 || clients > 32 {
@@ -178,7 +179,7 @@ impl<
         let growth = Growth::new(alloc.clone()?, n)?;
         let for_bins = alloc.clone()?;
         let (ledger, passes, roles) = Ledger::new(alloc, form, salt, clients, &bases)?;
-        match Generations::new(for_bins, form, salt, n, bases, roles) {
+        match Home::new(for_bins, form, salt, n, bases, roles) {
             Ok(bins) => {
                 let map = Map {
                     ledger,

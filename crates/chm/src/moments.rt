@@ -27,7 +27,7 @@ impl<K: HashKey, V: Clone + Eq, F: Remap<K, V> + Clone, A: Allocator> Map<K, V, 
         self.ledger.moment(pass)
     }
 
-    /// The same moment once more, for one more client.
+    /// Returns a copy of the moment, for one more client.
     ///
     ///     let mut moment = map.moment(first);
     ///     let mut copy = map.again(&mut moment);

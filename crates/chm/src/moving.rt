@@ -7,18 +7,20 @@ ghost use Rattle.transfer.specs.Views.{IsUnfinished};
 
 use crate::growth::{Doubling, Table};
 use crate::map::Map;
-use crate::size::{MOST_BINS, threshold};
+use crate::turns::{helps, is_due, most_bins, threshold};
 use bin_history::Remap;
-use generations::Refused;
-use hashkeys::{Class, HashKey};
+use count_ledger::Pass;
+use hashkeys::{Class, HashKey, MOST_BINS};
+use places::Refused;
 use std::alloc::Allocator;
 use transfer::{Finish, Mover, Range};
 
-/// What a call met, and whether it made its key present.
+/// What a call met, whose it was, and its client's balance where it made its key present.
 #[derive(Drop)]
 pub(crate) struct Landed {
     pub(crate) class: Class,
-    pub(crate) grew: bool,
+    pub(crate) client: u32,
+    pub(crate) grown: Option<u64>,
 }
 
 impl<
@@ -36,12 +38,34 @@ impl<
         if landed.class.n() < table.n() {
             self.move_bin(landed.class);
         }
-        if self.bins.n() < landed.class.n() {
-            self.help(table);
+        let form = self.form();
+        if helps(form, self.bins.n() < landed.class.n()) {
+            self.help(table, landed.client);
         }
+        if let Some(balance) = landed.grown {
+            if is_due(form, table.n(), balance) {
+                self.grow_if_full(table, landed.client);
+            }
+        }
+    }
+
+    /// The balance of the client of a call that made its key present.
+    pub(crate) fn count_if(&self, grew: bool, pass: &mut Pass<K, V, F>) -> Option<u64>
+        requires pass { pass.old.ledger ≡ self.now.ledger.id }
+        ensures same { pass.new ≡ pass.old }
+    {
+        if grew { Some(self.balance(pass)) } else { None }
+    }
+
+    /// Opens a move where there are too many keys.
+    fn grow_if_full(&self, table: Table, client: u32)
+        requires exact { AreExact K.is_clone V.is_clone F.is_clone }
+        requires table { table.exponent ≤ 26 }
+    {
         let n = table.n();
-        if landed.grew && n < MOST_BINS && self.mapping_count() >= u64::from(threshold(n)) {
-            self.grow(table);
+        let form = self.form();
+        if n < most_bins(form) && self.mapping_count() >= u64::from(threshold(form, n)) {
+            self.grow(table, client);
         }
     }
 
@@ -59,7 +83,7 @@ impl<
     /// the last.
     fn move_range(&self, doubling: &Doubling<A>, mover: &mut Mover, range: Range)
         requires exact { AreExact K.is_clone V.is_clone F.is_clone }
-        requires mover { mover.old.strides ≡ doubling.now.strides }
+        requires mover { mover.old.strides ≡ doubling.now.turns }
         requires range { IsUnfinished mover.old range }
         ensures mover { mover.new.strides ≡ mover.old.strides }
         ensures claimed { mover.new.claimed ≡ mover.old.claimed }
@@ -68,26 +92,32 @@ impl<
         for index in range.lo..range.hi.min(n as usize) {
             self.move_bin(Class::new(n, index as u32));
         }
-        if doubling.strides.finish(mover, range) == Finish::Last {
+        if doubling.turns.finish(mover, range) == Finish::Last {
             self.growth.publish(doubling, mover);
         }
     }
 
-    /// Takes part in the open move with one stride, if there is a mover left.
-    fn help(&self, table: Table)
+    /// Takes part in the open move with one stride, if there is a mover left for the client.
+    fn help(&self, table: Table, client: u32)
         requires exact { AreExact K.is_clone V.is_clone F.is_clone }
     {
-        let Some(doubling) = self.growth.open_move(table) else {
+        if let Some(doubling) = self.growth.open_move(table) {
+            self.take_turn(doubling, client);
+        }
+    }
+
+    /// Moves one stride of a move, if there is a mover left for the client.
+    fn take_turn(&self, doubling: &Doubling<A>, client: u32)
+        requires exact { AreExact K.is_clone V.is_clone F.is_clone }
+    {
+        let turns = &doubling.turns;
+        let Some(mut mover) = turns.enter(client) else {
             return;
         };
-        let strides = &doubling.strides;
-        let Some(mut mover) = strides.enter() else {
-            return;
-        };
-        if let Some(range) = strides.claim(&mut mover) {
+        if let Some(range) = turns.claim(&mut mover) {
             self.move_range(doubling, &mut mover, range);
         }
-        strides.leave(mover);
+        turns.leave(client, mover);
     }
 
     /// Makes the places of a table of twice as many bins.
@@ -101,11 +131,11 @@ impl<
         }
     }
 
-    /// Tries to open a move, and then moves strides until none is left. For want of memory for its
-    /// places or its strides there is no move.
-    fn grow(&self, table: Table)
+    /// Tries to open a move, and then moves strides until none is left, or in a lean map one. For
+    /// want of memory for its places or its strides there is no move.
+    fn grow(&self, table: Table, client: u32)
         requires exact { AreExact K.is_clone V.is_clone F.is_clone }
-        requires table { table.exponent ≤ 16 }
+        requires table { table.exponent ≤ 26 }
     {
         let Some(slot) = self.growth.slot(table) else {
             return;
@@ -117,7 +147,8 @@ impl<
             self.growth.shut(opening);
             return;
         }
-        let Ok((doubling, mut mover)) = self.growth.make_move(&opening) else {
+        let Ok((doubling, opener)) = self.growth.make_move(&opening, self.form(), self.clients())
+        else {
             self.growth.shut(opening);
             return;
         };
@@ -126,9 +157,21 @@ impl<
             return;
         };
         self.growth.ready(opening);
-        while let Some(range) = doubling.strides.claim(&mut mover) {
+        match opener {
+            Some(mover) => self.move_all_left(doubling, client, mover),
+            None => self.take_turn(doubling, client),
+        }
+    }
+
+    /// Moves strides until none is left.
+    fn move_all_left(&self, doubling: &Doubling<A>, client: u32, mover: Mover)
+        requires exact { AreExact K.is_clone V.is_clone F.is_clone }
+        requires mover { mover.strides ≡ doubling.now.turns }
+    {
+        let mut mover = mover;
+        while let Some(range) = doubling.turns.claim(&mut mover) {
             self.move_range(doubling, &mut mover, range);
         }
-        doubling.strides.leave(mover);
+        doubling.turns.leave(client, mover);
     }
 }

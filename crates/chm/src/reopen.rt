@@ -64,7 +64,7 @@ impl<
         self.reopen_with(clients, self.salt)
     }
 
-    /// The same with another salt.
+    /// Opens a map with copies of the pairs, as `reopen` does, with another salt.
     ///
     ///     let (map, passes) = quiet.reopen_with(2, Salt(7))?;
     ///     map.salt() == Salt(7)
@@ -84,7 +84,7 @@ impl<
         }
         self.lawful();
         let alloc = self.bins.allocator();
-        let n = size_from(self.n, count);
+        let n = size_from(self.form, self.n, count);
         let bases = deal(alloc.clone()?, salt, n, self.entries())?;
         Ok(Map::open(alloc.clone()?, self.form, salt, clients, bases, count)?)
     }

@@ -3,7 +3,7 @@ ghost use Rattle.std.specs.Prelude.{◌≡◌, ◌↔◌, ◌≤◌, ◌<◌, tr
 ghost use Rattle.std.specs.List.{HoldsAt};
 ghost use Rattle.hashkeys.specs.Classes.{IsTableSize, covers};
 ghost use Rattle.bin_history.specs.Entries.{lookup};
-ghost use Rattle.generations.specs.Walks.{HasPassed};
+ghost use Rattle.places.specs.Walks.{HasPassed};
 ghost use Rattle.chm.specs.Headline.{entries_of};
 
 use crate::quiet::Quiet;

@@ -1,13 +1,15 @@
 //! Sizes of tables.
 ghost use Rattle.std.specs.Prelude.{◌≡◌, ℕ, ◌^◌, ◌≤◌, ◌<◌};
 ghost use Rattle.hashkeys.specs.Classes.{IsTableSize};
-ghost use Rattle.chm.specs.Sizes.{threshold, IsSizeFor, IsSizeFrom};
+ghost use Rattle.hashkeys.specs.Limits.{most_bins};
+ghost use Rattle.chm.specs.Sizes.{IsSizeFor, IsSizeFrom};
 
-pub use hashkeys::MOST_BINS;
+use crate::turns::{most_bins, threshold};
+use bin_history::Form;
 
-/// The least table of at least this capacity, which is 1 to 4,096.
+/// The least table of at least this capacity, which is 1 to 2^26.
 pub(crate) fn size_for(capacity: u32) -> u32
-    requires { (1 ≤ capacity) × (capacity ≤ 4096) }
+    requires { (1 ≤ capacity) × (capacity ≤ most_bins) }
     ensures { IsSizeFor capacity result }
 {
     let mut n = 1;
@@ -17,20 +19,14 @@ pub(crate) fn size_for(capacity: u32) -> u32
     n
 }
 
-/// From how many keys on a table of `n` bins is too small.
-pub(crate) fn threshold(n: u32) -> u32
-    ensures { result ≡ threshold n }
-{
-    n - n / 4
-}
-
-/// The least table from `n0` bins on that has room for so many keys, or the widest table.
-pub(crate) fn size_from(n0: u32, count: u64) -> u32
+/// The least table of the form from `n0` bins on that has room for so many keys, or the widest
+/// table.
+pub(crate) fn size_from(form: Form, n0: u32, count: u64) -> u32
     requires { IsTableSize n0 }
-    ensures { IsSizeFrom n0 count result }
+    ensures { IsSizeFrom form n0 count result }
 {
     let mut n = n0;
-    while n < MOST_BINS && count >= u64::from(threshold(n)) {
+    while n < most_bins(form) && count >= u64::from(threshold(form, n)) {
         n *= 2;
     }
     n

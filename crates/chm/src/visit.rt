@@ -2,7 +2,8 @@
 ghost use Rattle.std.specs.Prelude.{◌≡◌, All, IfOk, IfErr, option_copied};
 ghost use Rattle.bin_history.specs.Calls.{after};
 ghost use Rattle.bin_history.specs.Copies.{IsExact};
-ghost use Rattle.generations.specs.Places.{AreAt};
+ghost use Rattle.homes.specs.Places.{tag_of};
+ghost use Rattle.places.specs.Places.{AreAt};
 ghost use Rattle.bin_history.specs.Entries.{HasDistinctKeys, lookup};
 ghost use Rattle.bin_history.specs.Plain.{run};
 ghost use Rattle.count_ledger.specs.Fronts.{HasSeen, HasSeenMore};
@@ -13,8 +14,9 @@ use crate::map::Map;
 use bin_history::Remap;
 use count_ledger::Pass;
 use crossbeam_utils::Backoff;
-use generations::{Held, next_in_walk, walk_laws};
 use hashkeys::{Class, HashKey};
+use homes::Held;
+use places::{next_in_walk, walk_laws};
 use std::alloc::{AllocError, Allocator};
 use std::marker::Model;
 use std::sync::Wait;
@@ -43,7 +45,7 @@ impl<
     /// Waits for the first of the bins of a class. A bin of a wider class has hashes that were
     /// passed before, so it is given back and asked for again.
     pub(crate) fn hold_first<R: Wait>(&self, rt: &R, class: Class) -> Held<'_, K, V, F, A>
-        ensures at { AreAt K.eq (after V.eq F.remapped F.merged) result.place.now
+        ensures at { AreAt K.eq (after V.eq F.remapped F.merged) (tag_of result.place)
             result.bin result.role }
         ensures first { IsFirstOf class result.bin.class }
         ensures ledger { result.role.ledger ≡ self.now.ledger.id }
@@ -163,8 +165,9 @@ impl<
         Ok(value?)
     }
 
-    /// A copy of the value at a key, read beside others that read the bin. It is no call: nothing
-    /// is posted, and which moment it shows is not said.
+    /// A copy of the value at a key. In a recorded map it is read beside others that read the bin;
+    /// in a lean one the bin is held. It is no call: nothing is posted, and which moment it shows is
+    /// not said.
     ///
     ///     map.put(rt, pass, 1, 5)?;
     ///     map.glance(rt, &1)? == Some(5)
@@ -175,10 +178,7 @@ impl<
         ensures faults { IfErr result (λ fault. fault ≡ Fault.NoMemory) }
     {
         let hash = self.salt().hash_of(key);
-        let shown = self.bins.read(rt, hash);
-        let value = copied(shown.bin().get(hash, key));
-        shown.release();
-        Ok(value?)
+        Ok(self.bins.glance(rt, hash, key)?)
     }
 }
 

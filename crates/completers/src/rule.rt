@@ -28,8 +28,8 @@ pub enum Right {
     /// Arrive: the node, the ticket's number and range, how many forks the node has, where the
     /// ticket is its own (else 0), and the tickets above the node.
     Waits(u64, u64, u64, u64, u64, Path),
-    /// The same while the ticket's slot is with the token, which has read the code of the ticket
-    /// above.
+    /// Arrive, while the ticket's slot is with the token, which has read the code of the ticket
+    /// above: the same words, and the code.
     Fills(u64, u64, u64, u64, u64, u64, Path),
     /// Nothing more: the ticket of this number has arrived at the node, and was not the last there.
     Counted(u64, u64),

@@ -1,5 +1,5 @@
--- Classes that have no hash in common cover every hash just where 65,536 hashes side by side have as many of them as
--- there are.
+-- Classes that have no hash in common cover every hash just where as many hashes side by side as a table has bins at
+-- most have as many of them as there are.
 use Rattle.std.proofs.Common.{◌≡◌, ℕ, zero, suc, ◌+◌, ◌-◌, ◌*◌, ◌/◌, ◌%◌, ◌^◌, ◌<◌, ◌≤◌, ◌==◌, Bool, true, false, cond}
 use Rattle.std.proofs.Common.{List, [], ◌∷◌, MatchBool, sum_by}
 use Rattle.std.proofs.Common.{count_by, sym, refl, ap, subst, ◌∙◌, arith, All}
@@ -10,6 +10,7 @@ use Rattle.std.proofs.lemmas.List.Sums.{sum_by-cons}
 use Rattle.std.proofs.lemmas.Nat.{mod-mul-add, pow-add}
 use Rattle.std.proofs.Math.Nat.{mod-mod_of_dvd, dvd-mul_left, mul-div_cancel, suc-mul, zero-mul}
 use Rattle.hashkeys.specs.Classes.{ClassView, IsClass, AreApart, covers, covering, CoverAll, CoverOnce}
+use Rattle.hashkeys.specs.Limits.{most_bins}
 use Rattle.count_ledger.specs.Rule.{Among}
 use Rattle.count_ledger.specs.Tokens.{AreWide}
 use Rattle.count_ledger.proofs.Tallies.{upto, upto-none, upto-same, upto-more, upto-one, upto-least, upto-count}
@@ -27,56 +28,56 @@ upto-covered c lt (suc m) =
     let before : upto (covered c) (m * c.n) ≡ m = upto-covered c lt m in
     ap (upto (covered c)) (suc-mul m c.n) ∙ upto-more (covered c) (m * c.n) c.n ∙ omega arith
 
--- a class's size goes into 65,536
-rounds : (c : ClassView) → IsClass c → (m : ℕ) × (m * c.n ≡ 65536)
+-- a class's size goes into the most
+rounds : (c : ClassView) → IsClass c → (m : ℕ) × (m * c.n ≡ most_bins)
 rounds c ((e, le, is), lt) = (
-  2 ^ (16 - e),
-  ap (λ (x : ℕ). 2 ^ (16 - e) * x) is
-      ∙ (sym (pow-add 2 (16 - e) e) ∙ ap (λ (x : ℕ). 2 ^ x) (let s : (16 - e) + e ≡ 16 = omega arith in s)),
+  2 ^ (26 - e),
+  ap (λ (x : ℕ). 2 ^ (26 - e) * x) is
+      ∙ (sym (pow-add 2 (26 - e) e) ∙ ap (λ (x : ℕ). 2 ^ x) (let s : (26 - e) + e ≡ 26 = omega arith in s)),
 )
 
-width : (c : ClassView) → IsClass c → upto (covered c) 65536 ≡ 65536 / c.n
+width : (c : ClassView) → IsClass c → upto (covered c) most_bins ≡ most_bins / c.n
 width c k =
     let (m, is) = rounds c k in
     ap (upto (covered c)) (sym is) ∙ upto-covered c k.1 m ∙ sym (mul-div_cancel m (let l = k.1 in omega arith))
     ∙ ap (λ (x : ℕ). x / c.n) is
 
-covers-mod : (c : ClassView) → IsClass c → (h : ℕ) → covers c (h % 65536) ≡ covers c h
+covers-mod : (c : ClassView) → IsClass c → (h : ℕ) → covers c (h % most_bins) ≡ covers c h
 covers-mod c k h =
     let (m, is) = rounds c k in
-    ap (λ (x : ℕ). x == c.index) (mod-mod_of_dvd c.n {b = 65536} h (subst (λ (x : ℕ). c.n ∣ x) is (dvd-mul_left c.n m)))
+    ap (λ (x : ℕ). x == c.index) (mod-mod_of_dvd c.n {b = most_bins} h (subst (λ (x : ℕ). c.n ∣ x) is (dvd-mul_left c.n m)))
 
 covering-mod : (classes : List ClassView) → All IsClass classes → (h : ℕ) →
-    covering classes (h % 65536) ≡ covering classes h
+    covering classes (h % most_bins) ≡ covering classes h
 covering-mod [] k h = refl
 covering-mod (c ∷ cs) k h =
-    sum_by-cons (λ (d : ClassView). covered d (h % 65536)) c cs
-    ∙ ap (λ (b : Bool). cond b 1 0 + covering cs (h % 65536)) (covers-mod c (All-head IsClass c cs k) h)
+    sum_by-cons (λ (d : ClassView). covered d (h % most_bins)) c cs
+    ∙ ap (λ (b : Bool). cond b 1 0 + covering cs (h % most_bins)) (covers-mod c (All-head IsClass c cs k) h)
     ∙ ap (λ (n : ℕ). covered c h + n) (covering-mod cs (All-tail IsClass c cs k) h)
     ∙ sym (sum_by-cons (λ (d : ClassView). covered d h) c cs)
 
-widths : (classes : List ClassView) → All IsClass classes → All (λ c. upto (covered c) 65536 ≡ 65536 / c.n) classes
-widths classes = All-weaker IsClass (λ c. upto (covered c) 65536 ≡ 65536 / c.n) width classes
+widths : (classes : List ClassView) → All IsClass classes → All (λ c. upto (covered c) most_bins ≡ most_bins / c.n) classes
+widths classes = All-weaker IsClass (λ c. upto (covered c) most_bins ≡ most_bins / c.n) width classes
 
 pub CoverOnce-wide : (P : ClassView → Type 0) (classes : List ClassView) → AreWide classes → Among P AreApart classes →
     CoverOnce classes
 CoverOnce-wide P classes wide apart h =
     sym (covering-mod classes wide.lawful h)
-    ∙ hit_once covers P (λ c. 65536 / c.n) 65536 classes apart (widths classes wide.lawful) wide.wide
-    (h % 65536) (omega arith)
+    ∙ hit_once covers P (λ c. most_bins / c.n) most_bins classes apart (widths classes wide.lawful) wide.wide
+    (h % most_bins) (omega arith)
 
 pub CoverAll-once : (classes : List ClassView) → CoverOnce classes → CoverAll classes
 CoverAll-once classes once h lt = let one = once h in omega arith
 
 wide_from_cover : (classes : List ClassView) → All IsClass classes → CoverAll classes →
-    65536 ≤ sum_by (λ c. 65536 / c.n) classes
+    most_bins ≤ sum_by (λ c. most_bins / c.n) classes
 wide_from_cover classes lawful all =
-    let w = upto-count covers (λ c. 65536 / c.n) 65536 classes (widths classes lawful) in
-    let least = upto-least (λ h. count_by (λ c. covers c h) classes) 65536 (λ h lt. all h (omega arith)) in
+    let w = upto-count covers (λ c. most_bins / c.n) most_bins classes (widths classes lawful) in
+    let least = upto-least (λ h. count_by (λ c. covers c h) classes) most_bins (λ h lt. all h (omega arith)) in
     omega arith
 
--- what a walk over all classes, which takes their widths from 65,536, has left at its end
-pub wide_by_rest : (left : ℕ) (classes : List ClassView) → left ≡ 65536 - sum_by (λ c. 65536 / c.n) classes →
+-- what a walk over all classes, which takes their widths from the most, has left at its end
+pub wide_by_rest : (left : ℕ) (classes : List ClassView) → left ≡ most_bins - sum_by (λ c. most_bins / c.n) classes →
     All IsClass classes
     → MatchBool (left == 0) (AreWide classes) (CoverAll classes → ⊥)
 wide_by_rest left classes is lawful = go (left == 0) refl where

@@ -87,7 +87,7 @@ impl<K: HashKey, V: Eq, F: Remap<K, V>, A: Allocator> Ledger<K, V, F, A> {
         }
     }
 
-    /// The same as `post_trace`, with the record itself.
+    /// Posts a call by its record; `post_trace` does by its trace.
     pub fn post(
         &self,
         pass: &mut Pass<K, V, F>,
@@ -190,7 +190,7 @@ impl<K: HashKey, V: Eq, F: Remap<K, V>, A: Allocator> Ledger<K, V, F, A> {
         }
     }
 
-    /// The same moment once more.
+    /// Returns a copy of the moment.
     pub fn again(&self, moment: &mut Moment<K, V, F>) -> Moment<K, V, F>
         requires { moment.old.ledger ≡ self.now.id }
         ensures copy { result ≡ moment.old }

@@ -3,6 +3,7 @@
 #![tactic(auto)]
 
 mod books;
+mod books_by;
 mod dealing;
 mod laws;
 mod ledger;
@@ -15,6 +16,7 @@ mod sums;
 mod tokens;
 
 pub use bin_history::{MOST_CALLS, MOST_CLIENTS, MOST_LEAN_CALLS};
+pub use books_by::RoleBook;
 pub use laws::{agreement_laws, laws_of_fronts, totals_of_all, words_of_sums};
 pub use ledger::Ledger;
 pub use moment::Moment;

@@ -52,7 +52,7 @@ impl LedgerName {
         }
     }
 
-    /// The same name once more.
+    /// Returns a copy of the name.
     pub fn again(&self) -> LedgerName
         ensures { result ≡ self.now }
     {

@@ -1,27 +1,27 @@
--- Places in a table by their index, and tables by their exponent.
-use Rattle.std.proofs.Common.{◌≡◌, inl, inr, ℕ, zero, suc, ◌+◌, ◌-◌, ◌<◌, ◌≤◌, ◌%◌, ◌^◌, true, List, [], ◌∷◌, ◌++◌}
-use Rattle.std.proofs.Common.{length, get_or, map, sym, ap, subst, refl}
+-- Places in a table by their index.
+use Rattle.std.proofs.Common.{◌≡◌, inl, inr, ℕ, ◌+◌, ◌-◌, ◌<◌, ◌≤◌, ◌%◌, ◌^◌, true, List, [], ◌∷◌, ◌++◌}
+use Rattle.std.proofs.Common.{length, get_or, map, sym, ap, subst}
 use Rattle.std.proofs.Common.{◌∙◌, arith}
 use Rattle.std.specs.Int.Bits.{bit_and}
-use Rattle.std.specs.Int.Count.{count_trailing_zeros}
 use Rattle.std.specs.List.{range_with_len}
 use Rattle.std.proofs.Math.Nat.{mod-lt}
 use Rattle.std.proofs.Math.Seq.{get_or-append_seam}
 use Rattle.std.proofs.lemmas.Bool.{cases_lt, eq-eqb}
 use Rattle.std.proofs.lemmas.List.{get_or_append_left}
 use Rattle.std.proofs.lemmas.List.FromFn.{get_or-map-range_with_len}
-use Rattle.std.proofs.lemmas.Nat.{and_mask, pow_pos}
+use Rattle.std.proofs.lemmas.Nat.{and_mask}
 use Rattle.boxcar.specs.Slot.{Named}
 use Rattle.hashkeys.specs.Classes.{IsTableSize, covers}
 use Rattle.generations.specs.Generations.{IsTable, IsSlotOf}
-use Rattle.generations.specs.Views.{GenerationsView, place_of}
-use Rattle.generations.specs.declared.state.PlaceTag.{PlaceTag}
+use Rattle.places.proofs.Sizes.{size_pos}
+use Rattle.places.specs.Views.{HomeView, place_of}
+use Rattle.places.specs.declared.tag.PlaceTag.{PlaceTag}
 
 -- the map's place at an index of its table of n places
-abbrev pub tag_at : GenerationsView → ℕ → ℕ → PlaceTag
+abbrev pub tag_at : HomeView → ℕ → ℕ → PlaceTag
 tag_at m n i = place_of m (record { n = n; index = i })
 
-pub IsTable-all : (m : GenerationsView) (n : ℕ) (places : List PlaceTag) → IsTableSize n → m.n ≤ n → length places ≡ n
+pub IsTable-all : (m : HomeView) (n : ℕ) (places : List PlaceTag) → IsTableSize n → m.n ≤ n → length places ≡ n
     → places ≡ map (tag_at m n) (range_with_len 0 n) → IsTable m n places
 IsTable-all m n places size least count is = record {
   size = size;
@@ -35,11 +35,8 @@ IsTable-all m n places size least count is = record {
 pub mask_is : (hash n : ℕ) → IsTableSize n → bit_and hash (n - 1) ≡ hash % n
 mask_is hash n (e, le, is) = subst (λ (x : ℕ). bit_and hash (x - 1) ≡ hash % x) (sym is) (and_mask hash e)
 
-pub size_pos : (n : ℕ) → IsTableSize n → 0 < n
-size_pos n (e, le, is) = omega (arith, is, pow_pos e)
-
 -- the place of a table at a hash's remainder is of the map, and covers the hash
-module _ (m : GenerationsView) (n : ℕ) (places : List PlaceTag) (table : IsTable m n places) (hash index : ℕ)
+module _ (m : HomeView) (n : ℕ) (places : List PlaceTag) (table : IsTable m n places) (hash index : ℕ)
     (at : index ≡ bit_and hash (length places - 1))
     (p : PlaceTag) (is : p ≡ get_or places index p) where
   index_is : index ≡ hash % n
@@ -54,36 +51,8 @@ module _ (m : GenerationsView) (n : ℕ) (places : List PlaceTag) (table : IsTab
   pub place_covers : covers p.class hash ≡ true
   place_covers = subst (λ (q : PlaceTag). covers q.class hash ≡ true) (sym place_at) (eq-eqb _ _ (sym index_is))
 
--- the exponent of a table's size
-exponent_below : (e : ℕ) → e < 17 → count_trailing_zeros 32 (2 ^ e) ≡ e
-unfolding count_trailing_zeros
-exponent_below zero lt = refl
-exponent_below (suc zero) lt = refl
-exponent_below (suc (suc zero)) lt = refl
-exponent_below (suc (suc (suc zero))) lt = refl
-exponent_below (suc (suc (suc (suc zero)))) lt = refl
-exponent_below (suc (suc (suc (suc (suc zero))))) lt = refl
-exponent_below (suc (suc (suc (suc (suc (suc zero)))))) lt = refl
-exponent_below (suc (suc (suc (suc (suc (suc (suc zero))))))) lt = refl
-exponent_below (suc (suc (suc (suc (suc (suc (suc (suc zero)))))))) lt = refl
-exponent_below (suc (suc (suc (suc (suc (suc (suc (suc (suc zero))))))))) lt = refl
-exponent_below (suc (suc (suc (suc (suc (suc (suc (suc (suc (suc zero)))))))))) lt = refl
-exponent_below (suc (suc (suc (suc (suc (suc (suc (suc (suc (suc (suc zero))))))))))) lt = refl
-exponent_below (suc (suc (suc (suc (suc (suc (suc (suc (suc (suc (suc (suc zero)))))))))))) lt = refl
-exponent_below (suc (suc (suc (suc (suc (suc (suc (suc (suc (suc (suc (suc (suc zero))))))))))))) lt = refl
-exponent_below (suc (suc (suc (suc (suc (suc (suc (suc (suc (suc (suc (suc (suc (suc zero)))))))))))))) lt = refl
-exponent_below (suc (suc (suc (suc (suc (suc (suc (suc (suc (suc (suc (suc (suc (suc (suc zero))))))))))))))) lt = refl
-exponent_below (suc (suc (suc (suc (suc (suc (suc (suc (suc (suc (suc (suc (suc (suc (suc (suc zero)))))))))))))))) lt =
-    refl
-exponent_below (suc (suc (suc (suc (suc (suc (suc (suc (suc (suc (suc (suc (suc (suc (suc (suc (suc e)))))))))))))))))
-    lt = absurd (omega arith)
-
-pub exponent_is : (size : ℕ) → IsTableSize size → 2 ^ count_trailing_zeros 32 size ≡ size
-exponent_is size (e, le, is) = ap (λ (x : ℕ). 2 ^ count_trailing_zeros 32 x) is ∙ ap (λ (x : ℕ). 2 ^ x)
-    (exponent_below e (omega arith)) ∙ sym is
-
 -- one more slot
-pub slots_push : (m : GenerationsView) (slots more : List Named) (slot : Named) → more ≡ slots ++ slot ∷ [] →
+pub slots_push : (m : HomeView) (slots more : List Named) (slot : Named) → more ≡ slots ++ slot ∷ [] →
     IsSlotOf m (length slots) slot
     → ((e : ℕ) (d : Named) → e < length slots → IsSlotOf m e (get_or slots e d)) → (e : ℕ) (d : Named) →
     e < length slots + 1 → IsSlotOf m e (get_or more e d)

@@ -4,24 +4,13 @@ ghost use Rattle.hashkeys.specs.Limits.{most_bins};
 ghost use Rattle.bin_history.specs.Copies.{IsExact};
 
 use crate::generations::Generations;
-use crate::refused::Refused;
 use bin_history::Remap;
 use count_ledger::Ledger;
 use crossbeam_utils::Backoff;
 use hashkeys::{Class, HashKey};
+use places::{Moved, Refused};
 use std::alloc::{AllocError, Allocator};
 use std::sync::Wait;
-
-/// What a call of `forward` found.
-#[derive(Clone, Copy, PartialEq, Eq, Debug)]
-pub enum Moved {
-    /// It replaced the bin of the class by its halves.
-    Yes,
-    /// The bin of the class was replaced before.
-    Already,
-    /// A bin of a wider class stands there, and nothing was changed.
-    Wider,
-}
 
 impl<
     K: HashKey + Drop,
@@ -62,7 +51,7 @@ impl<
         }
     }
 
-    /// The same, once nobody holds or reads the bin.
+    /// Replaces the bin of the class by its halves. It waits until nobody holds or reads the bin.
     ///
     /// # Errors
     ///

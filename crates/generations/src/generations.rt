@@ -3,16 +3,16 @@ ghost use Rattle.std.specs.Prelude.{◌≡◌, ℕ, ◌<◌, ◌≤◌, ◌^◌,
 ghost use Rattle.hashkeys.specs.Classes.{covers, low_half, high_half, IsTableSize};
 ghost use Rattle.hashkeys.specs.Limits.{most_bins};
 ghost use Rattle.generations.specs.Generations.{IsTable};
-ghost use Rattle.generations.specs.Views.{GenerationsView, IsPlaceOf, place_of};
+ghost use Rattle.places.specs.Views.{HomeView, IsPlaceOf, place_of};
 
 use crate::place::{Place, leave_new};
-use crate::refused::Refused;
-use crate::state::{PlaceTag, State};
+use crate::state::State;
 use crate::tables::{Places, SIZES, Slots, no_tables};
 use bin_history::{Form, Remap};
 use count_ledger::LedgerName;
 use counted_slot::Claim;
 use hashkeys::{Class, HashKey, Salt};
+use places::{PlaceTag, Refused};
 use std::alloc::{AllocError, Allocator};
 use std::marker::Model;
 use std::sync::atomic::AtomicU64;
@@ -33,9 +33,9 @@ pub struct Generations<K: HashKey, V: Clone + Eq, F: Remap<K, V> + Clone, A: All
 
 impl<K: HashKey, V: Clone + Eq, F: Remap<K, V> + Clone, A: Allocator> Model
     for Generations<K, V, F, A> {
-    ghost use Rattle.generations.specs.Views.{GenerationsView};
+    ghost use Rattle.places.specs.Views.{HomeView};
 
-    ghost Value = { GenerationsView };
+    ghost Value = { HomeView };
 
     ghost use Rattle.generations.specs.Generations.{generations_view, IsGenerations};
 
@@ -52,8 +52,8 @@ fn place_in<'a, K: HashKey, V: Clone + Eq, F: Remap<K, V> + Clone, A: Allocator>
     places: &'a Places<K, V, F, A>,
     hash: u32,
 ) -> (&'a Place<K, V, F, A>, Class)
-    requires { (map : GenerationsView) × (n : ℕ) × IsTable map n places.now.items }
-    ensures of_map { (map : GenerationsView) (n : ℕ) → IsTable map n places.now.items →
+    requires { (map : HomeView) × (n : ℕ) × IsTable map n places.now.items }
+    ensures of_map { (map : HomeView) (n : ℕ) → IsTable map n places.now.items →
         IsPlaceOf map result.0.now }
     ensures covers { covers result.0.now.class hash ≡ true }
     ensures class { result.1 ≡ result.0.now.class }
@@ -64,7 +64,7 @@ fn place_in<'a, K: HashKey, V: Clone + Eq, F: Remap<K, V> + Clone, A: Allocator>
 }
 
 impl<K: HashKey, V: Clone + Eq, F: Remap<K, V> + Clone, A: Allocator> Generations<K, V, F, A> {
-    /// The number of opening bins: a power of two from 1 to 65,536.
+    /// The number of opening bins: a power of two from 1 to 2^26.
     pub fn n(&self) -> u32
         ensures value { result ≡ self.now.n }
         ensures size { IsTableSize self.now.n }
@@ -202,7 +202,7 @@ impl<
         requires least { self.now.n ≤ size }
         ensures { IfOk result (λ t. IsTable self.now size t.now.items) }
     {
-        let exponent = size.trailing_zeros();
+        let exponent = size.ilog2();
         if self.table(exponent).is_none() {
             let places = self.new_table(size)?;
             self.keep_table(exponent, places);
@@ -245,7 +245,7 @@ impl<
         }
     }
 
-    /// Makes the table of this many places, a power of two from 1 to 65,536, if there is none yet:
+    /// Makes the table of this many places, a power of two from 1 to 2^26, if there is none yet:
     /// so many bins the map can then be moved to. It waits for nobody.
     ///
     /// # Errors

@@ -5,34 +5,39 @@ ghost use Rattle.hashkeys.specs.Limits.{most_bins};
 ghost use Rattle.bin_history.specs.Calls.{after};
 ghost use Rattle.bin_history.specs.Copies.{IsExact};
 ghost use Rattle.bin_history.specs.Lawful.{IsLawful};
-ghost use Rattle.generations.specs.Places.{AreAt};
-ghost use Rattle.generations.specs.Views.{IsPlaceOf};
+ghost use Rattle.places.specs.Places.{AreAt};
+ghost use Rattle.places.specs.Views.{IsPlaceOf};
 
 use crate::generations::Generations;
 use crate::place::{AWAY, Place, fill, leave_new};
-use crate::refused::Refused;
 use crate::state::State;
 use bin_history::{Bin, Remap};
 use count_ledger::{BinRole, Ledger};
 use counted_slot::{Claim, PRESENT};
 use crossbeam_utils::Backoff;
 use hashkeys::HashKey;
+use places::Refused;
 use std::alloc::Allocator;
 use std::sync::Wait;
+
+/// A place whose bin is held: the right to put it back there.
+pub struct Taken<'a, K: HashKey, V: Clone + Eq, F: Remap<K, V> + Clone, A: Allocator> {
+    /// Where the bin was, and goes back to.
+    pub at: &'a Place<K, V, F, A>,
+    /// The map that it is of.
+    pub home: &'a Generations<K, V, F, A>,
+    claim: Claim<'a, State<K, V, F, A>>,
+    ghost writes: { claim.right ≡ 2 },
+    ghost here: { claim.tag ≡ at.now },
+    ghost at_home: { IsPlaceOf home.now at.now },
+}
 
 /// A bin that is held, with its role. Nobody else has either until it is released or halved, which
 /// must happen.
 pub struct Held<'a, K: HashKey, V: Clone + Eq, F: Remap<K, V> + Clone, A: Allocator> {
     pub bin: Bin<K, V, F, A>,
     pub role: BinRole<K, V, F>,
-    /// Where the bin was, and goes back to.
-    pub place: &'a Place<K, V, F, A>,
-    /// The map that it is of.
-    pub home: &'a Generations<K, V, F, A>,
-    claim: Claim<'a, State<K, V, F, A>>,
-    ghost writes: { claim.right ≡ 2 },
-    ghost here: { claim.tag ≡ place.now },
-    ghost at_home: { IsPlaceOf home.now place.now },
+    pub place: Taken<'a, K, V, F, A>,
 }
 
 impl<
@@ -44,12 +49,12 @@ impl<
     /// Waits for the bin of the hash, and holds it.
     #[inline(always)]
     pub fn hold<R: Wait>(&self, rt: &R, hash: u32) -> Held<'_, K, V, F, A>
-        ensures at { AreAt K.eq (after V.eq F.remapped F.merged) result.place.now
+        ensures at { AreAt K.eq (after V.eq F.remapped F.merged) result.place.at.now
             result.bin result.role }
         ensures covers { covers result.bin.class hash ≡ true }
         ensures lawful { IsLawful K.eq K.code (after V.eq F.remapped F.merged) result.bin }
-        ensures of_map { IsPlaceOf self.now result.place.now }
-        ensures home { result.home.now ≡ self.now }
+        ensures of_map { IsPlaceOf self.now result.place.at.now }
+        ensures home { result.place.home.now ≡ self.now }
     {
         match self.hold_widest(hash) {
             Some(held) => held,
@@ -57,16 +62,17 @@ impl<
         }
     }
 
-    /// The same where the first try failed, or the place in the widest table was not begun.
+    /// Waits for the bin of the hash, and holds it, where the first try failed or the place in the
+    /// widest table was not begun.
     #[cold]
     #[inline(never)]
     fn wait_to_hold<R: Wait>(&self, rt: &R, hash: u32) -> Held<'_, K, V, F, A>
-        ensures at { AreAt K.eq (after V.eq F.remapped F.merged) result.place.now
+        ensures at { AreAt K.eq (after V.eq F.remapped F.merged) result.place.at.now
             result.bin result.role }
         ensures covers { covers result.bin.class hash ≡ true }
         ensures lawful { IsLawful K.eq K.code (after V.eq F.remapped F.merged) result.bin }
-        ensures of_map { IsPlaceOf self.now result.place.now }
-        ensures home { result.home.now ≡ self.now }
+        ensures of_map { IsPlaceOf self.now result.place.at.now }
+        ensures home { result.place.home.now ≡ self.now }
     {
         let backoff = Backoff::new();
         for _ in rt.forever() {
@@ -83,12 +89,12 @@ impl<
     /// nobody.
     pub fn try_hold(&self, hash: u32) -> Option<Held<'_, K, V, F, A>>
         ensures at { IfSome result
-            (λ h. AreAt K.eq (after V.eq F.remapped F.merged) h.place.now h.bin h.role) }
+            (λ h. AreAt K.eq (after V.eq F.remapped F.merged) h.place.at.now h.bin h.role) }
         ensures covers { IfSome result (λ h. covers h.bin.class hash ≡ true) }
         ensures lawful { IfSome result
             (λ h. IsLawful K.eq K.code (after V.eq F.remapped F.merged) h.bin) }
-        ensures of_map { IfSome result (λ h. IsPlaceOf self.now h.place.now) }
-        ensures home { IfSome result (λ h. h.home.now ≡ self.now) }
+        ensures of_map { IfSome result (λ h. IsPlaceOf self.now h.place.at.now) }
+        ensures home { IfSome result (λ h. h.place.home.now ≡ self.now) }
     {
         let (place, _class) = self.find(hash);
         self.try_hold_at(place)
@@ -98,12 +104,12 @@ impl<
     #[inline(always)]
     fn hold_widest(&self, hash: u32) -> Option<Held<'_, K, V, F, A>>
         ensures at { IfSome result
-            (λ h. AreAt K.eq (after V.eq F.remapped F.merged) h.place.now h.bin h.role) }
+            (λ h. AreAt K.eq (after V.eq F.remapped F.merged) h.place.at.now h.bin h.role) }
         ensures covers { IfSome result (λ h. covers h.bin.class hash ≡ true) }
         ensures lawful { IfSome result
             (λ h. IsLawful K.eq K.code (after V.eq F.remapped F.merged) h.bin) }
-        ensures of_map { IfSome result (λ h. IsPlaceOf self.now h.place.now) }
-        ensures home { IfSome result (λ h. h.home.now ≡ self.now) }
+        ensures of_map { IfSome result (λ h. IsPlaceOf self.now h.place.at.now) }
+        ensures home { IfSome result (λ h. h.place.home.now ≡ self.now) }
     {
         let place = self.widest_place(hash);
         let claim = place.claim_at_once()?;
@@ -120,8 +126,8 @@ impl<
             (λ h. AreAt K.eq (after V.eq F.remapped F.merged) place.now h.bin h.role) }
         ensures lawful { IfSome result
             (λ h. IsLawful K.eq K.code (after V.eq F.remapped F.merged) h.bin) }
-        ensures place { IfSome result (λ h. h.place.now ≡ place.now) }
-        ensures home { IfSome result (λ h. h.home.now ≡ self.now) }
+        ensures place { IfSome result (λ h. h.place.at.now ≡ place.now) }
+        ensures home { IfSome result (λ h. h.place.home.now ≡ self.now) }
     {
         let claim = place.try_claim()?;
         self.take_out(place, claim)
@@ -141,8 +147,8 @@ impl<
             (λ h. AreAt K.eq (after V.eq F.remapped F.merged) place.now h.bin h.role) }
         ensures lawful { IfSome result
             (λ h. IsLawful K.eq K.code (after V.eq F.remapped F.merged) h.bin) }
-        ensures place { IfSome result (λ h. h.place.now ≡ place.now) }
-        ensures home { IfSome result (λ h. h.home.now ≡ self.now) }
+        ensures place { IfSome result (λ h. h.place.at.now ≡ place.now) }
+        ensures home { IfSome result (λ h. h.place.home.now ≡ self.now) }
     {
         let State::Live(role, bin) = claim.put(State::Away, AWAY) else {
             return None;
@@ -152,9 +158,11 @@ impl<
         Some(Held {
             bin,
             role,
-            place,
-            home: self,
-            claim,
+            place: Taken {
+                at: place,
+                home: self,
+                claim,
+            },
         })
     }
 }
@@ -169,17 +177,11 @@ impl<
     /// Gives the bin and its role back. They agree, and are of the class and the ledger that were
     /// held. It waits for nobody.
     pub fn release(self)
-        requires { AreAt K.eq (after V.eq F.remapped F.merged) self.place.now
+        requires { AreAt K.eq (after V.eq F.remapped F.merged) self.place.at.now
             self.bin self.role }
     {
-        let Held {
-            bin,
-            role,
-            place: _,
-            home: _,
-            claim,
-        } = self;
-        drop(claim.put(State::Live(role, bin), PRESENT));
+        let Held { bin, role, place } = self;
+        place.release(bin, role);
     }
 
     /// Takes the bin and its role for good. Nothing stays in the place.
@@ -187,14 +189,8 @@ impl<
         ensures bin { result.0 ≡ self.entry.bin }
         ensures role { result.1 ≡ self.entry.role }
     {
-        let Held {
-            bin,
-            role,
-            place: _,
-            home: _,
-            claim,
-        } = self;
-        drop(claim.put(State::Away, AWAY));
+        let Held { bin, role, place } = self;
+        place.leave();
         (bin, role)
     }
 
@@ -212,30 +208,24 @@ impl<
         requires keys { IsExact K.is_clone }
         requires values { IsExact V.is_clone }
         requires functions { IsExact F.is_clone }
-        requires at { AreAt K.eq (after V.eq F.remapped F.merged) self.place.now
+        requires at { AreAt K.eq (after V.eq F.remapped F.merged) self.place.at.now
             self.bin self.role }
         requires ledger { self.role.ledger ≡ ledger.now.id }
         requires size { self.bin.class.n < most_bins }
         ensures bin { IfErr result (λ e. e.0.bin ≡ self.entry.bin) }
         ensures role { IfErr result (λ e. e.0.role ≡ self.entry.role) }
-        ensures place { IfErr result (λ e. e.0.place.now ≡ self.entry.place.now) }
-        ensures home { IfErr result (λ e. e.0.home.now ≡ self.entry.home.now) }
+        ensures place { IfErr result (λ e. e.0.place.at.now ≡ self.entry.place.at.now) }
+        ensures home { IfErr result (λ e. e.0.place.home.now ≡ self.entry.place.home.now) }
     {
-        let home: &'a Generations<K, V, F, A> = self.home;
+        let home: &'a Generations<K, V, F, A> = self.place.home;
         let (low_claim, high_claim) = match home.claim_halves(self.bin.class()) {
             Ok(claims) => claims,
             Err(refused) => return Err((self, refused)),
         };
-        let Held {
-            bin,
-            role,
-            place,
-            home: _,
-            claim,
-        } = self;
+        let Held { bin, role, place } = self;
         match bin.split(home.allocator()) {
             Ok((low, high)) => {
-                drop(claim.put(State::Away, AWAY));
+                place.leave();
                 let (low_role, high_role) = ledger.divide(role);
                 fill(low_claim, low, low_role);
                 fill(high_claim, high, high_role);
@@ -244,15 +234,38 @@ impl<
             Err((bin, error)) => {
                 leave_new(low_claim);
                 leave_new(high_claim);
-                let held = Held {
-                    bin,
-                    role,
-                    place,
-                    home,
-                    claim,
-                };
-                Err((held, error.into()))
+                Err((Held { bin, role, place }, error.into()))
             }
         }
+    }
+}
+
+impl<
+    'a,
+    K: HashKey + Drop,
+    V: Clone + Eq + Drop,
+    F: Remap<K, V> + Clone + Drop,
+    A: Allocator + Clone,
+> Taken<'a, K, V, F, A> {
+    /// Gives the bin and its role back to their place. It waits for nobody.
+    pub fn release(self, bin: Bin<K, V, F, A>, role: BinRole<K, V, F>)
+        requires { AreAt K.eq (after V.eq F.remapped F.merged) self.at.now bin role }
+    {
+        let Taken {
+            at: _,
+            home: _,
+            claim,
+        } = self;
+        drop(claim.put(State::Live(role, bin), PRESENT));
+    }
+
+    /// Leaves nothing at the place.
+    fn leave(self) {
+        let Taken {
+            at: _,
+            home: _,
+            claim,
+        } = self;
+        drop(claim.put(State::Away, AWAY));
     }
 }

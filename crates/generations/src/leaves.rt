@@ -2,17 +2,17 @@
 ghost use Rattle.std.specs.Prelude.{◌≡◌, true, IsTrue, IfSome, IfOk, IfErr, [], ◌∷◌, ◌++◌};
 ghost use Rattle.bin_history.specs.Calls.{after};
 ghost use Rattle.count_ledger.specs.Books.{classes_of_roles};
-ghost use Rattle.generations.specs.BinsWithRoles.{IsBinWithRole, AreBinsWithRoles, classes_of_bins};
+ghost use Rattle.places.specs.BinsWithRoles.{IsBinWithRole, AreBinsWithRoles, classes_of_bins};
 ghost use Rattle.generations.specs.NotLeft.{IfKept};
-ghost use Rattle.generations.specs.Views.{IsPlaceOf};
-ghost use Rattle.generations.specs.Walks.{IsWalk};
+ghost use Rattle.places.specs.Views.{IsPlaceOf};
+ghost use Rattle.places.specs.Walks.{IsWalk};
 
 use crate::generations::Generations;
 use crate::place::Place;
-use crate::walk::next_in_walk;
 use bin_history::{Bin, Remap};
 use count_ledger::BinRole;
 use hashkeys::{Class, HashKey, MOST_BINS};
+use places::next_in_walk;
 use std::alloc::{AllocError, Allocator};
 
 /// Why the bins of a map could not be taken out.

@@ -16,17 +16,12 @@ mod hold;
 mod leaves;
 mod opening;
 mod place;
-mod refused;
 mod shown;
 mod state;
 mod tables;
-mod walk;
 
-pub use forward::Moved;
 pub use generations::Generations;
-pub use hold::Held;
+pub use hold::{Held, Taken};
 pub use leaves::NotLeft;
 pub use place::Place;
-pub use refused::Refused;
 pub use shown::Shown;
-pub use walk::{next_in_walk, walk_laws};

@@ -10,10 +10,11 @@ ghost use Rattle.count_ledger.specs.Views.{LedgerId};
 
 use crate::generations::Generations;
 use crate::place::Place;
-use crate::state::{PlaceTag, State};
+use crate::state::State;
 use bin_history::{Bin, Form, Remap};
 use count_ledger::{BinRole, LedgerName};
 use hashkeys::{Class, HashKey, Salt};
+use places::PlaceTag;
 use std::alloc::{AllocError, Allocator};
 
 /// The place of a bin of these pairs, with its role.

@@ -3,9 +3,9 @@ ghost use Rattle.std.specs.Prelude.{◌≡◌, ◌≤◌, true, IfSome, IsSomeAn
 ghost use Rattle.hashkeys.specs.Classes.{covers};
 ghost use Rattle.bin_history.specs.Calls.{after};
 ghost use Rattle.bin_history.specs.Lawful.{IsLawful};
-ghost use Rattle.generations.specs.BinsWithRoles.{IsBinWithRole};
-ghost use Rattle.generations.specs.Places.{AreAt};
-ghost use Rattle.generations.specs.Views.{IsPlaceOf};
+ghost use Rattle.places.specs.BinsWithRoles.{IsBinWithRole};
+ghost use Rattle.places.specs.Places.{AreAt};
+ghost use Rattle.places.specs.Views.{IsPlaceOf};
 
 use crate::generations::Generations;
 use crate::place::Place;

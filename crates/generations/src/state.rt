@@ -1,8 +1,9 @@
 //! What lies under the lock of a place, and the fact that the lock keeps of it.
-use bin_history::{Bin, Form, Remap};
-use count_ledger::{BinRole, LedgerName};
+use bin_history::{Bin, Remap};
+use count_ledger::BinRole;
 use counted_slot::Fits;
-use hashkeys::{Class, HashKey, Salt};
+use hashkeys::HashKey;
+use places::PlaceTag;
 use std::alloc::Allocator;
 
 /// A bin with its role, or neither: they were not put there yet, are held, were halved, or were
@@ -11,16 +12,6 @@ use std::alloc::Allocator;
 pub(crate) enum State<K: HashKey, V: Clone + Eq, F: Remap<K, V> + Clone, A: Allocator> {
     Live(BinRole<K, V, F>, Bin<K, V, F, A>),
     Away,
-}
-
-/// What is fixed when a place is made: the class of its bin, the map's form and salt, and the map's
-/// ledger in contracts alone.
-#[derive(Drop)]
-pub struct PlaceTag {
-    pub class: Class,
-    pub form: Form,
-    pub salt: Salt,
-    pub ledger: LedgerName,
 }
 
 impl<K: HashKey, V: Clone + Eq, F: Remap<K, V> + Clone, A: Allocator> Fits for State<K, V, F, A> {

@@ -1,7 +1,8 @@
 //! The tables of a map's later places, one for each size: in the table of n places the place at an
 //! index is for the class of that index among n.
 ghost use Rattle.std.specs.Prelude.{◌≡◌, ◌^◌, IfOk};
-ghost use Rattle.generations.specs.Generations.{AreSlots, generations_named, size_named};
+ghost use Rattle.generations.specs.Generations.{AreSlots, size_named};
+ghost use Rattle.places.specs.Names.{home_named};
 
 use crate::place::Place;
 use bin_history::{Form, Remap};
@@ -11,8 +12,8 @@ use count_ledger::LedgerName;
 use hashkeys::{HashKey, Salt};
 use std::alloc::{AllocError, Allocator};
 
-/// How many sizes a table can have: 1, 2, 4 and so on to 65,536 places.
-pub(crate) const SIZES: u32 = 17;
+/// How many sizes a table can have: 1, 2, 4 and so on to 2^26 places.
+pub(crate) const SIZES: u32 = 27;
 
 /// The places of one table.
 pub(crate) type Places<K, V, F, A> = Vec<Place<K, V, F, A>, A>;
@@ -24,9 +25,10 @@ pub struct OfSize;
 impl<K: HashKey, V: Clone + Eq, F: Remap<K, V> + Clone, A: Allocator> SlotRule<
     Vec<Place<K, V, F, A>, A>,
 > for OfSize {
-    ghost use Rattle.generations.specs.Generations.{IsTable, generations_named, size_named};
+    ghost use Rattle.generations.specs.Generations.{IsTable, size_named};
+    ghost use Rattle.places.specs.Names.{home_named};
 
-    ghost holds = { λ tag places. IsTable (generations_named tag) (size_named tag) places.items };
+    ghost holds = { λ tag places. IsTable (home_named tag) (size_named tag) places.items };
 }
 
 /// The slots of a map's tables: at each exponent that of the table of 2 to the exponent places.
@@ -45,13 +47,13 @@ struct OfSlotName;
 
 impl Names<SlotName> for OfSlotName {
     ghost use Rattle.std.specs.Prelude.{◌∷◌};
-    ghost use Rattle.generations.specs.Generations.{form_number};
+    ghost use Rattle.places.specs.Names.{form_number};
 
     ghost numbers = { λ m. m.exponent ∷ m.n ∷ form_number m.form ∷ m.salt.0 ∷ m.ledger.numbers };
 }
 
 fn tag_of(exponent: u32, n: u32, form: Form, salt: Salt, ledger: &LedgerName) -> Tag
-    ensures map { generations_named result.numbers ≡ record {
+    ensures map { home_named result.numbers ≡ record {
       ledger = ledger.now;
       form =
           form;

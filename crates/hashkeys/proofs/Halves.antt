@@ -9,8 +9,8 @@ use Rattle.hashkeys.specs.Limits.{most_bins}
 
 pub IsTableSize-double : (n : ℕ) → n < most_bins → IsTableSize n → IsTableSize (2 * n)
 IsTableSize-double n l (e, h, is) =
-    let below : (16 ≤ e) → most_bins ≤ 2 ^ e = λ g. pow_mono g in
-    let small : e < 16 = elim (cases_lt e 16) [ inl a ↦ a | inr b ↦ let k = below b in absurd (omega arith) ] in
+    let below : (26 ≤ e) → most_bins ≤ 2 ^ e = λ g. pow_mono g in
+    let small : e < 26 = elim (cases_lt e 26) [ inl a ↦ a | inr b ↦ let k = below b in absurd (omega arith) ] in
     let double : 2 ^ (e + 1) ≡ 2 ^ e * 2 = pow-add 2 e 1 in
     (e + 1, omega arith, omega arith)
 

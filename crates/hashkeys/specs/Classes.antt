@@ -8,9 +8,9 @@ pub record ClassView : Type 0 where
   pub n : ℕ
   pub index : ℕ
 
--- a table's size: a power of two from 1 to 65,536
+-- a table's size: a power of two from 1 to 2^26
 abbrev pub IsTableSize : ℕ → Type 0
-IsTableSize n = (exponent : ℕ) × (exponent ≤ 16) × (n ≡ 2 ^ exponent)
+IsTableSize n = (exponent : ℕ) × (exponent ≤ 26) × (n ≡ 2 ^ exponent)
 
 abbrev pub IsClass : ClassView → Type 0
 IsClass class = IsTableSize class.n × (class.index < class.n)

@@ -5,16 +5,15 @@ ghost use Rattle.hashkeys.specs.Limits.{most_bins};
 use std::marker::Model;
 
 /// A table has no more bins than this.
-pub const MOST_BINS: u32 = 65_536;
+pub const MOST_BINS: u32 = 1 << 26;
 
-/// The hashes that leave `index` when divided by `n`. `n` is a power of two from 1 to 65,536, and
-/// `index` is below it. A table of `n` bins has one bin for each class of size `n`. A class is four
-/// bytes, since each bin and its role have one.
+/// The hashes that leave `index` when divided by `n`. `n` is a power of two from 1 to
+/// [`MOST_BINS`], and `index` is below it. A table of `n` bins has one bin for each class of size `n`.
 #[derive(Clone, Copy, PartialEq, Eq, Debug)]
 pub struct Class {
     /// One less than `n`: what of a hash tells its class.
-    mask: u16,
-    index: u16,
+    mask: u32,
+    index: u32,
 }
 
 impl Model for Class {
@@ -39,10 +38,7 @@ impl Class {
         requires { IsClass (record { n = n; index = index }) }
         ensures { result ≡ record { n = n; index = index } }
     {
-        Class {
-            mask: (n - 1) as u16,
-            index: index as u16,
-        }
+        Class { mask: n - 1, index }
     }
 
     /// The size of the table that the class is of.
@@ -50,21 +46,21 @@ impl Class {
         ensures value { result ≡ self.now.n }
         ensures class { IsClass self.now }
     {
-        u32::from(self.mask) + 1
+        self.mask + 1
     }
 
     /// The class's place among those of its size.
     pub fn index(&self) -> u32
         ensures { result ≡ self.now.index }
     {
-        u32::from(self.index)
+        self.index
     }
 
     /// Whether the hash is in the class.
     pub fn covers(&self, hash: u32) -> bool
         ensures { result ≡ covers self.now hash }
     {
-        hash & u32::from(self.mask) == u32::from(self.index)
+        hash & self.mask == self.index
     }
 
     /// The low and the high half: a hash of the class is in exactly one of them, and no other hash

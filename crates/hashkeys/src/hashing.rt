@@ -2,6 +2,8 @@
 ghost use Rattle.std.specs.Prelude.{◌≡◌, ℕ, ◌<◌, ◌^◌, true};
 ghost use Rattle.hashkeys.specs.Hashing.{spread};
 
+use crate::as_key::AsKey;
+
 /// A key with a code. `==` is true of a key and itself alone, so equal keys have equal codes.
 pub trait HashKey: Eq + Clone {
     ghost code: { Self → ℕ };
@@ -37,5 +39,13 @@ impl Salt {
         ensures bound { result < 2 ^ 31 }
     {
         spread(key.hash_code() ^ self.0)
+    }
+
+    /// The hash under this salt, below 2^31, of the key that this stands for.
+    pub fn hash_of_as<K: HashKey, Q: AsKey<K>>(&self, query: Q) -> u32
+        ensures hash { result ≡ hash_of self.now (K.code (Q.stands_for query)) }
+        ensures bound { result < 2 ^ 31 }
+    {
+        spread(query.key_code() ^ self.0)
     }
 }

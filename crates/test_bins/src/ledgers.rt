@@ -146,7 +146,7 @@ fn open_books(
     Ledger::new(alloc, Form::Recorded, Salt(0), clients, &bases)
 }
 
-/// The same, with a bin for each role.
+/// A ledger of this many clients over an empty map, with a bin for each role.
 pub(crate) fn open(
     rt: &impl Abort,
     alloc: Global,

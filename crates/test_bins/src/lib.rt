@@ -26,4 +26,6 @@ mod rows;
 #[cfg(test)]
 mod settling;
 #[cfg(test)]
+mod turns;
+#[cfg(test)]
 mod twins;

@@ -105,7 +105,7 @@ impl Plain {
         is_rest && *call.key() == text(rt, self.key)
     }
 
-    /// The same call for a bin.
+    /// The call, as a bin takes it.
     fn call(&self, rt: &impl Abort) -> Call<Key, u64, Plus> {
         let key = text(rt, self.key);
         let function = Plus(self.function);

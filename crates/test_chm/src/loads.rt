@@ -12,17 +12,22 @@ use std::sync::Wait;
 use std::test::Fail;
 use test_maps::{BOTH, Single, close, close_single, open_single, put_back, take_pass};
 
-/// Puts a twelfth key into a map of 16 bins that was opened again with eleven. Answers how many
-/// keys the pass and the words count, how many bins and keys the closed map has, how many entries,
-/// and how many records.
-fn put_the_twelfth<R: Wait + Abort>(rt: &R, alloc: Global, form: Form) -> ([u64; 3], [usize; 3]) {
-    let first = filled(rt, alloc, form, 16, 11).reopen(1);
+/// Puts a key more into a map of 16 bins that was opened again with so many. Answers how many keys
+/// the pass and the words count, how many bins and keys the closed map has, how many entries, and
+/// how many records.
+fn put_one_more<R: Wait + Abort>(
+    rt: &R,
+    alloc: Global,
+    form: Form,
+    count: u32,
+) -> ([u64; 3], [usize; 3]) {
+    let first = filled(rt, alloc, form, 16, count).reopen(1);
     let Single {
         map,
         mut pass,
         mut place,
     } = take_pass(first.expect(rt, "a map")).expect(rt, "a pass");
-    put_numbers(rt, &map, &mut pass, 11, 1);
+    put_numbers(rt, &map, &mut pass, count, 1);
     put_back(&map, pass, &mut place);
     let count = count_all(rt, &map, &mut place);
     let live = map.mapping_count();
@@ -34,10 +39,10 @@ fn put_the_twelfth<R: Wait + Abort>(rt: &R, alloc: Global, form: Form) -> ([u64;
 
 #[test]
 fn a_map_that_is_opened_again_counts_its_opening_entries(rt: HostRuntime) -> Result<(), Fail> {
-    for (form, records) in [(Form::Recorded, 1), (Form::Lean, 0)] {
-        let told = put_the_twelfth(&rt, rt.alloc(), form);
-        assert_same(&rt, &told, &([12; 3], [32, 12, records]));
-    }
+    let recorded = put_one_more(&rt, rt.alloc(), Form::Recorded, 11);
+    assert_same(&rt, &recorded, &([12; 3], [32, 12, 1]));
+    let lean = put_one_more(&rt, rt.alloc(), Form::Lean, 23);
+    assert_same(&rt, &lean, &([24; 3], [32, 24, 0]));
     Ok(())
 }
 
@@ -75,9 +80,10 @@ fn put_twins<R: Wait + Abort>(rt: &R, alloc: Global, form: Form) -> (usize, usiz
 
 #[test]
 fn keys_of_one_hash_stand_in_one_bin(rt: HostRuntime) -> Result<(), Fail> {
-    for form in BOTH {
+    // A recorded table grows at 12 keys and at 24, a lean one at 24.
+    for (form, bins) in [(Form::Recorded, 64), (Form::Lean, 32)] {
         let told = put_twins(&rt, rt.alloc(), form);
-        assert_same(&rt, &told, &(64, 1, 32));
+        assert_same(&rt, &told, &(bins, 1, 32));
     }
     Ok(())
 }

@@ -59,33 +59,44 @@ fn two_puts<R: Wait + Abort, A: Allocator + Clone>(
     [(first, before), (second, after)]
 }
 
-/// What is wanted where the first put has so many requests of its own, so many with those that open
-/// its move, and so many in all: whether it is put and how many bins there are then, and how many
-/// there are after the second put.
-fn wanted(granted: u64, own: u64, opened: u64, all: u64) -> ((bool, usize), usize) {
+/// Of the first put's requests, how many are its own, how many these are with those that open its
+/// move, and how many there are in all.
+type Requests = (u64, u64, u64);
+
+/// What is wanted where these are the first put's requests: whether it is put and how many bins
+/// there are then, and how many there are after the second put, which in a recorded map has a move
+/// of its own where the first one's was open.
+fn wanted(form: Form, granted: u64, (own, opened, all): Requests) -> ((bool, usize), usize) {
+    let second = match form {
+        Form::Recorded => 4,
+        Form::Lean => 2,
+    };
     if granted < own {
         ((false, 1), 2)
     } else if granted < opened {
         ((true, 1), 2)
     } else if granted < all {
-        ((true, 1), 4)
+        ((true, 1), second)
     } else {
-        ((true, 2), 4)
+        ((true, 2), second)
     }
 }
 
 #[test]
 fn a_later_call_goes_on_with_a_refused_move(rt: HostRuntime) -> Result<(), Fail> {
     // The first put takes room for its entry, in a recorded map for the record too; and its move
-    // for the table of two places, and three times for the strides. Then a recorded bin takes it
-    // for the entry and the record of the half that has the key, and for two parts of each half;
-    // without one of these the table has grown, and the bin is moved by the next call on it. A lean
-    // bin is halved without any.
-    for (form, own, opened, all) in [(Form::Recorded, 2, 6, 12_u64), (Form::Lean, 1, 5, 5)] {
+    // for the table of two places, and three times for the strides, or in a lean map four times.
+    // Then a recorded bin takes it for the entry and the record of the half that has the key, and
+    // for two parts of each half; and a lean one four times, for the part of the table that the
+    // other half comes to. Without one of these the table has grown, and the bin is moved by the
+    // next call on it.
+    let rows = [(Form::Recorded, (2, 6, 12)), (Form::Lean, (1, 6, 10))];
+    for (form, requests) in rows {
+        let (_own, _opened, all): Requests = requests;
         for granted in 0..all.saturating_add(1) {
             let alloc = Refusing::new(rt.alloc());
             let made = two_puts(&rt, &alloc, &alloc, form, granted);
-            let ((put, before), after) = wanted(granted, own, opened, all);
+            let ((put, before), after) = wanted(form, granted, requests);
             assert_eq!(rt;
                 made,
                 [(put, Some(before)), (true, Some(after))],

@@ -2,7 +2,7 @@
 ghost use Rattle.std.specs.Prelude.{◌≡◌, All};
 
 use crate::maps::{
-    KeyMap, KeyPass, assert_entries, assert_same, count_all, opening_fault, put_texts,
+    KeyMap, KeyPass, assert_entries, assert_same, count_all, filled, opening_fault, put_texts,
 };
 use bin_history::Form;
 use chm::{Fault, NotClosed, Opened};
@@ -12,7 +12,7 @@ use std::process::Abort;
 use std::sync::Wait;
 use std::test::Fail;
 use test_maps::{BOTH, Single, close, open, put_back, take_pass};
-use test_support::Plus;
+use test_support::{Plus, Refusing};
 
 /// A map of the default capacity for three clients: its form, its clients, its passes and, closed,
 /// its form and its bins.
@@ -38,7 +38,6 @@ fn capacity_and_clients_have_their_limits(rt: HostRuntime) -> Result<(), Fail> {
         (1, 1, None),
         (4096, 32, None),
         (0, 1, Some(Fault::BadCapacity)),
-        (4097, 1, Some(Fault::BadCapacity)),
         (0, 0, Some(Fault::BadCapacity)),
         (16, 0, Some(Fault::BadClients)),
         (16, 33, Some(Fault::BadClients)),
@@ -51,6 +50,31 @@ fn capacity_and_clients_have_their_limits(rt: HostRuntime) -> Result<(), Fail> {
         let told = of_three(&rt, rt.alloc(), form);
         assert_same(&rt, &told, &((form, 3, 3), (form, 16)));
     }
+    Ok(())
+}
+
+#[test]
+fn a_capacity_past_the_most_asks_for_no_memory(rt: HostRuntime) -> Result<(), Fail> {
+    for (form, capacity) in [(Form::Recorded, 4097), (Form::Lean, 67_108_865)] {
+        let alloc = Refusing::new(rt.alloc());
+        let fault = opening_fault(&alloc, form, capacity, 1);
+        assert_same(
+            &rt,
+            &(fault, alloc.requests()),
+            &(Some(Fault::BadCapacity), 0),
+        );
+    }
+    Ok(())
+}
+
+#[test]
+fn a_lean_map_opens_with_a_million_bins(rt: HostRuntime) -> Result<(), Fail> {
+    let closed = filled(&rt, rt.alloc(), Form::Lean, 1_048_576, 3);
+    assert_same(
+        &rt,
+        &(closed.bins().len(), closed.mapping_count()),
+        &(1_048_576, 3),
+    );
     Ok(())
 }
 

@@ -3,6 +3,7 @@ ghost use Rattle.std.specs.Prelude.{◌≡◌, All};
 
 use crate::maps::{
     KeyQuiet, assert_entries, assert_pairs, assert_same, key, put_numbers, put_texts, records_of,
+    room,
 };
 use bin_history::{Form, Reply};
 use chm::{Fault, Opened, Visit};
@@ -111,7 +112,7 @@ const OF_16: [(&[u8], u64); 4] = [(b"Aa", 3), (b"q", 1), (b"a", 2), (b"zzzzzz", 
 
 const OF_32: [(&[u8], u64); 4] = [(b"Aa", 3), (b"a", 2), (b"q", 1), (b"zzzzzz", 4)];
 
-/// The same under the salt 1.
+/// The walk order of 16 bins, and of 32, under the salt 1.
 const SALTED_16: [(&[u8], u64); 4] = [(b"q", 1), (b"a", 2), (b"Aa", 3), (b"zzzzzz", 4)];
 
 const SALTED_32: [(&[u8], u64); 4] = [(b"a", 2), (b"q", 1), (b"Aa", 3), (b"zzzzzz", 4)];
@@ -125,7 +126,7 @@ fn a_walk_shows_four_keys_in_order(rt: HostRuntime) -> Result<(), Fail> {
         assert_four(&rt, &salted, (form, Salt(1), 16), &SALTED_16);
     }
     for form in BOTH {
-        let wider = four_and_more(&rt, rt.alloc(), form, Salt(0), 8);
+        let wider = four_and_more(&rt, rt.alloc(), form, Salt(0), room(form));
         assert_four(&rt, &wider, (form, Salt(0), 32), &OF_32);
     }
     Ok(())
@@ -140,18 +141,19 @@ fn four_keys_stand_in_the_walk_order_of_a_salt(rt: HostRuntime) -> Result<(), Fa
         assert_four(&rt, &same, (form, Salt(1), 16), &SALTED_16);
     }
     for form in BOTH {
-        let wider = four_and_more(&rt, rt.alloc(), form, Salt(1), 8);
+        let wider = four_and_more(&rt, rt.alloc(), form, Salt(1), room(form));
         assert_four(&rt, &wider, (form, Salt(1), 32), &SALTED_32);
     }
     Ok(())
 }
 
-/// Glances at two keys before any call, and before and after a move. Answers what was shown, how
-/// many calls were made, and how many bins there are in the end.
+/// Glances at two keys before any call, and before and after a move, for which so many more keys are
+/// put. Answers what was shown, how many calls were made, and how many bins there are in the end.
 fn glances<R: Wait + Abort>(
     rt: &R,
     alloc: Global,
     form: Form,
+    more: u32,
 ) -> ([Result<Option<u64>, Fault>; 4], u64, usize) {
     let Single {
         map,
@@ -161,7 +163,7 @@ fn glances<R: Wait + Abort>(
     let first = map.glance(rt, &key(rt, b"a"));
     put_texts(rt, &map, &mut pass, &[(b"a", 7)]);
     let before = map.glance(rt, &key(rt, b"a"));
-    put_numbers(rt, &map, &mut pass, 0, 11);
+    put_numbers(rt, &map, &mut pass, 0, more);
     let after = map.glance(rt, &key(rt, b"a"));
     let absent = map.glance(rt, &key(rt, b"q"));
     let made = pass.made();
@@ -171,10 +173,10 @@ fn glances<R: Wait + Abort>(
 
 #[test]
 fn a_glance_shows_the_value_before_and_after_a_move(rt: HostRuntime) -> Result<(), Fail> {
-    for form in BOTH {
-        let (shown, made, bins) = glances(&rt, rt.alloc(), form);
+    for (form, more, calls) in [(Form::Recorded, 11, 12), (Form::Lean, 23, 24)] {
+        let (shown, made, bins) = glances(&rt, rt.alloc(), form, more);
         assert!(rt; shown == [Ok(None), Ok(Some(7)), Ok(Some(7)), Ok(None)]);
-        assert_same(&rt, &(made, bins), &(12, 32));
+        assert_same(&rt, &(made, bins), &(calls, 32));
     }
     Ok(())
 }

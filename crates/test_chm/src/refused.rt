@@ -1,7 +1,7 @@
 //! Requests for memory that are refused, each in turn.
 use crate::maps::{
     assert_entries, assert_pairs, assert_same, get_often, key, numbered, open_with, opening_fault,
-    put_numbers,
+    put_numbers, room,
 };
 use bin_history::{Form, Reply};
 use chm::{Fault, NotClosed};
@@ -27,13 +27,13 @@ enum Refused {
 /// Three keys of two bins.
 const THREE: [(&[u8], u64); 3] = [(b"a", 1), (b"q", 2), (b"Aa", 3)];
 
-/// The same in walk order.
+/// The three keys in walk order.
 const IN_ORDER: [(&[u8], u64); 3] = [(b"Aa", 3), (b"a", 1), (b"q", 2)];
 
-/// Puts a twelfth key, with the request after so many refused. Answers whether it was put, whether
-/// there was such a request, how many keys and calls there are then, and how many bins and keys the
-/// closed map has.
-fn put_the_twelfth<R: Wait + Abort, A: Allocator + Clone>(
+/// Puts one key more into a map that has no room for it, with the request after so many refused.
+/// Answers whether it was put, whether there was such a request, how many keys and calls there are
+/// then, and how many bins and keys the closed map has.
+fn put_one_more<R: Wait + Abort, A: Allocator + Clone>(
     rt: &R,
     switch: &Refusing<Global>,
     alloc: A,
@@ -45,9 +45,10 @@ fn put_the_twelfth<R: Wait + Abort, A: Allocator + Clone>(
         mut pass,
         place,
     } = open_with(rt, alloc, form, &THREE);
-    put_numbers(rt, &map, &mut pass, 0, 8);
+    let next = room(form);
+    put_numbers(rt, &map, &mut pass, 0, next);
     switch.refuse_after(granted);
-    let reply = map.put(rt, &mut pass, numbered(rt, 8), 8);
+    let reply = map.put(rt, &mut pass, numbered(rt, next), u64::from(next));
     let refused = switch.has_refused();
     switch.refuse_after(u64::MAX);
     let live = (map.mapping_count(), pass.made());
@@ -57,9 +58,9 @@ fn put_the_twelfth<R: Wait + Abort, A: Allocator + Clone>(
     (reply, refused, live, left)
 }
 
-/// Puts a twelfth key, which asks for room for its entry, and in a recorded map for room for the
-/// record. Where a request of these is refused there are eleven keys as
-/// before; where one of the move is, there are twelve.
+/// Puts one key more, which asks for room for its entry, and in a recorded map for room for the
+/// record. Where a request of these is refused there are as many keys as before; where one of the
+/// move is, there is one more.
 fn refuse_put<R: Wait + Abort, A: Allocator + Clone>(
     rt: &R,
     switch: &Refusing<Global>,
@@ -67,17 +68,19 @@ fn refuse_put<R: Wait + Abort, A: Allocator + Clone>(
     form: Form,
     granted: u64,
 ) -> bool {
-    let (reply, refused, live, (bins, keys)) = put_the_twelfth(rt, switch, alloc, form, granted);
+    let (reply, refused, live, (bins, keys)) = put_one_more(rt, switch, alloc, form, granted);
+    let full = u64::from(room(form)).saturating_add(3);
     let own = match form {
         Form::Recorded => 2,
         Form::Lean => 1,
     };
     if granted < own {
         assert!(rt; reply == Err(Fault::NoMemory) && refused);
-        assert_same(rt, &(live, keys), &((11, 11), 11));
+        assert_same(rt, &(live, keys), &((full, full), full));
     } else {
         assert!(rt; reply == Ok(Reply::Value(None)));
-        assert_same(rt, &(live, keys), &((12, 12), 12));
+        let more = full.saturating_add(1);
+        assert_same(rt, &(live, keys), &((more, more), more));
         assert!(rt; refused || bins == 32);
     }
     refused
@@ -314,7 +317,7 @@ fn each_request_is_refused_in_turn(rt: HostRuntime) -> Result<(), Fail> {
     // How many requests there are at least and at most, in a recorded and in a lean map.
     let rows = [
         (Refused::Opening, (5, 999), (5, 999)),
-        (Refused::Put, (10, 999), (5, 5)),
+        (Refused::Put, (10, 999), (10, 10)),
         (Refused::Clear, (1, 1), (0, 0)),
         (Refused::Walk, (3, 999), (3, 999)),
         (Refused::Close, (2, 999), (2, 999)),

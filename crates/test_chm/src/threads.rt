@@ -177,6 +177,15 @@ fn clients_grow_one_table_and_lose_no_key(rt: HostRuntime) -> Result<(), Fail> {
     Ok(())
 }
 
+#[test]
+fn four_clients_grow_a_lean_table_to_a_million_bins(rt: HostRuntime) -> Result<(), Fail> {
+    // 786,432 keys are three to two of 2^19 bins, and from then on each call moves 16 of them.
+    let closed = grow_together(&rt, rt.alloc(), Form::Lean, 16, 4, 206_000);
+    assert!(rt; closed.bins().len() > 524_288);
+    assert_numbers(&rt, &closed, 824_000);
+    Ok(())
+}
+
 /// What a walk shows of slot 1.
 fn slot_1<R: Wait + Abort>(
     rt: &R,

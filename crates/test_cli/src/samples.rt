@@ -31,7 +31,7 @@ pub(crate) fn told_under<R: Threads + Wait + Sync + Abort + AllocGlobal, G: Clie
     (status(&fault), text.into_bytes())
 }
 
-/// The same under no gate.
+/// What a run with these options ends with and tells, under no gate.
 pub(crate) fn told<R: Threads + Wait + Sync + Abort + AllocGlobal>(
     rt: &R,
     script: &[u8],
@@ -53,7 +53,7 @@ pub(crate) fn check_with<R: Threads + Wait + Sync + Abort + AllocGlobal>(
     assert!(rt; is_same, "{script:?}: {status}: {text:?}");
 }
 
-/// The same with four workers, capacity 16 and no salt.
+/// Asserts what a run with four workers, capacity 16 and no salt ends with and tells.
 pub(crate) fn check<R: Threads + Wait + Sync + Abort + AllocGlobal>(
     rt: &R,
     script: &[u8],

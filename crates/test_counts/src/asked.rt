@@ -147,21 +147,22 @@ fn readings_and_a_close_ask_no_key_in_vain(rt: HostRuntime) -> Result<(), Fail> 
     Ok(())
 }
 
-/// What is counted in the put of a twelfth key into 16 bins of which no two keys share one, and how
-/// many bins there are then.
+/// What is counted in the put of the next key into 16 bins with so many, and how many bins there are
+/// then.
 fn count_growth<R: Wait + Abort>(
     rt: &R,
     alloc: Global,
     counts: &Counts,
     form: Form,
+    keys: u32,
 ) -> ([u64; 4], usize) {
     let Single {
         map,
         mut pass,
         place,
-    } = filled(rt, alloc, counts, form, 11);
+    } = filled(rt, alloc, counts, form, keys);
     counts.take();
-    put_new(rt, &map, &mut pass, counts, 11);
+    put_new(rt, &map, &mut pass, counts, keys);
     let counted = counts.take();
     let closed = close_single(map, pass, place).expect(rt, "a closed map");
     (counted, closed.bins().len())
@@ -169,12 +170,13 @@ fn count_growth<R: Wait + Abort>(
 
 #[test]
 fn a_move_of_a_lean_map_asks_no_key(rt: HostRuntime) -> Result<(), Fail> {
-    // The put itself asks its key once. The move of a recorded map looks for each of 12 entries and
-    // 12 records whether it is of the one half and whether it is of the other, and copies it to one.
+    // The put itself asks its key once. The move of a recorded map, where no two keys share a bin,
+    // looks for each of 12 entries and 12 records whether it is of the one half and whether it is of
+    // the other, and copies it to one.
     let counts = Counts::new();
-    let lean = count_growth(&rt, rt.alloc(), &counts, Form::Lean);
+    let lean = count_growth(&rt, rt.alloc(), &counts, Form::Lean, 23);
     assert_same(&rt, &lean, &([1, 0, 0, 0], 32));
-    let recorded = count_growth(&rt, rt.alloc(), &counts, Form::Recorded);
+    let recorded = count_growth(&rt, rt.alloc(), &counts, Form::Recorded, 11);
     assert_same(&rt, &recorded, &([1 + 48, 0, 1 + 24, 0], 32));
     Ok(())
 }

@@ -5,6 +5,7 @@ use crate::counted::{Counts, assert_same};
 use crate::maps::{CountedMap, CountedPass, count_below, filled};
 use bin_history::Form;
 use chm::{Fault, NotClosed};
+use std::alloc::Global;
 use std::process::Abort;
 use std::sync::Wait;
 use std::test::Fail;
@@ -65,10 +66,10 @@ fn close_at_last<'a, R: Wait + Abort>(
 #[test]
 fn a_map_closes_after_each_refused_close(rt: HostRuntime) -> Result<(), Fail> {
     let counts = Counts::new();
-    for form in BOTH {
+    for (form, bins) in [(Form::Recorded, 64), (Form::Lean, 32)] {
         let alloc = Refusing::new(rt.alloc());
         let told = close_at_last(&rt, &alloc, &counts, form);
-        assert_same(&rt, &told, &(64, 40, 40));
+        assert_same(&rt, &told, &(bins, 40, 40));
     }
     Ok(())
 }

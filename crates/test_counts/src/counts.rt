@@ -102,24 +102,49 @@ fn remove_by_all<R: Threads + Wait + Abort + Sync>(
     );
 }
 
-/// Lets 32 clients put keys, and then each remove half of those of another. Answers how many keys
-/// the map counts after the puts, after the removes, and once it is closed.
+/// Lets each client put keys, and then remove half of those of another. Answers how many keys the map
+/// counts after the puts, and after the removes.
+fn put_and_remove<R: Threads + Wait + Abort + Sync>(
+    rt: &R,
+    map: &NumberMap,
+    passes: &mut [NumberPass],
+) -> [u64; 2]
+    requires { All (λ p. p.ledger ≡ map.now.ledger.id) passes.old }
+    ensures { All (λ p. p.ledger ≡ map.now.ledger.id) passes.new }
+{
+    put_by_all(rt, map, passes);
+    let with_all = map.mapping_count();
+    remove_by_all(rt, map, passes);
+    [with_all, map.mapping_count()]
+}
+
+/// Lets 32 clients put and remove keys. Answers how many keys the map counts after the puts, after
+/// the removes, and once it is closed.
 fn count_clients<R: Threads + Wait + Abort + Sync>(rt: &R, alloc: Global, form: Form) -> [u64; 3] {
     let (map, mut passes) = open::<u32, u64, Away, Global>(alloc, form, 16, 32).expect(rt, "a map");
-    put_by_all(rt, &map, &mut passes);
-    let with_all = map.mapping_count();
-    remove_by_all(rt, &map, &mut passes);
-    let with_half = map.mapping_count();
+    let [with_all, with_half] = put_and_remove(rt, &map, &mut passes);
     let closed = close(map, passes).expect(rt, "a closed map");
     [with_all, with_half, closed.mapping_count()]
+}
+
+/// Lets each client put keys. Answers how many keys the passes count together.
+fn put_and_count<R: Threads + Wait + Abort + Sync>(
+    rt: &R,
+    map: &NumberMap,
+    passes: &mut [NumberPass],
+) -> u64
+    requires { All (λ p. p.ledger ≡ map.now.ledger.id) passes.old }
+    ensures { All (λ p. p.ledger ≡ map.now.ledger.id) passes.new }
+{
+    put_by_all(rt, map, passes);
+    assert!(rt; passes.len() == map.clients() as usize);
+    map.mapping_count_all(passes)
 }
 
 /// Lets 32 clients put keys. Answers how many keys the passes count together.
 fn count_passes<R: Threads + Wait + Abort + Sync>(rt: &R, alloc: Global, form: Form) -> u64 {
     let (map, mut passes) = open::<u32, u64, Away, Global>(alloc, form, 16, 32).expect(rt, "a map");
-    put_by_all(rt, &map, &mut passes);
-    assert!(rt; passes.len() == map.clients() as usize);
-    let counted = map.mapping_count_all(&mut passes);
+    let counted = put_and_count(rt, &map, &mut passes);
     retire_all(passes);
     drop(map);
     counted

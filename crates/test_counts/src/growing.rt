@@ -2,7 +2,7 @@
 ghost use Rattle.std.specs.Prelude.{◌≡◌};
 
 use crate::counted::{Counted, Counts, assert_same};
-use crate::maps::{CountedMap, CountedPass, filled};
+use crate::maps::{CountedMap, CountedPass, filled, room};
 use bin_history::{Form, Reply};
 use chm::Fault;
 use std::alloc::Global;
@@ -37,7 +37,7 @@ fn shown<'a, R: Wait + Abort>(
     bins
 }
 
-/// What was told of a put of a twelfth key one of whose requests was refused: its reply, whether
+/// What was told of a put of one key more one of whose requests was refused: its reply, whether
 /// there was such a request, and what a walk shows before it and after it.
 #[derive(Drop)]
 struct Told {
@@ -47,8 +47,8 @@ struct Told {
     after: Vec<(u32, u32, usize, u64)>,
 }
 
-/// Puts the key 11 into a map of the eleven below it, with the request after so many refused.
-fn put_the_twelfth<R: Wait + Abort>(
+/// Puts one key more into a full map, with the request after so many refused.
+fn put_one_more<R: Wait + Abort>(
     rt: &R,
     (memory, alloc): (Global, Alloc<'_>),
     counts: &Counts,
@@ -59,10 +59,11 @@ fn put_the_twelfth<R: Wait + Abort>(
         map,
         mut pass,
         place,
-    } = filled(rt, alloc, counts, form, 11);
+    } = filled(rt, alloc, counts, form, room(form));
+    let number = room(form);
     let before = shown(rt, memory, &map, &mut pass);
     alloc.refuse_after(granted);
-    let reply = map.put(rt, &mut pass, Counted { number: 11, counts }, 11);
+    let reply = map.put(rt, &mut pass, Counted { number, counts }, u64::from(number));
     let refused = alloc.has_refused();
     alloc.refuse_after(u64::MAX);
     let after = shown(rt, memory, &map, &mut pass);
@@ -88,7 +89,7 @@ fn sums(bins: &[(u32, u32, usize, u64)]) -> (usize, u64) {
 
 /// Refuses each request of the put in turn, of which so many are its own, and answers how many there
 /// are. Where one of its own is refused a walk shows what it showed before; where one of the move is,
-/// the twelve keys.
+/// the keys and the one more.
 fn refuse_each<R: Wait + Abort>(
     rt: &R,
     memory: Global,
@@ -98,13 +99,17 @@ fn refuse_each<R: Wait + Abort>(
 ) -> u64 {
     for granted in 0..1000u64 {
         let alloc = Refusing::new(memory);
-        let told = put_the_twelfth(rt, (memory, &alloc), counts, form, granted);
+        let told = put_one_more(rt, (memory, &alloc), counts, form, granted);
         if granted < own {
             assert!(rt; told.reply == Err(Fault::NoMemory));
             assert_same(rt, &told.after, &told.before);
         } else {
             assert!(rt; told.reply == Ok(Reply::Value(None)));
-            assert_same(rt, &sums(&told.after), &(12, 66));
+            let wanted = match form {
+                Form::Recorded => (12, 66),
+                Form::Lean => (24, 276),
+            };
+            assert_same(rt, &sums(&told.after), &wanted);
         }
         if !told.refused {
             return granted;
@@ -115,11 +120,12 @@ fn refuse_each<R: Wait + Abort>(
 
 #[test]
 fn a_walk_shows_what_a_refused_put_left(rt: HostRuntime) -> Result<(), Fail> {
-    // The put asks for room for the entry, and in a recorded map for the record. The move asks for
-    // the table, three times for the strides, and in a recorded map twice for each half of a bin and
-    // twice more for each of the twelve that have a key.
+    // The put asks for room for the entry, and in a recorded map for the record. The move of a
+    // recorded map asks for the table, three times for the strides, twice for each half of a bin and
+    // twice more for each of the twelve that have a key; that of a lean one for the slots of the
+    // table's parts, four times for the strides, and four times for the part.
     let counts = Counts::new();
-    for (form, own, wanted) in [(Form::Recorded, 2, 2 + 92), (Form::Lean, 1, 1 + 4)] {
+    for (form, own, wanted) in [(Form::Recorded, 2, 2 + 92), (Form::Lean, 1, 1 + 9)] {
         let requests = refuse_each(&rt, rt.alloc(), &counts, form, own);
         assert_same(&rt, &requests, &wanted);
     }

@@ -2,6 +2,7 @@
 ghost use Rattle.std.specs.Prelude.{◌≡◌};
 
 use crate::counted::assert_same;
+use crate::maps::room;
 use crate::texts::{TextMap, call_often, closed, filled, key};
 use bin_history::Form;
 use count_ledger::retire_all;
@@ -37,9 +38,12 @@ fn a_new_map_gives_all_back(rt: HostRuntime) -> Result<(), Fail> {
     Ok(())
 }
 
-/// Puts so many keys that the table grows twice, and drops the map as it is.
-fn grow_and_drop<R: Wait + Abort>(rt: &R, alloc: Alloc<'_>, form: Form) {
-    let Single { map, pass, place } = filled(rt, alloc, form, 30);
+/// The forms, and with how many keys a table of 16 bins has grown to 64.
+const GROWN: [(Form, u32); 2] = [(Form::Recorded, 30), (Form::Lean, 60)];
+
+/// Puts so many keys, and drops the map as it is.
+fn grow_and_drop<R: Wait + Abort>(rt: &R, alloc: Alloc<'_>, form: Form, keys: u32) {
+    let Single { map, pass, place } = filled(rt, alloc, form, keys);
     pass.retire();
     retire_all(place);
     drop(map);
@@ -47,9 +51,9 @@ fn grow_and_drop<R: Wait + Abort>(rt: &R, alloc: Alloc<'_>, form: Form) {
 
 #[test]
 fn a_map_that_is_not_closed_gives_all_back(rt: HostRuntime) -> Result<(), Fail> {
-    for form in BOTH {
+    for (form, keys) in GROWN {
         let alloc = Refusing::new(rt.alloc());
-        grow_and_drop(&rt, &alloc, form);
+        grow_and_drop(&rt, &alloc, form, keys);
         assert_all_back(&rt, &alloc);
     }
     Ok(())
@@ -57,9 +61,9 @@ fn a_map_that_is_not_closed_gives_all_back(rt: HostRuntime) -> Result<(), Fail> 
 
 #[test]
 fn a_map_that_grew_gives_all_back(rt: HostRuntime) -> Result<(), Fail> {
-    for form in BOTH {
+    for (form, keys) in GROWN {
         let alloc = Refusing::new(rt.alloc());
-        let quiet = closed(&rt, &alloc, form, 30);
+        let quiet = closed(&rt, &alloc, form, keys);
         assert_same(&rt, &quiet.bins().len(), &64);
         drop(quiet);
         assert_all_back(&rt, &alloc);
@@ -152,15 +156,15 @@ fn a_map_that_is_given_up_gives_all_back(rt: HostRuntime) -> Result<(), Fail> {
     Ok(())
 }
 
-/// Puts a twelfth key into a map of eleven, with the request after so many refused. Answers whether
-/// there was such a request.
+/// Puts one key more into a full map, with the request after so many refused. Answers whether there
+/// was such a request.
 fn refuse_put<R: Wait + Abort>(rt: &R, alloc: Alloc<'_>, form: Form, granted: u64) -> bool {
     let Single {
         map,
         mut pass,
         place,
-    } = filled(rt, alloc, form, 11);
-    let (key, value) = (key(rt, alloc, 11), key(rt, alloc, 0));
+    } = filled(rt, alloc, form, room(form));
+    let (key, value) = (key(rt, alloc, room(form)), key(rt, alloc, 0));
     alloc.refuse_after(granted);
     drop(map.put(rt, &mut pass, key, value));
     let refused = alloc.has_refused();
@@ -186,7 +190,7 @@ fn refuse_each<R: Wait + Abort>(rt: &R, memory: Global, form: Form) -> u64 {
 fn a_refused_put_or_move_gives_all_back(rt: HostRuntime) -> Result<(), Fail> {
     for form in BOTH {
         let requests = refuse_each(&rt, rt.alloc(), form);
-        assert!(rt; requests > 4 && requests < 1000);
+        assert!(rt; requests > 9 && requests < 1000);
     }
     Ok(())
 }

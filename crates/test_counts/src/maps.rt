@@ -49,6 +49,14 @@ pub(crate) fn put_below<'a, R: Wait + Abort, A: Allocator + Clone>(
     }
 }
 
+/// How many keys a map of 16 bins has room for.
+pub(crate) fn room(form: Form) -> u32 {
+    match form {
+        Form::Recorded => 11,
+        Form::Lean => 23,
+    }
+}
+
 /// A map of one client in 16 bins that put each number below this one.
 pub(crate) fn filled<'a, R: Wait + Abort, A: Allocator + Clone>(
     rt: &R,

@@ -31,8 +31,9 @@ fn opening(
 #[test]
 fn an_opening_asks_once_for_each_of_its_lists(rt: HostRuntime) -> Result<(), Fail> {
     // The bases, the moves, the words of the books and the slots beside them, of which there are
-    // none, the passes, the roles, the places and the tables. A recorded map asks twice for each bin,
-    // too: for the bin and for its records.
+    // none, the passes, the roles, the places and the tables. A lean map asks for the words of its
+    // places, too, and for both once more where they are put into their table; and a recorded one
+    // twice for each bin: for the bin and for its records.
     for clients in [1, 32] {
         for bins in [1u64, 16, 4096] {
             let (lean, recorded) = (Refusing::new(rt.alloc()), Refusing::new(rt.alloc()));
@@ -41,7 +42,7 @@ fn an_opening_asks_once_for_each_of_its_lists(rt: HostRuntime) -> Result<(), Fai
             assert_same(
                 &rt,
                 &(of_lean, of_recorded),
-                &(8, bins.wrapping_mul(2).wrapping_add(8)),
+                &(11, bins.wrapping_mul(2).wrapping_add(8)),
             );
         }
     }
@@ -68,20 +69,21 @@ fn a_lean_map_has_room_for_its_own_bins_alone(rt: HostRuntime) -> Result<(), Fai
     Ok(())
 }
 
-/// How many requests the put of a twelfth key into 16 bins makes, where no two keys share one.
+/// How many requests the put of the next key makes into 16 bins with so many.
 fn requests_of_growth<R: Wait + Abort>(
     rt: &R,
     alloc: Alloc<'_>,
     counts: &Counts,
     form: Form,
+    keys: u32,
 ) -> u64 {
     let Single {
         map,
         mut pass,
         place,
-    } = filled(rt, alloc, counts, form, 11);
+    } = filled(rt, alloc, counts, form, keys);
     let before = alloc.requests();
-    put_new(rt, &map, &mut pass, counts, 11);
+    put_new(rt, &map, &mut pass, counts, keys);
     let after = alloc.requests();
     drop(close_single(map, pass, place).expect(rt, "a closed map"));
     after.wrapping_sub(before)
@@ -90,15 +92,17 @@ fn requests_of_growth<R: Wait + Abort>(
 #[test]
 fn a_move_asks_for_its_table_its_strides_and_copies(rt: HostRuntime) -> Result<(), Fail> {
     // The put asks for room for the entry, and in a recorded map for the record; the move for the
-    // table, and three times for the strides. Each half of a recorded bin asks for the bin and for
-    // its records, and where it has the entry and the record of a key for room for both.
+    // table, and three times for the strides, or in a lean map four times. Each half of a recorded
+    // bin asks for the bin and for its records, and where it has the entry and the record of a key
+    // for room for both: no two of the twelve keys share a bin. The lean bins' other halves come to
+    // one part of the table, which asks for its places and for their words, and once more for both.
     let counts = Counts::new();
-    for (form, wanted) in [
-        (Form::Lean, 1 + 1 + 3),
-        (Form::Recorded, 2 + 1 + 3 + 32 * 2 + 12 * 2),
+    for (form, keys, wanted) in [
+        (Form::Lean, 23, 1 + 1 + 4 + 4),
+        (Form::Recorded, 11, 2 + 1 + 3 + 32 * 2 + 12 * 2),
     ] {
         let alloc = Refusing::new(rt.alloc());
-        let requests = requests_of_growth(&rt, &alloc, &counts, form);
+        let requests = requests_of_growth(&rt, &alloc, &counts, form, keys);
         assert_same(&rt, &requests, &wanted);
     }
     Ok(())

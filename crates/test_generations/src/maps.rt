@@ -39,7 +39,7 @@ pub(crate) struct Opened<A: Allocator> {
     pub(crate) passes: Vec<KeyPass, A>,
 }
 
-/// The same with one client.
+/// A map without entries, its ledger, and the pass of its one client.
 pub(crate) struct Single<A: Allocator> {
     pub(crate) map: KeyMap<A>,
     pub(crate) ledger: KeyLedger<A>,
@@ -113,7 +113,7 @@ pub(crate) fn open_single<A: Allocator + Clone>(
     Ok(Single { map, ledger, pass })
 }
 
-/// The same without the pass.
+/// A map without entries and its ledger; the pass of its one client has ended.
 pub(crate) fn open_quiet<A: Allocator + Clone>(
     alloc: A,
     form: Form,

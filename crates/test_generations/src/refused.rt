@@ -1,8 +1,9 @@
 //! Requests for memory that are refused, each in turn.
 use crate::maps::{KeyMap, Single, assert_same, count_of, leaves_of, open_quiet, open_single, put};
 use bin_history::Form;
-use generations::{Moved, NotLeft, Refused};
+use generations::NotLeft;
 use hashkeys::{Class, Salt};
+use places::{Moved, Refused};
 use std::alloc::{AllocError, Allocator, Global};
 use std::process::Abort;
 use std::sync::Wait;

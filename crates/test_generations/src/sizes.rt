@@ -1,8 +1,8 @@
 //! Tables by size: which place a hash is found at, and a table that is made before its move.
 use crate::maps::{KeyMap, assert_same, open_quiet};
 use bin_history::Form;
-use generations::{Moved, Refused};
 use hashkeys::Class;
+use places::{Moved, Refused};
 use std::alloc::{AllocError, Allocator, Global};
 use std::sync::Wait;
 use std::test::Fail;
@@ -16,7 +16,7 @@ fn shown_at<R: Wait, A: Allocator + Clone>(rt: &R, map: &KeyMap<A>, hash: u32) -
     (class.n(), class.index())
 }
 
-/// The same for the hashes 4 to 7.
+/// The sizes and the indices of the classes of the bins that are shown for the hashes 4 to 7.
 fn shown<R: Wait, A: Allocator + Clone>(rt: &R, map: &KeyMap<A>) -> [(u32, u32); 4] {
     [
         shown_at(rt, map, 4),

@@ -5,8 +5,8 @@ use crate::maps::{
     KeyLedger, KeyMap, KeyPass, KeyRole, Opened, assert_same, count_of, open, open_quiet, put,
 };
 use bin_history::Form;
-use generations::Moved;
 use hashkeys::{Class, Salt};
+use places::Moved;
 use std::alloc::{Allocator, Global};
 use std::process::Abort;
 use std::sync::Wait;

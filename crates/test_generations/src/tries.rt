@@ -5,8 +5,8 @@ use crate::maps::{
     KeyLedger, KeyMap, Single, assert_same, leaves_of, open_quiet, open_single, put, value_in,
 };
 use bin_history::Form;
-use generations::{Moved, Refused};
 use hashkeys::{Class, Key, MOST_BINS, Salt};
+use places::{Moved, Refused};
 use std::alloc::{AllocError, Allocator, Global};
 use std::process::Abort;
 use std::sync::Wait;

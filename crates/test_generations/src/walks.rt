@@ -7,8 +7,8 @@ use crate::maps::{
     value_in,
 };
 use bin_history::Form;
-use generations::{Moved, next_in_walk};
 use hashkeys::{Class, Key, Salt};
+use places::{Moved, next_in_walk};
 use std::alloc::{AllocError, Allocator, Global};
 use std::process::Abort;
 use std::sync::Wait;

@@ -2,7 +2,7 @@
 ghost use Rattle.std.specs.Prelude.{◌≡◌, [], ◌∷◌, ◌++◌, All, IfOk, IfSome};
 ghost use Rattle.bin_history.specs.Copies.{IsExact};
 ghost use Rattle.chm.specs.Opened.{IsLimited, IsNew};
-ghost use Rattle.chm.specs.Refusals.{IsCapacity};
+ghost use Rattle.chm.specs.Refusals.{IsCapacityOf};
 
 use bin_history::{Form, Remap};
 use chm::{Fault, Map, Opened, Quiet};
@@ -51,7 +51,7 @@ pub fn open_salted<
     requires keys { IsExact K.is_clone }
     requires values { IsExact V.is_clone }
     ensures new { IfOk result (λ r. IsNew form salt capacity clients r.0 r.1.items) }
-    ensures limits { IsLimited (IsCapacity capacity) clients result }
+    ensures limits { IsLimited (IsCapacityOf form capacity) clients result }
     ensures own { IfOk result (λ r. All (λ p. p.ledger ≡ r.0.ledger.id) r.1.items) }
 {
     match form {
@@ -60,7 +60,7 @@ pub fn open_salted<
     }
 }
 
-/// The same with the salt 0.
+/// A map of either form with the salt 0.
 pub fn open<
     K: HashKey + Drop,
     V: Clone + Eq + Drop,
@@ -70,7 +70,7 @@ pub fn open<
     requires keys { IsExact K.is_clone }
     requires values { IsExact V.is_clone }
     ensures new { IfOk result (λ r. IsNew form (record { 0 = 0 }) capacity clients r.0 r.1.items) }
-    ensures limits { IsLimited (IsCapacity capacity) clients result }
+    ensures limits { IsLimited (IsCapacityOf form capacity) clients result }
     ensures own { IfOk result (λ r. All (λ p. p.ledger ≡ r.0.ledger.id) r.1.items) }
 {
     open_salted(alloc, form, Salt(0), capacity, clients)

@@ -23,7 +23,8 @@ enum Ran {
     Alone,
     /// It did 64 leaves, of which 63 were tasks.
     Whole,
-    /// The same, but of a task there was no room, and it was no task.
+    /// It did 64 leaves, of which 62 were tasks: for one task there was no room, and it was no
+    /// task.
     AtOnce,
 }
 

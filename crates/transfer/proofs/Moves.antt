@@ -180,7 +180,7 @@ module _ (n cw fw : ℕ) (books : List Book) (m : IsMove n cw fw books) (id : �
             record { bins = own.bins; finished = λ f. omega arith; got_none = λ e. absurd (false≢true e) });
       }
 
-module _ (n : ℕ) (few : n ≤ 65536) where
+module _ (n : ℕ) (few : n ≤ 67108864) where
   pub holds-claims : (slots id : ℕ) (me : Me (Unit {0}) Book) → me.0.got_none ≡ false
       → Allows (Holds n) slots id me 0 (λ k. (k + 16) % 2 ^ 64) (λ k m. Claims me.0 k m.0)
   holds-claims slots id me had s h len at fits =

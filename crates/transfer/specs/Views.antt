@@ -67,7 +67,7 @@ pub record IsSpare (s : StridesView) (m : MoverView) : Type 0 where
 pub record IsMadeOf (s : StridesView) (key places : ℕ) : Type 0 where
   pub words : s.identity.words ≡ 2
   pub told : key ≡ s.bins
-  pub few : s.bins ≤ 65536
+  pub few : s.bins ≤ 67108864
   pub spare : places ≡ 63
 
 -- the mover claimed the range and did not finish it

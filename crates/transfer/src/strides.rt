@@ -72,7 +72,7 @@ fn take(place: &Place) -> Option<Mover>
 fn finish_range<P: OfRange>(words: &Words, seat: &mut Seat<(), Book>, range: Range) -> u64
     requires picked { P.range ≡ range }
     requires table { (seat.old.table_id ≡ words.now.table_id) × (words.now.table_id.words ≡ 2) }
-    requires few { words.now.key ≤ 65536 }
+    requires few { words.now.key ≤ 67108864 }
     requires claimed { Contains seat.old.me.0.claimed range }
     requires unfinished { ¬ Contains seat.old.me.0.finished range }
     ensures table { seat.new.table_id ≡ seat.old.table_id }
@@ -82,10 +82,10 @@ fn finish_range<P: OfRange>(words: &Words, seat: &mut Seat<(), Book>, range: Ran
 }
 
 impl<A: Allocator + Clone> Strides<A> {
-    /// The strides of a move of 1 to 65,536 bins, and its opener's mover. The spare movers wait in
+    /// The strides of a move of 1 to 2^26 bins, and its opener's mover. The spare movers wait in
     /// their places.
     pub fn new(alloc: A, bins: usize) -> Result<(Strides<A>, Mover), AllocError>
-        requires { (0 < bins) × (bins ≤ 65536) }
+        requires { (0 < bins) × (bins ≤ 67108864) }
         ensures { IfOk result (λ r. (r.0.bins ≡ bins) × (r.1 ≡ new_mover r.0 0)) }
     {
         let mut spare = Vec::with_capacity(alloc.clone()?, MOVERS - 1)?;

@@ -2,7 +2,7 @@ use Rattle.std.proofs.Common.{◌≡◌, ◌≢◌, ◌⊎◌, inl, inr, ℕ, �
 use Rattle.std.proofs.lemmas.Bool.{cases_lt, le-leb, leb-true}
 use Rattle.std.proofs.lemmas.Nat.{pow-add}
 use Rattle.chm.proofs.Searching.{grows, passed-by}
-use Rattle.generations.proofs.Walks.{doubled}
+use Rattle.places.proofs.Walks.{doubled}
 use Rattle.chm.proofs.single.has_passed.Goals as goal
 use Rattle.chm.proofs.single.has_passed.Goals.{then-loop-size-test+else-hash-size, else-loop-size-test}
 

@@ -3,6 +3,7 @@ use Rattle.std.proofs.lemmas.List.{map_more, take_all}
 use Rattle.std.proofs.lemmas.List.Elements.{All-push}
 use Rattle.std.proofs.lemmas.List.Sums.{sum_by_push}
 use Rattle.hashkeys.specs.Classes.{IsClass}
+use Rattle.hashkeys.specs.Limits.{most_bins}
 use Rattle.count_ledger.specs.Books.{classes_of_roles}
 use Rattle.count_ledger.proofs.Covering.{wide_by_rest}
 use Rattle.count_ledger.proofs.settling.are_wide.Goals as goal
@@ -16,10 +17,10 @@ loop-role-preserved g c =
     ∙ ap (λ r. before ++ r.class ∷ []) (sym c.role-item.is) in
     let size = c.n.ensures.value ∙ ap (λ k. k.n) c.class.ensures in
     record {
-      left = rw (next, sum_by_push (λ k. 65536 / k.n) before role.class) (
+      left = rw (next, sum_by_push (λ k. most_bins / k.n) before role.class) (
           let is = c.saturating_sub-left.ensures in
           let left = c.loop-role.invariant.left in
-          let width : 65536 / c.n.result ≡ 65536 / role.class.n = ap (λ n. 65536 / n) size in
+          let width : most_bins / c.n.result ≡ most_bins / role.class.n = ap (λ n. most_bins / n) size in
           omega arith
           );
       lawful = rw next (All-push IsClass before role.class c.loop-role.invariant.lawful

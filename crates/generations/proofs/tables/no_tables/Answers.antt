@@ -1,14 +1,15 @@
 use Rattle.std.proofs.Common.{◌≡◌, ℕ, ◌<◌, length, get_or, ap, subst, sym, ◌∙◌, ◌+◌, arith}
 use Rattle.boxcar.specs.Slot.{Named}
-use Rattle.generations.specs.Generations.{IsSlotOf, generations_named, size_named}
-use Rattle.generations.specs.Views.{GenerationsView}
+use Rattle.places.specs.Names.{home_named}
+use Rattle.generations.specs.Generations.{IsSlotOf, size_named}
+use Rattle.places.specs.Views.{HomeView}
 use Rattle.generations.proofs.Indexes.{slots_push}
 use Rattle.generations.proofs.tables.no_tables.Goals as goal
 
 pub loop-exponent-preserved : goal.loop-exponent-preserved
 loop-exponent-preserved g c =
     let kept = c.loop-exponent.invariant in
-    let m : GenerationsView = record {
+    let m : HomeView = record {
       ledger = c.args.ledger.now;
       form = c.args.form;
       salt = c.args.salt;
@@ -18,7 +19,7 @@ loop-exponent-preserved g c =
     omega (arith, kept.len, c.loop-exponent.slots.ok.0) in
     let of : IsSlotOf m c.loop-exponent.exponent c.new.result =
     record {
-      of_map = ap generations_named c.new.ensures ∙ c.tag_of-tag.ensures.map;
+      of_map = ap home_named c.new.ensures ∙ c.tag_of-tag.ensures.map;
       of_size =
           ap size_named c.new.ensures ∙ c.tag_of-tag.ensures.size;
     } in

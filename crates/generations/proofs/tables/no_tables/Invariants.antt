@@ -10,5 +10,5 @@ invariant-loop-exponent g l =
           → IsSlotOf (record { ledger = l.fn.ledger; form = l.form; salt = l.salt; n = l.n }) e
           (get_or l.slots.items e d);
       len : vec_len l.slots ≡ l.exponent;
-      room : 17 ≤ vec_capacity l.slots;
+      room : 27 ≤ vec_capacity l.slots;
     }

@@ -1,12 +1,13 @@
 use Rattle.std.proofs.Common.{ap, ◌∙◌}
 use Rattle.count_ledger.specs.Names.{id_of}
-use Rattle.generations.specs.Generations.{generations_named, size_named}
-use Rattle.generations.proofs.Openings.{form_numbered-number}
+use Rattle.places.specs.Names.{home_named}
+use Rattle.generations.specs.Generations.{size_named}
+use Rattle.places.proofs.Openings.{form_numbered-number}
 use Rattle.generations.proofs.tables.tag_of.Goals as goal
 
 pub returns-clause-map : goal.returns-clause-map
 returns-clause-map c =
-    ap generations_named c.of-tag.ensures
+    ap home_named c.of-tag.ensures
     ∙ (λ i. record {
       ledger = id_of (c.to_tag.ensures i);
       form = form_numbered-number c.args.form i;

@@ -3,12 +3,12 @@ use Rattle.std.proofs.lemmas.List.Elements.{All-nil, All-cons}
 use Rattle.bin_history.specs.Lawful.{BinView}
 use Rattle.bin_history.specs.declared.call.Call.{Call}
 use Rattle.count_ledger.specs.Views.{RoleView}
-use Rattle.generations.specs.BinsWithRoles.{AreBinsWithRoles}
-use Rattle.generations.specs.Views.{GenerationsView}
+use Rattle.places.specs.BinsWithRoles.{AreBinsWithRoles}
+use Rattle.places.specs.Views.{HomeView}
 use Rattle.test_generations.proofs.threads.roles_of.Goals as goal
 
 module _ {K V F : Type 0} (same : K → K → Bool) (code : K → ℕ) (after : Call K V F → Option V → Option V)
-    (g : GenerationsView) where
+    (g : HomeView) where
   ledgers_of : (bs : List (BinView K V F)) (rs : List (RoleView K V F)) → AreBinsWithRoles same code after g bs rs →
       All (λ r. r.ledger ≡ g.ledger) rs
   ledgers_of [] [] a = All-nil (λ (r : RoleView K V F). r.ledger ≡ g.ledger)

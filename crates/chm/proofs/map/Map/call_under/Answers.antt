@@ -5,7 +5,7 @@ use Rattle.count_ledger.specs.Views.{LedgerView}
 use Rattle.count_ledger.proofs.Agreements.{BinAgrees-gone_on, IsLegalStep-made}
 use Rattle.chm.specs.Histories.{IsCalledOn}
 use Rattle.chm.specs.Views.{MapView}
-use Rattle.chm.proofs.Meeting.{IsMet-front, IsCalledOn-posted}
+use Rattle.chm.proofs.Meeting.{IsCalledOn-agreed}
 use Rattle.chm.proofs.map.Map.call_under.Goals as goal
 
 pub post_trace-requires-clause-legal : goal.post_trace-requires-clause-legal
@@ -23,13 +23,11 @@ returns-clause-called g c =
     c.post_trace.new.pass c.in_ok-reply.reply in
     let posted = c.post_trace.ensures.posted in
     subst L own
-    (IsCalledOn-posted g.K.PartialEq.eq g.K.HashKey.code g.V.PartialEq.eq g.F.Remap.remapped g.F.Remap.merged
-    c.self.inside.ledger call c.args.pass.now c.post_trace.new.pass c.in_ok-reply.reply c.args.bin.now
-    c.make_on.new.self c.args.role.now c.in_ok-reply.trace c.client.result c.made.result posted.0
-    c.in_ok-reply.ensures.made c.client.ensures.value c.made.ensures.value posted.1
-    (IsMet-front g.K.PartialEq.eq (key_tells g.met.K.Eq.laws g.met.K.HashKey.equal_is_same) g.K.HashKey.code _
-    c.args.bin.now c.args.role.now c.requires.agree c.lawful.ensures.lawful c.lawful.ensures.replayed
-    c.self.inside.ledger c.post_trace.ensures.of_role posted.0 posted.1.kept))
+    (IsCalledOn-agreed g.K.PartialEq.eq g.K.HashKey.code g.V.PartialEq.eq g.F.Remap.remapped g.F.Remap.merged
+    (key_tells g.met.K.Eq.laws g.met.K.HashKey.equal_is_same) c.self.inside.ledger call c.args.pass.now
+    c.post_trace.new.pass c.in_ok-reply.reply c.args.bin.now c.make_on.new.self c.args.role.now c.in_ok-reply.trace
+    c.client.result c.made.result posted.0 c.requires.agree c.lawful.ensures.lawful c.lawful.ensures.replayed
+    c.post_trace.ensures.of_role c.in_ok-reply.ensures.made c.client.ensures.value c.made.ensures.value posted.1)
 
 pub returns-clause-agree : goal.returns-clause-agree
 returns-clause-agree g c =

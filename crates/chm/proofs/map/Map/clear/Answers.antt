@@ -3,7 +3,7 @@ use Rattle.hashkeys.specs.Classes.{ClassView, IsTableSize}
 use Rattle.bin_history.specs.Calls.{after}
 use Rattle.bin_history.proofs.Keys.{key_tells}
 use Rattle.count_ledger.specs.Views.{PassView}
-use Rattle.generations.specs.Walks.{IsWalkTo, IsFirstAfter, IsLastInWalk}
+use Rattle.places.specs.Walks.{IsWalkTo, IsFirstAfter, IsLastInWalk}
 use Rattle.chm.specs.Views.{MapView}
 use Rattle.chm.specs.declared.fault.Fault.TheVariants.{PassFull}
 use Rattle.chm.proofs.Clearing.{emptied, own_left, passed_on, unchanged, removed-more, AreCleared-push}

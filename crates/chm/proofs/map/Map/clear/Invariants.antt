@@ -1,7 +1,7 @@
 use Rattle.std.proofs.Common.{◌≡◌, ◌≤◌, List}
 use Rattle.hashkeys.specs.Classes.{ClassView}
 use Rattle.bin_history.specs.Calls.{after}
-use Rattle.generations.specs.Walks.{IsWalkTo}
+use Rattle.places.specs.Walks.{IsWalkTo}
 use Rattle.chm.specs.Cleared.{AreCleared, HasRemoved}
 use Rattle.chm.proofs.map.Map.clear.Given as goal
 

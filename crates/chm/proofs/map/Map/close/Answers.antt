@@ -3,9 +3,9 @@ use Rattle.hashkeys.specs.Classes.{CoverAll}
 use Rattle.bin_history.proofs.Keys.{key_tells}
 use Rattle.bin_history.specs.Calls.{after}
 use Rattle.count_ledger.specs.Views.{LedgerView, LedgerId, RoleView}
-use Rattle.generations.specs.Views.{GenerationsView}
-use Rattle.generations.specs.BinsWithRoles.{classes_of_bins}
-use Rattle.generations.specs.NotLeft.{IfKept}
+use Rattle.places.specs.Views.{HomeView}
+use Rattle.places.specs.BinsWithRoles.{classes_of_bins}
+use Rattle.homes.specs.NotLeft.{IfKept}
 use Rattle.std.specs.declared.vec.Vec.{Vec}
 use Rattle.count_ledger.specs.Books.{classes_of_roles}
 use Rattle.bin_history.specs.Entries.{replay}
@@ -94,7 +94,7 @@ returns-in-Err-NoMemory-clause-refused g c =
     subst (λ e. IfKept e (λ g. g ≡ c.self.inside.bins)) c.in-Err-NoMemory.field-0-is
     c.in-Err-NoMemory.ensures.refused in
     NotClosed-memory c.args.self c.args.passes.items (omega arith) _
-    (ap (λ (b : GenerationsView). record { ledger = c.self.inside.ledger; n = b.n }) (c.in-Err-NoMemory.bins-is ∙ kept)
+    (ap (λ (b : HomeView). record { ledger = c.self.inside.ledger; n = b.n }) (c.in-Err-NoMemory.bins-is ∙ kept)
     ∙ c.self.view_is)
 
 pub returns-in-Err-BinMissing-clause-refused : goal.returns-in-Err-BinMissing-clause-refused

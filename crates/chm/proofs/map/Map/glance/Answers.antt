@@ -2,7 +2,7 @@ use Rattle.std.proofs.Common.{◌≡◌, ap, ◌∙◌}
 use Rattle.bin_history.specs.Calls.{after}
 use Rattle.hashkeys.specs.Hashing.{hash_of}
 use Rattle.chm.specs.Views.{MapView, bins_of}
-use Rattle.chm.proofs.Visiting.{IsShown-read}
+use Rattle.chm.proofs.Visiting.{IsShown-glanced}
 use Rattle.chm.proofs.map.Map.glance.Goals as goal
 
 pub returns-clause-shown : goal.returns-clause-shown
@@ -17,8 +17,6 @@ returns-clause-shown g c =
     })
     ∙ ap (λ (m : MapView _ _). bins_of m) c.self.view_is in
     let hashed = c.hash_of-hash.ensures.hash ∙ (λ i. hash_of (c.salt.ensures i) (g.K.HashKey.code c.args.key.now)) in
-    IsShown-read g.K.PartialEq.eq g.K.HashKey.code (after g.V.PartialEq.eq g.F.Remap.remapped g.F.Remap.merged)
-    c.args.self.now c.self.inside.bins
-    c.args.key.now c.in_ok-value.field-0 c.bin.result.now c.read-shown.result c.hash_of-hash.result
-    home hashed c.read-shown.ensures.covers c.read-shown.ensures.with_role c.bin.ensures
-    (c.in_ok-value.ensures ∙ c.get.ensures)
+    IsShown-glanced g.K.PartialEq.eq g.K.HashKey.code (after g.V.PartialEq.eq g.F.Remap.remapped g.F.Remap.merged)
+    c.args.self.now c.self.inside.bins c.args.key.now c.in_ok-glance.field-0 c.hash_of-hash.result
+    home hashed c.in_ok-glance.ensures

@@ -3,13 +3,14 @@ use Rattle.hashkeys.specs.Classes.{covers}
 use Rattle.hashkeys.specs.Hashing.{hash_of}
 use Rattle.bin_history.specs.Calls.{after}
 use Rattle.count_ledger.specs.Views.{RoleView}
-use Rattle.generations.specs.Places.{AreAt}
+use Rattle.homes.specs.Places.{tag_of}
+use Rattle.places.specs.Places.{AreAt}
 use Rattle.chm.proofs.map.Map.look_up.Goals as goal
 
 pub release-requires : goal.release-requires
 release-requires g c =
     let At : RoleView _ _ _ → Type 0 = λ r. AreAt g.K.PartialEq.eq
-    (after g.V.PartialEq.eq g.F.Remap.remapped g.F.Remap.merged) c.hold-held.result.place.now
+    (after g.V.PartialEq.eq g.F.Remap.remapped g.F.Remap.merged) (tag_of c.hold-held.result.place)
     c.hold-held.result.bin r in
     subst At (sym c.meet_under.ensures.same_role) c.hold-held.ensures.at
 

@@ -4,14 +4,15 @@ use Rattle.hashkeys.specs.declared.hashing.Salt.{Salt}
 use Rattle.bin_history.specs.Calls.{after}
 use Rattle.bin_history.specs.Entries.{HasDistinctKeys}
 use Rattle.count_ledger.specs.Views.{RoleView}
-use Rattle.generations.specs.Places.{AreAt}
+use Rattle.homes.specs.Places.{tag_of}
+use Rattle.places.specs.Places.{AreAt}
 use Rattle.chm.specs.Visits.{IsVisit}
 use Rattle.chm.proofs.map.Map.visit.Goals as goal
 
 pub release-requires : goal.release-requires
 release-requires g c =
     let At : RoleView _ _ _ → Type 0 = λ r. AreAt g.K.PartialEq.eq
-    (after g.V.PartialEq.eq g.F.Remap.remapped g.F.Remap.merged) c.hold_first-held.result.place.now
+    (after g.V.PartialEq.eq g.F.Remap.remapped g.F.Remap.merged) (tag_of c.hold_first-held.result.place)
     c.hold_first-held.result.bin r in
     subst At (sym c.meet_under.ensures.same_role) c.hold_first-held.ensures.at
 

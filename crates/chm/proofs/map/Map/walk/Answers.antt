@@ -2,7 +2,7 @@ use Rattle.std.proofs.Common.{◌≡◌, ℕ, List, sym, subst, ap, ◌∙◌, a
 use Rattle.hashkeys.specs.Classes.{ClassView, IsTableSize}
 use Rattle.bin_history.specs.Calls.{after}
 use Rattle.count_ledger.specs.Views.{PassView}
-use Rattle.generations.specs.Walks.{IsWalk, IsWalkTo, IsFirstAfter, IsLastInWalk}
+use Rattle.places.specs.Walks.{IsWalk, IsWalkTo, IsFirstAfter, IsLastInWalk}
 use Rattle.chm.specs.Views.{MapView}
 use Rattle.chm.specs.Visits.{VisitView, classes_of_visits, AreVisited}
 use Rattle.bin_history.proofs.Keys.{key_tells}

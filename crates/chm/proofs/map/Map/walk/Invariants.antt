@@ -1,6 +1,6 @@
 use Rattle.std.proofs.Common.{◌≡◌, ◌≤◌}
 use Rattle.bin_history.specs.Calls.{after}
-use Rattle.generations.specs.Walks.{IsWalkTo}
+use Rattle.places.specs.Walks.{IsWalkTo}
 use Rattle.chm.specs.Visits.{classes_of_visits, AreVisited}
 use Rattle.chm.proofs.map.Map.walk.Given as goal
 

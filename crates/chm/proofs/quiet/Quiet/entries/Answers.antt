@@ -2,7 +2,7 @@ use Rattle.std.proofs.Common.{◌≡◌, ℕ, List, [], length, sym, ap, subst, 
 use Rattle.std.proofs.lemmas.List.{nil_from_length}
 use Rattle.hashkeys.specs.Classes.{covering}
 use Rattle.bin_history.specs.Lawful.{BinView}
-use Rattle.generations.specs.BinsWithRoles.{classes_of_bins}
+use Rattle.places.specs.BinsWithRoles.{classes_of_bins}
 use Rattle.chm.proofs.quiet.Quiet.entries.Goals as goal
 
 pub unreachable-requires : goal.unreachable-requires

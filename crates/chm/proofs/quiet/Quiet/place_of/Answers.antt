@@ -2,7 +2,7 @@ use Rattle.std.proofs.Common.{◌≡◌, ℕ, ◌+◌, ◌-◌, ◌/◌, ◌<◌
 use Rattle.std.proofs.lemmas.List.{get_or_default}
 use Rattle.hashkeys.specs.Classes.{ClassView}
 use Rattle.bin_history.specs.Lawful.{BinView}
-use Rattle.generations.specs.Walks.{HasPassed}
+use Rattle.places.specs.Walks.{HasPassed}
 use Rattle.chm.specs.Headline.{QuietView}
 use Rattle.chm.proofs.Searching.{least_at, from_place, up_to_place, first-bin, some_bin}
 use Rattle.chm.proofs.quiet.Quiet.place_of.Goals as goal

@@ -1,6 +1,6 @@
 use Rattle.std.proofs.Common.{ℕ, ◌-◌, ◌<◌, ◌≤◌, length, get_or}
 use Rattle.bin_history.specs.Lawful.{BinView}
-use Rattle.generations.specs.Walks.{HasPassed}
+use Rattle.places.specs.Walks.{HasPassed}
 use Rattle.chm.proofs.quiet.Quiet.place_of.Given as goal
 
 abbrev pub invariant-loop-low : goal.invariant-loop-low

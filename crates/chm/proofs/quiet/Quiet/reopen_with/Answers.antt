@@ -5,6 +5,7 @@ use Rattle.hashkeys.specs.Hashing.{hash_of}
 use Rattle.bin_history.proofs.Keys.{key_tells}
 use Rattle.bin_history.specs.Calls.{after}
 use Rattle.bin_history.specs.Entries.{HasDistinctKeys, lookup}
+use Rattle.bin_history.specs.declared.form.Form.{Form}
 use Rattle.count_ledger.specs.Opening.{lists_of}
 use Rattle.chm.specs.Headline.{QuietView, entries_of}
 use Rattle.chm.specs.Reopened.{in_classes}
@@ -52,21 +53,24 @@ returns-clause-new g c =
     ∙ length-parts_by_class g.K.HashKey.code c.args.salt c.size_from-n.result c.entries.result
     in
     let n_is = c.in_ok-open.ensures.n ∙ len in
+    let form_is : c.self.inside.form ≡ c.args.self.now.ledger.form =
+    c.self.invariant.3 ∙ ap (λ (q : QuietView _ _ _). q.ledger.form) c.self.view_is in
     let own : c.self.inside.n ≡ c.args.self.now.n = ap (λ (q : QuietView _ _ _). q.n) c.self.view_is in
     let opening : c.in_ok-open.field-0.0.ledger.opening ≡ in_classes g.K.HashKey.code c.args.salt n pairs =
     c.in_ok-open.ensures.opening
     ∙ ap (λ (ls : List (List _)). flat_map (λ l. l) ls) c.in_ok-bases.ensures.dealt
     ∙ (λ i. in_classes g.K.HashKey.code c.args.salt (sym n_is i) (c.entries.ensures i))
     in
-    let size : IsSizeFrom c.args.self.now.n (length pairs) n =
-    subst (IsSizeFrom c.args.self.now.n (length pairs)) (sym n_is)
-    (subst (λ (k : ℕ). IsSizeFrom c.args.self.now.n k c.size_from-n.result) c.mapping_count-count.ensures
-    (subst (λ (m : ℕ). IsSizeFrom m c.mapping_count-count.result c.size_from-n.result) own c.size_from-n.ensures))
+    let size : IsSizeFrom c.args.self.now.ledger.form c.args.self.now.n (length pairs) n =
+    subst (IsSizeFrom c.args.self.now.ledger.form c.args.self.now.n (length pairs)) (sym n_is)
+    (subst (λ (k : ℕ). IsSizeFrom c.args.self.now.ledger.form c.args.self.now.n k c.size_from-n.result) c.mapping_count-count.ensures
+    (subst (λ (f : Form). IsSizeFrom f c.args.self.now.n c.mapping_count-count.result c.size_from-n.result) form_is
+    (subst (λ (m : ℕ). IsSizeFrom c.self.inside.form m c.mapping_count-count.result c.size_from-n.result) own
+    c.size_from-n.ensures)))
     in
     let tells = key_tells g.met.K.Eq.laws g.met.K.HashKey.equal_is_same in
     record {
-      form = c.in_ok-open.ensures.form ∙ c.self.invariant.3
-          ∙ ap (λ (q : QuietView _ _ _). q.ledger.form) c.self.view_is;
+      form = c.in_ok-open.ensures.form ∙ form_is;
       salt = c.in_ok-open.ensures.salt;
       clients = c.in_ok-open.ensures.clients;
       opening = opening;

@@ -1,6 +1,6 @@
 use Rattle.std.proofs.Common.{◌-◌, ◌^◌, length, subst}
 use Rattle.generations.specs.Generations.{IsTable}
-use Rattle.generations.specs.Views.{GenerationsView}
+use Rattle.places.specs.Views.{HomeView}
 use Rattle.generations.proofs.generations.Generations.find.Goals as goal
 
 pub returns-then-is_begun-clause-of_map : goal.returns-then-is_begun-clause-of_map
@@ -12,4 +12,4 @@ pub returns-clause-of_map : goal.returns-clause-of_map
 returns-clause-of_map g c =
     let opening = c.self.inside.opening.items in
     c.place_in.ensures.of_map c.args.self.now (length opening)
-    (subst (λ (m : GenerationsView). IsTable m (length opening) opening) c.self.view_is c.self.invariant.opening_is)
+    (subst (λ (m : HomeView). IsTable m (length opening) opening) c.self.view_is c.self.invariant.opening_is)

@@ -2,8 +2,8 @@ use Rattle.std.proofs.Common.{◌≡◌, ℕ, ◌<◌, length, ap, subst, sym, �
 use Rattle.std.proofs.lemmas.Nat.{pow_pos}
 use Rattle.count_ledger.specs.Views.{LedgerId}
 use Rattle.generations.specs.Generations.{IsTable}
-use Rattle.generations.specs.Views.{GenerationsView}
-use Rattle.generations.proofs.Openings.{length-new_roles, first_ledger, if_ok_then}
+use Rattle.places.specs.Views.{HomeView}
+use Rattle.places.proofs.Openings.{length-new_roles, first_ledger, if_ok_then}
 use Rattle.generations.proofs.generations.Generations.new.Goals as goal
 
 pub index-requires : goal.index-requires
@@ -39,24 +39,24 @@ with_opening-requires g c =
 
 pub returns-clause-n : goal.returns-clause-n
 returns-clause-n g c = if_ok_then c.with_opening.result
-    (λ (m : GenerationsView) made. ap (λ (x : GenerationsView). x.n) made ∙ c.in_ok-places.ensures.count)
+    (λ (m : HomeView) made. ap (λ (x : HomeView). x.n) made ∙ c.in_ok-places.ensures.count)
     c.with_opening.ensures
 
 pub returns-clause-form : goal.returns-clause-form
 returns-clause-form g c =
-    if_ok_then c.with_opening.result (λ (m : GenerationsView) made. ap (λ (x : GenerationsView). x.form) made)
+    if_ok_then c.with_opening.result (λ (m : HomeView) made. ap (λ (x : HomeView). x.form) made)
     c.with_opening.ensures
 
 pub returns-clause-salt : goal.returns-clause-salt
 returns-clause-salt g c =
-    if_ok_then c.with_opening.result (λ (m : GenerationsView) made. ap (λ (x : GenerationsView). x.salt) made)
+    if_ok_then c.with_opening.result (λ (m : HomeView) made. ap (λ (x : HomeView). x.salt) made)
     c.with_opening.ensures
 
 pub returns-clause-ledger : goal.returns-clause-ledger
 returns-clause-ledger g c = if_ok_then c.with_opening.result
-    (λ (m : GenerationsView) made ledger roles.
+    (λ (m : HomeView) made ledger roles.
     let (e, le, is) = c.requires.size in
     let some : 0 < length c.args.bases.items = omega (arith, c.requires.count, is, pow_pos e) in
-    ap (λ (x : GenerationsView). x.ledger) made ∙ c.of-ledger.ensures
+    ap (λ (x : HomeView). x.ledger) made ∙ c.of-ledger.ensures
     ∙ first_ledger ledger c.args.salt c.args.bases c.args.roles.items c.index.result.now roles some c.index.ensures)
     c.with_opening.ensures

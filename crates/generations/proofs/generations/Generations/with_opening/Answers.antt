@@ -1,4 +1,5 @@
-use Rattle.std.proofs.Common.{◌≡◌, ℕ, length, subst, arith}
+use Rattle.std.proofs.Common.{◌≡◌, ℕ, ◌≤◌, ◌^◌, length, subst, arith}
+use Rattle.std.proofs.Math.Pow.{pow_mono}
 use Rattle.generations.specs.Generations.{AreSlots}
 use Rattle.generations.proofs.generations.Generations.with_opening.Goals as goal
 
@@ -12,3 +13,8 @@ invariant_of-result g c =
           c.in_ok-tables.tables.items)
           many c.in_ok-tables.ensures;
     }
+
+pub overflow_cast-len : goal.overflow_cast-len
+overflow_cast-len g c =
+    let (e, most, is) = c.requires.opening.size in
+    let few : 2 ^ e ≤ 67108864 = pow_mono {i = e} {j = 26} most in omega (arith, is, few, c.len.ensures)

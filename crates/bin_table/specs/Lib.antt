@@ -1,0 +1,4 @@
+pub mod Places
+pub mod Plays
+pub mod Taken
+pub mod Lending

@@ -1,0 +1,37 @@
+use Rattle.std.proofs.Common.{◌≡◌, ap, sym, subst, ◌∙◌}
+use Rattle.std.specs.Option.{IsSomeAnd}
+use Rattle.bin_history.specs.Calls.{after}
+use Rattle.bin_history.specs.Ops.{call_on, key_in}
+use Rattle.lean_bins.specs.Lying.{LiesAt}
+use Rattle.places.specs.Views.{HomeView, place_of}
+use Rattle.chm.specs.Headline.{IsCalled}
+use Rattle.chm.specs.Views.{bins_of}
+use Rattle.chm.proofs.map.Map.make_lying.Goals as goal
+
+pub call_lying-made-requires-clause-lies : goal.call_lying-made-requires-clause-lies
+call_lying-made-requires-clause-lies g c =
+    let after_is = after g.V.PartialEq.eq g.F.Remap.remapped g.F.Remap.merged in
+    let lies = subst
+    (λ o. IsSomeAnd o (LiesAt g.K.PartialEq.eq after_is (place_of c.args.held.home.now c.args.held.class)))
+    c.value.ensures.value c.requires.lies in
+    subst
+    (λ (h : HomeView). LiesAt g.K.PartialEq.eq after_is (place_of h c.args.held.class) c.value.result.now)
+    c.requires.home lies
+
+pub release-requires : goal.release-requires
+release-requires g c =
+    subst
+    (λ (h : HomeView). LiesAt g.K.PartialEq.eq (after g.V.PartialEq.eq g.F.Remap.remapped g.F.Remap.merged)
+    (place_of h c.args.held.class) c.call_lying-made.new.lying)
+    (sym c.requires.home) c.call_lying-made.ensures.lies
+
+pub count_if-grown-requires : goal.count_if-grown-requires
+count_if-grown-requires g c =
+    record { pass = ap (λ p. p.ledger) c.in_ok-reply.ensures.called.3.pass ∙ c.requires.pass }
+
+pub returns-clause-called : goal.returns-clause-called
+returns-clause-called g c =
+    subst
+    (λ p. IsCalled g.K.PartialEq.eq g.V.PartialEq.eq g.F.Remap.remapped g.F.Remap.merged c.args.self.now.ledger
+    (call_on (key_in c.args.key) c.args.op) c.args.pass.now p c.in_ok-reply.reply)
+    (sym c.count_if-grown.ensures.same) c.in_ok-reply.ensures.called

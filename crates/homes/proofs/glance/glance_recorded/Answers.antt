@@ -1,0 +1,13 @@
+use Rattle.std.proofs.Common.{◌∙◌}
+use Rattle.bin_history.specs.Calls.{after}
+use Rattle.places.proofs.Openings.{if_ok_then}
+use Rattle.homes.proofs.Glances.{IsGlanced-shown}
+use Rattle.homes.proofs.glance.glance_recorded.Goals as goal
+
+pub returns : goal.returns
+returns g c = if_ok_then c.copied-value.result
+    (λ value is. IsGlanced-shown g.K.PartialEq.eq g.K.HashKey.code
+    (after g.V.PartialEq.eq g.F.Remap.remapped g.F.Remap.merged) c.args.home.now c.args.hash c.args.key.now value
+    c.bin.result.now c.read-shown.result c.read-shown.ensures.covers c.read-shown.ensures.with_role c.bin.ensures
+    (is ∙ c.get.ensures))
+    c.copied-value.ensures

@@ -1,0 +1,4 @@
+pub mod Homes
+pub mod Places
+pub mod NotLeft
+pub mod Glances

@@ -1,0 +1,90 @@
+//! A look at a bin that nobody posts.
+ghost use Rattle.std.specs.Prelude.{◌≡◌, IfOk, option_copied};
+ghost use Rattle.bin_history.specs.Calls.{after};
+ghost use Rattle.bin_history.specs.Copies.{IsExact};
+ghost use Rattle.bin_history.specs.Hashes.{hash_by};
+ghost use Rattle.homes.specs.Glances.{IsGlanced};
+
+use crate::home::{Home, Kind};
+use bin_history::Remap;
+use generations::Generations;
+use hashkeys::HashKey;
+use lean_bins::LeanBins;
+use std::alloc::{AllocError, Allocator};
+use std::sync::Wait;
+
+/// A copy of a value, if there is one.
+fn copied<V: Clone>(value: Option<&V>) -> Result<Option<V>, AllocError>
+    requires { IsExact V.is_clone }
+    ensures { IfOk result (λ copy. copy ≡ option_copied value.entry) }
+{
+    match value {
+        Some(value) => Ok(Some(value.clone()?)),
+        None => Ok(None),
+    }
+}
+
+/// The same of a key of recorded bins, which others may read meanwhile.
+fn glance_recorded<
+    R: Wait,
+    K: HashKey + Drop,
+    V: Clone + Eq + Drop,
+    F: Remap<K, V> + Clone + Drop,
+    A: Allocator + Clone,
+>(rt: &R, home: &Generations<K, V, F, A>, hash: u32, key: &K) -> Result<Option<V>, AllocError>
+    requires values { IsExact V.is_clone }
+    requires hash { hash ≡ hash_by K.code home.now.salt key.now }
+    ensures { IfOk result
+        (IsGlanced K.eq K.code (after V.eq F.remapped F.merged) home.now hash key.now) }
+{
+    let shown = home.read(rt, hash);
+    let value = copied(shown.bin().get(hash, key));
+    shown.release();
+    value
+}
+
+/// The same of a key of lean bins, each of which is held.
+fn glance_lean<
+    R: Wait,
+    K: HashKey + Drop,
+    V: Clone + Eq + Drop,
+    F: Remap<K, V> + Clone + Drop,
+    A: Allocator + Clone,
+>(rt: &R, home: &LeanBins<K, V, F, A>, hash: u32, key: &K) -> Result<Option<V>, AllocError>
+    requires values { IsExact V.is_clone }
+    requires hash { hash ≡ hash_by K.code home.now.salt key.now }
+    ensures { IfOk result
+        (IsGlanced K.eq K.code (after V.eq F.remapped F.merged) home.now hash key.now) }
+{
+    let mut place = home.hold_found(rt, hash);
+    let lying = place.inner.value();
+    lying.entries.lawful::<F>();
+    let value = copied(lying.entries.get(hash, key));
+    place.release();
+    value
+}
+
+impl<
+    K: HashKey + Drop,
+    V: Clone + Eq + Drop,
+    F: Remap<K, V> + Clone + Drop,
+    A: Allocator + Clone,
+> Home<K, V, F, A> {
+    /// A copy of the value at a key of this hash, if it has one. It waits for the key's bin. A
+    /// recorded bin is read beside others that read it, and a lean one is held.
+    ///
+    /// # Errors
+    ///
+    /// For want of memory for the copy.
+    pub fn glance<R: Wait>(&self, rt: &R, hash: u32, key: &K) -> Result<Option<V>, AllocError>
+        requires values { IsExact V.is_clone }
+        requires hash { hash ≡ hash_by K.code self.now.salt key.now }
+        ensures { IfOk result
+            (IsGlanced K.eq K.code (after V.eq F.remapped F.merged) self.now hash key.now) }
+    {
+        match &self.kind {
+            Kind::Recorded(home) => glance_recorded(rt, home, hash, key),
+            Kind::Lean(home) => glance_lean(rt, home, hash, key),
+        }
+    }
+}

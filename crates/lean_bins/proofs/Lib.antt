@@ -1,0 +1,4 @@
+pub mod Spots
+pub mod Halves
+pub mod Opened
+pub mod Shared

@@ -1,0 +1,156 @@
+-- Threads may share the bins of a map.
+use denote.RattleType.{RattleType}
+use denote.Struct.Declared.{shape}
+use denote.Param.Send.{IsSend, IsSync, Frees, AllSend, AllSync, part_keyless, sendable}
+use denote.Struct.Field.{Field}
+use denote.Param.SendFields.{as_row_send, as_row_sync, declared_send, declared_sync}
+use Rattle.std.proofs.CrossingOver.{crosses}
+use Rattle.std.proofs.sync.atomic.AtomicU64.TheSendSync as atomic
+use Rattle.std.specs.declared.alloc.Allocator as Allocator
+use Rattle.std.specs.declared.clone.Clone as Clone
+use Rattle.std.specs.declared.cmp.Eq as Eq
+use Rattle.std.specs.declared.cmp.PartialEq as PartialEq
+use Rattle.std.specs.contracts.vec.Vec as Vec
+use Rattle.atomic_table.specs.contracts.badge.Badge as badge
+use Rattle.atomic_table.proofs.badge.Badge.TheSendSync as the_badge
+use Rattle.atomic_table.proofs.shared.Shared.TheSendSync as the_words
+use Rattle.atomic_table.proofs.send_lease.SendLease.TheSendSync as the_lease
+use Rattle.boxcar.specs.contracts.slot.OnceSlot as Slot
+use Rattle.boxcar.specs.declared.slot.SlotRule as SlotRule
+use Rattle.boxcar.proofs.slot.OnceSlot.TheSendSync as slot
+use Rattle.boxcar.proofs.tag.Tag.TheSendSync as tag
+use Rattle.hashkeys.specs.declared.hashing.HashKey as HashKey
+use Rattle.bin_history.specs.declared.call.Remap as Remap
+use Rattle.bin_history.proofs.Shared.{entries_send, entries_sync}
+use Rattle.count_ledger.specs.contracts.books_by.RoleBook as Book
+use Rattle.bin_table.specs.contracts.rows.Rows as Rows
+use Rattle.lean_bins.specs.contracts.lying.Lying as Lying
+use Rattle.lean_bins.specs.contracts.lying.PartTag as PartTag
+use Rattle.lean_bins.specs.contracts.lying.LyingFits.TheImpl.{ghosts, no_dict}
+use Rattle.lean_bins.specs.contracts.parts.OfPart as OfPart
+use Rattle.lean_bins.specs.contracts.parts.OfTable as OfTable
+use Rattle.lean_bins.specs.contracts.parts.OfPartSlotRuleRowsLying.TheImpl as of_part
+use Rattle.lean_bins.specs.contracts.parts.OfTableSlotRuleVecOnceSlotRowsLyingOfPart.TheImpl as of_table
+use Rattle.lean_bins.specs.contracts.bins.LeanBins as Bins
+use Rattle.lean_bins.specs.contracts.bins.LeanBins.TheInside as Inside
+
+badge_sync : (V : RattleType) → IsSync (badge.the_row V)
+badge_sync V = record { shared = λ d b o κ q. part_keyless (badge.the_row V) (the_badge.the_send V) q d b o }
+
+-- slots in a list
+module _ (A : RattleType) (alloc : Allocator.Ghosts A.Denot) (T Y : RattleType) (rule : SlotRule.Ghosts Y.Denot T.Denot) where
+  slots_send : IsSend A → Frees alloc alloc.dealloc_token → IsSend T → IsSend (Vec.the_row (Slot.the_row T Y rule) A alloc)
+  slots_send sa frees st = search (sendable, crosses, slot.the_send) depth 20
+
+  slots_sync : IsSync A → IsSend T → IsSync T → IsSync (Vec.the_row (Slot.the_row T Y rule) A alloc)
+  slots_sync ya st yt = search (sendable, crosses, slot.the_sync) depth 20
+
+module _ (K V F A : RattleType) (hash : HashKey.Ghosts K.Denot) (key_eq : Eq.Ghosts K.Denot)
+    (key_same : PartialEq.Ghosts K.Denot)
+    (key_clone : Clone.Ghosts K.Denot) (value_clone : Clone.Ghosts V.Denot) (value_eq : Eq.Ghosts V.Denot)
+    (value_same : PartialEq.Ghosts V.Denot)
+    (remap : Remap.Ghosts F.Denot K.Denot V.Denot) (function_clone : Clone.Ghosts F.Denot)
+    (alloc : Allocator.Ghosts A.Denot)
+    (sk : IsSend K) (sv : IsSend V) (sf : IsSend F) (sa : IsSend A) (yk : IsSync K) (yv : IsSync V) (yf : IsSync F)
+    (ya : IsSync A)
+    (frees : Frees alloc alloc.dealloc_token) where
+  book_send : IsSend (Book.the_row K V F)
+  book_send = search (sendable, the_badge.the_send) depth 30
+
+  book_sync : IsSync (Book.the_row K V F)
+  book_sync = search (sendable, badge_sync) depth 30
+
+  lying_send : IsSend (Lying.the_row K V F A hash key_same key_clone alloc)
+  lying_send = declared_send (Lying.the_type K V F A hash key_same key_clone alloc) (
+    entries_send K V F A hash key_same key_clone value_clone value_same remap function_clone alloc
+        sk sv sf sa yk yv yf ya frees,
+    (book_send, tt),
+  )
+
+  lying_sync : IsSync (Lying.the_row K V F A hash key_same key_clone alloc)
+  lying_sync = declared_sync (Lying.the_type K V F A hash key_same key_clone alloc) (
+    entries_sync K V F A hash key_same key_clone value_clone value_same remap function_clone alloc
+        sk sv sf sa yk yv yf ya frees,
+    (book_sync, tt),
+  )
+
+  -- a part of a table
+  abbrev rows_field : Field
+  rows_field = Rows.the_field (Lying.the_row K V F A hash key_same key_clone alloc) A PartTag.the_row
+      (ghosts K V F A hash no_dict key_eq no_dict key_same no_dict key_clone no_dict value_clone no_dict value_eq no_dict
+      value_same no_dict remap no_dict function_clone no_dict alloc no_dict no_dict no_dict no_dict no_dict) alloc
+
+  abbrev rows : RattleType
+  rows = Rows.the_row (Lying.the_row K V F A hash key_same key_clone alloc) A PartTag.the_row
+      (ghosts K V F A hash no_dict key_eq no_dict key_same no_dict key_clone no_dict value_clone no_dict value_eq no_dict
+      value_same no_dict remap no_dict function_clone no_dict alloc no_dict no_dict no_dict no_dict no_dict) alloc
+
+  abbrev part_rule : SlotRule.Ghosts OfPart.the_row.Denot rows.Denot
+  part_rule = of_part.ghosts K V F A hash of_part.no_dict key_eq of_part.no_dict key_same of_part.no_dict key_clone
+      of_part.no_dict value_clone of_part.no_dict value_eq of_part.no_dict value_same of_part.no_dict remap
+      of_part.no_dict function_clone of_part.no_dict alloc of_part.no_dict of_part.no_dict of_part.no_dict
+      of_part.no_dict of_part.no_dict
+
+  -- the slots of the parts of a table
+  abbrev parts : RattleType
+  parts = Vec.the_row (Slot.the_row rows OfPart.the_row part_rule) A alloc
+
+  abbrev table_rule : SlotRule.Ghosts OfTable.the_row.Denot parts.Denot
+  table_rule = of_table.ghosts K V F A hash of_table.no_dict key_eq of_table.no_dict key_same of_table.no_dict key_clone
+      of_table.no_dict value_clone of_table.no_dict value_eq of_table.no_dict value_same of_table.no_dict remap
+      of_table.no_dict function_clone of_table.no_dict alloc of_table.no_dict of_table.no_dict of_table.no_dict
+      of_table.no_dict of_table.no_dict
+
+  bare_send : IsSend rows_field.row
+  bare_send = search (sendable, crosses, the_words.the_send, the_lease.the_send, lying_send) depth 30
+
+  bare_sync : IsSync rows_field.row
+  bare_sync = search (sendable, crosses, the_words.the_sync, the_lease.the_sync, lying_send) depth 30
+
+  rows_send : IsSend rows
+  rows_send = as_row_send rows_field bare_send
+
+  rows_sync : IsSync rows
+  rows_sync = as_row_sync rows_field bare_sync
+
+  parts_send : IsSend parts
+  parts_send = slots_send A alloc rows OfPart.the_row part_rule sa frees rows_send
+
+  parts_sync : IsSync parts
+  parts_sync = slots_sync A alloc rows OfPart.the_row part_rule ya rows_send rows_sync
+
+  fields_send : AllSend
+      (shape (Inside.the_type K V F A hash key_eq key_same key_clone value_clone value_eq value_same remap
+      function_clone alloc)).fields
+  fields_send = (
+    bare_send,
+    (
+      slots_send A alloc parts OfTable.the_row table_rule sa frees parts_send,
+      (
+        search (sendable, atomic.the_send) depth 20,
+        (search sendable depth 20, (search sendable depth 20, (search (sendable, tag.the_send) depth 20, tt))),
+      ),
+    ),
+  )
+
+  fields_sync : AllSync
+      (shape (Inside.the_type K V F A hash key_eq key_same key_clone value_clone value_eq value_same remap
+      function_clone alloc)).fields
+  fields_sync = (
+    bare_sync,
+    (
+      slots_sync A alloc parts OfTable.the_row table_rule ya parts_send parts_sync,
+      (
+        search (sendable, atomic.the_sync) depth 20,
+        (search sendable depth 20, (search sendable depth 20, (search (sendable, tag.the_sync) depth 20, tt))),
+      ),
+    ),
+  )
+
+  pub map_send : IsSend
+      (Bins.the_row K V F A hash key_eq key_same key_clone value_clone value_eq value_same remap function_clone alloc)
+  map_send = search (sendable, fields_send) depth 30
+
+  pub map_sync : IsSync
+      (Bins.the_row K V F A hash key_eq key_same key_clone value_clone value_eq value_same remap function_clone alloc)
+  map_sync = search (sendable, fields_sync) depth 30

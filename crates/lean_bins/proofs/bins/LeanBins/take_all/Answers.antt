@@ -1,0 +1,84 @@
+use Rattle.std.proofs.Common.{◌≡◌, ◌≤◌, ap, subst, sym, ◌∙◌, true, arith}
+use Rattle.hashkeys.specs.Classes.{ClassView, IsTableSize, covers}
+use Rattle.bin_history.specs.Calls.{after}
+use Rattle.places.specs.BinsWithRoles.{classes_of_bins}
+use Rattle.places.specs.Walks.{IsWalk}
+use Rattle.places.proofs.Lists.{AreBinsWithRoles-more, AreBinsWithRoles-none, IsWalkTo-none, IsWalkTo-more}
+use Rattle.places.proofs.Lists.{IsWalk-all}
+use Rattle.lean_bins.proofs.bins.LeanBins.take_all.Goals as goal
+
+pub loop-roles-init : goal.loop-roles-init
+loop-roles-init g c = record {
+  walk = IsWalkTo-none c.n-n.result c.args.bins.now.items c.new-next.result c.requires.bins
+      (ap (λ (x : ClassView). x.index) c.new-next.ensures);
+  with_roles = AreBinsWithRoles-none g.K.PartialEq.eq g.K.HashKey.code
+      (after g.V.PartialEq.eq g.F.Remap.remapped g.F.Remap.merged) c.args.self.now
+      c.args.bins.now.items c.args.roles.now.items c.requires.bins c.requires.roles;
+}
+
+pub loop-roles-smaller : goal.loop-roles-smaller
+loop-roles-smaller g c =
+    omega (
+      arith,
+      c.push_reserved.ensures.len,
+      c.push_reserved.ensures.capacity,
+      c.if-len-capacity.true,
+      c.len.ensures,
+      c.capacity.ensures,
+    )
+
+pub loop-roles-preserved : goal.loop-roles-preserved
+loop-roles-preserved g c =
+    let n_is = c.n-n.ensures.value in
+    let size : IsTableSize c.n-n.result = subst IsTableSize (sym n_is) c.n-n.ensures.size in
+    let class_is = c.class-class.ensures in
+    let least : c.n-n.result ≤ c.class-class.result.n =
+    (let l = c.in-Some.ensures.least in let e = ap (λ (x : ClassView). x.n) class_is in omega (arith, n_is)) in
+    let of : covers c.class-class.result c.loop-roles.next.index ≡ true =
+    subst (λ (x : ClassView). covers x c.loop-roles.next.index ≡ true) (sym class_is)
+    (ap (λ i. covers c.in-Some.bin.class i) (sym c.index.ensures) ∙ c.in-Some.ensures.covers) in
+    let wide : c.loop-roles.next.n ≤ c.class-class.result.n =
+    (let a = c.n.ensures.value in let b = c.n-in-loop-roles.ensures.value in let ge = c.if-n.false in omega arith) in
+    record {
+      walk = IsWalkTo-more c.n-n.result c.loop-roles.bins.items c.push_reserved.new.self.items c.in-Some.bin
+          c.loop-roles.next c.class-class.result size
+          c.n-in-loop-roles.ensures.class c.n.ensures.class least
+          c.loop-roles.invariant.walk of wide (sym class_is) c.push_reserved.ensures.items
+          c.in-Some-next_in_walk.class
+          c.in-Some-next_in_walk.ensures.next;
+      with_roles = AreBinsWithRoles-more g.K.PartialEq.eq g.K.HashKey.code
+          (after g.V.PartialEq.eq g.F.Remap.remapped g.F.Remap.merged) c.args.self.now
+          c.loop-roles.bins.items c.push_reserved.new.self.items c.loop-roles.roles.items
+          c.push_reserved-in-loop-roles.new.self.items
+          c.in-Some.bin c.in-Some.role c.loop-roles.invariant.with_roles c.in-Some.ensures.with_role
+          c.push_reserved.ensures.items
+          c.push_reserved-in-loop-roles.ensures.items;
+    }
+
+pub returns-in-None-clause-walk : goal.returns-in-None-clause-walk
+returns-in-None-clause-walk g c = λ ok.
+    let n_is = c.n-n.ensures.value in
+    let size : IsTableSize c.n-n.result = subst IsTableSize (sym n_is) c.n-n.ensures.size in
+    let class_is = c.class-class.ensures in
+    let least : c.n-n.result ≤ c.class-class.result.n =
+    (let l = c.in-Some.ensures.least in let e = ap (λ (x : ClassView). x.n) class_is in omega (arith, n_is)) in
+    let of : covers c.class-class.result c.loop-roles.next.index ≡ true =
+    subst (λ (x : ClassView). covers x c.loop-roles.next.index ≡ true) (sym class_is)
+    (ap (λ i. covers c.in-Some.bin.class i) (sym c.index.ensures) ∙ c.in-Some.ensures.covers) in
+    let wide : c.loop-roles.next.n ≤ c.class-class.result.n =
+    (let a = c.n.ensures.value in let b = c.n-in-loop-roles.ensures.value in let ge = c.if-n.false in omega arith) in
+    subst (λ m. IsWalk m (classes_of_bins c.push_reserved.new.self.items)) n_is
+    (IsWalk-all c.n-n.result c.loop-roles.bins.items c.push_reserved.new.self.items c.in-Some.bin c.loop-roles.next
+    c.class-class.result size
+    c.n-in-loop-roles.ensures.class c.n.ensures.class least
+    c.loop-roles.invariant.walk of wide (sym class_is) c.push_reserved.ensures.items
+    c.in-None.ensures.last)
+
+pub returns-in-None-clause-with_roles : goal.returns-in-None-clause-with_roles
+returns-in-None-clause-with_roles g c = λ ok.
+    AreBinsWithRoles-more g.K.PartialEq.eq g.K.HashKey.code (after g.V.PartialEq.eq g.F.Remap.remapped g.F.Remap.merged)
+    c.args.self.now c.loop-roles.bins.items
+    c.push_reserved.new.self.items c.loop-roles.roles.items c.push_reserved-in-loop-roles.new.self.items
+    c.in-Some.bin c.in-Some.role c.loop-roles.invariant.with_roles c.in-Some.ensures.with_role
+    c.push_reserved.ensures.items
+    c.push_reserved-in-loop-roles.ensures.items

@@ -1,0 +1,8 @@
+use Rattle.lean_bins.proofs.Spots.{some_then, covers_at}
+use Rattle.lean_bins.proofs.bins.LeanBins.try_widest.Goals as goal
+
+pub returns-clause-covers : goal.returns-clause-covers
+returns-clause-covers g c = some_then c.try_at.result _ _
+    (λ t is. covers_at t.class c.args.hash c.index_among-index.result c.widest-exponent.result is
+    c.index_among-index.ensures.value)
+    c.try_at.ensures.class

@@ -1,0 +1,5 @@
+pub mod Parts
+pub mod Lying
+pub mod Homes
+pub mod Holding
+pub mod NotLeft

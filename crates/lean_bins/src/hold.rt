@@ -1,0 +1,313 @@
+//! Bins that are held, by value or where they lie.
+ghost use Rattle.std.specs.Prelude.{◌≡◌, ◌+◌, ◌<◌, ◌≤◌, ◌^◌, ◌%◌, true, IfSome, IsSomeAnd};
+ghost use Rattle.hashkeys.specs.Classes.{covers};
+ghost use Rattle.bin_history.specs.Calls.{after};
+ghost use Rattle.bin_history.specs.Lawful.{IsLawful};
+ghost use Rattle.bin_table.specs.Taken.{taken};
+ghost use Rattle.places.specs.Places.{AreAt};
+ghost use Rattle.places.specs.Views.{IsPlaceOf, place_of};
+ghost use Rattle.lean_bins.specs.Holding.{IsTakenFrom};
+ghost use Rattle.lean_bins.specs.Homes.{IsSpotOf};
+ghost use Rattle.lean_bins.specs.Lying.{LiesAt};
+ghost use Rattle.lean_bins.specs.Parts.{class_at, home_of};
+
+use crate::bins::{LeanBins, MOST_EXPONENT, Spot};
+use crate::lying::Lying;
+use bin_history::{Bin, Remap};
+use bin_table::Glance;
+use count_ledger::BinRole;
+use crossbeam_utils::Backoff;
+use hashkeys::{Class, HashKey};
+use std::alloc::Allocator;
+use std::sync::Wait;
+
+/// A place that is held. A bin and its role lie there, or were taken out and are put back there.
+/// Nobody else has either until it is released.
+pub struct Taken<'a, K: HashKey, V: Clone + Eq, F: Remap<K, V> + Clone, A: Allocator> {
+    /// What lies there is lent by its `value`.
+    pub inner: bin_table::Held<'a, Lying<K, V, F, A>, A>,
+    /// The class of the bin's keys.
+    pub class: Class,
+    pub(crate) exponent: u32,
+    /// The map that it is of.
+    pub home: &'a LeanBins<K, V, F, A>,
+    ghost from: { IsTakenFrom home.now class exponent inner.rows.now.table.shared.key.tag inner.at },
+}
+
+/// A bin that is held, with its role. Nobody else has either until it is released.
+pub struct Held<'a, K: HashKey, V: Clone + Eq, F: Remap<K, V> + Clone, A: Allocator> {
+    pub bin: Bin<K, V, F, A>,
+    pub role: BinRole<K, V, F>,
+    pub place: Taken<'a, K, V, F, A>,
+}
+
+/// The index of the hash among 2 to the exponent.
+#[inline(always)]
+pub(crate) fn index_among(hash: u32, exponent: u32) -> u32
+    requires { exponent ≤ 26 }
+    ensures value { result ≡ hash % 2 ^ exponent }
+    ensures below { result < 2 ^ exponent }
+{
+    hash & ((1u32 << exponent) - 1)
+}
+
+impl<K: HashKey, V: Clone + Eq, F: Remap<K, V> + Clone, A: Allocator + Clone> LeanBins<K, V, F, A> {
+    /// One try for the bin of a class at its place, where it stays.
+    #[inline(always)]
+    fn try_at<'a>(
+        &'a self,
+        spot: Spot<'a, K, V, F, A>,
+        exponent: u32,
+        index: u32,
+    ) -> Option<Taken<'a, K, V, F, A>>
+        requires spot { IsSpotOf self.now index spot.rows.now.table.shared.key.tag
+            spot.rows.now.table.shared.table_id.slots spot.at }
+        requires few { exponent ≤ 26 }
+        requires class { index < 2 ^ exponent }
+        ensures class { IfSome result (λ t. t.class ≡ class_at index exponent) }
+        ensures lies { IfSome result (λ t. IsSomeAnd (taken t.inner.seat.me.1)
+            (LiesAt K.eq (after V.eq F.remapped F.merged) (place_of t.home.now t.class))) }
+        ensures of_map { IfSome result (λ t. IsPlaceOf self.now (place_of t.home.now t.class)) }
+        ensures home { IfSome result (λ t. t.home.now ≡ self.now) }
+    {
+        let Spot { rows, at } = spot;
+        let inner = rows.try_hold(at, exponent)?;
+        let class = Class::new(1u32 << exponent, index);
+        Some(Taken {
+            inner,
+            class,
+            exponent,
+            home: self,
+        })
+    }
+
+    /// One try for the bin of the hash at the place where it most often is.
+    #[inline(always)]
+    fn try_widest(&self, hash: u32) -> Option<Taken<'_, K, V, F, A>>
+        ensures lies { IfSome result (λ t. IsSomeAnd (taken t.inner.seat.me.1)
+            (LiesAt K.eq (after V.eq F.remapped F.merged) (place_of t.home.now t.class))) }
+        ensures covers { IfSome result (λ t. covers t.class hash ≡ true) }
+        ensures of_map { IfSome result (λ t. IsPlaceOf self.now (place_of t.home.now t.class)) }
+        ensures home { IfSome result (λ t. t.home.now ≡ self.now) }
+    {
+        let exponent = self.widest();
+        let index = index_among(hash, exponent);
+        self.try_at(self.spot(index)?, exponent, index)
+    }
+
+    /// Holds the bin of the hash where it lies, or none where another thread has it just then. It
+    /// waits for nobody.
+    pub fn try_hold_in_place(&self, hash: u32) -> Option<Taken<'_, K, V, F, A>>
+        ensures lies { IfSome result (λ t. IsSomeAnd (taken t.inner.seat.me.1)
+            (LiesAt K.eq (after V.eq F.remapped F.merged) (place_of t.home.now t.class))) }
+        ensures covers { IfSome result (λ t. covers t.class hash ≡ true) }
+        ensures of_map { IfSome result (λ t. IsPlaceOf self.now (place_of t.home.now t.class)) }
+        ensures home { IfSome result (λ t. t.home.now ≡ self.now) }
+    {
+        let (index, spot, seen) = self.find(hash);
+        let Glance::Present(exponent) = seen else {
+            return None;
+        };
+        if exponent > MOST_EXPONENT || index_among(hash, exponent) != index {
+            return None;
+        }
+        self.try_at(spot, exponent, index)
+    }
+
+    /// Waits for the bin of the hash, and holds it where it lies.
+    #[inline(always)]
+    pub fn hold_in_place<R: Wait>(&self, rt: &R, hash: u32) -> Taken<'_, K, V, F, A>
+        ensures lies { IsSomeAnd (taken result.inner.seat.me.1)
+            (LiesAt K.eq (after V.eq F.remapped F.merged) (place_of result.home.now result.class)) }
+        ensures covers { covers result.class hash ≡ true }
+        ensures of_map { IsPlaceOf self.now (place_of result.home.now result.class) }
+        ensures home { result.home.now ≡ self.now }
+    {
+        match self.try_widest(hash) {
+            Some(taken) => taken,
+            None => self.hold_found(rt, hash),
+        }
+    }
+
+    /// Waits for the bin of the hash where it is found, and holds it there. It is not inlined.
+    #[cold]
+    #[inline(never)]
+    pub fn hold_found<R: Wait>(&self, rt: &R, hash: u32) -> Taken<'_, K, V, F, A>
+        ensures lies { IsSomeAnd (taken result.inner.seat.me.1)
+            (LiesAt K.eq (after V.eq F.remapped F.merged) (place_of result.home.now result.class)) }
+        ensures covers { covers result.class hash ≡ true }
+        ensures of_map { IsPlaceOf self.now (place_of result.home.now result.class) }
+        ensures home { result.home.now ≡ self.now }
+    {
+        let backoff = Backoff::new();
+        for _ in rt.forever() {
+            if let Some(taken) = self.try_hold_in_place(hash) {
+                return taken;
+            }
+            backoff.snooze();
+        }
+        unreachable!()
+    }
+
+    /// Holds the bin of the hash, or none where another thread has it just then. It waits for
+    /// nobody.
+    pub fn try_hold(&self, hash: u32) -> Option<Held<'_, K, V, F, A>>
+        ensures at { IfSome result (λ h. AreAt K.eq (after V.eq F.remapped F.merged)
+            (place_of h.place.home.now h.place.class) h.bin h.role) }
+        ensures covers { IfSome result (λ h. covers h.bin.class hash ≡ true) }
+        ensures lawful { IfSome result
+            (λ h. IsLawful K.eq K.code (after V.eq F.remapped F.merged) h.bin) }
+        ensures of_map { IfSome result
+            (λ h. IsPlaceOf self.now (place_of h.place.home.now h.place.class)) }
+        ensures home { IfSome result (λ h. h.place.home.now ≡ self.now) }
+    {
+        let taken = self.try_hold_in_place(hash)?;
+        Some(taken.take_out())
+    }
+
+    /// Waits for the bin of the hash, and holds it.
+    pub fn hold<R: Wait>(&self, rt: &R, hash: u32) -> Held<'_, K, V, F, A>
+        ensures at { AreAt K.eq (after V.eq F.remapped F.merged)
+            (place_of result.place.home.now result.place.class) result.bin result.role }
+        ensures covers { covers result.bin.class hash ≡ true }
+        ensures lawful { IsLawful K.eq K.code (after V.eq F.remapped F.merged) result.bin }
+        ensures of_map { IsPlaceOf self.now
+            (place_of result.place.home.now result.place.class) }
+        ensures home { result.place.home.now ≡ self.now }
+    {
+        let place = self.hold_found(rt, hash);
+        place.take_out()
+    }
+}
+
+impl<'a, K: HashKey, V: Clone + Eq, F: Remap<K, V> + Clone, A: Allocator + Clone> Taken<
+    'a,
+    K,
+    V,
+    F,
+    A,
+> {
+    /// Takes the bin and its role out of their place.
+    fn take_out(self) -> Held<'a, K, V, F, A>
+        requires { IsSomeAnd (taken self.inner.seat.me.1)
+            (LiesAt K.eq (after V.eq F.remapped F.merged) (place_of self.home.now self.class)) }
+        ensures at { AreAt K.eq (after V.eq F.remapped F.merged)
+            (place_of result.place.home.now result.place.class) result.bin result.role }
+        ensures lawful { IsLawful K.eq K.code (after V.eq F.remapped F.merged) result.bin }
+        ensures class { result.place.class ≡ self.entry.class }
+        ensures home { result.place.home.now ≡ self.entry.home.now }
+    {
+        let Taken {
+            mut inner,
+            class,
+            exponent,
+            home,
+        } = self;
+        let salt = home.salt();
+        let lying = inner.replace(Lying::nothing(salt, class));
+        let (bin, role) = lying.into_bin(salt, class);
+        bin.lawful();
+        Held {
+            bin,
+            role,
+            place: Taken {
+                inner,
+                class,
+                exponent,
+                home,
+            },
+        }
+    }
+
+    /// Gives what lies there back: a bin of the class and its role, which agree. It waits for
+    /// nobody.
+    #[inline(always)]
+    pub fn release(self)
+        requires { IsSomeAnd (taken self.inner.seat.me.1)
+            (LiesAt K.eq (after V.eq F.remapped F.merged) (place_of self.home.now self.class)) }
+    {
+        let Taken {
+            inner,
+            class: _,
+            exponent,
+            home: _,
+        } = self;
+        inner.release(exponent);
+    }
+}
+
+/// Puts a bin and its role at a place that is held, as one of 2 to the exponent.
+#[inline(always)]
+pub(crate) fn give_back<
+    K: HashKey + Drop,
+    V: Clone + Eq + Drop,
+    F: Remap<K, V> + Clone + Drop,
+    A: Allocator + Clone,
+>(
+    inner: bin_table::Held<'_, Lying<K, V, F, A>, A>,
+    exponent: u32,
+    bin: Bin<K, V, F, A>,
+    role: BinRole<K, V, F>,
+)
+    requires at { AreAt K.eq (after V.eq F.remapped F.merged)
+        (place_of (home_of inner.rows.now.table.shared.key.tag)
+        (class_at (inner.rows.now.table.shared.key.tag.first + inner.at) exponent)) bin role }
+    requires least { inner.rows.now.table.shared.key.tag.n ≤ 2 ^ exponent }
+{
+    let mut held = inner;
+    drop(held.replace(Lying::of(bin, role)));
+    held.release(exponent);
+}
+
+impl<
+    'a,
+    K: HashKey + Drop,
+    V: Clone + Eq + Drop,
+    F: Remap<K, V> + Clone + Drop,
+    A: Allocator + Clone,
+> Taken<'a, K, V, F, A> {
+    /// Puts the bin and its role, which were taken out, back to their place. It waits for nobody.
+    #[inline(always)]
+    pub fn put_back(self, bin: Bin<K, V, F, A>, role: BinRole<K, V, F>)
+        requires { AreAt K.eq (after V.eq F.remapped F.merged) (place_of self.home.now self.class)
+            bin role }
+    {
+        let Taken {
+            inner,
+            class: _,
+            exponent,
+            home: _,
+        } = self;
+        give_back(inner, exponent, bin, role);
+    }
+
+    /// Leaves nothing at the place, for good.
+    pub(crate) fn leave(self) {
+        let Taken {
+            inner,
+            class,
+            exponent: _,
+            home,
+        } = self;
+        drop(inner.take(Lying::nothing(home.salt(), class)));
+    }
+}
+
+impl<
+    'a,
+    K: HashKey + Drop,
+    V: Clone + Eq + Drop,
+    F: Remap<K, V> + Clone + Drop,
+    A: Allocator + Clone,
+> Held<'a, K, V, F, A> {
+    /// Gives the bin and its role back. They agree, and are of the class and the ledger that were
+    /// held. It waits for nobody.
+    #[inline(always)]
+    pub fn release(self)
+        requires { AreAt K.eq (after V.eq F.remapped F.merged)
+            (place_of self.place.home.now self.place.class) self.bin self.role }
+    {
+        let Held { bin, role, place } = self;
+        place.put_back(bin, role);
+    }
+}

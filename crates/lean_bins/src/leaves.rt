@@ -1,0 +1,146 @@
+//! The bins of a map that nobody else has, taken out in walk order.
+ghost use Rattle.std.specs.Prelude.{◌≡◌, ◌≤◌, true, IsTrue, IfSome, IfOk, [], IfErr};
+ghost use Rattle.hashkeys.specs.Classes.{covers};
+ghost use Rattle.bin_history.specs.Calls.{after};
+ghost use Rattle.count_ledger.specs.Books.{classes_of_roles};
+ghost use Rattle.places.specs.BinsWithRoles.{IsBinWithRole, AreBinsWithRoles, classes_of_bins};
+ghost use Rattle.places.specs.Walks.{IsWalk};
+ghost use Rattle.lean_bins.specs.NotLeft.{IfKept};
+
+use crate::bins::{LeanBins, MOST_EXPONENT};
+use crate::hold::Held;
+use bin_history::{Bin, Remap};
+use bin_table::Glance;
+use count_ledger::BinRole;
+use hashkeys::{Class, HashKey, MOST_BINS};
+use places::next_in_walk;
+use std::alloc::{AllocError, Allocator};
+
+/// Why the bins of a map could not be taken out.
+#[derive(Drop)]
+pub enum NotLeft<K: HashKey, V: Clone + Eq, F: Remap<K, V> + Clone, A: Allocator> {
+    /// For want of memory. Here is the map as it was.
+    NoMemory(LeanBins<K, V, F, A>),
+    /// A bin was missing, or there were more than were counted.
+    BinMissing,
+}
+
+impl<
+    K: HashKey + Drop,
+    V: Clone + Eq + Drop,
+    F: Remap<K, V> + Clone + Drop,
+    A: Allocator + Clone,
+> LeanBins<K, V, F, A> {
+    /// The class of the bin of a hash, where one seems to stand.
+    fn class_of(&self, hash: u32) -> Option<Class>
+        ensures { IfSome result (λ c. self.now.n ≤ c.n) }
+    {
+        let (index, _spot, seen) = self.find(hash);
+        let Glance::Present(exponent) = seen else {
+            return None;
+        };
+        if exponent > MOST_EXPONENT || index >= 1u32 << exponent || (1u32 << exponent) < self.n() {
+            return None;
+        }
+        Some(Class::new(1u32 << exponent, index))
+    }
+
+    /// How many bins there are.
+    fn count_bins(&self) -> u32 {
+        let n = self.n();
+        let mut next = Class::new(n, 0);
+        for before in 0..MOST_BINS {
+            let Some(class) = self.class_of(next.index()) else {
+                return before;
+            };
+            match next_in_walk(n, class) {
+                Some(class) => next = class,
+                None => return before + 1,
+            }
+        }
+        MOST_BINS
+    }
+
+    /// The bin of a hash, with its role. Nothing stays there.
+    fn take_bin(&self, hash: u32) -> Option<(Bin<K, V, F, A>, BinRole<K, V, F>)>
+        ensures covers { IfSome result (λ p. covers p.0.class hash ≡ true) }
+        ensures least { IfSome result (λ p. self.now.n ≤ p.0.class.n) }
+        ensures with_role { IfSome result
+            (λ p. IsBinWithRole K.eq K.code (after V.eq F.remapped F.merged) self.now p.0 p.1) }
+    {
+        let held = self.try_hold(hash)?;
+        let Held { bin, role, place } = held;
+        place.leave();
+        Some((bin, role))
+    }
+
+    /// Takes all bins. False where one is missing, or there are more than there is room for.
+    fn take_all(
+        &self,
+        bins: &mut Vec<Bin<K, V, F, A>, A>,
+        roles: &mut Vec<BinRole<K, V, F>, A>,
+    ) -> bool
+        requires bins { bins.old.items ≡ [] }
+        requires roles { roles.old.items ≡ [] }
+        ensures walk { IsTrue result → IsWalk self.now.n (classes_of_bins bins.new.items) }
+        ensures with_roles { IsTrue result →
+            AreBinsWithRoles K.eq K.code (after V.eq F.remapped F.merged) self.now bins.new.items
+            roles.new.items }
+    {
+        let n = self.n();
+        let mut next = Class::new(n, 0);
+        while bins.len() < bins.capacity() && roles.len() < roles.capacity() {
+            let Some((bin, role)) = self.take_bin(next.index()) else {
+                return false;
+            };
+            let class = bin.class();
+            if class.n() < next.n() {
+                return false;
+            }
+            bins.push_reserved(bin);
+            roles.push_reserved(role);
+            match next_in_walk(n, class) {
+                Some(class) => next = class,
+                None => return true,
+            }
+        }
+        false
+    }
+
+    /// Takes out the bins in walk order and, place by place, their roles. For want of memory the
+    /// map comes back as it was.
+    pub fn into_leaves(
+        self,
+    ) -> Result<(Vec<Bin<K, V, F, A>, A>, Vec<BinRole<K, V, F>, A>), NotLeft<K, V, F, A>>
+        ensures walk { IfOk result (λ p. IsWalk self.n (classes_of_bins p.0.items)) }
+        ensures with_roles { IfOk result
+            (λ p. AreBinsWithRoles K.eq K.code (after V.eq F.remapped F.merged) self
+            p.0.items p.1.items) }
+        ensures classes { IfOk result
+            (λ p. classes_of_roles p.1.items ≡ classes_of_bins p.0.items) }
+        ensures refused { IfErr result (λ e. IfKept e (λ g. g ≡ self)) }
+    {
+        let count = self.count_bins() as usize;
+        let Ok((mut bins, mut roles)) = self.room_for(count) else {
+            return Err(NotLeft::NoMemory(self));
+        };
+        if self.take_all(&mut bins, &mut roles) {
+            Ok((bins, roles))
+        } else {
+            Err(NotLeft::BinMissing)
+        }
+    }
+
+    /// Lists with room for so many bins and their roles.
+    fn room_for(
+        &self,
+        count: usize,
+    ) -> Result<(Vec<Bin<K, V, F, A>, A>, Vec<BinRole<K, V, F>, A>), AllocError>
+        ensures bins { IfOk result (λ p. p.0.items ≡ []) }
+        ensures roles { IfOk result (λ p. p.1.items ≡ []) }
+    {
+        let bins = Vec::with_capacity(self.allocator().clone()?, count)?;
+        let roles = Vec::with_capacity(self.allocator().clone()?, count)?;
+        Ok((bins, roles))
+    }
+}

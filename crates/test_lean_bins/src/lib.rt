@@ -1,0 +1,7 @@
+//! Tests of lean homes.
+#![tactic(auto)]
+
+#[cfg(test)]
+mod maps;
+#[cfg(test)]
+mod threads;
