@@ -21,7 +21,7 @@ OWN_FORMS = [("facingberyl", ["--form", "lean"]), ("facingberyl, recorded", ["--
 OWN_THREADS = 31
 
 # What a run is of.
-Workload = namedtuple("Workload", "mode keys threads calls")
+Workload = namedtuple("Workload", "mode keys threads calls choice")
 
 
 class Lacking(Exception):
@@ -39,7 +39,7 @@ class Map:
         self.name, self.words, self.is_own, self.most_threads = name, words, is_own, most_threads
 
     def run(self, workload):
-        """Returns how many million calls a second the map made."""
+        """Returns how many million calls a second the map made, or in mode stall how many milliseconds its longest call took."""
         words = [str(it) for it in self.words(workload)]
         try:
             ran = subprocess.run(words, capture_output=True, text=True, timeout=SECONDS)
@@ -80,13 +80,13 @@ def jdk():
     """The JDK's map, plain and with each call recorded."""
     need("java")
     build("JdkMap.java", ["javac", "-d", f"{OUT}/jdk", f"{PEERS}/JdkMap.java"])
-    words = lambda kind: lambda it: ["java", "-cp", f"{OUT}/jdk", "JdkMap", kind, it.mode, it.threads, it.calls, it.keys]
+    words = lambda kind: lambda it: ["java", "-cp", f"{OUT}/jdk", "JdkMap", kind, it.mode, it.threads, it.calls, it.keys, it.choice]
     return [Map("JDK, recorded", words("recorded")), Map("JDK", words("plain"))]
 
 
 def peer(name, program):
-    """A peer whose program takes the workload in four words."""
-    return [Map(name, lambda it: [program, it.mode, it.threads, it.calls, it.keys])]
+    """A peer whose program takes the workload in five words."""
+    return [Map(name, lambda it: [program, it.mode, it.threads, it.calls, it.keys, it.choice])]
 
 
 def dashmap():
@@ -122,7 +122,10 @@ def own(binary):
         binary = f"{TOP}/crates/map_bench/out/map_bench"
     if not os.access(binary, os.X_OK):
         raise Lacking(f"{binary} is no program")
-    words = lambda more: lambda it: [binary, "--mode", it.mode, "--threads", it.threads, "--calls", it.calls, "--keys", it.keys, *more]
+    words = lambda more: lambda it: [
+        *[binary, "--mode", it.mode, "--threads", it.threads, "--calls", it.calls, "--keys", it.keys, "--choice", it.choice],
+        *more,
+    ]
     return [Map(name, words(more), is_own=True, most_threads=OWN_THREADS) for name, more in OWN_FORMS]
 
 

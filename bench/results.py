@@ -71,7 +71,7 @@ def say(line):
 
 def told(workload):
     threads = f"{workload.threads} thread{'s' * (workload.threads > 1)}"
-    return f"{workload.mode}, {workload.keys:,} keys, {threads}"
+    return f"{workload.mode}, {workload.choice}, {workload.keys:,} keys, {threads}"
 
 
 def heading(maps, given):

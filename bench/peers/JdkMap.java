@@ -1,11 +1,12 @@
 import java.util.ArrayList;
+import java.util.Arrays;
 import java.util.Locale;
 import java.util.concurrent.ConcurrentHashMap;
 
 /**
  * Measures the JDK's ConcurrentHashMap on the workload that docs/SPEED.md describes.
  *
- * <p>usage: JdkMap plain|recorded mix|get|merge THREADS CALLS KEYS
+ * <p>usage: JdkMap plain|recorded mix|get|merge|fill|stall THREADS CALLS KEYS uniform|zipf
  *
  * <p>"plain" is the map as it comes. Under "recorded" each call, a get too, is kept with who made it, what it found and
  * what it left, in a list of its key that is written under the lock of the key's bin. A list holds at most 1,024 records: then
@@ -15,7 +16,7 @@ public final class JdkMap {
     /** How often the run is made. */
     private static final int RUNS = 3;
 
-    private enum Mode { MIX, GET, MERGE }
+    private enum Mode { MIX, GET, MERGE, FILL, STALL }
 
     private enum Call { GET, PUT, REMOVE, MERGE }
 
@@ -33,6 +34,59 @@ public final class JdkMap {
             z = (z ^ (z >>> 30)) * 0xbf58476d1ce4e5b9L;
             z = (z ^ (z >>> 27)) * 0x94d049bb133111ebL;
             return z ^ (z >>> 31);
+        }
+    }
+
+    /**
+     * How the numbers of keys are chosen: each alike, or by Zipf's law with the exponent 0.99, by a table of steps of which each is
+     * as likely as the others.
+     */
+    private static final class Choice {
+        private static final int STEPS = 4096;
+
+        private final long keys;
+        private final long[] starts;
+
+        Choice(boolean isZipf, long keys) {
+            this.keys = keys;
+            starts = isZipf ? steps(keys) : null;
+        }
+
+        /** 2^40 over the rank to the 0.99, nearly. */
+        private static long weight(long rank) {
+            int exponent = 63 - Long.numberOfLeadingZeros(rank);
+            long logarithm = exponent * 65_536L + (rank << 16 >>> exponent) - 65_536;
+            long power = logarithm * 454 >>> 16;
+            return Long.divideUnsigned(power + 65_536 + (power * power >>> 17) << 24, rank);
+        }
+
+        private static long[] steps(long keys) {
+            long[] starts = new long[STEPS + 1];
+            long total = 0;
+            for (long rank = 1; rank <= keys; rank++) {
+                total += weight(rank);
+            }
+            long before = 0;
+            int made = 0;
+            for (long rank = 1; rank <= keys; rank++) {
+                before += weight(rank);
+                while (made < STEPS && Long.compareUnsigned((before >>> 12) * 4096, (total >>> 12) * made) >= 0) {
+                    starts[made++] = rank - 1;
+                }
+            }
+            while (made <= STEPS) {
+                starts[made++] = keys - 1;
+            }
+            return starts;
+        }
+
+        int number(long drawn) {
+            if (starts == null) {
+                return (int) ((drawn >>> 16) % keys);
+            }
+            int step = (int) ((drawn >>> 16) % STEPS);
+            long rank = starts[step] + (drawn >>> 28) % (starts[step + 1] - starts[step] + 1);
+            return (int) (rank * 7919 % keys);
         }
     }
 
@@ -121,12 +175,12 @@ public final class JdkMap {
     /** Where results go, so that no get can be left out by the compiler. */
     private static volatile long kept;
 
-    private static void work(Client client, Mode mode, long seed, long calls, String[] names) {
+    private static void work(Client client, Mode mode, long seed, long calls, String[] names, Choice choice) {
         Random random = new Random(seed);
         long sum = 0;
         for (long i = 0; i < calls; i++) {
             long drawn = random.draw();
-            String name = names[(int) ((drawn >>> 16) % names.length)];
+            String name = names[choice.number(drawn)];
             long part = Long.remainderUnsigned(drawn, 100);
             if (mode == Mode.MERGE) {
                 client.make(Call.MERGE, name, 1);
@@ -141,9 +195,46 @@ public final class JdkMap {
         kept = sum;
     }
 
+    /** Puts the keys from a number on that lie so far apart. Returns the longest put in milliseconds, where puts are timed. */
+    private static double fill(Client client, Mode mode, int first, int step, String[] names) {
+        long longest = 0;
+        for (int i = first; i < names.length; i += step) {
+            if (mode == Mode.FILL) {
+                client.make(Call.PUT, names[i], i);
+                continue;
+            }
+            long start = System.nanoTime();
+            client.make(Call.PUT, names[i], i);
+            longest = Math.max(longest, System.nanoTime() - start);
+        }
+        return longest / 1e6;
+    }
+
+    /** Fills a new map. Returns how many million puts a second the threads made together, or the longest put in milliseconds. */
+    private static double runFill(Shared map, Mode mode, int threads, String[] names) throws InterruptedException {
+        Thread[] started = new Thread[threads];
+        double[] longest = new double[threads];
+        long start = System.nanoTime();
+        for (int i = 0; i < threads; i++) {
+            int number = i;
+            started[i] = new Thread(() -> longest[number] = fill(map.client(number), mode, number, threads, names));
+            started[i].start();
+        }
+        for (Thread thread : started) {
+            thread.join();
+        }
+        double seconds = (System.nanoTime() - start) / 1e9;
+        return mode == Mode.FILL ? names.length / seconds / 1e6 : Arrays.stream(longest).max().orElse(0);
+    }
+
     /** Returns how many million calls a second the threads made together of a new map. */
-    private static double run(boolean isRecorded, Mode mode, int threads, long calls, String[] names) throws InterruptedException {
+    private static double run(boolean isRecorded, Mode mode, int threads, long calls, String[] names, boolean isZipf)
+            throws InterruptedException {
         Shared map = isRecorded ? new RecordedMap() : new PlainMap();
+        if (mode == Mode.FILL || mode == Mode.STALL) {
+            return runFill(map, mode, threads, names);
+        }
+        Choice choice = new Choice(isZipf, names.length);
         Client filler = map.client(threads);
         for (int i = 0; i < names.length; i += 2) {
             filler.make(Call.PUT, names[i], i);
@@ -153,7 +244,7 @@ public final class JdkMap {
         for (int i = 0; i < threads; i++) {
             Client client = map.client(i);
             long seed = i + 1;
-            started[i] = new Thread(() -> work(client, mode, seed, calls, names));
+            started[i] = new Thread(() -> work(client, mode, seed, calls, names, choice));
             started[i].start();
         }
         for (Thread thread : started) {
@@ -174,7 +265,7 @@ public final class JdkMap {
         }
         double rate = 0;
         for (int i = 0; i < RUNS; i++) {
-            rate = run(isRecorded, mode, threads, calls, names);
+            rate = run(isRecorded, mode, threads, calls, names, words[5].equals("zipf"));
         }
         System.out.printf(Locale.ROOT, "%s %s %d %.3f%n", isRecorded ? "jdk_recorded" : "jdk", words[1], threads, rate);
     }

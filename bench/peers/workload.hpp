@@ -3,6 +3,7 @@
 // A map is a class with get, put, remove and merge, each of which many threads may call at once.
 #pragma once
 
+#include <algorithm>
 #include <chrono>
 #include <cstdint>
 #include <cstdio>
@@ -17,7 +18,7 @@ namespace workload {
 using Key = std::string;
 using Value = std::int64_t;
 
-enum class Mode { mix, get, merge };
+enum class Mode { mix, get, merge, fill, stall };
 
 // The generator splitmix64.
 class Random {
@@ -36,13 +37,61 @@ class Random {
     std::uint64_t state;
 };
 
+// How the numbers of keys are chosen: each alike, or by Zipf's law with the exponent 0.99, by a table of steps of which each is as
+// likely as the others.
+class Choice {
+  public:
+    Choice(bool is_zipf, std::uint64_t count) : keys(count) {
+        if (!is_zipf) {
+            return;
+        }
+        std::uint64_t total = 0;
+        for (std::uint64_t rank = 1; rank <= keys; rank++) {
+            total += weight(rank);
+        }
+        std::uint64_t before = 0;
+        for (std::uint64_t rank = 1; rank <= keys; rank++) {
+            before += weight(rank);
+            while (starts.size() < STEPS && (before >> 12) * 4096 >= (total >> 12) * starts.size()) {
+                starts.push_back(rank - 1);
+            }
+        }
+        while (starts.size() <= STEPS) {
+            starts.push_back(keys - 1);
+        }
+    }
+
+    std::uint64_t number(std::uint64_t drawn) const {
+        if (starts.empty()) {
+            return (drawn >> 16) % keys;
+        }
+        const std::uint64_t step = (drawn >> 16) % STEPS;
+        const std::uint64_t rank = starts[step] + (drawn >> 28) % (starts[step + 1] - starts[step] + 1);
+        return rank * 7919 % keys;
+    }
+
+  private:
+    static constexpr std::size_t STEPS = 4096;
+
+    // 2^40 over the rank to the 0.99, nearly.
+    static std::uint64_t weight(std::uint64_t rank) {
+        const std::uint64_t exponent = 63 - __builtin_clzll(rank);
+        const std::uint64_t logarithm = exponent * 65536 + ((rank << 16) >> exponent) - 65536;
+        const std::uint64_t power = logarithm * 454 >> 16;
+        return ((power + 65536 + (power * power >> 17)) << 24) / rank;
+    }
+
+    std::uint64_t keys;
+    std::vector<std::uint64_t> starts;
+};
+
 // Makes one thread's calls, and returns the sum of what its gets found, so that no get can be left out.
-template <class Map> Value work(Map &map, Mode mode, std::uint64_t seed, long calls, const std::vector<Key> &names) {
+template <class Map> Value work(Map &map, Mode mode, std::uint64_t seed, long calls, const std::vector<Key> &names, const Choice &choice) {
     Random random(seed);
     Value sum = 0;
     for (long i = 0; i < calls; i++) {
         const std::uint64_t drawn = random.draw();
-        const Key &name = names[(drawn >> 16) % names.size()];
+        const Key &name = names[choice.number(drawn)];
         const unsigned part = drawn % 100;
         if (mode == Mode::merge) {
             map.merge(name, 1);
@@ -57,12 +106,48 @@ template <class Map> Value work(Map &map, Mode mode, std::uint64_t seed, long ca
     return sum;
 }
 
+// Puts the keys from a number on that lie so far apart. Returns the longest put in milliseconds, where puts are timed.
+template <class Map> double fill(Map &map, Mode mode, long first, long step, const std::vector<Key> &names) {
+    double longest = 0;
+    for (std::size_t i = first; i < names.size(); i += step) {
+        if (mode == Mode::fill) {
+            map.put(names[i], i);
+            continue;
+        }
+        const auto start = std::chrono::steady_clock::now();
+        map.put(names[i], i);
+        const std::chrono::duration<double, std::milli> taken = std::chrono::steady_clock::now() - start;
+        longest = std::max(longest, taken.count());
+    }
+    return longest;
+}
+
+// Fills a new map. Returns how many million puts a second the threads made together, or the longest put in milliseconds.
+template <class Map> double run_fill(Mode mode, int threads, const std::vector<Key> &names) {
+    Map map;
+    std::vector<double> longest(threads);
+    std::vector<std::thread> started;
+    const auto start = std::chrono::steady_clock::now();
+    for (int i = 0; i < threads; i++) {
+        started.emplace_back([&, i] { longest[i] = fill(map, mode, i, threads, names); });
+    }
+    for (std::thread &thread : started) {
+        thread.join();
+    }
+    const std::chrono::duration<double> taken = std::chrono::steady_clock::now() - start;
+    return mode == Mode::fill ? names.size() / taken.count() / 1e6 : *std::max_element(longest.begin(), longest.end());
+}
+
 // Returns how many million calls a second the threads made together of a new map.
-template <class Map> double run(Mode mode, int threads, long calls, long keys) {
+template <class Map> double run(Mode mode, int threads, long calls, long keys, bool is_zipf) {
     std::vector<Key> names;
     for (long i = 0; i < keys; i++) {
         names.push_back("k" + std::to_string(i));
     }
+    if (mode == Mode::fill || mode == Mode::stall) {
+        return run_fill<Map>(mode, threads, names);
+    }
+    const Choice choice(is_zipf, keys);
     Map map;
     for (long i = 0; i < keys; i += 2) {
         map.put(names[i], i);
@@ -71,7 +156,7 @@ template <class Map> double run(Mode mode, int threads, long calls, long keys) {
     std::vector<std::thread> started;
     const auto start = std::chrono::steady_clock::now();
     for (int i = 0; i < threads; i++) {
-        started.emplace_back([&, i] { sums[i] = work(map, mode, i + 1, calls, names); });
+        started.emplace_back([&, i] { sums[i] = work(map, mode, i + 1, calls, names, choice); });
     }
     for (std::thread &thread : started) {
         thread.join();
@@ -84,15 +169,25 @@ template <class Map> double run(Mode mode, int threads, long calls, long keys) {
     return threads * calls / taken.count() / 1e6;
 }
 
-// The program: MODE THREADS CALLS KEYS.
+inline Mode mode_named(const char *name) {
+    const char *const names[] = {"mix", "get", "merge", "fill", "stall"};
+    for (int i = 1; i < 5; i++) {
+        if (!std::strcmp(name, names[i])) {
+            return static_cast<Mode>(i);
+        }
+    }
+    return Mode::mix;
+}
+
+// The program: MODE THREADS CALLS KEYS CHOICE.
 template <class Map> int measure(const char *map, int count, char **words) {
-    if (count != 5) {
-        std::fprintf(stderr, "usage: %s mix|get|merge THREADS CALLS KEYS\n", words[0]);
+    if (count != 6) {
+        std::fprintf(stderr, "usage: %s mix|get|merge|fill|stall THREADS CALLS KEYS uniform|zipf\n", words[0]);
         return 2;
     }
-    const Mode mode = !std::strcmp(words[1], "get") ? Mode::get : !std::strcmp(words[1], "merge") ? Mode::merge : Mode::mix;
     const int threads = std::atoi(words[2]);
-    const double rate = run<Map>(mode, threads, std::atol(words[3]), std::atol(words[4]));
+    const bool is_zipf = !std::strcmp(words[5], "zipf");
+    const double rate = run<Map>(mode_named(words[1]), threads, std::atol(words[3]), std::atol(words[4]), is_zipf);
     std::printf("%s %s %d %.3f\n", map, words[1], threads, rate);
     return 0;
 }

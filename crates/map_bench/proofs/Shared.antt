@@ -1,7 +1,9 @@
 -- Threads may share a map of the benchmark, its keys and its settings.
 use denote.RattleType.{RattleType}
 use denote.Param.Send.{IsSend, IsSync, Frees, sendable}
+use denote.Ref.{NamedLft}
 use Rattle.std.proofs.CrossingOver.{crosses}
+use Rattle.std.proofs.sync.atomic.AtomicU64.TheSendSync as atomic
 use Rattle.std.specs.declared.alloc.Allocator as Allocator
 use Rattle.std.specs.declared.clone.Clone as Clone
 use Rattle.std.specs.declared.cmp.Eq as Eq
@@ -14,9 +16,10 @@ use Rattle.functions.specs.contracts.numbers.Add as Add
 use Rattle.chm.specs.contracts.map.Map as Map
 use Rattle.chm.proofs.Shared.{map_sync}
 use Rattle.map_bench.specs.contracts.settings.Settings as Settings
+use Rattle.map_bench.specs.contracts.work.Run as Run
 
 -- what the threads of a run share
-pub key_sync : IsSync Key.the_row
+key_sync : IsSync Key.the_row
 key_sync = search (sendable, crosses) depth 20
 
 name_send : IsSend Name.the_row
@@ -31,8 +34,11 @@ add_send = search (sendable, crosses) depth 20
 add_sync : IsSync Add.the_row
 add_sync = search (sendable, crosses) depth 20
 
-pub settings_sync : IsSync Settings.the_row
+settings_sync : IsSync Settings.the_row
 settings_sync = search sendable depth 20
+
+pub run_sync : (a : NamedLft) → IsSync (Run.the_row a)
+run_sync a = search (sendable, crosses, key_sync, settings_sync, atomic.the_sync) depth 30
 
 module _ (V A : RattleType) (hash : HashKey.Ghosts Name.the_row.Denot) (key_eq : Eq.Ghosts Name.the_row.Denot)
     (key_same : PartialEq.Ghosts Name.the_row.Denot)

@@ -4,6 +4,7 @@
 
 ghost use Rattle.std.specs.Prelude.{◌≡◌, ◌*◌, ◌/◌, ◌<◌};
 
+mod choice;
 mod name;
 mod random;
 mod run;
@@ -12,7 +13,7 @@ mod work;
 
 use anyhow::Result;
 use run::measure;
-use settings::{SMALL, Settings, command};
+use settings::{Mode, SMALL, Settings, command};
 use std::alloc::Global;
 use std::env;
 use std::process::ExitCode;
@@ -30,7 +31,7 @@ fn hundredths(calls: u64, nanoseconds: u128) -> u128
 
 /// Makes the run that needs no words, and says nothing of time.
 fn make_small_run<R: Threads + Wait + Clock + Print + Sync>(rt: &R, alloc: Global) -> Result<()> {
-    let _taken = measure(rt, alloc, &SMALL)?;
+    let _measured = measure(rt, alloc, &SMALL)?;
     println!(rt;
         "facingberyl {} {}: {} calls",
         SMALL.mode.name(),
@@ -40,20 +41,23 @@ fn make_small_run<R: Threads + Wait + Clock + Print + Sync>(rt: &R, alloc: Globa
     Ok(())
 }
 
-/// Makes a run, and says how fast it was.
+/// Makes a run, and says how fast it was, or how many milliseconds its longest call took.
 fn make_run<R: Threads + Wait + Clock + Print + Sync>(
     rt: &R,
     alloc: Global,
     settings: &Settings,
 ) -> Result<()> {
-    let taken = measure(rt, alloc, settings)?;
-    let rate = hundredths(settings.all_calls(), taken.as_nanos().max(1));
+    let measured = measure(rt, alloc, settings)?;
+    let told = match settings.mode {
+        Mode::Stall => u128::from(measured.longest) / 10_000,
+        _ => hundredths(settings.all_calls(), measured.taken.as_nanos().max(1)),
+    };
     println!(rt;
         "facingberyl {} {} {}.{:02}",
         settings.mode.name(),
         settings.threads,
-        rate / 100,
-        rate % 100
+        told / 100,
+        told % 100
     )?;
     Ok(())
 }

@@ -1,61 +1,65 @@
 //! One run of the workload.
 ghost use Rattle.std.specs.Prelude.{◌≡◌, ◌<◌, All, IfOk, length};
 
+use crate::choice::{Choice, steps};
 use crate::name::Name;
 use crate::settings::Settings;
-use crate::work::{BenchMap, BenchPass, fill, names, work_together};
+use crate::work::{BenchMap, BenchPass, Run, fill, names, work_together};
 use anyhow::{Result, anyhow, bail};
 use bin_history::Form;
 use chm::{Map, Opened};
 use functions::Add;
-use hashkeys::{Key, Salt};
+use hashkeys::Salt;
 use std::alloc::Global;
 use std::sync::Wait;
+use std::sync::atomic::AtomicU64;
+use std::sync::atomic::Ordering::SeqCst;
 use std::thread::Threads;
 use std::time::{Clock, Duration, Instant};
 
-/// Fills the map with one pass, and says how long the others took for their calls.
+/// Fills the map with one pass, unless the calls are to fill it, and says how long the others took
+/// for their calls.
 fn time_calls<R: Threads + Wait + Clock + Sync>(
     rt: &R,
     map: &BenchMap,
-    names: &'static [Key],
-    settings: &Settings,
+    run: &Run<'_>,
     filler: &mut BenchPass,
     callers: &mut [BenchPass],
 ) -> Result<Duration>
-    requires names { 0 < length names.now }
+    requires names { 0 < length run.now.names.now }
     requires filler { filler.old.ledger ≡ map.now.ledger.id }
     requires callers { All (λ p. p.ledger ≡ map.now.ledger.id) callers.old }
     ensures filler { filler.new.ledger ≡ map.now.ledger.id }
     ensures callers { All (λ p. p.ledger ≡ map.now.ledger.id) callers.new }
 {
-    fill(rt, map, names, filler)?;
+    if !run.settings.mode.fills() {
+        fill(rt, map, run.names, filler)?;
+    }
     let start = Instant::now(rt)?;
-    work_together(rt, map, names, settings, callers);
+    work_together(rt, map, run, callers);
     let taken = start.elapsed(rt)?;
-    for pass in callers.iter() {
-        if pass.made() != settings.posts() {
+    for (number, pass) in callers.iter().enumerate() {
+        if pass.made() != run.settings.posts(number) {
             bail!("a call was refused");
         }
     }
     Ok(taken)
 }
 
-/// The same of all passes, the last of which fills the map.
+/// How long all passes but the last take together; the last fills the map before.
 fn time_passes<R: Threads + Wait + Clock + Sync>(
     rt: &R,
     map: &BenchMap,
-    names: &'static [Key],
-    settings: &Settings,
+    run: &Run<'_>,
     passes: &mut Vec<BenchPass>,
 ) -> Result<Duration>
-    requires names { 0 < length names.now }
+    requires names { 0 < length run.now.names.now }
     requires passes { All (λ p. p.ledger ≡ map.now.ledger.id) passes.old.items }
     ensures { All (λ p. p.ledger ≡ map.now.ledger.id) passes.new.items }
 {
     match passes.pop() {
         Some(mut filler) => {
-            let taken = time_calls(rt, map, names, settings, &mut filler, passes);
+            let taken = time_calls(rt, map, run, &mut filler, passes);
             passes.push_reserved(filler);
             taken
         }
@@ -74,22 +78,44 @@ fn open(alloc: Global, settings: &Settings, clients: u32) -> Result<Opened<Name,
     }
 }
 
-/// Says how long the threads took to make their calls of a new map, which is closed afterwards: so
-/// no call was lost.
+/// What a run showed: how long the threads took for their calls, and the longest call in
+/// nanoseconds, where calls are timed.
+#[derive(Drop)]
+pub(crate) struct Measured {
+    pub(crate) taken: Duration,
+    pub(crate) longest: u64,
+}
+
+/// Measures the calls that threads make of a new map, which is closed afterwards: so no call was
+/// lost.
 pub(crate) fn measure<R: Threads + Wait + Clock + Sync>(
     rt: &R,
     alloc: Global,
     settings: &Settings,
-) -> Result<Duration> {
+) -> Result<Measured> {
     let names = names(alloc, settings.keys)?;
     if names.is_empty() {
         bail!("no keys");
     }
+    let starts = match settings.choice {
+        Choice::Uniform => [].as_slice(),
+        Choice::Zipf => steps(alloc, settings.keys)?,
+    };
     let clients = u32::from(settings.threads) + 1;
     let (map, mut passes) = open(alloc, settings, clients)?;
-    let taken = time_passes(rt, &map, &names, settings, &mut passes);
+    let longest = AtomicU64::new(0);
+    let run = Run {
+        names,
+        starts,
+        settings,
+        longest: &longest,
+    };
+    let taken = time_passes(rt, &map, &run, &mut passes);
     match map.close(passes) {
-        Ok(_) => taken,
+        Ok(_) => Ok(Measured {
+            taken: taken?,
+            longest: longest.load(SeqCst),
+        }),
         Err(not_closed) => {
             let fault = not_closed.give_up();
             bail!("the map was not closed: {fault}")

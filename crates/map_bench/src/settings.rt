@@ -1,4 +1,7 @@
 //! What a run of the benchmark is told.
+ghost use Rattle.std.specs.Prelude.{◌<◌};
+
+use crate::choice::Choice;
 use bin_history::Form;
 use clap::{Arg, ArgAction, ArgMatches, Command};
 use std::alloc::{AllocError, Global};
@@ -14,6 +17,10 @@ pub(crate) enum Mode {
     Merge,
     /// Glances, which are no calls: nothing is posted.
     Glance,
+    /// Puts that fill an empty map.
+    Fill,
+    /// The same, each timed.
+    Stall,
 }
 
 impl Mode {
@@ -24,7 +31,14 @@ impl Mode {
             Mode::Get => "get",
             Mode::Merge => "merge",
             Mode::Glance => "glance",
+            Mode::Fill => "fill",
+            Mode::Stall => "stall",
         }
+    }
+
+    /// Whether the calls fill a map that is empty at first.
+    pub(crate) fn fills(&self) -> bool {
+        matches!(self, Mode::Fill | Mode::Stall)
     }
 
     fn named(name: &str) -> Mode {
@@ -32,13 +46,15 @@ impl Mode {
             "get" => Mode::Get,
             "merge" => Mode::Merge,
             "glance" => Mode::Glance,
+            "fill" => Mode::Fill,
+            "stall" => Mode::Stall,
             _ => Mode::Mix,
         }
     }
 }
 
 /// The workload: each of the threads makes so many calls on so many keys, of which every second one
-/// is present at first.
+/// is present at first; or the threads put all keys, of which none is.
 #[derive(Clone, Copy, Debug)]
 pub(crate) struct Settings {
     pub(crate) threads: u8,
@@ -47,6 +63,7 @@ pub(crate) struct Settings {
     pub(crate) capacity: u16,
     pub(crate) mode: Mode,
     pub(crate) form: Form,
+    pub(crate) choice: Choice,
 }
 
 /// The run that is made without words.
@@ -57,6 +74,7 @@ pub(crate) const SMALL: Settings = Settings {
     capacity: 1,
     mode: Mode::Mix,
     form: Form::Lean,
+    choice: Choice::Uniform,
 };
 
 impl Settings {
@@ -72,20 +90,39 @@ impl Settings {
                 "recorded" => Form::Recorded,
                 _ => Form::Lean,
             },
+            choice: match matches.get_str("choice").unwrap_or("uniform") {
+                "zipf" => Choice::Zipf,
+                _ => Choice::Uniform,
+            },
         }
     }
 
-    /// How many calls each pass posts.
-    pub(crate) fn posts(&self) -> u64 {
+    /// How many calls the pass of the thread with this number posts.
+    pub(crate) fn posts(&self, number: usize) -> u64 {
         match self.mode {
             Mode::Glance => 0,
+            Mode::Fill | Mode::Stall => {
+                let others = (number % 256) as u32;
+                u64::from(self.keys.saturating_sub(others).div_ceil(self.step()))
+            }
             _ => u64::from(self.calls),
         }
     }
 
+    /// How far the keys lie apart that one thread puts.
+    pub(crate) fn step(&self) -> u32
+        ensures { 0 < result }
+    {
+        u32::from(self.threads).max(1)
+    }
+
     /// How many calls the threads make together.
     pub(crate) fn all_calls(&self) -> u64 {
-        u64::from(self.threads) * u64::from(self.calls)
+        if self.mode.fills() {
+            u64::from(self.keys)
+        } else {
+            u64::from(self.threads) * u64::from(self.calls)
+        }
     }
 }
 
@@ -138,9 +175,11 @@ fn mode_arg<'a>(alloc: Global) -> Arg<'a> {
     Arg::new(alloc, "mode")
         .long("mode")
         .value_name("MODE")
-        .help("mix: 80 gets, 15 puts and 5 removes of a hundred; get; merge; glance")
+        .help(
+            "mix: 80 gets, 15 puts, 5 removes; get; merge; glance; fill an empty map; stall: its longest call",
+        )
         .action(ArgAction::Set)
-        .value_parser(["mix", "get", "merge", "glance"].as_slice())
+        .value_parser(["mix", "get", "merge", "glance", "fill", "stall"].as_slice())
         .default_value("mix")
 }
 
@@ -154,6 +193,16 @@ fn form_arg<'a>(alloc: Global) -> Arg<'a> {
         .default_value("lean")
 }
 
+fn choice_arg<'a>(alloc: Global) -> Arg<'a> {
+    Arg::new(alloc, "choice")
+        .long("choice")
+        .value_name("CHOICE")
+        .help("uniform, or zipf: keys are chosen by Zipf's law with the exponent 0.99")
+        .action(ArgAction::Set)
+        .value_parser(["uniform", "zipf"].as_slice())
+        .default_value("uniform")
+}
+
 /// The command line that the program takes.
 pub(crate) fn command<'a>(alloc: Global) -> Result<Command<'a>, AllocError> {
     Command::new(alloc, "map_bench")
@@ -163,5 +212,6 @@ pub(crate) fn command<'a>(alloc: Global) -> Result<Command<'a>, AllocError> {
         .arg(keys_arg(alloc))?
         .arg(capacity_arg(alloc))?
         .arg(mode_arg(alloc))?
-        .arg(form_arg(alloc))
+        .arg(form_arg(alloc))?
+        .arg(choice_arg(alloc))
 }

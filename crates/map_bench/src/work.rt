@@ -1,6 +1,7 @@
 //! The calls that are measured.
 ghost use Rattle.std.specs.Prelude.{◌≡◌, ◌<◌, All, length};
 
+use crate::choice::chosen;
 use crate::name::Name;
 use crate::random::Random;
 use crate::settings::{Mode, Settings};
@@ -10,8 +11,11 @@ use functions::Add;
 use hashkeys::Key;
 use std::alloc::{AllocError, Global};
 use std::sync::Wait;
+use std::sync::atomic::AtomicU64;
+use std::sync::atomic::Ordering::SeqCst;
 use std::thread;
 use std::thread::Threads;
+use std::time::{Clock, Instant};
 
 /// The map that is measured.
 pub(crate) type BenchMap = Map<Name, i64, Add, Global>;
@@ -52,6 +56,17 @@ pub(crate) fn fill<R: Wait>(
     Ok(())
 }
 
+/// What the threads of a run share beside the map.
+#[derive(Clone, Copy)]
+pub(crate) struct Run<'a> {
+    pub(crate) names: &'static [Key],
+    /// The steps of the choice, or none.
+    pub(crate) starts: &'static [u32],
+    pub(crate) settings: &'a Settings,
+    /// The longest call so far, in nanoseconds, where calls are timed.
+    pub(crate) longest: &'a AtomicU64,
+}
+
 /// Makes a call on the key: of a hundred that are mixed 80 get, 15 put this value and 5 remove, as
 /// the number drawn says.
 fn make<R: Wait>(
@@ -69,45 +84,107 @@ fn make<R: Wait>(
     match (mode, drawn % 100) {
         (Mode::Glance, _) => drop(map.glance(rt, &key)?),
         (Mode::Merge, _) => drop(map.merge(rt, pass, key, 1, Add)?),
-        (Mode::Get, _) | (Mode::Mix, 0..80) => drop(map.get_by(rt, pass, &key)?),
         (Mode::Mix, 80..95) => drop(map.put(rt, pass, key, value)?),
-        (Mode::Mix, _) => drop(map.remove_by(rt, pass, &key)?),
+        (Mode::Mix, 95..) => drop(map.remove_by(rt, pass, &key)?),
+        _ => drop(map.get_by(rt, pass, &key)?),
     }
     Ok(())
 }
 
 /// Makes the calls of the thread with this number, up to one that is refused.
-fn work<R: Wait>(
+fn call_at_random<R: Wait>(
     rt: &R,
     map: &BenchMap,
-    names: &'static [Key],
-    settings: &Settings,
+    run: &Run<'_>,
     number: usize,
     pass: &mut BenchPass,
 )
-    requires names { 0 < length names.now }
+    requires names { 0 < length run.now.names.now }
     requires pass { pass.old.ledger ≡ map.now.ledger.id }
     ensures { pass.new.ledger ≡ pass.old.ledger }
 {
     let mut random = Random::new((number as u64).wrapping_add(1));
-    for i in 0..settings.calls {
+    for i in 0..run.settings.calls {
         let drawn = random.draw();
-        let key = Name(&names[(drawn >> 16) as usize % names.len()]);
-        if make(rt, map, settings.mode, pass, key, drawn, i64::from(i)).is_err() {
+        let key = Name(&run.names[chosen(run.starts, drawn, run.names.len())]);
+        if make(rt, map, run.settings.mode, pass, key, drawn, i64::from(i)).is_err() {
             return;
         }
     }
 }
 
-/// All passes make their calls at the same time, each in a thread of its own.
-pub(crate) fn work_together<R: Threads + Wait + Sync>(
+/// Puts one key, and keeps the time that it took if that is the longest so far. Answers whether it
+/// was put.
+fn put_timed<R: Wait + Clock>(
     rt: &R,
     map: &BenchMap,
-    names: &'static [Key],
-    settings: &Settings,
+    run: &Run<'_>,
+    pass: &mut BenchPass,
+    name: &'static Key,
+    value: i64,
+) -> bool
+    requires { pass.old.ledger ≡ map.now.ledger.id }
+    ensures { pass.new.ledger ≡ pass.old.ledger }
+{
+    let Ok(start) = Instant::now(rt) else {
+        return false;
+    };
+    let put = map.put(rt, pass, Name(name), value).is_ok();
+    if let Ok(taken) = start.elapsed(rt) {
+        let nanoseconds = taken.as_nanos().min(u128::from(u64::MAX)) as u64;
+        run.longest.fetch_max(nanoseconds, SeqCst);
+    }
+    put
+}
+
+/// Puts the keys of the thread with this number, up to one that is refused.
+fn put_part<R: Wait + Clock>(
+    rt: &R,
+    map: &BenchMap,
+    run: &Run<'_>,
+    number: usize,
+    pass: &mut BenchPass,
+)
+    requires { pass.old.ledger ≡ map.now.ledger.id }
+    ensures { pass.new.ledger ≡ pass.old.ledger }
+{
+    let step = run.settings.step() as usize;
+    let is_timed = run.settings.mode == Mode::Stall;
+    for (i, name) in run.names.iter().enumerate() {
+        if i % step == number {
+            let put = if is_timed {
+                put_timed(rt, map, run, pass, name, i as i64)
+            } else {
+                map.put(rt, pass, Name(name), i as i64).is_ok()
+            };
+            if !put {
+                return;
+            }
+        }
+    }
+}
+
+/// Makes the calls of the thread with this number.
+fn work<R: Wait + Clock>(rt: &R, map: &BenchMap, run: &Run<'_>, number: usize, pass: &mut BenchPass)
+    requires names { 0 < length run.now.names.now }
+    requires pass { pass.old.ledger ≡ map.now.ledger.id }
+    ensures { pass.new.ledger ≡ pass.old.ledger }
+{
+    if run.settings.mode.fills() {
+        put_part(rt, map, run, number, pass);
+    } else {
+        call_at_random(rt, map, run, number, pass);
+    }
+}
+
+/// All passes make their calls at the same time, each in a thread of its own.
+pub(crate) fn work_together<R: Threads + Wait + Clock + Sync>(
+    rt: &R,
+    map: &BenchMap,
+    run: &Run<'_>,
     passes: &mut [BenchPass],
 )
-    requires names { 0 < length names.now }
+    requires names { 0 < length run.now.names.now }
     requires passes { All (λ p. p.ledger ≡ map.now.ledger.id) passes.old }
     ensures { All (λ p. p.ledger ≡ map.now.ledger.id) passes.new }
 {
@@ -115,6 +192,6 @@ pub(crate) fn work_together<R: Threads + Wait + Sync>(
         rt,
         passes,
         MOST_CALLERS,
-        &|number, pass| { work(rt, map, names, settings, number, pass) },
+        &|number, pass| { work(rt, map, run, number, pass) },
     );
 }
