@@ -44,7 +44,7 @@ impl<
         }
     }
 
-    /// The same of a call whose key is handed over.
+    /// Makes a call whose key is handed over, and whose reply is a value.
     pub(crate) fn value_of<R: Wait>(
         &mut self,
         rt: &R,
@@ -82,7 +82,7 @@ impl<
         }
     }
 
-    /// The same of a call whose key is handed over.
+    /// Makes a call whose key is handed over, and whose reply is a truth.
     fn truth_of<R: Wait>(&mut self, rt: &R, key: K, op: Op<V, F>) -> Result<bool, Fault>
         requires exact { AreExact K.is_clone V.is_clone F.is_clone }
         requires truth { answers_truth op ≡ true }

@@ -31,7 +31,7 @@ pub use client::{Client, Loan};
 pub use computed::Computed;
 pub use functions::{Add, Greatest, NoFunction, Set};
 pub use letter::{About, Letter};
-pub use owned::OwnedClient;
+pub use owned::{OwnedClient, Worked, Working};
 pub use server::{NotEnded, Server};
 pub use team::Team;
 pub use update::{ByValue, Update};

@@ -1,5 +1,5 @@
 //! A client that lives as long as it likes.
-ghost use Rattle.std.specs.Prelude.{◌≡◌};
+ghost use Rattle.std.specs.Prelude.{◌≡◌, IfOk};
 ghost use Rattle.std.specs.Arc.{arc_value};
 ghost use Rattle.bin_history.specs.Calls.{after};
 ghost use Rattle.chm.specs.Headline.{AreExact, IsAnswered};
@@ -11,9 +11,12 @@ use bin_history::{Call, Remap, Reply};
 use chm::{Fault, Map, Sharing};
 use count_ledger::{Moment, Pass};
 use hashkeys::HashKey;
-use std::alloc::Allocator;
+use std::alloc::{AllocError, Allocator};
 use std::marker::Model;
+use std::snapshot::Snapshot;
 use std::sync::{Arc, Wait};
+use std::thread;
+use std::thread::{Promise, PromisedHandle, Threads};
 
 /// A client that owns its pass, and keeps the map for as long as it lives: it moves into a thread,
 /// through a channel or out of a join. That its pass is of its map is known of each, so its work
@@ -43,6 +46,36 @@ impl<K: HashKey, V: Clone + Eq, F: Remap<K, V> + Clone, A: Allocator> Drop
         let OwnedClient { desk, chair, pass } = self;
         desk.bring(chair, pass);
     }
+}
+
+/// A client that worked in a thread, and what its work answered.
+#[derive(Drop)]
+pub struct Worked<K: HashKey, V: Clone + Eq, F: Remap<K, V> + Clone, A: Allocator, T> {
+    pub client: OwnedClient<K, V, F, A>,
+    pub answer: T,
+}
+
+/// What is known of who comes back from a thread: the client is of the map that it was of, and its
+/// work did what it does.
+#[derive(Drop)]
+pub struct Working<
+    K: HashKey,
+    V: Clone + Eq,
+    F: Remap<K, V> + Clone,
+    A: Allocator,
+    W: Work<K, V, F, A>,
+> {
+    pub client: Snapshot<OwnedClient<K, V, F, A>>,
+    pub work: Snapshot<W>,
+}
+
+impl<K: HashKey, V: Clone + Eq, F: Remap<K, V> + Clone, A: Allocator, W: Work<K, V, F, A>> Promise<
+    Worked<K, V, F, A, W::Out>,
+> for Working<K, V, F, A, W> {
+    ghost use Rattle.std.specs.Prelude.{◌≡◌};
+
+    ghost kept_by = { λ p r. (r.client.map ≡ p.client.value.map)
+        × W.does p.work.value p.client.value.pass r.client.pass r.answer };
 }
 
 impl<K: HashKey, V: Clone + Eq, F: Remap<K, V> + Clone, A: Allocator> OwnedClient<K, V, F, A> {
@@ -94,7 +127,7 @@ impl<K: HashKey, V: Clone + Eq, F: Remap<K, V> + Clone, A: Allocator> OwnedClien
     /// What the client has seen of the calls on the map, as a client of a team tells it. It takes no
     /// memory and waits for nobody.
     ///
-    ///     second.learn(&mut first.moment());
+    ///     second.learn(&mut client.moment());
     pub fn moment(&mut self) -> Moment<K, V, F>
         ensures moment { result ≡ record {
           ledger = self.old.map.ledger.id;
@@ -108,7 +141,7 @@ impl<K: HashKey, V: Clone + Eq, F: Remap<K, V> + Clone, A: Allocator> OwnedClien
     /// The client learns of a moment: the calls that it makes from now on stand behind all calls of
     /// the moment. It takes no memory and waits for nobody.
     ///
-    ///     second.learn(&mut first.moment());
+    ///     second.learn(&mut client.moment());
     pub fn learn(&mut self, moment: &mut Moment<K, V, F>)
         requires { moment.old.ledger ≡ self.old.map.ledger.id }
         ensures seen { HasSeen K.eq (after V.eq F.remapped F.merged) self.old.map.ledger
@@ -144,5 +177,58 @@ impl<
         ensures map { self.new.map ≡ self.old.map }
     {
         self.desk.map().call(rt, &mut self.pass, call)
+    }
+}
+
+impl<
+    K: HashKey + Drop + Send + Sync + 'static,
+    V: Clone + Eq + Drop + Send + Sync + 'static,
+    F: Remap<K, V> + Clone + Drop + Send + Sync + 'static,
+    A: Allocator + Send + Sync + 'static,
+> OwnedClient<K, V, F, A> {
+    /// The client works in a thread of its own, which begins now, and comes back with what the work
+    /// answered when the thread is joined. It waits for nobody.
+    ///
+    ///     let Worked { mut client, answer } = first.start(rt, PutFive)?.join(rt);
+    ///     second.learn(&mut client.moment());
+    ///
+    /// # Errors
+    ///
+    /// Where no thread can be started. The client's pass is then back on its chair.
+    pub fn start<
+        R: Threads + Wait + Copy + Send + 'static,
+        W: Work<K, V, F, A> + Send + Drop + 'static,
+    >(
+        self,
+        rt: &R,
+        work: W,
+    ) -> Result<PromisedHandle<Worked<K, V, F, A, W::Out>, Working<K, V, F, A, W>>, AllocError>
+    where
+        W::Out: Send + 'static,
+        requires { W.fits work self.map.ledger.id }
+        ensures client { IfOk result (λ h. h.promise.client.value ≡ self) }
+        ensures work { IfOk result (λ h. h.promise.work.value ≡ work) }
+    {
+        let own = *rt;
+        let working = Working {
+            client: Snapshot::of(&self),
+            work: Snapshot::of(&work),
+        };
+        let mut client = self;
+        let run = move || -> Worked<K, V, F, A, W::Out>
+            requires { W.fits work client.map.ledger.id }
+            ensures map { result.client.map ≡ client.map }
+            ensures done { W.does work client.pass result.client.pass result.answer }
+        {
+            let answer = client.work(&own, &work);
+            Worked { client, answer }
+        };
+        match thread::spawn_with(rt, working, run) {
+            Ok(handle) => Ok(handle),
+            Err(refused) => {
+                drop(refused);
+                Err(AllocError)
+            }
+        }
     }
 }

@@ -8,7 +8,7 @@ ghost use Rattle.count_ledger.specs.Views.{PassView};
 ghost use Rattle.bin_history.specs.declared.form.Form.TheVariants.{Lean};
 ghost use Rattle.chm.specs.Opened.{IsLimited, IsNew};
 ghost use Rattle.chm.specs.Headline.{entries_of};
-ghost use Rattle.chm.specs.Refusals.{IsCapacity};
+ghost use Rattle.chm.specs.Refusals.{IsCapacityOf};
 ghost use Rattle.chm.specs.Reopened.{IsReopened};
 ghost use Rattle.chm.specs.Shares.{HaveWorked};
 
@@ -53,7 +53,7 @@ impl<
     A: Allocator + Clone,
 > Team<K, V, F, A> {
     /// A map without entries and its team of 1 to 32 clients. The map's table begins with the least
-    /// power of two of bins that is at least the capacity, which is 1 to 4,096. The salt of its
+    /// power of two of bins that is at least the capacity, which is 1 to 2^26. The salt of its
     /// hashes is 0. The map is lean: it stores no records of calls, and a client makes 2^57 of
     /// them. `Team::of` takes a map of the other form.
     pub fn new(alloc: A, capacity: usize, clients: u32) -> Result<Team<K, V, F, A>, Fault>
@@ -61,12 +61,12 @@ impl<
         requires values { IsExact V.is_clone }
         ensures new { IfOk result
             (λ t. IsNew Lean (record { 0 = 0 }) capacity clients t.map t.passes) }
-        ensures limits { IsLimited (IsCapacity capacity) clients result }
+        ensures limits { IsLimited (IsCapacityOf Lean capacity) clients result }
     {
         Team::with_salt(alloc, capacity, clients, Salt(0))
     }
 
-    /// The same with a salt, with which the codes of keys are mixed.
+    /// Opens a map and its team as `new` does, with a salt with which the codes of keys are mixed.
     pub fn with_salt(
         alloc: A,
         capacity: usize,
@@ -76,7 +76,7 @@ impl<
         requires keys { IsExact K.is_clone }
         requires values { IsExact V.is_clone }
         ensures new { IfOk result (λ t. IsNew Lean salt capacity clients t.map t.passes) }
-        ensures limits { IsLimited (IsCapacity capacity) clients result }
+        ensures limits { IsLimited (IsCapacityOf Lean capacity) clients result }
     {
         let (map, passes) = Map::lean(alloc, capacity, clients, salt)?;
         Ok(Team { map, passes })

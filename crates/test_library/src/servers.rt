@@ -1,11 +1,12 @@
 //! Clients that come and go: a server lends each pass to one client at a time, and is closed when
 //! all are back.
 use facingberyl::{
-    Add, Call, Client, Fault, Loan, NotEnded, OwnedClient, Reply, Server, Team, Work,
+    Add, Call, Client, Fault, Loan, NotEnded, OwnedClient, Reply, Server, Team, Work, Worked,
 };
 use std::alloc::Global;
 use std::sync::Wait;
 use std::test::Fail;
+use std::thread::Threads;
 
 /// A server of these tests.
 type Numbers = Server<u64, u64, Add, Global>;
@@ -175,17 +176,21 @@ fn a_map_with_two_servers_is_not_closed(rt: HostRuntime) -> Result<(), Fail> {
     Ok(())
 }
 
-/// A client puts; another learns of what it had seen, and gets that.
-fn hand_over<R: Wait>(rt: &R, server: &Numbers) -> Result<(Option<u64>, Option<u64>), Fault> {
-    let mut first = server.client()?;
+/// A client works in a thread and comes back with the thread; another learns of what it had seen,
+/// and gets what it put.
+fn hand_over<R: Threads + Wait + Copy + Send + 'static>(
+    rt: &R,
+    server: &Numbers,
+) -> Result<(Option<u64>, Option<u64>), Fault> {
+    let first = server.client()?;
     let mut second = server.client()?;
-    let answer = first.work(rt, &PutFive)?;
-    second.learn(&mut first.moment());
-    Ok((answer, second.work(rt, &GetZero)?))
+    let Worked { mut client, answer } = first.start(rt, PutFive)?.join(rt);
+    second.learn(&mut client.moment());
+    Ok((answer?, second.work(rt, &GetZero)?))
 }
 
 #[test]
-fn a_client_of_a_server_tells_another(rt: HostRuntime) -> Result<(), Fail> {
+fn a_client_that_comes_back_from_its_thread_tells_another(rt: HostRuntime) -> Result<(), Fail> {
     let server = serve(rt.alloc(), 2)?;
     let got = hand_over(&rt, &server);
     let closed = close(server).ok();
