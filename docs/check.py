@@ -30,7 +30,7 @@ import sources
 import tests
 from sources import is_file, text_of
 
-COLUMNS, WORDS, README_WORDS = 200, 23000, 1000
+COLUMNS, WORDS, README_WORDS = 200, 24000, 1000
 ANTT_PATH = r"[a-z_]+/(?:src|specs)/\w+\.(?:rt|antt)"
 BODIES = "docs/wrong_bodies.csv"
 COLUMNS_OF_BODIES = ["crate", "body", "function", "clauses", "test", "edit"]

@@ -24,7 +24,7 @@ THINGS = (
     ("functions ready to use: `Add`, `Greatest`, `Set`", "functions_merge"),
     ("a bin's fold and split", "the_oldest_records_are_folded", "a_salted_bin_is_split_by_salted_hashes"),
     ("many keys of one hash", "a_million_entries_under_one_hash"),
-    ("growth: at which counts, and to how many bins", "a_table_grows_at_three_keys_to_four_bins", "a_table_grows_at_three_quarters_of_its_bins"),
+    ("growth: at which counts, and to how many bins", "a_recorded_table_grows_at_three_keys_to_four_bins", "a_recorded_table_grows_at_three_quarters_of_its_bins", "a_lean_table_grows_at_three_keys_to_two_bins"),
     ("moves: each bin once, and help", "two_threads_forward_one_class_once", "a_call_helps_with_a_stride"),
     ("a bin that a move skips, since it is held", "what_was_skipped_is_moved_later", "a_bin_that_a_move_skipped_is_moved_by_the_next_call_on_it"),
     ("a call that is tried", "a_call_that_is_tried_is_not_made_where_its_bin_is_held"),
