@@ -244,7 +244,7 @@ def columns_of(block, heads):
 def test_examples(tests, run):
     first = run("examples/first.script")
     tests.want("README: examples/first.script", (first.status, first.output, first.errors) == (0, text_of("crates/mapcli/stdout"), ""), first)
-    found = re.search(r"prints one of three texts\.[^<]*<!-- typed -->\n\n((?: {4}.*\n)+)", text_of("docs/SCRIPTS.md"))
+    found = re.search(r"prints one of three texts[.:][^<]*<!-- typed -->\n\n((?: {4}.*\n)+)", text_of("docs/SCRIPTS.md"))
     texts = columns_of(re.sub("(?m)^ {4}", "", found[1]), "client 0")
     tests.want("SCRIPTS: three texts", len(texts) == 3, texts)
     for _ in range(20):

@@ -12,9 +12,9 @@ pub enum Fault {
     /// A growth, a copy or a making was refused.
     #[error("no memory")]
     NoMemory,
-    /// The asked table is of 0 or more than 4,096 bins; or a map of more than 4,294,967,295 entries
-    /// was to be opened again.
-    #[error("the capacity is not 1 to 4096")]
+    /// The asked table is of 0 bins, or of more than its form may open with: 4,096 of a recorded
+    /// map, 2^26 of a lean one; or a map of more than 4,294,967,295 entries was to be opened again.
+    #[error("the capacity is 0 or too great")]
     BadCapacity,
     /// There are 0 or more than 32 clients.
     #[error("the clients are not 1 to 32")]

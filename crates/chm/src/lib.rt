@@ -44,7 +44,7 @@ pub use bin_history::{Call, Form, Given, Op, Remap, Reply};
 pub use close::NotClosed;
 pub use count_ledger::{MOST_CALLS, MOST_CLIENTS, MOST_LEAN_CALLS, Moment, Pass, retire_all};
 pub use fault::Fault;
-pub use hashkeys::{ByteString, Bytes, Class, HashKey, Key, MOST_BINS, Salt};
+pub use hashkeys::{AsKey, ByteString, Bytes, Class, HashKey, Key, MOST_BINS, Salt};
 pub use laws::laws_of_classes;
 pub use map::{Map, Opened};
 pub use quiet::{Entries, Quiet};

@@ -8,7 +8,7 @@ ghost use Rattle.chm.specs.Headline.{entries_of};
 
 use crate::quiet::Quiet;
 use bin_history::Remap;
-use hashkeys::{Class, HashKey};
+use hashkeys::{AsKey, Class, HashKey};
 use std::alloc::Allocator;
 
 /// Whether a hash is of the class or stands before it in walk order, by the number of opening bins.
@@ -55,9 +55,22 @@ impl<K: HashKey, V: Clone + Eq, F: Remap<K, V> + Clone, A: Allocator + Clone> Qu
         ensures { MatchOption result (lookup K.eq (entries_of self.now.bins) key.now ≡ None)
             (λ value. lookup K.eq (entries_of self.now.bins) key.now ≡ Some value.now) }
     {
+        self.get_as(key)
+    }
+
+    /// The value at the key that this stands for, as a slice stands for the key of its bytes. No key
+    /// is made. It takes the time of a `get`.
+    ///
+    ///     quiet.get_as(b"one".as_slice()).copied() == Some(5)
+    pub fn get_as<Q: AsKey<K>>(&self, query: Q) -> Option<&V>
+        ensures { MatchOption result
+            (lookup K.eq (entries_of self.now.bins) (Q.stands_for query) ≡ None)
+            (λ value. lookup K.eq (entries_of self.now.bins) (Q.stands_for query)
+            ≡ Some value.now) }
+    {
         self.lawful();
-        let hash = self.salt().hash_of(key);
+        let hash = self.salt().hash_of_as::<K, Q>(query);
         let place = self.place_of(hash);
-        self.bins()[place].get(hash, key)
+        self.bins()[place].get_as(hash, query)
     }
 }

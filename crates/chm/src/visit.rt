@@ -14,7 +14,7 @@ use crate::map::Map;
 use bin_history::Remap;
 use count_ledger::Pass;
 use crossbeam_utils::Backoff;
-use hashkeys::{Class, HashKey};
+use hashkeys::{AsKey, Class, HashKey};
 use homes::Held;
 use places::{next_in_walk, walk_laws};
 use std::alloc::{AllocError, Allocator};
@@ -155,11 +155,33 @@ impl<
             ≡ run K.eq (lookup K.eq self.now.ledger.opening) pass.new.seen key.now) }
         ensures faults { IfErr result (λ fault. fault ≡ Fault.NoMemory) }
     {
-        let hash = self.salt().hash_of(key);
+        self.look_up_as(rt, pass, key)
+    }
+
+    /// Looks up the key that this stands for, as a slice stands for the key of its bytes. No key is
+    /// made. It tells, and waits for, what a look-up by the key does.
+    ///
+    ///     map.put(rt, pass, Bytes(b"one"), 5)?;
+    ///     map.look_up_as(rt, pass, b"one".as_slice())? == Some(5)
+    pub fn look_up_as<R: Wait, Q: AsKey<K>>(
+        &self,
+        rt: &R,
+        pass: &mut Pass<K, V, F>,
+        query: Q,
+    ) -> Result<Option<V>, Fault>
+        requires values { IsExact V.is_clone }
+        requires pass { pass.old.ledger ≡ self.now.ledger.id }
+        ensures seen { HasSeen K.eq (after V.eq F.remapped F.merged) self.now.ledger pass.old
+            pass.new }
+        ensures found { IfOk result (λ value. value
+            ≡ run K.eq (lookup K.eq self.now.ledger.opening) pass.new.seen (Q.stands_for query)) }
+        ensures faults { IfErr result (λ fault. fault ≡ Fault.NoMemory) }
+    {
+        let hash = self.salt().hash_of_as::<K, Q>(query);
         let mut held = self.bins.hold(rt, hash);
         let lent = &mut held;
         let bin = &lent.bin;
-        let value = copied(bin.get(hash, key));
+        let value = copied(bin.get_as(hash, query));
         self.meet_under(pass, bin, &mut lent.role);
         held.release();
         Ok(value?)
@@ -177,8 +199,22 @@ impl<
             (IsShown K.eq K.code (after V.eq F.remapped F.merged) self.now key.now) }
         ensures faults { IfErr result (λ fault. fault ≡ Fault.NoMemory) }
     {
-        let hash = self.salt().hash_of(key);
-        Ok(self.bins.glance(rt, hash, key)?)
+        self.glance_as(rt, key)
+    }
+
+    /// Glances at the key that this stands for, as a slice stands for the key of its bytes. No key
+    /// is made. It tells, and waits for, what a glance by the key does.
+    ///
+    ///     map.put(rt, pass, Bytes(b"one"), 5)?;
+    ///     map.glance_as(rt, b"one".as_slice())? == Some(5)
+    pub fn glance_as<R: Wait, Q: AsKey<K>>(&self, rt: &R, query: Q) -> Result<Option<V>, Fault>
+        requires values { IsExact V.is_clone }
+        ensures shown { IfOk result
+            (IsShown K.eq K.code (after V.eq F.remapped F.merged) self.now (Q.stands_for query)) }
+        ensures faults { IfErr result (λ fault. fault ≡ Fault.NoMemory) }
+    {
+        let hash = self.salt().hash_of_as::<K, Q>(query);
+        Ok(self.bins.glance_as(rt, hash, query)?)
     }
 }
 

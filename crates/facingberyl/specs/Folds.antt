@@ -15,6 +15,14 @@ turn step old e new = step old.0 old.1 e new.1 new.0
 abbrev pub FoldsPairs : {G B E : Type 0} → (G → B → E → B → G → Type 0) → G → B → List E → B → Type 0
 FoldsPairs {G} step f init pairs total = (last : G) × FoldsTo (turn step) (f, init) pairs (last, total)
 
+-- a function, and what it is after an entry
+abbrev pub use_on : {G E : Type 0} → (G → E → Unit {0} → G → Type 0) → G → E → G → Type 0
+use_on step old e new = step old e tt new
+
+-- used at each pair in order
+abbrev pub UsesPairs : {G E : Type 0} → (G → E → Unit {0} → G → Type 0) → G → List E → Type 0
+UsesPairs {G} step f pairs = (last : G) × FoldsTo (use_on step) f pairs last
+
 module _ {K V F : Type 0} (same_key : K → K → Bool) (code : K → ℕ) (after : Call K V F → Option V → Option V) where
   -- visits of a whole table, which no key comes twice in; with one client they show the map
   pub record AreWhole (map : MapView K V) (old new : PassView K V F) (visits : List (VisitView K V)) : Type 0 where

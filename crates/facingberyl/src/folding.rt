@@ -5,7 +5,7 @@ ghost use Rattle.bin_history.specs.Calls.{after};
 ghost use Rattle.bin_history.specs.Copies.{IsExact};
 ghost use Rattle.count_ledger.specs.Fronts.{HasSeenMore};
 ghost use Rattle.chm.specs.Visits.{shown_by};
-ghost use Rattle.facingberyl.specs.Folds.{FoldsPairs, turn, WalksOver};
+ghost use Rattle.facingberyl.specs.Folds.{FoldsPairs, turn, use_on, UsesPairs, WalksOver};
 
 use crate::client::{Client, Loan};
 use bin_history::Remap;
@@ -51,6 +51,37 @@ fn fold_visits<K: Drop, V: Drop, A: Allocator, B, G: FnMut(B, (K, V)) -> B>(
     (total, left)
 }
 
+/// Uses a function on each entry of a bin, and answers it.
+fn use_entries<K: Drop, V: Drop, A: Allocator, G: FnMut((K, V))>(
+    entries: Vec<(K, V), A>,
+    mut f: G,
+) -> G
+    requires { G.IsAlwaysCallable f }
+    ensures callable { G.IsAlwaysCallable result }
+    ensures used { FoldsTo (use_on G.step) f entries.items result }
+{
+    for entry in entries {
+        f(entry);
+    }
+    f
+}
+
+/// Uses a function on each entry of bins, one bin after the other, and answers it.
+fn use_visits<K: Drop, V: Drop, A: Allocator, G: FnMut((K, V))>(
+    visits: Vec<Visit<K, V, A>, A>,
+    f: G,
+) -> G
+    requires { G.IsAlwaysCallable f }
+    ensures { FoldsTo (use_on G.step) f (shown_by visits.items) result }
+{
+    let mut left = f;
+    for visit in visits {
+        let Visit { class: _, entries } = visit;
+        left = use_entries(entries, left);
+    }
+    left
+}
+
 impl<
     L: Loan,
     K: HashKey + Drop,
@@ -89,5 +120,34 @@ impl<
         let visits = self.walk(rt)?;
         let (total, _last) = fold_visits(visits, init, f);
         Ok(total)
+    }
+
+    /// Uses the function on each entry of a walk, in walk order, which gets a copy of it. Each entry
+    /// is shown as its bin had it when the walk came by; no key comes twice. The function is used
+    /// after the walk, so it may wait. It waits for each bin in turn, and takes memory for copies of
+    /// all entries.
+    ///
+    ///     client.put(rt, 1, 5)?;
+    ///     let mut most = 0;
+    ///     client.for_each(rt, |(_key, value)| most = value.max(most))?;
+    ///     assert_eq!(most, 5);
+    ///
+    /// # Errors
+    ///
+    /// `NoMemory`. The function is not used then.
+    pub fn for_each<R: Wait, G: FnMut((K, V)) + Drop>(&mut self, rt: &R, f: G) -> Result<(), Fault>
+        requires keys { IsExact K.is_clone }
+        requires values { IsExact V.is_clone }
+        requires callable { G.IsAlwaysCallable f }
+        ensures used { IfOk result
+            (λ _. WalksOver K.eq K.code (after V.eq F.remapped F.merged) self.old.map.now
+            self.old.pass.now self.new.pass.now (λ pairs. UsesPairs G.step f pairs)) }
+        ensures seen { HasSeenMore self.old.pass.now self.new.pass.now }
+        ensures faults { IfErr result (λ fault. fault ≡ Fault.NoMemory) }
+        ensures map { self.new.map.now ≡ self.old.map.now }
+    {
+        let visits = self.walk(rt)?;
+        let _last = use_visits(visits, f);
+        Ok(())
     }
 }

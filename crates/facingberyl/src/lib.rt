@@ -23,7 +23,7 @@ mod work;
 /// Bulk operations on a closed map.
 pub use bulk_tasks as bulk;
 pub use chm::{
-    ByteString, Bytes, Call, Class, Entries, Fault, Form, Given, HashKey, Key, MOST_BINS,
+    AsKey, ByteString, Bytes, Call, Class, Entries, Fault, Form, Given, HashKey, Key, MOST_BINS,
     MOST_CALLS, MOST_CLIENTS, MOST_LEAN_CALLS, Map, Moment, NotClosed, Op, Opened, Pass, Quiet,
     Remap, Reply, Salt, Sharing, Visit, retire_all,
 };

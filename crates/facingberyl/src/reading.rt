@@ -10,7 +10,7 @@ ghost use Rattle.chm.specs.Visits.{AreVisits, IsOwn, IsShown, shown_by};
 use crate::client::{Client, Loan};
 use bin_history::Remap;
 use chm::{Fault, Visit};
-use hashkeys::HashKey;
+use hashkeys::{AsKey, HashKey};
 use std::alloc::Allocator;
 use std::sync::Wait;
 
@@ -43,6 +43,28 @@ impl<
         self.map.look_up(rt, self.pass, key)
     }
 
+    /// Looks up the key that this stands for, as a slice stands for the key of its bytes: no key is
+    /// made. It tells what `look_up` by the key tells, and waits as that does.
+    ///
+    ///     client.put(rt, Bytes(b"one"), 5)?;
+    ///     assert_eq!(client.look_up_as(rt, b"one".as_slice())?, Some(5));
+    ///
+    /// # Errors
+    ///
+    /// `NoMemory`, where the value cannot be copied.
+    pub fn look_up_as<R: Wait, Q: AsKey<K>>(&mut self, rt: &R, query: Q) -> Result<Option<V>, Fault>
+        requires values { IsExact V.is_clone }
+        ensures seen { HasSeen K.eq (after V.eq F.remapped F.merged) self.old.map.now.ledger
+            self.old.pass.now self.new.pass.now }
+        ensures found { IfOk result (λ value. value
+            ≡ run K.eq (lookup K.eq self.old.map.now.ledger.opening) self.new.pass.now.seen
+            (Q.stands_for query)) }
+        ensures faults { IfErr result (λ fault. fault ≡ Fault.NoMemory) }
+        ensures map { self.new.map.now ≡ self.old.map.now }
+    {
+        self.map.look_up_as(rt, self.pass, query)
+    }
+
     /// A copy of the value at the key, read beside others that read the bin. When it was the value
     /// is not said. It waits for who writes in the key's bin.
     ///
@@ -59,6 +81,25 @@ impl<
         ensures faults { IfErr result (λ fault. fault ≡ Fault.NoMemory) }
     {
         self.map.glance(rt, key)
+    }
+
+    /// Glances at the key that this stands for, as a slice stands for the key of its bytes: no key
+    /// is made. It tells what `glance` by the key tells, and waits as that does.
+    ///
+    ///     client.put(rt, Bytes(b"one"), 5)?;
+    ///     assert_eq!(client.glance_as(rt, b"one".as_slice())?, Some(5));
+    ///
+    /// # Errors
+    ///
+    /// `NoMemory`, where the value cannot be copied.
+    pub fn glance_as<R: Wait, Q: AsKey<K>>(&self, rt: &R, query: Q) -> Result<Option<V>, Fault>
+        requires values { IsExact V.is_clone }
+        ensures shown { IfOk result
+            (IsShown K.eq K.code (after V.eq F.remapped F.merged) self.now.map.now
+            (Q.stands_for query)) }
+        ensures faults { IfErr result (λ fault. fault ≡ Fault.NoMemory) }
+    {
+        self.map.glance_as(rt, query)
     }
 
     /// Shows the entries of each bin in walk order, one bin after the other, as `Map::walk` does:

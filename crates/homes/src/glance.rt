@@ -8,7 +8,7 @@ ghost use Rattle.homes.specs.Glances.{IsGlanced};
 use crate::home::{Home, Kind};
 use bin_history::Remap;
 use generations::Generations;
-use hashkeys::HashKey;
+use hashkeys::{AsKey, HashKey};
 use lean_bins::LeanBins;
 use std::alloc::{AllocError, Allocator};
 use std::sync::Wait;
@@ -24,42 +24,47 @@ fn copied<V: Clone>(value: Option<&V>) -> Result<Option<V>, AllocError>
     }
 }
 
-/// The same of a key of recorded bins, which others may read meanwhile.
+/// A copy of the value at the key that this stands for, in recorded bins. Others may read the bin
+/// meanwhile.
 fn glance_recorded<
     R: Wait,
     K: HashKey + Drop,
     V: Clone + Eq + Drop,
     F: Remap<K, V> + Clone + Drop,
     A: Allocator + Clone,
->(rt: &R, home: &Generations<K, V, F, A>, hash: u32, key: &K) -> Result<Option<V>, AllocError>
+    Q: AsKey<K>,
+>(rt: &R, home: &Generations<K, V, F, A>, hash: u32, query: Q) -> Result<Option<V>, AllocError>
     requires values { IsExact V.is_clone }
-    requires hash { hash ≡ hash_by K.code home.now.salt key.now }
+    requires hash { hash ≡ hash_by K.code home.now.salt (Q.stands_for query) }
     ensures { IfOk result
-        (IsGlanced K.eq K.code (after V.eq F.remapped F.merged) home.now hash key.now) }
+        (IsGlanced K.eq K.code (after V.eq F.remapped F.merged) home.now hash
+        (Q.stands_for query)) }
 {
     let shown = home.read(rt, hash);
-    let value = copied(shown.bin().get(hash, key));
+    let value = copied(shown.bin().get_as(hash, query));
     shown.release();
     value
 }
 
-/// The same of a key of lean bins, each of which is held.
+/// A copy of the value at the key that this stands for, in lean bins. The bin is held meanwhile.
 fn glance_lean<
     R: Wait,
     K: HashKey + Drop,
     V: Clone + Eq + Drop,
     F: Remap<K, V> + Clone + Drop,
     A: Allocator + Clone,
->(rt: &R, home: &LeanBins<K, V, F, A>, hash: u32, key: &K) -> Result<Option<V>, AllocError>
+    Q: AsKey<K>,
+>(rt: &R, home: &LeanBins<K, V, F, A>, hash: u32, query: Q) -> Result<Option<V>, AllocError>
     requires values { IsExact V.is_clone }
-    requires hash { hash ≡ hash_by K.code home.now.salt key.now }
+    requires hash { hash ≡ hash_by K.code home.now.salt (Q.stands_for query) }
     ensures { IfOk result
-        (IsGlanced K.eq K.code (after V.eq F.remapped F.merged) home.now hash key.now) }
+        (IsGlanced K.eq K.code (after V.eq F.remapped F.merged) home.now hash
+        (Q.stands_for query)) }
 {
     let mut place = home.hold_found(rt, hash);
     let lying = place.inner.value();
     lying.entries.lawful::<F>();
-    let value = copied(lying.entries.get(hash, key));
+    let value = copied(lying.entries.get_as(hash, query));
     place.release();
     value
 }
@@ -70,21 +75,27 @@ impl<
     F: Remap<K, V> + Clone + Drop,
     A: Allocator + Clone,
 > Home<K, V, F, A> {
-    /// A copy of the value at a key of this hash, if it has one. It waits for the key's bin. A
-    /// recorded bin is read beside others that read it, and a lean one is held.
+    /// A copy of the value at the key of this hash that this stands for, if it has one. It waits for
+    /// the key's bin. A recorded bin is read beside others that read it, and a lean one is held.
     ///
     /// # Errors
     ///
     /// For want of memory for the copy.
-    pub fn glance<R: Wait>(&self, rt: &R, hash: u32, key: &K) -> Result<Option<V>, AllocError>
+    pub fn glance_as<R: Wait, Q: AsKey<K>>(
+        &self,
+        rt: &R,
+        hash: u32,
+        query: Q,
+    ) -> Result<Option<V>, AllocError>
         requires values { IsExact V.is_clone }
-        requires hash { hash ≡ hash_by K.code self.now.salt key.now }
+        requires hash { hash ≡ hash_by K.code self.now.salt (Q.stands_for query) }
         ensures { IfOk result
-            (IsGlanced K.eq K.code (after V.eq F.remapped F.merged) self.now hash key.now) }
+            (IsGlanced K.eq K.code (after V.eq F.remapped F.merged) self.now hash
+            (Q.stands_for query)) }
     {
         match &self.kind {
-            Kind::Recorded(home) => glance_recorded(rt, home, hash, key),
-            Kind::Lean(home) => glance_lean(rt, home, hash, key),
+            Kind::Recorded(home) => glance_recorded(rt, home, hash, query),
+            Kind::Lean(home) => glance_lean(rt, home, hash, query),
         }
     }
 }

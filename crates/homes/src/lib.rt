@@ -2,7 +2,7 @@
 //! `lean_bins`. What is proved of both is the same, so that a map has one code for either.
 //!
 //! Whoever holds a bin has it and its role by value. No call but `new`, `try_widen`, `try_halve`,
-//! `try_forward`, `glance` and `into_leaves` takes memory. Calls that may wait for another thread
+//! `try_forward`, `glance_as` and `into_leaves` takes memory. Calls that may wait for another thread
 //! take a `Wait`; those that begin with `try_` are refused in place of waiting.
 #![tactic(auto)]
 

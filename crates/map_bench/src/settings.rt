@@ -19,7 +19,7 @@ pub(crate) enum Mode {
     Glance,
     /// Puts that fill an empty map.
     Fill,
-    /// The same, each timed.
+    /// Puts that fill an empty map, each timed.
     Stall,
 }
 

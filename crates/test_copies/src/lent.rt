@@ -13,15 +13,15 @@ use std::test::Fail;
 use test_maps::{BOTH, Single, close_single, open_single};
 use test_support::Refusing;
 
-type Text<A> = ByteString<A>;
+pub(crate) type Text<A> = ByteString<A>;
 
-type TextMap<A> = Map<Text<A>, Text<A>, TakesAway, A>;
+pub(crate) type TextMap<A> = Map<Text<A>, Text<A>, TakesAway, A>;
 
-type TextPass<A> = Pass<Text<A>, Text<A>, TakesAway>;
+pub(crate) type TextPass<A> = Pass<Text<A>, Text<A>, TakesAway>;
 
 /// The function that takes each value away.
 #[derive(Drop)]
-struct TakesAway;
+pub(crate) struct TakesAway;
 
 impl Clone for TakesAway {
     ghost use Rattle.std.specs.Prelude.{◌≡◌};
@@ -64,7 +64,7 @@ enum Lent {
 
 const ALL: [Lent; 4] = [Lent::Get, Lent::Contains, Lent::Remove, Lent::Replace];
 
-type Texts<A> = Single<Text<A>, Text<A>, TakesAway, A>;
+pub(crate) type Texts<A> = Single<Text<A>, Text<A>, TakesAway, A>;
 
 fn text<A: Allocator + Clone>(rt: &impl Abort, alloc: &A, bytes: &[u8]) -> Text<A> {
     let alloc = alloc.clone().expect(rt, "an allocator");
@@ -86,7 +86,11 @@ fn put_one<R: Wait + Abort, A: Allocator + Clone>(
 }
 
 /// A map of one client in which `a` has the value `one`.
-fn one_text<R: Wait + Abort, A: Allocator + Clone>(rt: &R, alloc: &A, form: Form) -> Texts<A>
+pub(crate) fn one_text<R: Wait + Abort, A: Allocator + Clone>(
+    rt: &R,
+    alloc: &A,
+    form: Form,
+) -> Texts<A>
     ensures pass { result.pass.ledger ≡ result.map.ledger.id }
     ensures place { All (λ p. p.ledger ≡ result.map.ledger.id) result.place.items }
 {

@@ -11,6 +11,8 @@ mod lent;
 #[cfg(test)]
 mod skipping;
 #[cfg(test)]
+mod slices;
+#[cfg(test)]
 mod trying;
 #[cfg(test)]
 mod twelve;

@@ -33,7 +33,7 @@ pub(crate) fn put_new<'a, R: Wait + Abort, A: Allocator + Clone>(
     assert!(rt; reply == Ok(Reply::Value(None)));
 }
 
-/// The same of each number below this one.
+/// Puts each number below this one at its key, which is not there.
 pub(crate) fn put_below<'a, R: Wait + Abort, A: Allocator + Clone>(
     rt: &R,
     map: &CountedMap<'a, A>,

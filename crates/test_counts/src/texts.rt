@@ -151,7 +151,7 @@ pub(crate) fn filled<'a, R: Wait + Abort>(
     Single { map, pass, place }
 }
 
-/// The same, closed.
+/// A closed map with the keys of so many numbers.
 pub(crate) fn closed<'a, R: Wait + Abort>(
     rt: &R,
     alloc: Alloc<'a>,

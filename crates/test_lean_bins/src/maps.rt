@@ -72,7 +72,7 @@ pub(crate) struct Opened<A: Allocator> {
     pub(crate) passes: Vec<KeyPass, A>,
 }
 
-/// The same with one client.
+/// A map without entries, its ledger, and the pass of its one client.
 pub(crate) struct Single<A: Allocator> {
     pub(crate) map: KeyMap<A>,
     pub(crate) ledger: KeyLedger<A>,
@@ -144,7 +144,7 @@ pub(crate) fn open_single<A: Allocator + Clone>(
     Ok(Single { map, ledger, pass })
 }
 
-/// The same without the pass.
+/// A map without entries that nobody calls, and its ledger.
 pub(crate) fn open_quiet<A: Allocator + Clone>(
     alloc: A,
     n: u32,

@@ -23,6 +23,8 @@ mod servers;
 #[cfg(test)]
 mod shown;
 #[cfg(test)]
+mod slices;
+#[cfg(test)]
 mod teams;
 #[cfg(test)]
 mod updates;

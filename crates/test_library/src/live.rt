@@ -21,6 +21,13 @@ fn fold<L: Loan, R: Wait>(rt: &R, client: &mut Numbers<'_, L>) -> Result<bool, F
     Ok(client.fold(rt, 0, |most, (_key, value)| value.max(most))? == 5)
 }
 
+fn for_each<L: Loan, R: Wait>(rt: &R, client: &mut Numbers<'_, L>) -> Result<bool, Fault> {
+    client.put(rt, 1, 5)?;
+    let mut most = 0;
+    client.for_each(rt, |(_key, value)| most = value.max(most))?;
+    Ok(most == 5)
+}
+
 /// Runs the examples, each on an empty map, and answers which are right.
 #[derive(Clone, Copy)]
 struct Examples {
@@ -28,16 +35,18 @@ struct Examples {
 }
 
 impl Work<u64, u64, Add, Global> for Examples {
-    type Out = Result<[bool; 2], Fault>;
+    type Out = Result<[bool; 3], Fault>;
 
     fn work<L: Loan, R: Wait>(
         &self,
         rt: &R,
         client: &mut Numbers<'_, L>,
-    ) -> Result<[bool; 2], Fault> {
+    ) -> Result<[bool; 3], Fault> {
         let put = put_all(rt, self.alloc, client)?;
         client.clear(rt)?;
-        Ok([put, fold(rt, client)?])
+        let folded = fold(rt, client)?;
+        client.clear(rt)?;
+        Ok([put, folded, for_each(rt, client)?])
     }
 }
 
@@ -47,7 +56,7 @@ fn each_example_of_many_pairs_is_as_it_says(rt: HostRuntime) -> Result<(), Fail>
     let mut team = Team::new(alloc, 1, 1)?;
     let answers = team.work(&rt, &Examples { alloc })?;
     drop(team);
-    assert_eq!(rt; answers.as_slice(), [Ok([true; 2])].as_slice());
+    assert_eq!(rt; answers.as_slice(), [Ok([true; 3])].as_slice());
     Ok(())
 }
 

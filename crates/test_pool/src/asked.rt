@@ -137,7 +137,7 @@ fn reduced<Rt: Threads + Wait + Sync>(
     (answer, reducer.counts())
 }
 
-/// The same from a basis.
+/// What a reduction from a basis answers, and how often its reducer is asked.
 fn reduced_from_basis<Rt: Threads + Wait + Sync>(
     rt: &Rt,
     alloc: Global,

@@ -14,8 +14,8 @@ returns g c =
     let place = place_of held.home.now held.class in
     let x = c.value-lying.result.now in
     if_ok_then c.copied-value.result
-    (λ value is. IsGlanced-lying same g.K.HashKey.code after_is c.args.home.now c.args.hash c.args.key.now value place x
+    (λ value is. IsGlanced-lying same g.K.HashKey.code after_is c.args.home.now c.args.hash (g.Q.AsKey.stands_for c.args.query) value place x
     (lies_taken same after_is held.inner.seat.me.1 x place c.hold_found-place.ensures.lies
     c.value-lying.ensures.value)
-    c.hold_found-place.ensures.of_map c.lawful.ensures c.hold_found-place.ensures.covers (is ∙ c.get.ensures))
+    c.hold_found-place.ensures.of_map c.lawful.ensures c.hold_found-place.ensures.covers (is ∙ c.get_as.ensures))
     c.copied-value.ensures

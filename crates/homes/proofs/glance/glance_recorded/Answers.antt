@@ -7,7 +7,7 @@ use Rattle.homes.proofs.glance.glance_recorded.Goals as goal
 pub returns : goal.returns
 returns g c = if_ok_then c.copied-value.result
     (λ value is. IsGlanced-shown g.K.PartialEq.eq g.K.HashKey.code
-    (after g.V.PartialEq.eq g.F.Remap.remapped g.F.Remap.merged) c.args.home.now c.args.hash c.args.key.now value
+    (after g.V.PartialEq.eq g.F.Remap.remapped g.F.Remap.merged) c.args.home.now c.args.hash (g.Q.AsKey.stands_for c.args.query) value
     c.bin.result.now c.read-shown.result c.read-shown.ensures.covers c.read-shown.ensures.with_role c.bin.ensures
-    (is ∙ c.get.ensures))
+    (is ∙ c.get_as.ensures))
     c.copied-value.ensures

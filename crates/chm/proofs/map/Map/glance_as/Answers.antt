@@ -3,7 +3,7 @@ use Rattle.bin_history.specs.Calls.{after}
 use Rattle.hashkeys.specs.Hashing.{hash_of}
 use Rattle.chm.specs.Views.{MapView, bins_of}
 use Rattle.chm.proofs.Visiting.{IsShown-glanced}
-use Rattle.chm.proofs.map.Map.glance.Goals as goal
+use Rattle.chm.proofs.map.Map.glance_as.Goals as goal
 
 pub returns-clause-shown : goal.returns-clause-shown
 returns-clause-shown g c =
@@ -16,7 +16,7 @@ returns-clause-shown g c =
           c.self.inside.bins.n;
     })
     ∙ ap (λ (m : MapView _ _). bins_of m) c.self.view_is in
-    let hashed = c.hash_of-hash.ensures.hash ∙ (λ i. hash_of (c.salt.ensures i) (g.K.HashKey.code c.args.key.now)) in
+    let hashed = c.hash_of_as-hash.ensures.hash ∙ (λ i. hash_of (c.salt.ensures i) (g.K.HashKey.code (g.Q.AsKey.stands_for c.args.query))) in
     IsShown-glanced g.K.PartialEq.eq g.K.HashKey.code (after g.V.PartialEq.eq g.F.Remap.remapped g.F.Remap.merged)
-    c.args.self.now c.self.inside.bins c.args.key.now c.in_ok-glance.field-0 c.hash_of-hash.result
-    home hashed c.in_ok-glance.ensures
+    c.args.self.now c.self.inside.bins (g.Q.AsKey.stands_for c.args.query) c.in_ok-glance_as.field-0 c.hash_of_as-hash.result
+    home hashed c.in_ok-glance_as.ensures

@@ -11,10 +11,10 @@ use Rattle.chm.specs.Views.{bins_of}
 use Rattle.chm.proofs.Closing.{salts_of_bins}
 use Rattle.chm.proofs.Homes.{value_at}
 use Rattle.chm.proofs.Searching.{told}
-use Rattle.chm.proofs.quiet.Quiet.get.Goals as goal
+use Rattle.chm.proofs.quiet.Quiet.get_as.Goals as goal
 
-pub get-requires : goal.get-requires
-get-requires g c =
+pub get_as-requires : goal.get_as-requires
+get_as-requires g c =
     let q = c.args.self.now in
     let place = c.place_of-place.result in
     let bin = c.index-bins-place.result in
@@ -26,21 +26,21 @@ get-requires g c =
     let own : bin.salt ≡ q.ledger.salt = ap (λ (b : BinView _ _ _). b.salt) at
     ∙ salts place bin c.place_of-place.ensures.within in
     record {
-      hash = c.hash_of-hash.ensures.hash
-          ∙ ap (λ (s : Salt). hash_of s (g.K.HashKey.code c.args.key.now)) (c.salt.ensures ∙ sym own);
+      hash = c.hash_of_as-hash.ensures.hash
+          ∙ ap (λ (s : Salt). hash_of s (g.K.HashKey.code (g.Q.AsKey.stands_for c.args.query))) (c.salt.ensures ∙ sym own);
     }
 
 pub returns : goal.returns
 returns g c =
     let q = c.args.self.now in
-    let key = c.args.key.now in
+    let key = g.Q.AsKey.stands_for c.args.query in
     let code = g.K.HashKey.code in
     let place = c.place_of-place.result in
     let bin = c.index-bins-place.result in
     let at : bin ≡ get_or q.bins place bin =
     c.index-bins-place.is ∙ ap (λ (l : List (BinView _ _ _)). get_or l place bin) c.bins.ensures in
-    let hash : c.hash_of-hash.result ≡ hash_of q.ledger.salt (code key) =
-    c.hash_of-hash.ensures.hash ∙ ap (λ (s : Salt). hash_of s (code key)) c.salt.ensures in
+    let hash : c.hash_of_as-hash.result ≡ hash_of q.ledger.salt (code key) =
+    c.hash_of_as-hash.ensures.hash ∙ ap (λ (s : Salt). hash_of s (code key)) c.salt.ensures in
     let its : covers (get_or q.bins place bin).class (hash_of q.ledger.salt (code key)) ≡ true =
     subst (λ h. covers (get_or q.bins place bin).class h ≡ true) hash (c.place_of-place.ensures.covers bin) in
     let there : lookup g.K.PartialEq.eq (entries_of q.bins) key ≡ lookup g.K.PartialEq.eq
@@ -49,5 +49,5 @@ returns g c =
     (after g.V.PartialEq.eq g.F.Remap.remapped g.F.Remap.merged)
     (bins_of (record { ledger = q.ledger; n = q.n })) q.bins q.roles place bin key c.lawful.ensures.with_roles
     c.place_of-place.ensures.within its (c.lawful.ensures.walk.each_hash (hash_of q.ledger.salt (code key))) in
-    told c.get.result (lookup g.K.PartialEq.eq (entries_of q.bins) key)
-    (c.get.ensures ∙ ap (λ (b : BinView _ _ _). lookup g.K.PartialEq.eq b.entries key) at ∙ sym there)
+    told c.get_as.result (lookup g.K.PartialEq.eq (entries_of q.bins) key)
+    (c.get_as.ensures ∙ ap (λ (b : BinView _ _ _). lookup g.K.PartialEq.eq b.entries key) at ∙ sym there)

@@ -1,0 +1,218 @@
+//! Keys of bytes that are looked for by slices, of which no key is made.
+ghost use Rattle.bin_history.specs.Copies.{IsExact};
+
+use facingberyl::{
+    AsKey, ByteString, Bytes, Client, Fault, Form, HashKey, Loan, Map, NoFunction, Quiet, Team,
+    Work,
+};
+use std::alloc::Global;
+use std::sync::Wait;
+use std::test::Fail;
+use test_support::{Alloc, Number, Refusing};
+
+/// A client of these tests. A copy of a value asks for memory once.
+type Numbers<'c, 'a, L, K> = Client<'c, L, K, Number<'a>, NoFunction, Alloc<'a>>;
+
+/// What a look-up and a glance find, and how many requests for memory both make.
+type Found = ([Option<u64>; 2], u64);
+
+const BOTH: [Form; 2] = [Form::Recorded, Form::Lean];
+
+/// The bytes that are looked for: those of two keys that are there, one of them empty, and of two
+/// that are not.
+const QUERIES: [&[u8]; 4] = [b"one", b"", b"on", b"one "];
+
+/// What is found there, 5 and 6, with one copy for a look-up and one for a glance.
+const WANTED: [Found; 4] = [
+    ([Some(5); 2], 2),
+    ([Some(6); 2], 2),
+    ([None; 2], 0),
+    ([None; 2], 0),
+];
+
+/// The number of a value that was found.
+fn told(found: Option<Number<'_>>) -> Option<u64> {
+    match found {
+        Some(value) => Some(value.number),
+        None => None,
+    }
+}
+
+/// Looks for the key that this stands for.
+fn look<'a, L: Loan, R: Wait, K: HashKey + Drop, Q: AsKey<K>>(
+    rt: &R,
+    alloc: Alloc<'a>,
+    client: &mut Numbers<'_, 'a, L, K>,
+    query: Q,
+) -> Result<Found, Fault> {
+    let before = alloc.requests();
+    let looked_up = told(client.look_up_as(rt, query)?);
+    let glanced = told(client.glance_as(rt, query)?);
+    let asked = alloc.requests().wrapping_sub(before);
+    Ok(([looked_up, glanced], asked))
+}
+
+/// Puts 5 at `one` and 6 at the key without bytes, and looks for each of the queries.
+#[derive(Clone, Copy)]
+struct Looks<'a> {
+    alloc: Alloc<'a>,
+}
+
+impl<'a> Looks<'a> {
+    fn number(&self, number: u64) -> Number<'a> {
+        Number {
+            number,
+            alloc: self.alloc,
+        }
+    }
+
+    fn text(&self, bytes: &[u8]) -> Result<ByteString<Alloc<'a>>, Fault> {
+        Ok(ByteString::new(bytes.to_vec(self.alloc)?))
+    }
+}
+
+impl<'a> Work<Bytes<'static>, Number<'a>, NoFunction, Alloc<'a>> for Looks<'a> {
+    type Out = Result<[Found; 4], Fault>;
+
+    fn work<L: Loan, R: Wait>(
+        &self,
+        rt: &R,
+        client: &mut Numbers<'_, 'a, L, Bytes<'static>>,
+    ) -> Result<[Found; 4], Fault> {
+        client.put(rt, Bytes(b"one"), self.number(5))?;
+        client.put(rt, Bytes(b""), self.number(6))?;
+        let [first, second, third, fourth] = QUERIES;
+        Ok([
+            look(rt, self.alloc, client, first)?,
+            look(rt, self.alloc, client, second)?,
+            look(rt, self.alloc, client, third)?,
+            look(rt, self.alloc, client, fourth)?,
+        ])
+    }
+}
+
+impl<'a> Work<ByteString<Alloc<'a>>, Number<'a>, NoFunction, Alloc<'a>> for Looks<'a> {
+    type Out = Result<[Found; 4], Fault>;
+
+    fn work<L: Loan, R: Wait>(
+        &self,
+        rt: &R,
+        client: &mut Numbers<'_, 'a, L, ByteString<Alloc<'a>>>,
+    ) -> Result<[Found; 4], Fault> {
+        client.put(rt, self.text(b"one")?, self.number(5))?;
+        client.put(rt, self.text(b"")?, self.number(6))?;
+        let [first, second, third, fourth] = QUERIES;
+        Ok([
+            look(rt, self.alloc, client, first)?,
+            look(rt, self.alloc, client, second)?,
+            look(rt, self.alloc, client, third)?,
+            look(rt, self.alloc, client, fourth)?,
+        ])
+    }
+}
+
+/// A team of one client, on a map whose bins store records.
+fn recorded_team<'a, K: HashKey + Drop>(
+    alloc: Alloc<'a>,
+) -> Result<Team<K, Number<'a>, NoFunction, Alloc<'a>>, Fault>
+    requires { IsExact K.is_clone }
+{
+    let (map, passes) = Map::new(alloc, 16, 1)?;
+    Ok(Team::of(map, passes))
+}
+
+/// A team of one client, on a map of the form.
+fn team_of<'a, K: HashKey + Drop>(
+    alloc: Alloc<'a>,
+    form: Form,
+) -> Result<Team<K, Number<'a>, NoFunction, Alloc<'a>>, Fault>
+    requires { IsExact K.is_clone }
+{
+    match form {
+        Form::Lean => Team::new(alloc, 16, 1),
+        Form::Recorded => recorded_team(alloc),
+    }
+}
+
+/// The number that the closed map has at the key that this stands for.
+fn number_left<'a, K: HashKey + Drop, Q: AsKey<K>>(
+    closed: &Quiet<K, Number<'a>, NoFunction, Alloc<'a>>,
+    query: Q,
+) -> Option<u64> {
+    match closed.get_as(query) {
+        Some(value) => Some(value.number),
+        None => None,
+    }
+}
+
+#[test]
+fn a_slice_finds_a_key_that_lies_elsewhere(rt: HostRuntime) -> Result<(), Fail> {
+    for form in BOTH {
+        let alloc = Refusing::new(rt.alloc());
+        let mut team = team_of::<Bytes<'static>>(&alloc, form)?;
+        let answers = team.work(&rt, &Looks { alloc: &alloc })?;
+        let closed = team.close()?;
+        let [one, empty, prefix, longer] = QUERIES;
+        assert_eq!(rt; answers.as_slice(), [Ok(WANTED)].as_slice());
+        assert_eq!(rt; number_left(&closed, one), Some(5));
+        assert_eq!(rt; number_left(&closed, empty), Some(6));
+        assert_eq!(rt; number_left(&closed, prefix), None);
+        assert_eq!(rt; number_left(&closed, longer), None);
+    }
+    Ok(())
+}
+
+#[test]
+fn a_slice_finds_a_key_that_owns_its_bytes(rt: HostRuntime) -> Result<(), Fail> {
+    for form in BOTH {
+        let alloc = Refusing::new(rt.alloc());
+        let mut team = team_of::<ByteString<Alloc<'_>>>(&alloc, form)?;
+        let answers = team.work(&rt, &Looks { alloc: &alloc })?;
+        let closed = team.close()?;
+        let [one, empty, prefix, longer] = QUERIES;
+        assert_eq!(rt; answers.as_slice(), [Ok(WANTED)].as_slice());
+        assert_eq!(rt; number_left(&closed, one), Some(5));
+        assert_eq!(rt; number_left(&closed, empty), Some(6));
+        assert_eq!(rt; number_left(&closed, prefix), None);
+        assert_eq!(rt; number_left(&closed, longer), None);
+    }
+    Ok(())
+}
+
+/// A client of the examples.
+type Words<'c, L> = Client<'c, L, Bytes<'static>, u64, NoFunction, Global>;
+
+fn look_up_as<L: Loan, R: Wait>(rt: &R, client: &mut Words<'_, L>) -> Result<bool, Fault> {
+    client.put(rt, Bytes(b"one"), 5)?;
+    Ok(client.look_up_as(rt, b"one".as_slice())? == Some(5))
+}
+
+fn glance_as<L: Loan, R: Wait>(rt: &R, client: &mut Words<'_, L>) -> Result<bool, Fault> {
+    client.put(rt, Bytes(b"one"), 5)?;
+    Ok(client.glance_as(rt, b"one".as_slice())? == Some(5))
+}
+
+/// Runs the examples, and answers which are right.
+#[derive(Clone, Copy)]
+struct Examples;
+
+impl Work<Bytes<'static>, u64, NoFunction, Global> for Examples {
+    type Out = [Result<bool, Fault>; 2];
+
+    fn work<L: Loan, R: Wait>(
+        &self,
+        rt: &R,
+        client: &mut Words<'_, L>,
+    ) -> [Result<bool, Fault>; 2] {
+        [look_up_as(rt, client), glance_as(rt, client)]
+    }
+}
+
+#[test]
+fn each_example_of_a_slice_is_as_it_says(rt: HostRuntime) -> Result<(), Fail> {
+    let mut team = Team::new(rt.alloc(), 1, 1)?;
+    let answers = team.work(&rt, &Examples)?;
+    drop(team);
+    assert_eq!(rt; answers.as_slice(), [[Ok(true); 2]].as_slice());
+    Ok(())
+}
