@@ -7,6 +7,7 @@ use Rattle.std.proofs.lemmas.Grind.{common_steps}
 use Rattle.std.proofs.lemmas.Option.{none-some}
 use Rattle.std.specs.List.{remove as remove_at}
 use Rattle.bin_history.specs.Entries.{lookup, put, remove, store}
+use Rattle.bin_entries.proofs.Entries.{remove-absent, store_same}
 use Rattle.bin_history.specs.Births.{is_birth, index_of}
 use Rattle.bin_history.specs.Changes.{assign_at, entries_after, HasIndex, IsIndexOf, Fits, value_in, taken_from}
 use Rattle.bin_history.specs.Changes.{taken_by, change_to, change_by, left_by}
@@ -60,22 +61,9 @@ module _ {K V : Type 0} (same : K → K → Bool) (tells : (x y : K) → Decides
   remove-at (e ∷ es) k zero p l = grind (arith, common_steps)
   remove-at (e ∷ es) k (suc i) p l = let ih = remove-at es k i in grind (arith, common_steps)
 
-  remove-absent : (es : List (K × V)) (k : K) → lookup same es k ≡ None → remove same es k ≡ es
-  remove-absent [] k p = refl
-  remove-absent (e ∷ es) k p = let ih = remove-absent es k in grind (arith, common_steps)
-
-  put_same : (es : List (K × V)) (k : K) (v : V) → lookup same es k ≡ Some v → put same es k v ≡ es
-  put_same [] k v p = absurd cc
-  put_same (e ∷ es) k v p = let ih = put_same es k v in grind (arith, common_steps)
-
-  -- to store what is there changes nothing
-  pub store_same : (es : List (K × V)) (k : K) (w : Option V) → lookup same es k ≡ w → store same es k w ≡ es
-  store_same es k None p = remove-absent es k p
-  store_same es k (Some v) p = put_same es k v p
-
   pub entries_after-to : (es : List (K × V)) (k : K) (found : Option ℕ) (w : Option V) → IsIndexOf same es k found
       → entries_after es (change_to found k w) ≡ store same es k w
-  entries_after-to es k None None f = sym (remove-absent es k (lookup_absent es k f))
+  entries_after-to es k None None f = sym (remove-absent same es k (lookup_absent es k f))
   entries_after-to es k None (Some v) f = sym (put_absent es k v f)
   entries_after-to es k (Some i) None f = sym (remove-at es k i f.1 f.0)
   entries_after-to es k (Some i) (Some v) f = sym (put_at es k v i f.1 f.0)
@@ -92,7 +80,7 @@ module _ {K V : Type 0} (same : K → K → Bool) (tells : (x y : K) → Decides
       (given : Option V)
       → (effect ≡ Give → given ≡ value_of op) → IsIndexOf same es k found
       → entries_after es (change_by found k effect given) ≡ store same es k (left_by op effect (lookup same es k))
-  entries_after-by es k found op Keep given is f = sym (store_same es k (lookup same es k) refl)
+  entries_after-by es k found op Keep given is f = sym (store_same same es k (lookup same es k) refl)
   entries_after-by es k found op Give given is f = entries_after-to es k found given f ∙ ap (store same es k) (is refl)
   entries_after-by es k found op (Set w) given is f = entries_after-to es k found w f
 

@@ -12,7 +12,7 @@ use Rattle.bin_history.specs.Entries.{lookup, HasDistinctKeys, put, remove, stor
 use Rattle.bin_history.specs.Plain.{IsLegal}
 use Rattle.bin_history.specs.declared.call.Call.{Call}
 use Rattle.bin_history.specs.Records.{RecordView}
-use Rattle.bin_history.proofs.Entries.{lookup-store, HasDistinctKeys-store}
+use Rattle.bin_entries.proofs.Entries.{lookup-store, HasDistinctKeys-store}
 
 module _ {K V : Type 0} (same : K → K → Bool) where
   length-put_new : (es : List (K × V)) (k : K) (v : V) → lookup same es k ≡ None →

@@ -6,15 +6,12 @@ use Rattle.std.proofs.lemmas.List.Elements.{filter-append}
 use Rattle.hashkeys.specs.Classes.{is_of}
 use Rattle.bin_history.specs.BinPart.{IsPartOf}
 use Rattle.bin_history.specs.Calls.{key_of}
-use Rattle.bin_history.specs.Entries.{lookup, HasDistinctKeys, store, replay}
+use Rattle.bin_history.specs.Entries.{lookup, HasDistinctKeys, replay}
 use Rattle.bin_history.specs.Histories.{HasHistory, GoesOn}
-use Rattle.bin_history.specs.Lawful.{BinView, StoresByForm}
+use Rattle.bin_history.specs.Lawful.{BinView}
 use Rattle.bin_history.specs.Part.{part_of_map, part_of_entries, part_of_records}
-use Rattle.bin_history.specs.Plain.{run, IsLegal, IsLegalStep}
+use Rattle.bin_history.specs.Plain.{run, IsLegal}
 use Rattle.bin_history.specs.Readiness.{KeepsOrFolds}
-use Rattle.bin_history.specs.Logs.{with_one_more}
-use Rattle.bin_history.specs.declared.form.Form.{Form}
-use Rattle.bin_history.specs.declared.form.Form.TheVariants.{Recorded, Lean}
 use Rattle.bin_history.specs.declared.call.Call.{Call}
 use Rattle.bin_history.specs.Records.{RecordView}
 use Rattle.bin_history.proofs.Parts.{lookup-part, replay-part, IsLegal-part, HasDistinctKeys-part}
@@ -47,25 +44,10 @@ module _ {K V F : Type 0} (same : K → K → Bool) (tells : (x y : K) → Decid
         },
       )
 
-  -- a bin that was called went on by the call's record
-  pub GoesOn-called : (form : Form) (b c : BinView K V F) (r : RecordView K V F)
-      → b.form ≡ form → c.form ≡ form → StoresByForm b → StoresByForm c
-      → (form ≡ Recorded → c.base ≡ b.base) → c.records ≡ with_one_more form b.records r
-      → c.entries ≡ store same b.entries (key_of r.call) r.after → IsLegalStep same after (lookup same b.entries) r
+  -- a bin that got a record more went on by it
+  pub GoesOn-called : (b c : BinView K V F) (r : RecordView K V F) → c.base ≡ b.base → c.records ≡ b.records ++ r ∷ []
       → GoesOn same after b (r ∷ []) c
-  GoesOn-called Recorded b c r is is' stores stores' base records entries legal =
-      ([], record { stored_is = sym records; legal = tt; base_is = base refl })
-  GoesOn-called Lean b c r is is' stores stores' base records entries legal =
-      let (none, base_is) = stores is in
-      let L : List (K × V) → Type 0 = λ es. IsLegalStep same after (lookup same es) r in (
-        r ∷ [],
-        record {
-          stored_is = rw (none, records) refl;
-          legal = (subst L (sym base_is) legal, tt);
-          base_is = (stores' is').1 ∙ entries
-              ∙ ap (λ (es : List (K × V)). store same es (key_of r.call) r.after) (sym base_is);
-        },
-      )
+  GoesOn-called b c r base records = ([], record { stored_is = sym records; legal = tt; base_is = base })
 
   -- the oldest records folded, or not
   pub HasHistory-prepared : (opening : List (K × V)) (kept : List (RecordView K V F)) (b c : BinView K V F)

@@ -13,8 +13,7 @@ use Rattle.bin_history.specs.Plain.{run, IsLegal}
 use Rattle.bin_history.specs.Part.{part_of_entries, part_of_records}
 use Rattle.bin_history.specs.Readiness.{KeepsOrFolds}
 use Rattle.bin_history.specs.Lawful.{BinView, IsReplayed, IsLawful, StoresByForm}
-use Rattle.std.specs.declared.boxed.Box.{Box}
-use Rattle.bin_history.specs.Logs.{LogView, form_of, base_of, records_of, with_one_more, IsKeptOrFolded}
+use Rattle.bin_history.specs.Logs.{IsKeptOrFolded}
 use Rattle.bin_history.specs.declared.form.Form.{Form}
 use Rattle.bin_history.specs.declared.form.Form.TheVariants.{Recorded, Lean}
 use Rattle.bin_history.specs.declared.call.Call.{Call}
@@ -145,18 +144,7 @@ module _ {K V F : Type 0} (same : K → K → Bool) (tells : (x y : K) → Decid
       → All (λ e. is_of code salt class e.0 ≡ true) entries → IsReplayed same code after salt class entries [] entries
   IsReplayed-lean salt class entries d c = IsReplayed-new salt class entries [] entries d c refl refl
 
-  -- the entries by themselves
-  pub IsReplayed-bare : (salt : Salt) (class : ClassView) (base : List (K × V)) (records : List (RecordView K V F))
-      (entries : List (K × V))
-      → IsReplayed same code after salt class base records entries →
-      IsReplayed same code after salt class entries [] entries
-  IsReplayed-bare salt class base records entries k =
-      IsReplayed-lean salt class entries
-      (rw k.replayed (HasDistinctKeys-replay same tells base records k.base_distinct))
-      (rw k.replayed
-      (All-replay same tells (λ q. is_of code salt class q ≡ true) base records k.base_of_class k.records_of_class))
-
-  -- the same of what a bin with this log, or none, stores
+  -- base and records as they were, or the oldest records folded
   pub IsReplayed-kept : (salt : Salt) (class : ClassView) (base : List (K × V)) (records : List (RecordView K V F))
       (base' : List (K × V))
       (records' : List (RecordView K V F)) (entries : List (K × V))
@@ -166,44 +154,12 @@ module _ {K V F : Type 0} (same : K → K → Bool) (tells : (x y : K) → Decid
   IsReplayed-kept salt class base records base' records' entries k (inr (full, b, r)) =
       rw (b, r) (IsReplayed-folded salt class base records entries 512 k)
 
-  -- a call more on a bin with this log, or none
-  pub IsReplayed-called : {A : Type 0} (salt : Salt) (class : ClassView) (log log' : Option (Box (LogView K V F) A))
-      (entries entries' : List (K × V))
-      (r : RecordView K V F)
-      → IsReplayed same code after salt class (base_of log entries) (records_of log) entries
-      → is_of code salt class (key_of r.call) ≡ true → r.before ≡ lookup same entries (key_of r.call) →
-      r.after ≡ after r.call r.before
-      → length (records_of log) < 1024
-      → form_of log' ≡ form_of log → ((es : List (K × V)) → base_of log' es ≡ base_of log es) →
-      records_of log' ≡ with_one_more (form_of log) (records_of log) r
-      → entries' ≡ store same entries (key_of r.call) r.after
-      → IsReplayed same code after salt class (base_of log' entries') (records_of log') entries'
-  IsReplayed-called salt class (Some log) log' entries entries' r k of_class before_is after_is few form
-      base records is =
-      rw (base entries', records, is)
-      (IsReplayed-applied salt class log.value.base log.value.records entries r k of_class before_is after_is few)
-  IsReplayed-called salt class None log' entries entries' r k of_class before_is after_is few form base records is =
-      rw (base entries', records) (IsReplayed-bare salt class entries (r ∷ []) entries'
-      (rw is (IsReplayed-applied salt class entries [] entries r k of_class before_is after_is few)))
-
 abbrev is_recorded : Form → Type 0
 is_recorded Recorded = Unit {0}
 is_recorded Lean = ⊥
 
-recorded_is_not_lean : Recorded ≡ Lean → ⊥
+pub recorded_is_not_lean : Recorded ≡ Lean → ⊥
 recorded_is_not_lean e = subst is_recorded e tt
-
-pub stored_by_form : {K V F A : Type 0} (log : Option (Box (LogView K V F) A)) (entries : List (K × V)) →
-    form_of log ≡ Lean
-    → (records_of log ≡ []) × (base_of log entries ≡ entries)
-stored_by_form (Some log) entries e = absurd (recorded_is_not_lean e)
-stored_by_form None entries e = (refl, refl)
-
--- the base of a recorded bin is in its log
-pub base_in_log : {K V F A : Type 0} (log : Option (Box (LogView K V F) A)) (es fs : List (K × V)) →
-    form_of log ≡ Recorded → base_of log es ≡ base_of log fs
-base_in_log (Some log) es fs e = refl
-base_in_log None es fs e = absurd (recorded_is_not_lean (sym e))
 
 pub KeepsOrFolds-of : {K V F : Type 0} (same_key : K → K → Bool) (b c : BinView K V F) →
     IsKeptOrFolded same_key b.base b.records c.base c.records

@@ -1,5 +1,3 @@
-pub mod Entries
-pub mod Reversals
 pub mod Runs
 pub mod Parts
 pub mod Cells
@@ -8,7 +6,6 @@ pub mod Orders
 pub mod Changes
 pub mod Keys
 pub mod Lawful
-pub mod Filters
 pub mod Histories
 pub mod Made
 pub mod Leans

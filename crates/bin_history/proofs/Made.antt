@@ -9,7 +9,6 @@ use Rattle.bin_history.specs.Lawful.{BinView}
 use Rattle.bin_history.specs.Made.{IsMadeOn}
 use Rattle.bin_history.specs.Plain.{run, IsLegal}
 use Rattle.bin_history.specs.Readiness.{ReadyView, IsWorkedOut, KeepsOrFolds, record_of}
-use Rattle.bin_history.specs.RecordedForm.{as_recorded}
 use Rattle.bin_history.specs.Records.{RecordView}
 use Rattle.bin_history.specs.declared.call.Call.{Call}
 use Rattle.bin_history.specs.declared.call.Reply.{Reply}
@@ -79,27 +78,3 @@ module _ {K V F : Type 0} (same : K → K → Bool) (tells : (x y : K) → Decid
         history = GoesOn-prepared same tells (after same_value remapped merged) b p c (r ∷ []) distinct legal folds
             (subst On (sym is) on);
       }
-
-module _ {K V F : Type 0} (same : K → K → Bool) (same_value : V → V → Bool) (remapped : F → K → Option V → Option V)
-    (merged : F → V → V → Option V) where
-  -- the form plays no part in it
-  pub IsMadeOn-recorded : (client ordinal : ℕ) (call : Call K V F) (b c : BinView K V F) (answer : Reply V)
-      (r : RecordView K V F) → IsMadeOn same same_value remapped merged client ordinal call b c answer r
-      → IsMadeOn same same_value remapped merged client ordinal call (as_recorded b) (as_recorded c) answer r
-  IsMadeOn-recorded client ordinal call b c answer r m = record {
-    client_is = m.client_is;
-    ordinal_is = m.ordinal_is;
-    call_is = m.call_is;
-    found = m.found;
-    left = m.left;
-    replied = m.replied;
-    stored = m.stored;
-    history = (
-      m.history.0,
-      record {
-        stored_is = m.history.1.stored_is;
-        legal = m.history.1.legal;
-        base_is = m.history.1.base_is;
-      },
-    );
-  }

@@ -10,7 +10,7 @@ use Rattle.bin_history.specs.Plain.{IsLegal}
 use Rattle.bin_history.specs.Births.{is_birth, index_of, births_after, births_from, birth, IsInOrder}
 use Rattle.bin_history.specs.declared.call.Call.{Call}
 use Rattle.bin_history.specs.Records.{RecordView}
-use Rattle.bin_history.proofs.Entries.{lookup-store, HasDistinctKeys-store, All-store, All-cond}
+use Rattle.bin_entries.proofs.Entries.{lookup-store, HasDistinctKeys-store, All-store, All-cond}
 
 module _ {K V : Type 0} (same : K → K → Bool) (tells : (x y : K) → Decides (same x y) (x ≡ y)) where
   All-remove : (P : K → Type 0) (es : List (K × V)) (k : K) → All (λ e. P e.0) es → All (λ e. P e.0) (remove same es k)

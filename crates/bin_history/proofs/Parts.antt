@@ -1,45 +1,15 @@
 -- The part of a run is the run of the part.
-use Rattle.std.proofs.Common.{◌≡◌, Bool, true, false, cond, Option, Some, None, Decides, List, [], ◌∷◌, refl, sym, ap}
+use Rattle.std.proofs.Common.{◌≡◌, Bool, true, false, cond, Option, None, Decides, List, [], ◌∷◌, refl, sym, ap}
 use Rattle.std.proofs.Common.{◌++◌, ◌∙◌, subst, arith}
 use Rattle.std.proofs.lemmas.Grind.{common_steps}
-use Rattle.bin_history.specs.Entries.{lookup, HasDistinctKeys, put, remove, store, replay}
+use Rattle.bin_history.specs.Entries.{lookup, store, replay}
 use Rattle.bin_history.specs.Calls.{key_of}
 use Rattle.bin_history.specs.Plain.{step, run, IsLegal, IsLegalStep}
 use Rattle.bin_history.specs.Part.{part_of_map, part_of_entries, part_of_records}
-use Rattle.bin_history.proofs.Entries.{cond_same}
+pub use Rattle.bin_entries.proofs.Parts.{lookup-part, part-store, HasDistinctKeys-part}
 use Rattle.bin_history.proofs.Runs.{IsLegal-append}
 use Rattle.bin_history.specs.declared.call.Call.{Call}
 use Rattle.bin_history.specs.Records.{RecordView}
-
-module _ {K V : Type 0} (same : K → K → Bool) (tells : (x y : K) → Decides (same x y) (x ≡ y)) (test : K → Bool) where
-  pub lookup-part : (es : List (K × V)) (q : K) → lookup same (part_of_entries test es) q ≡ part_of_map test
-      (lookup same es) q
-  lookup-part [] q = sym (cond_same (test q) None)
-  lookup-part (e ∷ es) q = let ih = lookup-part es q in let a = tells e.0 q in grind (arith, common_steps)
-
-  pub part-put : (es : List (K × V)) (k : K) (v : V)
-      → part_of_entries test (put same es k v) ≡ cond (test k) (put same (part_of_entries test es) k v)
-      (part_of_entries test es)
-  part-put [] k v = refl
-  part-put (e ∷ es) k v = let ih = part-put es k v in let a = tells e.0 k in grind (arith, common_steps)
-
-  pub part-remove : (es : List (K × V)) (k : K)
-      → part_of_entries test (remove same es k) ≡ cond (test k) (remove same (part_of_entries test es) k)
-      (part_of_entries test es)
-  part-remove [] k = sym (cond_same (test k) [])
-  part-remove (e ∷ es) k = let ih = part-remove es k in let a = tells e.0 k in grind (arith, common_steps)
-
-  pub part-store : (es : List (K × V)) (k : K) (w : Option V)
-      → part_of_entries test (store same es k w) ≡ cond (test k) (store same (part_of_entries test es) k w)
-      (part_of_entries test es)
-  part-store es k None = part-remove es k
-  part-store es k (Some v) = part-put es k v
-
-  pub HasDistinctKeys-part : (es : List (K × V)) → HasDistinctKeys same es →
-      HasDistinctKeys same (part_of_entries test es)
-  HasDistinctKeys-part [] d = tt
-  HasDistinctKeys-part (e ∷ es) d = let ih = HasDistinctKeys-part es d.1 in let a = lookup-part es e.0 in
-      let b = tells e.0 e.0 in grind (arith, common_steps)
 
 module _ {K V F : Type 0} (same : K → K → Bool) (tells : (x y : K) → Decides (same x y) (x ≡ y)) (test : K → Bool) where
   pub replay-part : (es : List (K × V)) (rs : List (RecordView K V F))

@@ -6,7 +6,7 @@ use Rattle.bin_history.specs.Calls.{key_of}
 use Rattle.bin_history.specs.Plain.{step, run, IsLegal}
 use Rattle.bin_history.specs.declared.call.Call.{Call}
 use Rattle.bin_history.specs.Records.{RecordView}
-use Rattle.bin_history.proofs.Entries.{lookup-store, HasDistinctKeys-store, All-store}
+use Rattle.bin_entries.proofs.Entries.{lookup-store, HasDistinctKeys-store, All-store}
 
 module _ {K V F : Type 0} (same : K → K → Bool) (tells : (x y : K) → Decides (same x y) (x ≡ y)) where
   pub replay-append : (es : List (K × V)) (rs ss : List (RecordView K V F)) →

@@ -1,4 +1,4 @@
--- Chains and bins may cross threads.
+-- Bins may cross threads.
 use denote.RattleType.{RattleType}
 use denote.Struct.Declared.{row, shape}
 use denote.Param.Send.{IsSend, IsSync, Frees, AllSend, AllSync, sendable}
@@ -9,21 +9,18 @@ use Rattle.std.specs.declared.alloc.Allocator as Allocator
 use Rattle.std.specs.declared.clone.Clone as Clone
 use Rattle.std.specs.declared.cmp.PartialEq as PartialEq
 use Rattle.hashkeys.specs.declared.hashing.HashKey as HashKey
+use Rattle.bin_entries.proofs.Shared.{entries_send, entries_sync}
 use Rattle.bin_history.specs.declared.call.Remap as Remap
 use Rattle.bin_history.specs.contracts.bin.Bin as Bin
 use Rattle.bin_history.specs.contracts.bin.Bin.TheInside as BinInside
-use Rattle.bin_history.specs.contracts.chain.Chain as Chain
 use Rattle.bin_history.specs.contracts.lean.LeanBin as LeanBin
 use Rattle.bin_history.specs.contracts.lean.LeanBin.TheInside as LeanInside
-use Rattle.bin_history.specs.contracts.lean_entries.LeanEntries as LeanEntries
-use Rattle.bin_history.specs.contracts.lean_entries.LeanEntries.TheInside as EntriesInside
 use Rattle.bin_history.specs.contracts.log.Log as Log
 use Rattle.bin_history.specs.contracts.log.Log.TheInside as LogInside
 use Rattle.bin_history.specs.contracts.record.Record as Record
 use Rattle.bin_history.specs.contracts.record.Record.TheInside as RecordInside
 use Rattle.bin_history.specs.contracts.recorded.RecordedBin as RecordedBin
 use Rattle.bin_history.specs.contracts.recorded.RecordedBin.TheInside as RecordedInside
-use Rattle.bin_history.proofs.chain.Chain.TheLaws.TheKnot as knot
 
 module _ (K V F A : RattleType) (hash : HashKey.Ghosts K.Denot) (key_same : PartialEq.Ghosts K.Denot)
     (key_clone : Clone.Ghosts K.Denot) (value_clone : Clone.Ghosts V.Denot) (value_same : PartialEq.Ghosts V.Denot)
@@ -32,22 +29,9 @@ module _ (K V F A : RattleType) (hash : HashKey.Ghosts K.Denot) (key_same : Part
     (sk : IsSend K) (sv : IsSend V) (sf : IsSend F) (sa : IsSend A) (yk : IsSync K) (yv : IsSync V) (yf : IsSync F)
     (ya : IsSync A)
     (frees : Frees alloc alloc.dealloc_token) where
-  pub chain_send : IsSend (Chain.the_row K V A alloc)
-  chain_send = search (sendable, crosses, knot.crosses) depth 30
-
-  pub chain_sync : IsSync (Chain.the_row K V A alloc)
-  chain_sync = search (sendable, crosses, knot.crosses) depth 30
-
-  entries_inside_send : IsSend (row (EntriesInside.the_type K V A hash key_same key_clone alloc))
-  entries_inside_send = declared_send (EntriesInside.the_type K V A hash key_same key_clone alloc)
-      (chain_send, (search (sendable, owned.crosses) depth 20, (search (sendable, owned.crosses) depth 20, tt)))
-
-  pub entries_send : IsSend (LeanEntries.the_row K V A hash key_same key_clone alloc)
-  entries_send = search (sendable, entries_inside_send) depth 20
-
   lean_inside_send : IsSend (row (LeanInside.the_type K V A hash key_same key_clone alloc))
   lean_inside_send = declared_send (LeanInside.the_type K V A hash key_same key_clone alloc)
-      (entries_send, (search sendable depth 20, (search sendable depth 20, tt)))
+      (entries_send K V A hash key_same key_clone alloc sk sv sa frees, (search sendable depth 20, (search sendable depth 20, tt)))
 
   pub lean_send : IsSend (LeanBin.the_row K V A hash key_same key_clone alloc)
   lean_send = search (sendable, lean_inside_send) depth 20
@@ -79,16 +63,11 @@ module _ (K V F A : RattleType) (hash : HashKey.Ghosts K.Denot) (key_same : Part
   pub bin_send : IsSend (Bin.the_row K V F A hash key_same key_clone value_clone value_same remap function_clone alloc)
   bin_send = search (sendable, bin_fields_send) depth 30
 
-  entries_inside_sync : IsSync (row (EntriesInside.the_type K V A hash key_same key_clone alloc))
-  entries_inside_sync = declared_sync (EntriesInside.the_type K V A hash key_same key_clone alloc)
-      (chain_sync, (search (sendable, owned.crosses) depth 20, (search (sendable, owned.crosses) depth 20, tt)))
-
-  pub entries_sync : IsSync (LeanEntries.the_row K V A hash key_same key_clone alloc)
-  entries_sync = search (sendable, entries_inside_sync) depth 20
-
   lean_inside_sync : IsSync (row (LeanInside.the_type K V A hash key_same key_clone alloc))
-  lean_inside_sync = declared_sync (LeanInside.the_type K V A hash key_same key_clone alloc)
-      (entries_sync, (search sendable depth 20, (search sendable depth 20, tt)))
+  lean_inside_sync = declared_sync (LeanInside.the_type K V A hash key_same key_clone alloc) (
+    entries_sync K V A hash key_same key_clone alloc sk sv sa frees yk yv ya,
+    (search sendable depth 20, (search sendable depth 20, tt)),
+  )
 
   pub lean_sync : IsSync (LeanBin.the_row K V A hash key_same key_clone alloc)
   lean_sync = search (sendable, lean_inside_sync) depth 20

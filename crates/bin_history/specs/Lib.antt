@@ -6,8 +6,6 @@ pub mod Plain
 pub mod Cells
 pub mod Entries
 pub mod Hashes
-pub mod Chains
-pub mod Walks
 pub mod Births
 pub mod Deltas
 pub mod Records
@@ -16,7 +14,6 @@ pub mod Logs
 pub mod Lawful
 pub mod BinPart
 pub mod Leans
-pub mod RecordedForm
 pub mod Bins
 pub mod Histories
 pub mod Copies

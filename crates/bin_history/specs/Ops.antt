@@ -1,18 +1,12 @@
--- Calls without their keys, and keys as they are given.
+-- Calls without their keys.
 use Rattle.std.specs.Prelude.{Bool, true, false, Option, Some, None}
 use Rattle.bin_history.specs.declared.call.Call.{Call}
 use Rattle.bin_history.specs.declared.call.Call.TheVariants.{Get, Contains, Put, PutIfAbsent, Remove, RemoveIf, Replace}
 use Rattle.bin_history.specs.declared.call.Call.TheVariants.{ReplaceIf, ComputeIfAbsent}
 use Rattle.bin_history.specs.declared.call.Call.TheVariants.{ComputeIfPresent, Compute, Merge}
-use Rattle.bin_history.specs.declared.given.Given.{Given}
-use Rattle.bin_history.specs.declared.given.Given.TheVariants.{Owned, Lent}
 use Rattle.bin_history.specs.declared.op.Op.{Op}
 use Rattle.bin_history.specs.declared.op.Op.TheVariants as op
-
--- the key that a call was given
-abbrev pub key_in : {K : Type 0} → Given K → K
-key_in (Owned k) = k
-key_in (Lent r) = r.now
+pub use Rattle.bin_entries.specs.Keys.{key_in}
 
 -- the call on a key
 abbrev pub call_on : {K V F : Type 0} → K → Op V F → Call K V F

@@ -1,5 +1,5 @@
 -- A call that is ready to be made on a bin.
-use Rattle.std.specs.Prelude.{◌≡◌, ℕ, ◌<◌, Bool, true, Option, Some, None, option_map, List, length, take, drop, ◌⊎◌}
+use Rattle.std.specs.Prelude.{◌≡◌, ℕ, ◌<◌, Bool, true, Option, option_map, List, length, take, drop, ◌⊎◌}
 use Rattle.hashkeys.specs.Classes.{is_of}
 use Rattle.bin_history.specs.Calls.{key_of, after, reply}
 use Rattle.bin_history.specs.Entries.{lookup, store, replay}
@@ -8,8 +8,6 @@ use Rattle.bin_history.specs.Ops.{call_on}
 use Rattle.bin_history.specs.Lawful.{BinView}
 use Rattle.bin_history.specs.declared.call.Call.{Call}
 use Rattle.bin_history.specs.Records.{RecordView}
-use Rattle.bin_history.specs.declared.form.Form.{Form}
-use Rattle.bin_history.specs.declared.form.Form.TheVariants.{Recorded, Lean}
 use Rattle.bin_history.specs.declared.effect.Answer.{Answer}
 use Rattle.bin_history.specs.declared.ready.Kept.{Kept}
 use Rattle.bin_history.specs.declared.seen.Seen.{Seen}
@@ -25,7 +23,7 @@ pub record ReadyView (K V F : Type 0) : Type 0 where
   pub after : Option V
   pub answer : Answer V
   pub change : Change K V
-  pub kept : Option (Kept K V F)
+  pub kept : Kept K V F
 
 -- a call that was seen, and a value that was, if there was one
 abbrev pub call_seen : {K V F : Type 0} → SeenCall K V F → Call K V F
@@ -41,10 +39,9 @@ pub record IsSeen {K V F : Type 0} (seen : Seen K V F) (call : Call K V F) (befo
   pub before_is : value_seen seen.before ≡ before
   pub after_is : value_seen seen.after ≡ after
 
--- what a bin of the form keeps of a call
-abbrev pub kept_in : {K V F : Type 0} → Form → Call K V F → Option V → Option V → Option (Kept K V F)
-kept_in Recorded call before after = Some (record { call = call; before = before; after = after })
-kept_in Lean call before after = None
+-- what a recorded bin keeps of a call
+abbrev pub kept_of : {K V F : Type 0} → Call K V F → Option V → Option V → Kept K V F
+kept_of call before after = record { call = call; before = before; after = after }
 
 module _ {K V F : Type 0} (same_key : K → K → Bool) (same_value : V → V → Bool) (remapped : F → K → Option V → Option V)
     (merged : F → V → V → Option V) where
@@ -57,10 +54,9 @@ module _ {K V F : Type 0} (same_key : K → K → Bool) (same_value : V → V �
     pub has_index : HasIndex entries ready.change
     pub change_is : entries_after entries ready.change ≡ store same_key entries (key_of ready.call) ready.after
 
--- there is room for the record of the call, where the bin stores records, and for the entry that it adds, if it adds
--- one
+-- there is room for the record of the call, and for the entry that it adds, if it adds one
 pub record HasMemoryFor {K V F : Type 0} (ready : ReadyView K V F) (b : BinView K V F) : Type 0 where
-  pub record_room : b.form ≡ Recorded → 0 < b.record_room
+  pub record_room : 0 < b.record_room
   pub entry_room : Fits b.entry_room ready.change
   pub few : length b.records < 1024
 
@@ -71,7 +67,7 @@ module _ {K V F : Type 0} (same_key : K → K → Bool) (code : K → ℕ) (same
   pub record IsPrepared (ready : ReadyView K V F) (b : BinView K V F) : Type 0 where
     pub worked_out : IsWorkedOut same_key same_value remapped merged ready b.entries
     pub room : HasMemoryFor ready b
-    pub kept : ready.kept ≡ kept_in b.form ready.call ready.before ready.after
+    pub kept : ready.kept ≡ kept_of ready.call ready.before ready.after
     pub of_class : is_of code b.salt b.class (key_of ready.call) ≡ true
 
 -- the record of a call that is ready

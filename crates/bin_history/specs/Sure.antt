@@ -1,5 +1,6 @@
 -- Calls of which nothing can be refused.
 use Rattle.std.specs.Prelude.{◌≡◌, ◌<◌, Bool, true, false, Option, None, is_some, is_none, length}
+pub use Rattle.bin_entries.specs.Copies.{IsNeverRefused}
 use Rattle.bin_history.specs.Entries.{lookup}
 use Rattle.bin_history.specs.Lawful.{BinView}
 use Rattle.bin_history.specs.Ops.{may_add}
@@ -10,10 +11,6 @@ use Rattle.bin_history.specs.declared.call.Call.TheVariants.{ComputeIfPresent, C
 use Rattle.bin_history.specs.declared.form.Form.TheVariants.{Recorded}
 use Rattle.bin_history.specs.declared.op.Op.{Op}
 use Rattle.bin_history.specs.declared.op.Op.TheVariants as op
-
--- no clone is refused
-abbrev pub IsNeverRefused : {X : Type 0} → (X → Type 0) → Type 0
-IsNeverRefused {X} is_infallible = (x : X) → is_infallible x
 
 -- a call without its key
 abbrev pub op_of : {K V F : Type 0} → Call K V F → Op V F

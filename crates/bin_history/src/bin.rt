@@ -12,26 +12,23 @@ ghost use Rattle.bin_history.specs.Lawful.{IsLawful};
 ghost use Rattle.bin_history.specs.Leans.{as_bin};
 ghost use Rattle.bin_history.specs.Made.{IsMadeOn};
 ghost use Rattle.bin_history.specs.Ops.{call_on, key_in};
-ghost use Rattle.bin_history.specs.RecordedForm.{as_recorded};
 ghost use Rattle.bin_history.specs.Sure.{IsSure};
-ghost use Rattle.bin_history.specs.declared.form.Form.TheVariants.{Lean};
+ghost use Rattle.bin_history.specs.declared.form.Form.TheVariants.{Lean, Recorded};
 
-use crate::call::{Remap, Reply};
-use crate::chain::chain_of;
+use crate::call::{Remap, Reply, Value};
 use crate::form::Form;
-use crate::given::Given;
 use crate::lean::LeanBin;
 use crate::op::Op;
 use crate::recorded::RecordedBin;
 use crate::trace::Trace;
-use crate::walk::Walk;
+use bin_entries::{Given, Walk, chain_of};
 use hashkeys::{AsKey, Class, HashKey, Salt};
 use std::alloc::{AllocError, Allocator};
 use std::marker::Model;
 
 /// A bin by its form.
 #[derive(Drop)]
-pub enum Kind<K: HashKey, V: Clone + Eq, F: Remap<K, V> + Clone, A: Allocator> {
+pub enum Kind<K: HashKey, V: Value, F: Remap<K, V>, A: Allocator> {
     Lean(LeanBin<K, V, A>),
     Recorded(Box<RecordedBin<K, V, F, A>, A>),
 }
@@ -41,11 +38,11 @@ pub enum Kind<K: HashKey, V: Clone + Eq, F: Remap<K, V> + Clone, A: Allocator> {
 /// see is lawful (`Bin::lawful`). To contracts a lean bin has no records, and its base is its
 /// entries.
 #[derive(Drop)]
-pub struct Bin<K: HashKey, V: Clone + Eq, F: Remap<K, V> + Clone, A: Allocator> {
+pub struct Bin<K: HashKey, V: Value, F: Remap<K, V>, A: Allocator> {
     kind: Kind<K, V, F, A>,
 }
 
-impl<K: HashKey, V: Clone + Eq, F: Remap<K, V> + Clone, A: Allocator> Model for Bin<K, V, F, A> {
+impl<K: HashKey, V: Value, F: Remap<K, V>, A: Allocator> Model for Bin<K, V, F, A> {
     ghost use Rattle.bin_history.specs.Bins.{bin_of};
     ghost use Rattle.bin_history.specs.Lawful.{BinView};
 
@@ -54,8 +51,8 @@ impl<K: HashKey, V: Clone + Eq, F: Remap<K, V> + Clone, A: Allocator> Model for 
     ghost view = { λ b. bin_of b.kind };
 }
 
-impl<K: HashKey, V: Clone + Eq, F: Remap<K, V> + Clone, A: Allocator + Clone> Bin<K, V, F, A> {
-    ghost use Rattle.bin_history.specs.Bins.{bin_of};
+impl<K: HashKey, V: Value, F: Remap<K, V>, A: Allocator + Clone> Bin<K, V, F, A> {
+    ghost use Rattle.bin_history.specs.Bins.{bin_of, form_of};
 
     /// A bin of the form with these pairs, in their order, and no records. The pairs' keys are
     /// distinct and of the class. A lean bin of no pairs takes no memory.
@@ -90,7 +87,7 @@ impl<K: HashKey, V: Clone + Eq, F: Remap<K, V> + Clone, A: Allocator + Clone> Bi
                 })
             }
             Form::Recorded => {
-                let bin = RecordedBin::new(alloc.clone()?, form, salt, class, base)?;
+                let bin = RecordedBin::new(alloc.clone()?, salt, class, base)?;
                 match Box::new(alloc.clone()?, bin) {
                     Ok(boxed) => Ok(Bin {
                         kind: Kind::Recorded(boxed),
@@ -113,19 +110,29 @@ impl<K: HashKey, V: Clone + Eq, F: Remap<K, V> + Clone, A: Allocator + Clone> Bi
 
     /// The bin by its form.
     pub fn into_kind(self) -> Kind<K, V, F, A>
-        ensures { bin_of result ≡ self }
+        ensures bin { bin_of result ≡ self }
+        ensures form { form_of result ≡ self.form }
     {
-        self.kind
+        match self.kind {
+            Kind::Lean(bin) => Kind::Lean(bin),
+            Kind::Recorded(bin) => {
+                bin.lawful();
+                Kind::Recorded(bin)
+            }
+        }
     }
 
     /// The bin with its records, where it is of the recorded form.
     pub fn recorded(&self) -> Option<&RecordedBin<K, V, F, A>>
         ensures { MatchOption result (self.now.form ≡ Lean)
-            (λ bin. as_recorded bin.now ≡ self.now) }
+            (λ bin. (bin.now ≡ self.now) × (self.now.form ≡ Recorded)) }
     {
         match &self.kind {
             Kind::Lean(_) => None,
-            Kind::Recorded(bin) => Some(bin),
+            Kind::Recorded(bin) => {
+                bin.lawful();
+                Some(bin)
+            }
         }
     }
 
@@ -135,7 +142,10 @@ impl<K: HashKey, V: Clone + Eq, F: Remap<K, V> + Clone, A: Allocator + Clone> Bi
     {
         match &self.kind {
             Kind::Lean(_) => Form::Lean,
-            Kind::Recorded(_) => Form::Recorded,
+            Kind::Recorded(bin) => {
+                bin.lawful();
+                Form::Recorded
+            }
         }
     }
 
@@ -243,12 +253,7 @@ fn boxed<T: Drop, A: Allocator + Clone>(alloc: &A, value: T) -> Result<Box<T, A>
     }
 }
 
-impl<
-    K: HashKey + Drop,
-    V: Clone + Eq + Drop,
-    F: Remap<K, V> + Clone + Drop,
-    A: Allocator + Clone,
-> Bin<K, V, F, A> {
+impl<K: HashKey, V: Value, F: Remap<K, V>, A: Allocator + Clone> Bin<K, V, F, A> {
     /// The entries, in order.
     pub fn walk(&self) -> Walk<'_, K, V, A>
         ensures { result ≡ self.now.entries }
@@ -308,8 +313,8 @@ impl<
         requires size { bin.now.class.n < most_bins }
         ensures low_class { IfOk result (λ b. b.0.class ≡ low_half bin.now.class) }
         ensures high_class { IfOk result (λ b. b.1.class ≡ high_half bin.now.class) }
-        ensures low { IfOk result (λ b. IsPartOf K.code (as_recorded bin.now) b.0) }
-        ensures high { IfOk result (λ b. IsPartOf K.code (as_recorded bin.now) b.1) }
+        ensures low { IfOk result (λ b. IsPartOf K.code bin.now b.0) }
+        ensures high { IfOk result (λ b. IsPartOf K.code bin.now b.1) }
     {
         let (low, high) = bin.split()?;
         let low = boxed(alloc, low)?;
@@ -354,15 +359,18 @@ impl<
                     },
                 ))
             }
-            Kind::Recorded(bin) => match Bin::boxed_halves(alloc, &bin) {
-                Ok(halves) => Ok(halves),
-                Err(error) => Err((
-                    Bin {
-                        kind: Kind::Recorded(bin),
-                    },
-                    error,
-                )),
-            },
+            Kind::Recorded(bin) => {
+                bin.lawful();
+                match Bin::boxed_halves(alloc, &bin) {
+                    Ok(halves) => Ok(halves),
+                    Err(error) => Err((
+                        Bin {
+                            kind: Kind::Recorded(bin),
+                        },
+                        error,
+                    )),
+                }
+            }
         }
     }
 }

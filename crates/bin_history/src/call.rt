@@ -8,7 +8,7 @@ use std::alloc::AllocError;
 
 /// A remapping function of keys `K` and values `V`, which may answer that the key is to have no
 /// value. It states which function it computes; it may fail only for want of memory.
-pub trait Remap<K, V> {
+pub trait Remap<K, V>: Clone + Drop {
     ghost remapped: { Self → K → Option V → Option V };
 
     ghost merged: { Self → V → V → Option V };
@@ -21,6 +21,11 @@ pub trait Remap<K, V> {
     fn merge(&self, old: &V, given: &V) -> Result<Option<V>, AllocError>
         ensures { IfOk result (λ r. r ≡ merged self.now old.now given.now) };
 }
+
+/// What a map may hold as values: whatever can be copied, compared and dropped.
+pub trait Value: Clone + Eq + Drop {}
+
+impl<V: Clone + Eq + Drop> Value for V {}
 
 /// A call on a key, with its arguments.
 #[derive(Drop)]

@@ -8,7 +8,7 @@ ghost use Rattle.bin_history.specs.Copies.{IsExact};
 ghost use Rattle.bin_history.specs.Ops.{key_in};
 
 use crate::effect::Effect;
-use crate::given::Given;
+use bin_entries::Given;
 use hashkeys::{AsKey, HashKey};
 use std::alloc::{AllocError, Allocator};
 use std::mem::replace;

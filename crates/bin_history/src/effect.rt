@@ -7,8 +7,8 @@ ghost use Rattle.bin_history.specs.Sure.{IsNeverRefused};
 ghost use Rattle.bin_history.specs.declared.effect.Effect.TheVariants.{Give};
 
 use crate::call::Reply;
-use crate::copies::copy_of_option;
 use crate::op::Op;
+use bin_entries::copy_of_option;
 use std::alloc::AllocError;
 
 /// What a call does to the value at its key.

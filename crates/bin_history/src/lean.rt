@@ -1,9 +1,9 @@
 //! Bins that keep their entries alone.
-ghost use Rattle.std.specs.Prelude.{◌≡◌, ◌+◌, ◌≤◌, ◌++◌, length, vec_len, vec_capacity, [], ◌<◌, IfOk, IsOk, OnErr};
+ghost use Rattle.std.specs.Prelude.{◌≡◌, ◌+◌, ◌≤◌, ◌++◌, length, vec_len, vec_capacity, ◌<◌, IfOk, IsOk, OnErr};
 ghost use Rattle.std.specs.Prelude.{option_copied, true};
 ghost use Rattle.hashkeys.specs.Classes.{is_of, low_half, high_half};
 ghost use Rattle.hashkeys.specs.Limits.{most_bins};
-ghost use Rattle.bin_history.specs.Chains.{entries_of};
+ghost use Rattle.bin_entries.specs.Chains.{entries_of};
 ghost use Rattle.bin_history.specs.Copies.{IsExact};
 ghost use Rattle.bin_history.specs.Entries.{lookup};
 ghost use Rattle.bin_history.specs.Hashes.{hash_by};
@@ -14,13 +14,11 @@ ghost use Rattle.bin_history.specs.Made.{IsMadeOn};
 ghost use Rattle.bin_history.specs.Ops.{call_on, key_in};
 ghost use Rattle.bin_history.specs.Part.{part_of_entries};
 
-use crate::call::{Remap, Reply};
-use crate::chain::Chain;
-use crate::given::Given;
-use crate::lean_entries::LeanEntries;
+use crate::call::{Remap, Reply, Value};
+use crate::lean_calls::lawful_entries;
 use crate::op::Op;
 use crate::trace::Trace;
-use crate::walk::Walk;
+use bin_entries::{Chain, Given, LeanEntries, Walk};
 use hashkeys::{AsKey, Class, HashKey, Salt};
 use std::alloc::{AllocError, Allocator};
 use std::marker::Model;
@@ -77,25 +75,6 @@ impl<K: HashKey, V, A: Allocator> LeanBin<K, V, A> {
         }
     }
 
-    /// The chain of the bin.
-    pub fn into_chain(self) -> Chain<K, V, A>
-        ensures entries { entries_of result ≡ self.entries }
-        ensures chain { IsLeanChain K.eq K.code self.salt self.class result }
-    {
-        self.entries.into_chain()
-    }
-
-    /// A bin without entries.
-    pub fn new(salt: Salt, class: Class) -> LeanBin<K, V, A>
-        ensures { result ≡ record { salt = salt; class = class; entries = [] } }
-    {
-        LeanBin {
-            entries: LeanEntries::new(salt, class),
-            salt,
-            class,
-        }
-    }
-
     /// The class whose keys the bin holds.
     pub fn class(&self) -> Class
         ensures { result ≡ self.now.class }
@@ -117,14 +96,6 @@ impl<K: HashKey, V, A: Allocator> LeanBin<K, V, A> {
     {
         self.entries.get_as(hash, query)
     }
-
-    /// The value at a key of this hash.
-    pub fn get(&self, hash: u32, key: &K) -> Option<&V>
-        requires hash { hash ≡ hash_by K.code self.now.salt key.now }
-        ensures { option_copied result ≡ lookup K.eq self.now.entries key.now }
-    {
-        self.get_as(hash, key)
-    }
 }
 
 impl<K: HashKey, V: Eq, A: Allocator> LeanBin<K, V, A> {
@@ -134,7 +105,7 @@ impl<K: HashKey, V: Eq, A: Allocator> LeanBin<K, V, A> {
     pub fn lawful<F: Remap<K, V>>(&self)
         ensures { IsLawful K.eq K.code (after V.eq F.remapped F.merged) (as_bin self.now) }
     {
-        self.entries.lawful::<F>();
+        lawful_entries::<K, V, F, A>(&self.entries);
     }
 }
 
@@ -147,7 +118,7 @@ impl<K: HashKey, V, A: Allocator> LeanBin<K, V, A> {
     }
 }
 
-impl<K: HashKey + Drop, V: Clone + Drop, A: Allocator> LeanBin<K, V, A> {
+impl<K: HashKey, V: Clone + Drop, A: Allocator> LeanBin<K, V, A> {
     /// Copies of the entries, in order.
     pub fn copies(&self, alloc: A) -> Result<Vec<(K, V), A>, AllocError>
         requires keys { IsExact K.is_clone }
@@ -158,7 +129,7 @@ impl<K: HashKey + Drop, V: Clone + Drop, A: Allocator> LeanBin<K, V, A> {
     }
 }
 
-impl<K: HashKey + Drop, V: Drop, A: Allocator> LeanBin<K, V, A> {
+impl<K: HashKey, V: Drop, A: Allocator> LeanBin<K, V, A> {
     /// Moves the entries, in order, into a list that has room for them.
     pub fn pour(self, list: Vec<(K, V), A>) -> Vec<(K, V), A>
         requires room { vec_len list + length self.entries ≤ vec_capacity list }
@@ -169,13 +140,13 @@ impl<K: HashKey + Drop, V: Drop, A: Allocator> LeanBin<K, V, A> {
     }
 }
 
-impl<K: HashKey + Drop, V: Clone + Eq + Drop, A: Allocator + Clone> LeanBin<K, V, A> {
+impl<K: HashKey, V: Value, A: Allocator + Clone> LeanBin<K, V, A> {
     /// Makes a call on a key of this hash, as the call of this client, below 64, after so many
     /// others of it, fewer than 2^58. It answers the reply and what the books need. For want of
     /// memory the call is dropped, and nothing is changed.
     #[cold]
     #[inline(never)]
-    pub fn make_on<F: Remap<K, V> + Drop>(
+    pub fn make_on<F: Remap<K, V>>(
         &mut self,
         alloc: &A,
         hash: u32,
@@ -197,7 +168,7 @@ impl<K: HashKey + Drop, V: Clone + Eq + Drop, A: Allocator + Clone> LeanBin<K, V
         ensures class { self.new.class ≡ self.old.class }
         ensures salt { self.new.salt ≡ self.old.salt }
     {
-        self.entries.make_on(alloc, hash, key, op, client, ordinal)
+        op.make_on(&mut self.entries, alloc, hash, key, client, ordinal)
     }
 
     /// The bins of the low and the high half of the class, each with its part of the entries, in

@@ -1,19 +1,16 @@
 //! One bin of a map: its entries, and the records of the calls that made them.
 #![tactic(auto)]
 
-mod at_key;
 mod bin;
 mod call;
-mod chain;
 mod change;
 mod copies;
 mod effect;
 mod fold;
 mod form;
-mod given;
 mod laws;
 mod lean;
-mod lean_entries;
+mod lean_calls;
 mod limits;
 mod log;
 mod make;
@@ -25,23 +22,20 @@ mod room;
 mod seen;
 mod split;
 mod trace;
-mod walk;
 mod work;
 
 pub use bin::{Bin, Kind};
-pub use call::{Call, Remap, Reply};
-pub use chain::{Chain, Node, chain_of, linked};
+pub use bin_entries::{Chain, Given, LeanEntries, Node, Walk};
+pub use call::{Call, Remap, Reply, Value};
 pub use change::Change;
 pub use effect::Answer;
 pub use form::Form;
-pub use given::Given;
 pub use laws::{cells_of_a_run, count_after_a_run, part_of_a_run};
 pub use lean::LeanBin;
-pub use lean_entries::LeanEntries;
+pub use lean_calls::lawful_entries;
 pub use limits::{MOST_CALLS, MOST_CLIENTS, MOST_LEAN_CALLS};
 pub use op::Op;
 pub use ready::{Kept, Ready};
 pub use record::Record;
 pub use recorded::{MOST_RECORDS, RecordedBin};
 pub use trace::Trace;
-pub use walk::{Left, Walk};

@@ -1,21 +1,18 @@
 //! What a recorded bin stores beside its entries.
-ghost use Rattle.std.specs.Prelude.{◌≡◌, ◌+◌, ◌<◌, ◌≤◌, ◌^◌, Option, List, [], length, IfOk, IsOk};
+ghost use Rattle.std.specs.Prelude.{◌≡◌, ◌+◌, ◌<◌, ◌≤◌, ◌^◌, ◌++◌, ◌∷◌, [], length, IfOk, IsOk};
 ghost use Rattle.std.specs.Prelude.{OnOk};
 ghost use Rattle.hashkeys.specs.Classes.{is_of};
 ghost use Rattle.bin_history.specs.Copies.{IsExact};
-ghost use Rattle.bin_history.specs.Logs.{form_of, base_of, records_of, record_room_of, CanFold};
-ghost use Rattle.bin_history.specs.Logs.{AreCallsOn, IsKeptOrFolded, with_one_more};
+ghost use Rattle.bin_history.specs.Logs.{AreCallsOn, CanFold, IsKeptOrFolded};
 ghost use Rattle.bin_history.specs.Part.{part_of_entries, part_of_records};
-ghost use Rattle.bin_history.specs.Readiness.{kept_in};
-ghost use Rattle.bin_history.specs.declared.call.Call.{Call};
-ghost use Rattle.bin_history.specs.declared.form.Form.TheVariants.{Recorded};
 
 use crate::fold::{births_in_front, fold_front};
 use crate::ready::Kept;
 use crate::record::Record;
 use crate::recorded::MOST_RECORDS;
 use crate::room::make_room_in;
-use crate::split::{part_of_entries, part_of_records};
+use crate::split::part_of_records;
+use bin_entries::part_of_entries;
 use hashkeys::{Class, HashKey, Salt};
 use std::alloc::{AllocError, Allocator};
 use std::marker::Model;
@@ -41,148 +38,95 @@ impl<K, V, F, A: Allocator> Model for Log<K, V, F, A> {
     } };
 }
 
-impl<K: Drop, V: Drop, F: Drop, A: Allocator + Clone> Log<K, V, F, A> {
+impl<K, V, F, A: Allocator> Log<K, V, F, A> {
     /// A log of no records over this base.
-    pub(crate) fn new(alloc: A, base: Vec<(K, V), A>) -> Result<Box<Log<K, V, F, A>, A>, AllocError>
-        ensures base { IfOk result (λ l. l.value.base ≡ base.items) }
-        ensures records { IfOk result (λ l. l.value.records ≡ []) }
+    pub(crate) fn new(alloc: A, base: Vec<(K, V), A>) -> Log<K, V, F, A>
+        ensures base { result.base ≡ base.items }
+        ensures records { result.records ≡ [] }
     {
-        let records = Vec::new(alloc.clone()?);
-        match Box::new(alloc, Log { base, records }) {
-            Ok(log) => Ok(log),
-            Err(failed) => {
-                drop(failed);
-                Err(AllocError)
-            }
+        Log {
+            base,
+            records: Vec::new(alloc),
         }
     }
 }
 
 impl<K: HashKey, V: Clone, F: Clone, A: Allocator + Clone> Log<K, V, F, A> {
     /// The part of the log in a class.
-    pub(crate) fn part(
-        &self,
-        salt: Salt,
-        class: Class,
-    ) -> Result<Box<Log<K, V, F, A>, A>, AllocError>
+    pub(crate) fn part(&self, salt: Salt, class: Class) -> Result<Log<K, V, F, A>, AllocError>
         requires keys { IsExact K.is_clone }
         requires values { IsExact V.is_clone }
         requires functions { IsExact F.is_clone }
         ensures base { IfOk result
-            (λ l. l.value.base ≡ part_of_entries (is_of K.code salt class) self.now.base) }
+            (λ l. l.base ≡ part_of_entries (is_of K.code salt class) self.now.base) }
         ensures records { IfOk result
-            (λ l. l.value.records ≡ part_of_records (is_of K.code salt class) self.now.records) }
+            (λ l. l.records ≡ part_of_records (is_of K.code salt class) self.now.records) }
     {
         let alloc = self.base.allocator();
         let base = part_of_entries(alloc.clone()?, salt, class, &self.base)?;
         let records = part_of_records(alloc.clone()?, salt, class, &self.records)?;
-        match Box::new(alloc.clone()?, Log { base, records }) {
-            Ok(log) => Ok(log),
-            Err(failed) => {
-                drop(failed);
-                Err(AllocError)
-            }
+        Ok(Log { base, records })
+    }
+}
+
+impl<K: Drop, V: Drop, F: Drop, A: Allocator + Clone> Log<K, V, F, A> {
+    /// Makes room for one more record or, where there are 1,024, in the base for the keys that the
+    /// oldest 512 of them made present.
+    pub(crate) fn reserve(&mut self) -> Result<(), AllocError>
+        requires few { length self.old.records ≤ 1024 }
+        ensures room { OnOk result (CanFold self.new) }
+        ensures succeeds { length self.old.records < 1024 → 0 < self.old.record_room → IsOk result }
+        ensures base { self.new.base ≡ self.old.base }
+        ensures records { self.new.records ≡ self.old.records }
+    {
+        if self.records.len() == MOST_RECORDS {
+            self.base.reserve(births_in_front(&self.records))
+        } else {
+            make_room_in(&mut self.records)
         }
     }
 }
 
-/// Makes room in a log for one more record or, where it has 1,024, in its base for the keys that
-/// the oldest 512 of them made present.
-pub(crate) fn reserve_in<K: Drop, V: Drop, F: Drop, A: Allocator + Clone>(
-    log: &mut Option<Box<Log<K, V, F, A>, A>>,
-) -> Result<(), AllocError>
-    requires few { length (records_of log.old) ≤ 1024 }
-    ensures room { OnOk result (CanFold log.new) }
-    ensures succeeds { (form_of log.old ≡ Recorded → (length (records_of log.old) < 1024)
-        × (0 < record_room_of log.old)) → IsOk result }
-    ensures form { form_of log.new ≡ form_of log.old }
-    ensures base { (es : List (K × V)) → base_of log.new es ≡ base_of log.old es }
-    ensures records { records_of log.new ≡ records_of log.old }
-{
-    let Some(log) = log else {
-        return Ok(());
-    };
-    let log = log.as_mut();
-    if log.records.len() == MOST_RECORDS {
-        log.base.reserve(births_in_front(&log.records))
-    } else {
-        make_room_in(&mut log.records)
-    }
-}
-
-/// Folds the oldest 512 of 1,024 records of a log into its base. It changes nothing where there are
-/// fewer.
-pub(crate) fn fold_in<K: HashKey, V: Drop, F: Drop, A: Allocator>(
-    log: &mut Option<Box<Log<K, V, F, A>, A>>,
-)
-    requires room { CanFold log.old }
-    requires calls { (es : List (K × V)) → form_of log.old ≡ Recorded →
-        AreCallsOn K.eq (base_of log.old es) (records_of log.old) }
-    requires few { length (records_of log.old) ≤ 1024 }
-    ensures form { form_of log.new ≡ form_of log.old }
-    ensures kept { (es : List (K × V)) →
-        IsKeptOrFolded K.eq (base_of log.old es) (records_of log.old) (base_of log.new es)
-        (records_of log.new) }
-    ensures room { form_of log.new ≡ Recorded → 0 < record_room_of log.new }
-    ensures fewer { length (records_of log.new) < 1024 }
-{
-    if let Some(log) = log {
-        let log = log.as_mut();
-        if log.records.len() == MOST_RECORDS {
-            fold_front(&mut log.base, &mut log.records);
+impl<K: HashKey, V: Drop, F: Drop, A: Allocator> Log<K, V, F, A> {
+    /// Folds the oldest 512 of 1,024 records into the base. It changes nothing where there are
+    /// fewer.
+    pub(crate) fn fold(&mut self)
+        requires room { CanFold self.old }
+        requires calls { AreCallsOn K.eq self.old.base self.old.records }
+        requires few { length self.old.records ≤ 1024 }
+        ensures kept { IsKeptOrFolded K.eq self.old.base self.old.records self.new.base
+            self.new.records }
+        ensures room { 0 < self.new.record_room }
+        ensures fewer { length self.new.records < 1024 }
+    {
+        if self.records.len() == MOST_RECORDS {
+            fold_front(&mut self.base, &mut self.records);
         }
     }
 }
 
-/// Puts the record of a call into a log that has room for it. Where there is no log there is none.
-pub(crate) fn add_to<K: Drop, V: Drop, F: Drop, A: Allocator>(
-    log: &mut Option<Box<Log<K, V, F, A>, A>>,
-    client: u32,
-    ordinal: u64,
-    kept: Option<Kept<K, V, F>>,
-)
-    requires client { client < 64 }
-    requires ordinal { ordinal < 2 ^ 58 }
-    requires room { form_of log.old ≡ Recorded → 0 < record_room_of log.old }
-    ensures form { form_of log.new ≡ form_of log.old }
-    ensures base { (es : List (K × V)) → base_of log.new es ≡ base_of log.old es }
-    ensures records { (call : Call K V F) (before after : Option V) →
-        kept ≡ kept_in (form_of log.old) call before after
-        → records_of log.new ≡ with_one_more (form_of log.old) (records_of log.old)
-        (record { client = client; ordinal = ordinal; call = call; before = before; after = after }) }
-    ensures less_room { (call : Call K V F) (before after : Option V) →
-        kept ≡ kept_in (form_of log.old) call before after
-        → form_of log.old ≡ Recorded → record_room_of log.new + 1 ≡ record_room_of log.old }
-{
-    if let (Some(log), Some(kept)) = (log, kept) {
+impl<K: Drop, V: Drop, F: Drop, A: Allocator> Log<K, V, F, A> {
+    /// Puts the record of a call into the room that there is for it.
+    pub(crate) fn add(&mut self, client: u32, ordinal: u64, kept: Kept<K, V, F>)
+        requires client { client < 64 }
+        requires ordinal { ordinal < 2 ^ 58 }
+        requires room { 0 < self.old.record_room }
+        ensures base { self.new.base ≡ self.old.base }
+        ensures records { self.new.records ≡ self.old.records ++ record {
+          client = client;
+          ordinal = ordinal;
+          call = kept.call;
+          before = kept.before;
+          after = kept.after;
+        } ∷ [] }
+        ensures less_room { self.new.record_room + 1 ≡ self.old.record_room }
+    {
         let Kept {
             call,
             before,
             after,
         } = kept;
         let entry = Record::new(client, ordinal, call, before, after);
-        log.records.push_reserved(entry);
-    }
-}
-
-/// The part of a log, or of none, in a class.
-pub(crate) fn part_of_log<K: HashKey, V: Clone, F: Clone, A: Allocator + Clone>(
-    log: &Option<Box<Log<K, V, F, A>, A>>,
-    salt: Salt,
-    class: Class,
-) -> Result<Option<Box<Log<K, V, F, A>, A>>, AllocError>
-    requires keys { IsExact K.is_clone }
-    requires values { IsExact V.is_clone }
-    requires functions { IsExact F.is_clone }
-    ensures form { IfOk result (λ part. form_of part ≡ form_of log.now) }
-    ensures base { IfOk result (λ part. (es : List (K × V))
-        → base_of part (part_of_entries (is_of K.code salt class) es) ≡ part_of_entries
-        (is_of K.code salt class) (base_of log.now es)) }
-    ensures records { IfOk result
-        (λ part. records_of part ≡ part_of_records (is_of K.code salt class) (records_of log.now)) }
-{
-    match log {
-        Some(log) => Ok(Some(log.part(salt, class)?)),
-        None => Ok(None),
+        self.records.push_reserved(entry);
     }
 }

@@ -4,23 +4,17 @@ ghost use Rattle.hashkeys.specs.Classes.{is_of};
 ghost use Rattle.bin_history.specs.Copies.{IsExact};
 ghost use Rattle.bin_history.specs.Made.{IsMadeOn};
 ghost use Rattle.bin_history.specs.Ops.{call_on, key_in};
-ghost use Rattle.bin_history.specs.RecordedForm.{as_recorded};
 ghost use Rattle.bin_history.specs.Sure.{IsSure};
 
-use crate::call::{Remap, Reply};
-use crate::given::Given;
+use crate::call::{Remap, Reply, Value};
 use crate::op::Op;
 use crate::recorded::RecordedBin;
 use crate::trace::Trace;
+use bin_entries::Given;
 use hashkeys::HashKey;
 use std::alloc::{AllocError, Allocator};
 
-impl<K: HashKey, V: Clone + Eq, F: Remap<K, V> + Clone, A: Allocator + Clone> RecordedBin<
-    K,
-    V,
-    F,
-    A,
-> {
+impl<K: HashKey, V: Value, F: Remap<K, V>, A: Allocator + Clone> RecordedBin<K, V, F, A> {
     /// Makes a call, as the call of this client, below 64, after so many others of it, fewer than
     /// 2^58: what `prepare_on` and `apply` do, one after the other. It answers the reply and what
     /// the books need. For want of memory the call is dropped, and nothing is changed.
@@ -42,7 +36,7 @@ impl<K: HashKey, V: Clone + Eq, F: Remap<K, V> + Clone, A: Allocator + Clone> Re
         requires ordinal { ordinal < 2 ^ 58 }
         ensures made { IfOk result
             (λ r. IsMadeOn K.eq V.eq F.remapped F.merged client ordinal
-            (call_on (key_in key.entry) op) (as_recorded self.old) (as_recorded self.new) r.0 r.1) }
+            (call_on (key_in key.entry) op) self.old self.new r.0 r.1) }
         ensures succeeds { IsSure K.eq K.is_infallible V.is_infallible self.old
             (key_in key.entry) op → IsOk result }
         ensures records { OnErr result (self.new.records ≡ self.old.records) }

@@ -5,19 +5,17 @@ ghost use Rattle.bin_history.specs.Changes.{IsIndexOf, Fits, change_by, left_by}
 ghost use Rattle.bin_history.specs.Copies.{IsExact};
 ghost use Rattle.bin_history.specs.Entries.{lookup};
 ghost use Rattle.bin_history.specs.Ops.{call_on, key_in, may_add, value_of};
-ghost use Rattle.bin_history.specs.Readiness.{IsWorkedOut, kept_in};
+ghost use Rattle.bin_history.specs.Readiness.{IsWorkedOut, kept_of};
 ghost use Rattle.bin_history.specs.Sure.{IsNeverRefused, asks};
 ghost use Rattle.bin_history.specs.declared.effect.Effect.TheVariants.{Give};
 
-use crate::call::{Call, Remap};
+use crate::call::{Call, Remap, Value};
 use crate::change::{Change, value_at};
-use crate::copies::copy_of_option;
 use crate::effect::{Answer, Effect};
-use crate::form::Form;
-use crate::given::Given;
 use crate::op::Op;
 use crate::seen::Seen;
 use crate::work::work_of;
+use bin_entries::{Given, copy_of_option};
 use hashkeys::HashKey;
 use std::alloc::AllocError;
 use std::marker::Model;
@@ -37,7 +35,7 @@ pub struct Ready<K, V, F> {
     pub(crate) seen: Seen<K, V, F>,
     pub(crate) answer: Answer<V>,
     pub(crate) change: Change<K, V>,
-    pub(crate) kept: Option<Kept<K, V, F>>,
+    pub(crate) kept: Kept<K, V, F>,
 }
 
 impl<K, V, F> Model for Ready<K, V, F> {
@@ -57,7 +55,7 @@ impl<K, V, F> Model for Ready<K, V, F> {
 
 /// What a recorded bin does for a call of this effect, and keeps of it: the change and the record
 /// each have their own copies.
-fn recorded<K: Clone + Drop, V: Clone + Drop, F: Drop>(
+fn planned<K: Clone + Drop, V: Clone + Drop, F: Drop>(
     found: Option<usize>,
     key: Given<'_, K>,
     op: Op<V, F>,
@@ -68,11 +66,8 @@ fn recorded<K: Clone + Drop, V: Clone + Drop, F: Drop>(
     requires values { IsExact V.is_clone }
     ensures change { IfOk result (λ r. (value : Option V) × (effect ≡ Give → value ≡ value_of op)
         × (r.0 ≡ change_by found (key_in key.entry) effect value)) }
-    ensures kept { IfOk result (λ r. r.1 ≡ record {
-      call = call_on (key_in key.entry) op;
-      before = option_copied before.entry;
-      after = left_by op effect (option_copied before.entry);
-    }) }
+    ensures kept { IfOk result (λ r. r.1 ≡ kept_of (call_on (key_in key.entry) op)
+        (option_copied before.entry) (left_by op effect (option_copied before.entry))) }
     ensures succeeds { K.is_infallible (key_in key.entry) → IsNeverRefused V.is_infallible
         → IsOk result }
 {
@@ -92,41 +87,9 @@ fn recorded<K: Clone + Drop, V: Clone + Drop, F: Drop>(
     ))
 }
 
-/// What a bin of this form does for a call of this effect, and keeps of it.
-fn planned<K: Clone + Drop, V: Clone + Drop, F: Drop>(
-    form: Form,
-    found: Option<usize>,
-    key: Given<'_, K>,
-    op: Op<V, F>,
-    effect: Effect<V>,
-    before: Option<&V>,
-) -> Result<(Change<K, V>, Option<Kept<K, V, F>>), AllocError>
-    requires keys { IsExact K.is_clone }
-    requires values { IsExact V.is_clone }
-    ensures change { IfOk result (λ r. (value : Option V) × (effect ≡ Give → value ≡ value_of op)
-        × (r.0 ≡ change_by found (key_in key.entry) effect value)) }
-    ensures kept { IfOk result (λ r. r.1 ≡ kept_in form (call_on (key_in key.entry) op)
-        (option_copied before.entry) (left_by op effect (option_copied before.entry))) }
-    ensures succeeds { K.is_infallible (key_in key.entry) → IsNeverRefused V.is_infallible
-        → IsOk result }
-{
-    match form {
-        Form::Recorded => {
-            let (change, kept) = recorded(found, key, op, effect, before)?;
-            Ok((change, Some(kept)))
-        }
-        Form::Lean => {
-            let value = op.into_value();
-            Ok((Change::by(key, found, effect, value)?, None))
-        }
-    }
-}
-
-/// Works out all that a call does to the entries of a bin of this form, in which its key was looked
-/// for.
-pub(crate) fn work_out<K: HashKey, V: Clone + Eq, F: Remap<K, V> + Drop>(
+/// Works out all that a call does to the entries of a bin, in which its key was looked for.
+pub(crate) fn work_out<K: HashKey, V: Value, F: Remap<K, V>>(
     entries: &[(K, V)],
-    form: Form,
     found: Option<usize>,
     key: Given<'_, K>,
     op: Op<V, F>,
@@ -136,7 +99,7 @@ pub(crate) fn work_out<K: HashKey, V: Clone + Eq, F: Remap<K, V> + Drop>(
     requires found { IsIndexOf K.eq entries.now (key_in key) found }
     ensures call { IfOk result (λ r. r.call ≡ call_on (key_in key.entry) op) }
     ensures ready { IfOk result (λ r. IsWorkedOut K.eq V.eq F.remapped F.merged r entries.now) }
-    ensures kept { IfOk result (λ r. r.kept ≡ kept_in form r.call r.before r.after) }
+    ensures kept { IfOk result (λ r. r.kept ≡ kept_of r.call r.before r.after) }
     ensures succeeds { K.is_infallible (key_in key.entry) → IsNeverRefused V.is_infallible →
         asks op (lookup K.eq entries.now (key_in key.entry)) ≡ false
         → IsOk result }
@@ -147,7 +110,7 @@ pub(crate) fn work_out<K: HashKey, V: Clone + Eq, F: Remap<K, V> + Drop>(
     let work = work_of(key.get(), &op, before)?;
     let after = work.effect.left(&op, before);
     let seen = Seen::of(key.get(), &op, before, after);
-    let (change, kept) = planned(form, found, key, op, work.effect, before)?;
+    let (change, kept) = planned(found, key, op, work.effect, before)?;
     Ok(Ready {
         seen,
         answer: work.answer,

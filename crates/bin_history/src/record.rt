@@ -6,7 +6,8 @@ ghost use Rattle.bin_history.specs.Deltas.{delta};
 ghost use Rattle.bin_history.specs.Records.{before_of, after_of};
 
 use crate::call::Call;
-use crate::copies::{copy_of, copy_of_call};
+use crate::copies::copy_of_call;
+use bin_entries::copy_of;
 use std::alloc::AllocError;
 use std::marker::Model;
 

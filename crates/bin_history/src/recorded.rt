@@ -1,18 +1,15 @@
 //! One bin.
 ghost use Rattle.std.specs.Prelude.{◌≡◌};
 
-use crate::call::{Call, Remap, Reply};
+use crate::call::{Call, Remap, Reply, Value};
 use crate::change::find;
-use crate::copies::copy_of_entries;
-use crate::form::Form;
-use crate::given::Given;
-use crate::log::{Log, add_to, fold_in, part_of_log, reserve_in};
+use crate::log::Log;
 use crate::op::Op;
 use crate::ready::{Ready, work_out};
 use crate::record::Record;
 use crate::room::make_room_for;
-use crate::split::part_of_entries;
 use crate::trace::Trace;
+use bin_entries::{Given, copy_of_entries, part_of_entries};
 use hashkeys::{AsKey, Class, HashKey, Salt};
 use std::alloc::{AllocError, Allocator};
 use std::marker::Model;
@@ -21,62 +18,53 @@ use std::marker::Model;
 /// first folded into the base.
 pub const MOST_RECORDS: usize = 1024;
 
-/// A bin of a map: the entries of a class in order of insertion and, in the recorded form, the
-/// records of the calls that made them from a base. Contracts see it as a `BinView`; whatever they
-/// see is lawful (`RecordedBin::lawful`). To contracts a lean bin has no records, and its base is its
-/// entries.
+/// A bin that keeps records: the entries of a class in order of insertion, and the records of the
+/// calls that made them from a base. Contracts see it as a `BinView` of the recorded form; whatever
+/// they see is lawful (`RecordedBin::lawful`).
 #[derive(Drop)]
-pub struct RecordedBin<K: HashKey, V: Clone + Eq, F: Remap<K, V> + Clone, A: Allocator> {
+pub struct RecordedBin<K: HashKey, V: Value, F: Remap<K, V>, A: Allocator> {
     entries: Vec<(K, V), A>,
     salt: Salt,
     class: Class,
-    log: Option<Box<Log<K, V, F, A>, A>>,
+    log: Log<K, V, F, A>,
 }
 
-impl<K: HashKey, V: Clone + Eq, F: Remap<K, V> + Clone, A: Allocator> Model
-    for RecordedBin<K, V, F, A> {
+impl<K: HashKey, V: Value, F: Remap<K, V>, A: Allocator> Model for RecordedBin<K, V, F, A> {
     ghost use Rattle.std.specs.Prelude.{◌-◌, vec_len, vec_capacity};
     ghost use Rattle.bin_history.specs.Lawful.{BinView, IsReplayed};
     ghost use Rattle.bin_history.specs.Calls.{after};
-    ghost use Rattle.bin_history.specs.Logs.{form_of, base_of, records_of, record_room_of};
+    ghost use Rattle.bin_history.specs.declared.form.Form.TheVariants.{Recorded};
 
     ghost Value = { BinView K V F };
 
     ghost view = { λ b. record {
-      form = form_of b.log;
+      form = Recorded;
       salt = b.salt;
       class = b.class;
-      base = base_of b.log b.entries.items;
-      records = records_of b.log;
+      base = b.log.base;
+      records = b.log.records;
       entries = b.entries.items;
-      record_room = record_room_of b.log;
+      record_room = b.log.record_room;
       entry_room = vec_capacity b.entries - vec_len b.entries;
     } };
 
     ghost invariant = { λ b. IsReplayed K.eq K.code (after V.eq F.remapped F.merged) b.salt b.class
-        (base_of b.log b.entries.items)
-        (records_of b.log) b.entries.items };
+        b.log.base b.log.records b.entries.items };
 }
 
-impl<K: HashKey, V: Clone + Eq, F: Remap<K, V> + Clone, A: Allocator + Clone> RecordedBin<
-    K,
-    V,
-    F,
-    A,
-> {
+impl<K: HashKey, V: Value, F: Remap<K, V>, A: Allocator + Clone> RecordedBin<K, V, F, A> {
     ghost use Rattle.std.specs.Prelude.{[], true, Some, None, All, IfOk, IsOk, MatchOption, option_copied};
     ghost use Rattle.hashkeys.specs.Classes.{is_of};
     ghost use Rattle.bin_history.specs.Calls.{after};
     ghost use Rattle.bin_history.specs.Copies.{IsExact};
     ghost use Rattle.bin_history.specs.Entries.{lookup, HasDistinctKeys, replay};
     ghost use Rattle.bin_history.specs.Lawful.{IsLawful};
-    ghost use Rattle.bin_history.specs.declared.form.Form.TheVariants.{Lean};
+    ghost use Rattle.bin_history.specs.declared.form.Form.TheVariants.{Recorded};
 
-    /// A bin of the form with these pairs, in their order, and no records. The pairs' keys are
-    /// distinct and of the class. A lean bin takes no memory.
+    /// A bin with these pairs, in their order, and no records. The pairs' keys are distinct and of
+    /// the class.
     pub fn new(
         alloc: A,
-        form: Form,
         salt: Salt,
         class: Class,
         base: Vec<(K, V), A>,
@@ -85,42 +73,21 @@ impl<K: HashKey, V: Clone + Eq, F: Remap<K, V> + Clone, A: Allocator + Clone> Re
         requires values { IsExact V.is_clone }
         requires distinct { HasDistinctKeys K.eq base.items }
         requires of_class { All (λ e. is_of K.code salt class e.0 ≡ true) base.items }
-        ensures succeeds { (form ≡ Lean) → IsOk result }
-        ensures form { IfOk result (λ b. b.form ≡ form) }
+        ensures form { IfOk result (λ b. b.form ≡ Recorded) }
         ensures salt { IfOk result (λ b. b.salt ≡ salt) }
         ensures class { IfOk result (λ b. b.class ≡ class) }
         ensures base { IfOk result (λ b. b.base ≡ base.items) }
         ensures records { IfOk result (λ b. b.records ≡ []) }
         ensures entries { IfOk result (λ b. b.entries ≡ base.items) }
     {
-        match form {
-            Form::Recorded => {
-                let entries = copy_of_entries(alloc.clone()?, &base)?;
-                let log = Log::new(alloc, base)?;
-                Ok(RecordedBin {
-                    entries,
-                    salt,
-                    class,
-                    log: Some(log),
-                })
-            }
-            Form::Lean => Ok(RecordedBin {
-                entries: base,
-                salt,
-                class,
-                log: None,
-            }),
-        }
-    }
-
-    /// The form of the bin.
-    pub fn form(&self) -> Form
-        ensures { result ≡ self.now.form }
-    {
-        match &self.log {
-            Some(_) => Form::Recorded,
-            None => Form::Lean,
-        }
+        let entries = copy_of_entries(alloc.clone()?, &base)?;
+        let log = Log::new(alloc, base);
+        Ok(RecordedBin {
+            entries,
+            salt,
+            class,
+            log,
+        })
     }
 
     /// The class whose keys the bin holds.
@@ -137,25 +104,18 @@ impl<K: HashKey, V: Clone + Eq, F: Remap<K, V> + Clone, A: Allocator + Clone> Re
         self.salt
     }
 
-    /// The pairs that the records begin from: in a lean bin its entries.
+    /// The pairs that the records begin from.
     pub fn base(&self) -> &[(K, V)]
         ensures { result.now ≡ self.now.base }
     {
-        match &self.log {
-            Some(log) => log.base.as_slice(),
-            None => self.entries.as_slice(),
-        }
+        self.log.base.as_slice()
     }
 
-    /// The records of the calls since the base, oldest first: at most 1,024, and none in a lean
-    /// bin.
+    /// The records of the calls since the base, oldest first: at most 1,024.
     pub fn records(&self) -> &[Record<K, V, F>]
         ensures { result.now ≡ self.now.records }
     {
-        match &self.log {
-            Some(log) => log.records.as_slice(),
-            None => &[],
-        }
+        self.log.records.as_slice()
     }
 
     /// The pairs that the bin holds, in order of insertion.
@@ -208,18 +168,14 @@ impl<K: HashKey, V: Clone + Eq, F: Remap<K, V> + Clone, A: Allocator + Clone> Re
     pub fn lawful(&self)
         ensures lawful { IsLawful K.eq K.code (after V.eq F.remapped F.merged) self.now }
         ensures replayed { self.now.entries ≡ replay K.eq self.now.base self.now.records }
+        ensures form { self.now.form ≡ Recorded }
     {
         let _ = &self.entries;
     }
 }
 
-impl<K: HashKey, V: Clone + Eq, F: Remap<K, V> + Clone, A: Allocator + Clone> RecordedBin<
-    K,
-    V,
-    F,
-    A,
-> {
-    ghost use Rattle.std.specs.Prelude.{true, ◌+◌, ◌<◌, ◌^◌, ◌∷◌, [], length, IfOk, IsOk, OnOk};
+impl<K: HashKey, V: Value, F: Remap<K, V>, A: Allocator + Clone> RecordedBin<K, V, F, A> {
+    ghost use Rattle.std.specs.Prelude.{true, ◌+◌, ◌<◌, ◌^◌, ◌++◌, ◌∷◌, [], length, IfOk, IsOk, OnOk};
     ghost use Rattle.std.specs.Prelude.{OnErr};
     ghost use Rattle.hashkeys.specs.Classes.{is_of};
     ghost use Rattle.bin_history.specs.Calls.{after, key_of, reply};
@@ -227,8 +183,6 @@ impl<K: HashKey, V: Clone + Eq, F: Remap<K, V> + Clone, A: Allocator + Clone> Re
     ghost use Rattle.bin_history.specs.Entries.{store};
     ghost use Rattle.bin_history.specs.Histories.{GoesOn};
     ghost use Rattle.bin_history.specs.Ops.{call_on, key_in};
-    ghost use Rattle.bin_history.specs.declared.form.Form.TheVariants.{Recorded};
-    ghost use Rattle.bin_history.specs.Logs.{with_one_more};
     ghost use Rattle.bin_history.specs.Readiness.{IsPrepared, KeepsOrFolds, record_of};
     ghost use Rattle.bin_history.specs.Sure.{IsSure, op_of};
 
@@ -286,17 +240,16 @@ impl<K: HashKey, V: Clone + Eq, F: Remap<K, V> + Clone, A: Allocator + Clone> Re
     {
         let found = find(&self.entries, key.get());
         make_room_for(&mut self.entries, found, &op)?;
-        reserve_in(&mut self.log)?;
-        let form = self.form();
-        let ready = work_out(&self.entries, form, found, key, op)?;
-        fold_in(&mut self.log);
+        self.log.reserve()?;
+        let ready = work_out(&self.entries, found, key, op)?;
+        self.log.fold();
         Ok(ready)
     }
 
     /// Makes a call that was prepared on this bin, since when nothing was applied, as the call of
     /// this client, below 64, after so many others of it, fewer than 2^58. It answers the reply and
-    /// what the books need. A recorded bin keeps the record; a lean one keeps the entries alone. It
-    /// takes no memory: what it keeps goes into the room that there is.
+    /// what the books need, and keeps the record. It takes no memory: what it keeps goes into the
+    /// room that there is.
     pub fn apply(
         &mut self,
         ready: Ready<K, V, F>,
@@ -310,11 +263,9 @@ impl<K: HashKey, V: Clone + Eq, F: Remap<K, V> + Clone, A: Allocator + Clone> Re
         ensures trace { result.1 ≡ record_of client ordinal ready }
         ensures entries { self.new.entries ≡ store K.eq self.old.entries
             (key_of ready.call) ready.after }
-        ensures records { self.new.records ≡ with_one_more self.old.form self.old.records
-            (record_of client ordinal ready) }
-        ensures base { self.old.form ≡ Recorded → self.new.base ≡ self.old.base }
-        ensures record_room { self.old.form ≡ Recorded →
-            self.new.record_room + 1 ≡ self.old.record_room }
+        ensures records { self.new.records ≡ self.old.records ++ record_of client ordinal ready ∷ [] }
+        ensures base { self.new.base ≡ self.old.base }
+        ensures record_room { self.new.record_room + 1 ≡ self.old.record_room }
         ensures entry_room { length self.new.entries + self.new.entry_room
             ≡ length self.old.entries + self.old.entry_room }
         ensures history { GoesOn K.eq (after V.eq F.remapped F.merged) self.old
@@ -330,23 +281,17 @@ impl<K: HashKey, V: Clone + Eq, F: Remap<K, V> + Clone, A: Allocator + Clone> Re
             kept,
         } = ready;
         let taken = change.carry_out(&mut self.entries);
-        add_to(&mut self.log, client, ordinal, kept);
+        self.log.add(client, ordinal, kept);
         (answer.reply(taken), Trace::seen(client, ordinal, seen))
     }
 }
 
-impl<K: HashKey, V: Clone + Eq, F: Remap<K, V> + Clone, A: Allocator + Clone> RecordedBin<
-    K,
-    V,
-    F,
-    A,
-> {
+impl<K: HashKey, V: Value, F: Remap<K, V>, A: Allocator + Clone> RecordedBin<K, V, F, A> {
     ghost use Rattle.std.specs.Prelude.{◌<◌, IfOk};
     ghost use Rattle.hashkeys.specs.Classes.{low_half, high_half};
     ghost use Rattle.hashkeys.specs.Limits.{most_bins};
     ghost use Rattle.bin_history.specs.Copies.{IsExact};
     ghost use Rattle.bin_history.specs.BinPart.{IsPartOf};
-    ghost use Rattle.bin_history.specs.RecordedForm.{as_recorded};
 
     /// The part of the bin in a half of its class.
     fn part(&self, half: Class) -> Result<RecordedBin<K, V, F, A>, AllocError>
@@ -354,11 +299,11 @@ impl<K: HashKey, V: Clone + Eq, F: Remap<K, V> + Clone, A: Allocator + Clone> Re
         requires values { IsExact V.is_clone }
         requires functions { IsExact F.is_clone }
         ensures class { IfOk result (λ b. b.class ≡ half) }
-        ensures part { IfOk result (λ b. IsPartOf K.code (as_recorded self.now) (as_recorded b)) }
+        ensures part { IfOk result (λ b. IsPartOf K.code self.now b) }
     {
         let alloc = self.entries.allocator();
         let entries = part_of_entries(alloc.clone()?, self.salt, half, &self.entries)?;
-        let log = part_of_log(&self.log, self.salt, half)?;
+        let log = self.log.part(self.salt, half)?;
         Ok(RecordedBin {
             entries,
             salt: self.salt,
@@ -367,8 +312,8 @@ impl<K: HashKey, V: Clone + Eq, F: Remap<K, V> + Clone, A: Allocator + Clone> Re
         })
     }
 
-    /// The bins of the low and the high half of the class, in the bin's form, each with its part of
-    /// base, records and entries, in order. They are copies; the bin itself stays.
+    /// The bins of the low and the high half of the class, each with its part of base, records and
+    /// entries, in order. They are copies; the bin itself stays.
     pub fn split(&self) -> Result<(RecordedBin<K, V, F, A>, RecordedBin<K, V, F, A>), AllocError>
         requires keys { IsExact K.is_clone }
         requires values { IsExact V.is_clone }
@@ -376,8 +321,8 @@ impl<K: HashKey, V: Clone + Eq, F: Remap<K, V> + Clone, A: Allocator + Clone> Re
         requires size { self.now.class.n < most_bins }
         ensures low_class { IfOk result (λ b. b.0.class ≡ low_half self.now.class) }
         ensures high_class { IfOk result (λ b. b.1.class ≡ high_half self.now.class) }
-        ensures low { IfOk result (λ b. IsPartOf K.code (as_recorded self.now) (as_recorded b.0)) }
-        ensures high { IfOk result (λ b. IsPartOf K.code (as_recorded self.now) (as_recorded b.1)) }
+        ensures low { IfOk result (λ b. IsPartOf K.code self.now b.0) }
+        ensures high { IfOk result (λ b. IsPartOf K.code self.now b.1) }
     {
         let (low, high) = self.class.halves();
         let first = self.part(low)?;

@@ -8,10 +8,10 @@ ghost use Rattle.bin_history.specs.declared.call.Reply.TheVariants.{Value, Truth
 ghost use Rattle.bin_history.specs.declared.effect.Answer.TheVariants.{Known, Taken};
 ghost use Rattle.bin_history.specs.declared.effect.Effect.TheVariants.{Keep, Give, Set};
 
-use crate::call::{Remap, Reply};
-use crate::copies::{copy_of, copy_of_option};
+use crate::call::{Remap, Reply, Value};
 use crate::effect::{Answer, Effect};
 use crate::op::Op;
+use bin_entries::{copy_of, copy_of_option};
 use std::alloc::AllocError;
 
 /// What a call does, and what it answers.
@@ -132,7 +132,7 @@ fn merged<K, V: Clone, F: Remap<K, V>>(
 
 /// What the call on the key does and what it answers, by the value before it. The call's function
 /// is asked once at most.
-pub(crate) fn work_of<K, V: Clone + Eq, F: Remap<K, V>>(
+pub(crate) fn work_of<K, V: Value, F: Remap<K, V>>(
     key: &K,
     op: &Op<V, F>,
     before: Option<&V>,

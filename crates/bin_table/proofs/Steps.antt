@@ -53,11 +53,6 @@ one_taken [] at e = grind (arith, e)
 one_taken ((k, x) ∷ []) at e = (x, ap (λ (n : ℕ). (n, x) ∷ []) (grind (arith, e)))
 one_taken (a ∷ b ∷ c) at e = grind (arith, e)
 
--- it still has one
-pub one_left : {X : Type 0} (c d : List (ℕ × X)) (at : ℕ) (x y : X) → places c ≡ at ∷ [] → c ≡ (at, x) ∷ rest c
-    → d ≡ (at, y) ∷ rest c → d ≡ (at, y) ∷ []
-one_left c d at x y one was is = let t = one_taken c at one in is ∙ ap (λ l. (at, y) ∷ rest l) t.1
-
 pub some_taken : {X : Type 0} (P : X → Type 0) (c : List (ℕ × X)) (at : ℕ) (x : X) → c ≡ (at, x) ∷ [] → IsSomeAnd (taken c) P → P x
 some_taken {X} P c at x e p = subst (λ l. IsSomeAnd (taken l) P) e p
 

@@ -1,9 +1,9 @@
 -- Folds of lists that lie side by side.
-use Rattle.std.proofs.Common.{◌≡◌, ℕ, ◌+◌, ◌<◌, ◌^◌, List, [], ◌∷◌, ◌++◌, length, get_or, take, Option, Some, None}
+use Rattle.std.proofs.Common.{◌≡◌, ℕ, ◌<◌, ◌^◌, List, [], ◌∷◌, ◌++◌, Option, Some, None}
 use Rattle.std.proofs.Common.{refl, ap, sym, ◌∙◌, subst, arith}
 use Rattle.std.specs.Prelude.{fold, map, unwrap_or, IfSome, MatchOption}
 use Rattle.std.proofs.lemmas.Grind.{fold-append}
-use Rattle.std.proofs.lemmas.List.{map-append, take_more}
+use Rattle.std.proofs.lemmas.List.{map-append}
 use Rattle.bulk_tasks.specs.Folds.{fold_from, plain_fold, AreOfFew, IsAssociative}
 
 none_ne_some : {A : Type 0} (a : A) → None ≡ Some a → ⊥
@@ -20,13 +20,6 @@ module _ {K V A : Type 0} (lift : K → V → A) (join : A → A → A) where
       (fold_from lift join a es) fs
   from_both a es fs = ap (fold join a) (map-append (λ e. lift e.0 e.1) es fs)
       ∙ fold-append join a (map (λ e. lift e.0 e.1) es) (map (λ e. lift e.0 e.1) fs)
-
-  -- the fold of a list of which one pair more is joined on
-  pub from_more : (a : A) (es : List (K × V)) (i : ℕ) (e : K × V) → i < length es → get_or es i e ≡ e
-      → join (fold_from lift join a (take i es)) (lift e.0 e.1) ≡ fold_from lift join a (take (i + 1) es)
-  from_more a es i e p is = sym (from_both a (take i es) (e ∷ []))
-      ∙ ap (λ (x : K × V). fold_from lift join a (take i es ++ x ∷ [])) (sym is)
-      ∙ ap (fold_from lift join a) (sym (take_more es i e p))
 
   -- a list begun with a pair
   pub begun : (e : K × V) (es fs : List (K × V))

@@ -10,7 +10,7 @@ use crate::operations::Bulk;
 use crate::plan::Plan;
 use crate::stepping::{Stepper, step_through};
 use crate::traits::Action;
-use bin_history::{Bin, Remap};
+use bin_history::{Bin, Remap, Value};
 use chm::Quiet;
 use hashkeys::HashKey;
 use std::alloc::{AllocError, Allocator};
@@ -63,9 +63,9 @@ impl<K, V, X: Action<K, V>, B: Allocator + Clone> Stepper<K, V> for Acting<'_, X
 }
 
 impl<
-    K: HashKey + Drop,
-    V: Clone + Eq + Drop,
-    F: Remap<K, V> + Clone + Drop,
+    K: HashKey,
+    V: Value,
+    F: Remap<K, V>,
     A: Allocator + Clone,
     X: Action<K, V>,
     B: Allocator + Clone,
@@ -101,9 +101,9 @@ impl<
 ///
 ///     for_each(rt, alloc, quiet, &Plan::new(0, 4), &Values)?.as_slice() == [1, 2].as_slice()
 pub fn for_each<
-    K: HashKey + Drop + Send + Sync,
-    V: Clone + Eq + Drop + Send + Sync,
-    F: Remap<K, V> + Clone + Drop + Send + Sync,
+    K: HashKey + Send + Sync,
+    V: Value + Send + Sync,
+    F: Remap<K, V> + Send + Sync,
     A: Allocator + Clone + Send + Sync,
     B: Allocator + Clone + Send + Sync,
     X: Action<K, V> + Sync,

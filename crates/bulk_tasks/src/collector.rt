@@ -3,19 +3,14 @@ ghost use Rattle.std.specs.Prelude.{◌<◌, ◌+◌, ◌^◌, ◌++◌, List, l
 ghost use Rattle.chm.specs.Headline.{entries_of};
 ghost use Rattle.completers.specs.Parts.{AreParts};
 
-use bin_history::{Bin, Remap};
+use bin_history::{Bin, Remap, Value};
 use completers::{Partial, Parts, Relation};
 use hashkeys::HashKey;
 use std::alloc::Allocator;
 use steal_pool::Body;
 
 /// What the pairs of bins give.
-pub trait Collector<
-    K: HashKey + Drop,
-    V: Clone + Eq + Drop,
-    F: Remap<K, V> + Clone + Drop,
-    A: Allocator + Clone,
-> {
+pub trait Collector<K: HashKey, V: Value, F: Remap<K, V>, A: Allocator + Clone> {
     type Part: Drop;
 
     // Of the pairs of a list, in order.
@@ -36,26 +31,14 @@ pub trait Collector<
 
 /// The bins of a closed map, whose ranges workers collect from.
 #[derive(Drop)]
-pub(crate) struct Collecting<
-    'a,
-    K: HashKey,
-    V: Clone + Eq,
-    F: Remap<K, V> + Clone,
-    A: Allocator,
-    C,
-> {
+pub(crate) struct Collecting<'a, K: HashKey, V: Value, F: Remap<K, V>, A: Allocator, C> {
     pub(crate) bins: &'a [Bin<K, V, F, A>],
     pub(crate) collector: &'a C,
     ghost few: { length (entries_of bins.now) < 2 ^ 64 },
 }
 
-impl<
-    K: HashKey + Drop,
-    V: Clone + Eq + Drop,
-    F: Remap<K, V> + Clone + Drop,
-    A: Allocator + Clone,
-    C: Collector<K, V, F, A>,
-> Relation for Collecting<'_, K, V, F, A, C> {
+impl<K: HashKey, V: Value, F: Remap<K, V>, A: Allocator + Clone, C: Collector<K, V, F, A>> Relation
+    for Collecting<'_, K, V, F, A, C> {
     ghost use Rattle.std.specs.Prelude.{slice_range};
     ghost use Rattle.chm.specs.Headline.{entries_of};
 
@@ -65,13 +48,8 @@ impl<
         (entries_of (slice_range b.bins.now lo hi)) part };
 }
 
-impl<
-    K: HashKey + Drop,
-    V: Clone + Eq + Drop,
-    F: Remap<K, V> + Clone + Drop,
-    A: Allocator + Clone,
-    C: Collector<K, V, F, A>,
-> Body for Collecting<'_, K, V, F, A, C> {
+impl<K: HashKey, V: Value, F: Remap<K, V>, A: Allocator + Clone, C: Collector<K, V, F, A>> Body
+    for Collecting<'_, K, V, F, A, C> {
     ghost use Rattle.std.specs.Prelude.{length};
 
     ghost limit = { λ b. length b.bins.now };

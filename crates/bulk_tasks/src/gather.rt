@@ -6,7 +6,7 @@ ghost use Rattle.bulk_tasks.specs.Plans.{AreWorkers};
 use crate::batches::batch;
 use crate::collector::{Collecting, Collector};
 use crate::plan::Plan;
-use bin_history::Remap;
+use bin_history::{Remap, Value};
 use chm::Quiet;
 use hashkeys::HashKey;
 use std::alloc::Allocator;
@@ -16,9 +16,9 @@ use steal_pool::{Gate, run};
 
 /// What the entries of a closed map give, in walk order, whichever worker took which.
 pub(crate) fn gather<
-    K: HashKey + Drop + Send + Sync,
-    V: Clone + Eq + Drop + Send + Sync,
-    F: Remap<K, V> + Clone + Drop + Send + Sync,
+    K: HashKey + Send + Sync,
+    V: Value + Send + Sync,
+    F: Remap<K, V> + Send + Sync,
     A: Allocator + Clone + Send + Sync,
     B: Allocator + Clone + Send + Sync,
     C: Collector<K, V, F, A> + Sync,

@@ -14,7 +14,7 @@ use crate::plan::Plan;
 use crate::reducing::{Folding, any_order, join_onto};
 use crate::searching::{Probed, Searching, search_alone};
 use crate::traits::{Action, BasedReducer, Probe, Reducer};
-use bin_history::Remap;
+use bin_history::{Remap, Value};
 use chm::Quiet;
 use completers::Found;
 use hashkeys::HashKey;
@@ -29,16 +29,7 @@ use steal_pool::Gate;
 ///
 ///     Bulk::new(rt, alloc, quiet, &Plan::new(0, 4)).reduce(&Greatest)? == Some(2)
 #[derive(Drop)]
-pub struct Bulk<
-    'a,
-    K: HashKey,
-    V: Clone + Eq,
-    F: Remap<K, V> + Clone,
-    A: Allocator,
-    B: Allocator,
-    G,
-    Rt,
-> {
+pub struct Bulk<'a, K: HashKey, V: Value, F: Remap<K, V>, A: Allocator, B: Allocator, G, Rt> {
     rt: &'a Rt,
     alloc: B,
     quiet: &'a Quiet<K, V, F, A>,
@@ -47,9 +38,9 @@ pub struct Bulk<
 
 impl<
     'a,
-    K: HashKey + Drop + Send + Sync,
-    V: Clone + Eq + Drop + Send + Sync,
-    F: Remap<K, V> + Clone + Drop + Send + Sync,
+    K: HashKey + Send + Sync,
+    V: Value + Send + Sync,
+    F: Remap<K, V> + Send + Sync,
     A: Allocator + Clone + Send + Sync,
     B: Allocator + Clone + Send + Sync,
     G: Gate + Sync,

@@ -11,7 +11,7 @@ use crate::fault::BulkFault;
 use crate::operations::Bulk;
 use crate::plan::Plan;
 use crate::traits::{BasedReducer, Reducer};
-use bin_history::{Bin, Remap, Walk};
+use bin_history::{Bin, Remap, Value, Walk};
 use chm::Quiet;
 use hashkeys::HashKey;
 use std::alloc::{AllocError, Allocator};
@@ -41,13 +41,11 @@ fn fold_onto<K, V, A: Allocator, R: Reducer<K, V>>(
 }
 
 // The pairs of bins, lifted and joined onto a value.
-fn fold_bins_onto<
-    K: HashKey + Drop,
-    V: Clone + Eq + Drop,
-    F: Remap<K, V> + Clone + Drop,
-    A: Allocator + Clone,
-    R: Reducer<K, V>,
->(reducer: &R, first: R::A, bins: &[Bin<K, V, F, A>]) -> Result<R::A, AllocError>
+fn fold_bins_onto<K: HashKey, V: Value, F: Remap<K, V>, A: Allocator + Clone, R: Reducer<K, V>>(
+    reducer: &R,
+    first: R::A,
+    bins: &[Bin<K, V, F, A>],
+) -> Result<R::A, AllocError>
     requires few { (n : ℕ) × R.within reducer.now n first
         × (n + length (entries_of bins.now) < 2 ^ 64) }
     ensures fold { IfOk result
@@ -70,13 +68,12 @@ pub(crate) struct Folding<'a, R> {
     pub(crate) reducer: &'a R,
 }
 
-impl<
-    K: HashKey + Drop,
-    V: Clone + Eq + Drop,
-    F: Remap<K, V> + Clone + Drop,
-    A: Allocator + Clone,
-    R: Reducer<K, V>,
-> Collector<K, V, F, A> for Folding<'_, R> {
+impl<K: HashKey, V: Value, F: Remap<K, V>, A: Allocator + Clone, R: Reducer<K, V>> Collector<
+    K,
+    V,
+    F,
+    A,
+> for Folding<'_, R> {
     ghost use Rattle.bulk_tasks.specs.Folds.{IsFolded};
 
     type Part = Result<Option<R::A>, AllocError>;
@@ -147,9 +144,9 @@ pub(crate) fn join_onto<K, V, R: Reducer<K, V>>(
 ///
 ///     reduce(rt, alloc, quiet, &Plan::new(0, 4), &Greatest)? == Some(2)
 pub fn reduce<
-    K: HashKey + Drop + Send + Sync,
-    V: Clone + Eq + Drop + Send + Sync,
-    F: Remap<K, V> + Clone + Drop + Send + Sync,
+    K: HashKey + Send + Sync,
+    V: Value + Send + Sync,
+    F: Remap<K, V> + Send + Sync,
     A: Allocator + Clone + Send + Sync,
     B: Allocator + Clone + Send + Sync,
     R: Reducer<K, V> + Sync,
@@ -182,9 +179,9 @@ where
 ///
 ///     reduce_based(rt, alloc, quiet, &Plan::new(0, 4), &Sum)? == 3
 pub fn reduce_based<
-    K: HashKey + Drop + Send + Sync,
-    V: Clone + Eq + Drop + Send + Sync,
-    F: Remap<K, V> + Clone + Drop + Send + Sync,
+    K: HashKey + Send + Sync,
+    V: Value + Send + Sync,
+    F: Remap<K, V> + Send + Sync,
     A: Allocator + Clone + Send + Sync,
     B: Allocator + Clone + Send + Sync,
     R: BasedReducer<K, V> + Sync,

@@ -10,7 +10,7 @@ use crate::operations::Bulk;
 use crate::plan::Plan;
 use crate::stepping::{Stepper, step_through};
 use crate::traits::Probe;
-use bin_history::{Bin, Remap};
+use bin_history::{Bin, Remap, Value};
 use chm::Quiet;
 use completers::{Finds, Found};
 use hashkeys::HashKey;
@@ -93,13 +93,12 @@ impl<K, V, P: Probe<K, V>> Stepper<K, V> for Searching<'_, P> {
     }
 }
 
-impl<
-    K: HashKey + Drop,
-    V: Clone + Eq + Drop,
-    F: Remap<K, V> + Clone + Drop,
-    A: Allocator + Clone,
-    P: Probe<K, V>,
-> Collector<K, V, F, A> for Searching<'_, P> {
+impl<K: HashKey, V: Value, F: Remap<K, V>, A: Allocator + Clone, P: Probe<K, V>> Collector<
+    K,
+    V,
+    F,
+    A,
+> for Searching<'_, P> {
     ghost use Rattle.std.specs.Prelude.{IsTrue};
     ghost use Rattle.bulk_tasks.specs.Searches.{IsProbed};
 
@@ -131,9 +130,9 @@ impl<
 
 /// A search by the caller alone, which does not give up.
 pub(crate) fn search_alone<
-    K: HashKey + Drop,
-    V: Clone + Eq + Drop,
-    F: Remap<K, V> + Clone + Drop,
+    K: HashKey,
+    V: Value,
+    F: Remap<K, V>,
     A: Allocator + Clone,
     P: Probe<K, V>,
 >(bins: &[Bin<K, V, F, A>], probe: &P) -> Result<Option<P::U>, BulkFault>
@@ -163,9 +162,9 @@ pub(crate) fn search_alone<
 ///
 ///     search(rt, alloc, quiet, &Plan::new(0, 4), &Above(1))? == Some(2)
 pub fn search<
-    K: HashKey + Drop + Send + Sync,
-    V: Clone + Eq + Drop + Send + Sync,
-    F: Remap<K, V> + Clone + Drop + Send + Sync,
+    K: HashKey + Send + Sync,
+    V: Value + Send + Sync,
+    F: Remap<K, V> + Send + Sync,
     A: Allocator + Clone + Send + Sync,
     B: Allocator + Clone + Send + Sync,
     P: Probe<K, V> + Sync,

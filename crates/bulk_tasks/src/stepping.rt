@@ -2,7 +2,7 @@
 ghost use Rattle.std.specs.Prelude.{◌++◌, ◌∷◌, [], List, IsTrue};
 ghost use Rattle.chm.specs.Headline.{entries_of};
 
-use bin_history::{Bin, Remap, Walk};
+use bin_history::{Bin, Remap, Value, Walk};
 use hashkeys::HashKey;
 use std::alloc::Allocator;
 
@@ -50,9 +50,9 @@ fn add_all<K, V, A: Allocator, S: Stepper<K, V>>(
 
 /// What the pairs of these bins give.
 pub(crate) fn step_through<
-    K: HashKey + Drop,
-    V: Clone + Eq + Drop,
-    F: Remap<K, V> + Clone + Drop,
+    K: HashKey,
+    V: Value,
+    F: Remap<K, V>,
     A: Allocator + Clone,
     S: Stepper<K, V>,
 >(stepper: &S, bins: &[Bin<K, V, F, A>]) -> S::Part

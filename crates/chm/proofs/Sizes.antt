@@ -17,9 +17,6 @@ IsTableSize-wider n m (e, _, is) (f, _, at) lt =
     let up : 2 ^ (e + 1) ≤ 2 ^ f = pow_mono (omega arith) in
     omega arith
 
-pub size_few : (n : ℕ) → IsTableSize n → n ≤ most_bins
-size_few n (e, le, is) = let top : 2 ^ e ≤ 67108864 = pow_mono {i = e} {j = 26} le in omega (arith, is)
-
 -- no form has wider tables than hashes have classes
 pub most_bins_few : (form : Form) → most_bins_of form ≤ most_bins
 most_bins_few Recorded = lit≤ tt

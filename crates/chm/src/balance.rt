@@ -4,12 +4,12 @@ ghost use Rattle.bin_history.specs.Deltas.{sum_of_deltas};
 ghost use Rattle.count_ledger.specs.Words.{word_of};
 
 use crate::map::Map;
-use bin_history::Remap;
+use bin_history::{Remap, Value};
 use count_ledger::Pass;
 use hashkeys::HashKey;
 use std::alloc::Allocator;
 
-impl<K: HashKey, V: Clone + Eq, F: Remap<K, V> + Clone, A: Allocator> Map<K, V, F, A> {
+impl<K: HashKey, V: Value, F: Remap<K, V>, A: Allocator> Map<K, V, F, A> {
     /// How many keys the calls of this pass added, less how many they took away, as a 64-bit two's
     /// complement number. It is exact, whatever other clients do meanwhile, and waits for nobody.
     ///

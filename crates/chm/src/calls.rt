@@ -10,18 +10,13 @@ ghost use Rattle.chm.specs.Headline.{AreExact, IsAnswered};
 
 use crate::fault::Fault;
 use crate::map::Map;
-use bin_history::{Call, Given, Op, Remap, Reply};
+use bin_history::{Call, Given, Op, Remap, Reply, Value};
 use count_ledger::Pass;
 use hashkeys::HashKey;
 use std::alloc::{AllocError, Allocator};
 use std::sync::Wait;
 
-impl<
-    K: HashKey + Drop,
-    V: Clone + Eq + Drop,
-    F: Remap<K, V> + Clone + Drop,
-    A: Allocator + Clone,
-> Map<K, V, F, A> {
+impl<K: HashKey, V: Value, F: Remap<K, V>, A: Allocator + Clone> Map<K, V, F, A> {
     /// Makes a call, whichever of the twelve it is. It posts the call, and then does the call's
     /// part for the table. The pass is full after 1,000,000 calls in a recorded map, and after 2^57
     /// in a lean one.

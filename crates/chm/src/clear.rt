@@ -12,19 +12,14 @@ ghost use Rattle.chm.specs.Visits.{IsFirstOf};
 
 use crate::fault::Fault;
 use crate::map::Map;
-use bin_history::{Bin, Given, Op, Remap};
+use bin_history::{Bin, Given, Op, Remap, Value};
 use count_ledger::{BinRole, Pass};
 use hashkeys::{Class, HashKey};
 use places::{next_in_walk, walk_laws};
 use std::alloc::Allocator;
 use std::sync::Wait;
 
-impl<
-    K: HashKey + Drop,
-    V: Clone + Eq + Drop,
-    F: Remap<K, V> + Clone + Drop,
-    A: Allocator + Clone,
-> Map<K, V, F, A> {
+impl<K: HashKey, V: Value, F: Remap<K, V>, A: Allocator + Clone> Map<K, V, F, A> {
     /// Takes the first entry of a bin that is held away, by a call of the pass's client.
     fn remove_first<'a>(
         &'a self,

@@ -6,7 +6,7 @@ ghost use Rattle.chm.specs.Closing.{IsNotClosed};
 use crate::fault::Fault;
 use crate::map::Map;
 use crate::quiet::Quiet;
-use bin_history::{Bin, Remap};
+use bin_history::{Bin, Remap, Value};
 use count_ledger::{Pass, Unsettled, retire_all};
 use hashkeys::HashKey;
 use homes::NotLeft;
@@ -16,14 +16,13 @@ use std::snapshot::Snapshot;
 
 /// Why a map could not be closed, with the passes as they were handed in. The map comes back too,
 /// as it was, but where bins were missing.
-pub struct NotClosed<K: HashKey, V: Clone + Eq, F: Remap<K, V> + Clone, A: Allocator> {
+pub struct NotClosed<K: HashKey, V: Value, F: Remap<K, V>, A: Allocator> {
     pub fault: Fault,
     pub map: Option<Map<K, V, F, A>>,
     pub passes: Vec<Pass<K, V, F>, A>,
 }
 
-impl<K: HashKey, V: Clone + Eq, F: Remap<K, V> + Clone, A: Allocator> Model
-    for NotClosed<K, V, F, A> {
+impl<K: HashKey, V: Value, F: Remap<K, V>, A: Allocator> Model for NotClosed<K, V, F, A> {
     ghost use Rattle.chm.specs.Closing.{NotClosedView};
 
     ghost Value = { NotClosedView K V F };
@@ -31,12 +30,7 @@ impl<K: HashKey, V: Clone + Eq, F: Remap<K, V> + Clone, A: Allocator> Model
     ghost view = { λ e. record { fault = e.fault; map = e.map; passes = e.passes.items } };
 }
 
-impl<
-    K: HashKey + Drop,
-    V: Clone + Eq + Drop,
-    F: Remap<K, V> + Clone + Drop,
-    A: Allocator + Clone,
-> NotClosed<K, V, F, A> {
+impl<K: HashKey, V: Value, F: Remap<K, V>, A: Allocator + Clone> NotClosed<K, V, F, A> {
     /// Why the map was not closed, for who gives it up: its passes end, and it goes.
     ///
     ///     map.close(passes).map_err(|refused| refused.give_up())
@@ -55,9 +49,7 @@ impl<
 
 /// The entries of each of these bins are the replay of its records over its base. It changes
 /// nothing.
-fn replayed<K: HashKey, V: Clone + Eq, F: Remap<K, V> + Clone, A: Allocator + Clone>(
-    bins: &[Bin<K, V, F, A>],
-)
+fn replayed<K: HashKey, V: Value, F: Remap<K, V>, A: Allocator + Clone>(bins: &[Bin<K, V, F, A>])
     ensures { All (λ b. b.entries ≡ replay K.eq b.base b.records) bins.now }
 {
     for bin in bins {
@@ -65,12 +57,7 @@ fn replayed<K: HashKey, V: Clone + Eq, F: Remap<K, V> + Clone, A: Allocator + Cl
     }
 }
 
-impl<
-    K: HashKey + Drop,
-    V: Clone + Eq + Drop,
-    F: Remap<K, V> + Clone + Drop,
-    A: Allocator + Clone,
-> Map<K, V, F, A> {
+impl<K: HashKey, V: Value, F: Remap<K, V>, A: Allocator + Clone> Map<K, V, F, A> {
     /// Closes the map, with the passes of all clients. The closed map knows that the role of each
     /// bin kept just the calls that the clients made on its keys, each once and in its client's
     /// order. It waits for nobody: whoever has all passes has no call to wait for. Where a pass is

@@ -1,12 +1,12 @@
 //! What maps show of themselves: their form and a few numbers, and none of their keys.
 use crate::map::Map;
 use crate::quiet::Quiet;
-use bin_history::Remap;
+use bin_history::{Remap, Value};
 use hashkeys::HashKey;
 use std::alloc::Allocator;
 use std::fmt::{self, Debug, Formatter};
 
-impl<K: HashKey, V: Clone + Eq, F: Remap<K, V> + Clone, A: Allocator> Debug for Map<K, V, F, A> {
+impl<K: HashKey, V: Value, F: Remap<K, V>, A: Allocator> Debug for Map<K, V, F, A> {
     fn fmt<W: fmt::Write>(&self, f: &mut Formatter<W>) -> fmt::Result {
         f.debug_struct("Map")
             .field("form", &self.form())
@@ -16,7 +16,7 @@ impl<K: HashKey, V: Clone + Eq, F: Remap<K, V> + Clone, A: Allocator> Debug for 
     }
 }
 
-impl<K: HashKey, V: Clone + Eq, F: Remap<K, V> + Clone, A: Allocator> Debug for Quiet<K, V, F, A> {
+impl<K: HashKey, V: Value, F: Remap<K, V>, A: Allocator> Debug for Quiet<K, V, F, A> {
     fn fmt<W: fmt::Write>(&self, f: &mut Formatter<W>) -> fmt::Result {
         f.debug_struct("Quiet")
             .field("form", &self.form())

@@ -15,18 +15,13 @@ ghost use Rattle.chm.specs.Histories.{IsCalledOn, IsMet};
 ghost use Rattle.chm.specs.Views.{bins_of};
 
 use crate::map::Map;
-use bin_history::{Bin, Given, Op, Remap, Reply};
+use bin_history::{Bin, Given, Op, Remap, Reply, Value, lawful_entries};
 use count_ledger::{BinRole, Pass};
 use hashkeys::{Class, HashKey};
 use lean_bins::Lying;
 use std::alloc::{AllocError, Allocator};
 
-impl<
-    K: HashKey + Drop,
-    V: Clone + Eq + Drop,
-    F: Remap<K, V> + Clone + Drop,
-    A: Allocator + Clone,
-> Map<K, V, F, A> {
+impl<K: HashKey, V: Value, F: Remap<K, V>, A: Allocator + Clone> Map<K, V, F, A> {
     /// Makes a call on a bin that is held, on a key of this hash, and posts it. It replies, and says
     /// whether the call made its key present. For want of memory nothing is posted, and the entries stay.
     pub(crate) fn call_under(
@@ -64,8 +59,9 @@ impl<
         Ok((reply, trace.delta() == 1))
     }
 
-    /// The same on what lies at the place of a lean bin of the class, which has the hash. The bin and
-    /// its role stay there.
+    /// Makes a call on what lies at the place of a lean bin of the class, on a key of this hash, and
+    /// posts it. It replies, and says whether the call made its key present. The bin and its role
+    /// stay there. For want of memory nothing is posted.
     #[inline(always)]
     pub(crate) fn call_lying(
         &self,
@@ -91,11 +87,16 @@ impl<
         ensures lies { LiesAt K.eq (after V.eq F.remapped F.merged)
             (place_of (bins_of self.now) class) lying.new }
     {
-        lying.entries.lawful::<F>();
+        lawful_entries::<K, V, F, A>(&lying.entries);
         let alloc = self.growth.allocator();
-        let (reply, trace) = lying
-            .entries
-            .make_on(alloc, hash, key, op, pass.client(), pass.made())?;
+        let (reply, trace) = op.make_on(
+            &mut lying.entries,
+            alloc,
+            hash,
+            key,
+            pass.client(),
+            pass.made(),
+        )?;
         let mut role = lying.take_role(class);
         self.ledger.post_trace(pass, &mut role, &trace);
         lying.put_role(role);

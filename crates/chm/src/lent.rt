@@ -5,18 +5,13 @@ ghost use Rattle.chm.specs.Headline.{AreExact, IsAnswered};
 
 use crate::fault::Fault;
 use crate::map::Map;
-use bin_history::{Given, Op, Remap, Reply};
+use bin_history::{Given, Op, Remap, Reply, Value};
 use count_ledger::Pass;
 use hashkeys::HashKey;
 use std::alloc::Allocator;
 use std::sync::Wait;
 
-impl<
-    K: HashKey + Drop,
-    V: Clone + Eq + Drop,
-    F: Remap<K, V> + Clone + Drop,
-    A: Allocator + Clone,
-> Map<K, V, F, A> {
+impl<K: HashKey, V: Value, F: Remap<K, V>, A: Allocator + Clone> Map<K, V, F, A> {
     /// Returns the value at a borrowed key.
     ///
     ///     map.put(rt, pass, 1, 5)?;

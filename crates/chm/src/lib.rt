@@ -40,7 +40,7 @@ mod taken;
 mod turns;
 mod visit;
 
-pub use bin_history::{Call, Form, Given, Op, Remap, Reply};
+pub use bin_history::{Call, Form, Given, Op, Remap, Reply, Value};
 pub use close::NotClosed;
 pub use count_ledger::{MOST_CALLS, MOST_CLIENTS, MOST_LEAN_CALLS, Moment, Pass, retire_all};
 pub use fault::Fault;

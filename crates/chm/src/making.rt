@@ -17,7 +17,7 @@ ghost use Rattle.chm.specs.Views.{bins_of};
 
 use crate::map::Map;
 use crate::moving::Landed;
-use bin_history::{Given, Op, Remap, Reply};
+use bin_history::{Given, Op, Remap, Reply, Value};
 use count_ledger::Pass;
 use hashkeys::HashKey;
 use homes::{Held, Kind};
@@ -28,14 +28,9 @@ use std::sync::Wait;
 /// What a call came to: its reply, and what it met.
 pub(crate) type Made<V> = Result<(Reply<V>, Landed), AllocError>;
 
-impl<
-    K: HashKey + Drop,
-    V: Clone + Eq + Drop,
-    F: Remap<K, V> + Clone + Drop,
-    A: Allocator + Clone,
-> Map<K, V, F, A> {
-    /// Makes a call on the bin of its key, which is held, posts it, and gives the bin back. For want
-    /// of memory nothing is changed or posted.
+impl<K: HashKey, V: Value, F: Remap<K, V>, A: Allocator + Clone> Map<K, V, F, A> {
+    /// Makes a call on the bin of its key, which is held by value, posts it, and gives the bin back.
+    /// For want of memory nothing is changed or posted.
     fn make_held(
         &self,
         mut held: Held<'_, K, V, F, A>,
@@ -77,7 +72,8 @@ impl<
         ))
     }
 
-    /// The same on a lean bin, where it lies.
+    /// Makes a call on the lean bin of its key, which is held where it lies, posts it, and gives the
+    /// bin back. For want of memory nothing is changed or posted.
     #[inline(always)]
     fn make_lying(
         &self,

@@ -15,7 +15,7 @@ use crate::fault::Fault;
 use crate::growth::Growth;
 use crate::size::size_for;
 use crate::turns::most_capacity;
-use bin_history::{Form, Remap};
+use bin_history::{Form, Remap, Value};
 use count_ledger::{Ledger, Pass, retire_all};
 use hashkeys::{HashKey, Salt};
 use homes::Home;
@@ -30,14 +30,14 @@ use std::marker::Model;
 /// is `pass`, and no entries yet. `Plus(n)` is a function that adds n to a value, or to 0 where
 /// there is none; a merge adds n to the sum of both.
 #[derive(Drop)]
-pub struct Map<K: HashKey, V: Clone + Eq, F: Remap<K, V> + Clone, A: Allocator> {
+pub struct Map<K: HashKey, V: Value, F: Remap<K, V>, A: Allocator> {
     pub(crate) ledger: Ledger<K, V, F, A>,
     pub(crate) bins: Home<K, V, F, A>,
     pub(crate) growth: Growth<A>,
     pub(crate) opened: u64,
 }
 
-impl<K: HashKey, V: Clone + Eq, F: Remap<K, V> + Clone, A: Allocator> Model for Map<K, V, F, A> {
+impl<K: HashKey, V: Value, F: Remap<K, V>, A: Allocator> Model for Map<K, V, F, A> {
     ghost use Rattle.chm.specs.Views.{MapView, IsMap};
 
     ghost Value = { MapView K V };
@@ -64,12 +64,7 @@ pub(crate) fn no_bases<K: Drop, V: Drop, A: Allocator + Clone>(
     Ok(bases)
 }
 
-impl<
-    K: HashKey + Drop,
-    V: Clone + Eq + Drop,
-    F: Remap<K, V> + Clone + Drop,
-    A: Allocator + Clone,
-> Map<K, V, F, A> {
+impl<K: HashKey, V: Value, F: Remap<K, V>, A: Allocator + Clone> Map<K, V, F, A> {
     /// The capacity of a map that nobody chose another for, in bins.
     pub const DEFAULT_CAPACITY: usize = 16;
 
@@ -205,7 +200,7 @@ fn count_of(word: u64) -> u64
     word.cast_signed().max(0).cast_unsigned()
 }
 
-impl<K: HashKey, V: Clone + Eq, F: Remap<K, V> + Clone, A: Allocator> Map<K, V, F, A> {
+impl<K: HashKey, V: Value, F: Remap<K, V>, A: Allocator> Map<K, V, F, A> {
     /// How many keys there are, as far as a look at one client's count after the other tells: while
     /// other threads call, it is the number at no one moment, and nothing but its range is
     /// promised.

@@ -4,12 +4,12 @@ ghost use Rattle.bin_history.specs.Calls.{after};
 ghost use Rattle.count_ledger.specs.Fronts.{BeginsWith, HasSeen};
 
 use crate::map::Map;
-use bin_history::Remap;
+use bin_history::{Remap, Value};
 use count_ledger::{Moment, Pass};
 use hashkeys::HashKey;
 use std::alloc::Allocator;
 
-impl<K: HashKey, V: Clone + Eq, F: Remap<K, V> + Clone, A: Allocator> Map<K, V, F, A> {
+impl<K: HashKey, V: Value, F: Remap<K, V>, A: Allocator> Map<K, V, F, A> {
     /// What the pass's client has seen of the calls on this map: its own and those before them, and
     /// what it looked up, walked over or learned of. A moment has no bytes, and can go to another
     /// thread: whatever that client does once it has learned of it happens after all these calls.

@@ -8,7 +8,7 @@ ghost use Rattle.transfer.specs.Views.{IsUnfinished};
 use crate::growth::{Doubling, Table};
 use crate::map::Map;
 use crate::turns::{helps, is_due, most_bins, threshold};
-use bin_history::Remap;
+use bin_history::{Remap, Value};
 use count_ledger::Pass;
 use hashkeys::{Class, HashKey, MOST_BINS};
 use places::Refused;
@@ -23,12 +23,7 @@ pub(crate) struct Landed {
     pub(crate) grown: Option<u64>,
 }
 
-impl<
-    K: HashKey + Drop,
-    V: Clone + Eq + Drop,
-    F: Remap<K, V> + Clone + Drop,
-    A: Allocator + Clone,
-> Map<K, V, F, A> {
+impl<K: HashKey, V: Value, F: Remap<K, V>, A: Allocator + Clone> Map<K, V, F, A> {
     /// Forwards a bin that the table has outgrown, helps an open move with one stride, and opens a
     /// move where there are too many keys.
     pub(crate) fn after_call(&self, landed: &Landed)

@@ -6,7 +6,7 @@ ghost use Rattle.bin_history.specs.Records.{RecordView};
 ghost use Rattle.chm.specs.Headline.{IsHistoryOfKey, IsOneOrder, IsQuiet, IsToldInOrder};
 ghost use Rattle.chm.specs.Headline.{entries_of};
 
-use bin_history::{Bin, Form, Remap, Walk};
+use bin_history::{Bin, Form, Remap, Value, Walk};
 use count_ledger::{BinRole, Ledger, Pass};
 use hashkeys::{HashKey, Salt};
 use std::alloc::Allocator;
@@ -16,7 +16,7 @@ use std::snapshot::Snapshot;
 /// A map that nobody calls any more: its bins do not change. Contracts see its bins beside the
 /// books that it was closed with. In the examples of its calls it has one key, 1, with the value 5.
 #[derive(Drop)]
-pub struct Quiet<K: HashKey, V: Clone + Eq, F: Remap<K, V> + Clone, A: Allocator> {
+pub struct Quiet<K: HashKey, V: Value, F: Remap<K, V>, A: Allocator> {
     pub(crate) bins: Vec<Bin<K, V, F, A>, A>,
     pub(crate) n: u32,
     pub(crate) salt: Salt,
@@ -27,7 +27,7 @@ pub struct Quiet<K: HashKey, V: Clone + Eq, F: Remap<K, V> + Clone, A: Allocator
     pub(crate) passes: Snapshot<Vec<Pass<K, V, F>, A>>,
 }
 
-impl<K: HashKey, V: Clone + Eq, F: Remap<K, V> + Clone, A: Allocator> Model for Quiet<K, V, F, A> {
+impl<K: HashKey, V: Value, F: Remap<K, V>, A: Allocator> Model for Quiet<K, V, F, A> {
     ghost use Rattle.std.specs.Prelude.{◌≡◌, length};
     ghost use Rattle.bin_history.specs.Calls.{after};
     ghost use Rattle.chm.specs.Headline.{QuietView, entries_of, IsQuiet};
@@ -50,7 +50,7 @@ impl<K: HashKey, V: Clone + Eq, F: Remap<K, V> + Clone, A: Allocator> Model for 
         × (q.form ≡ q.ledger.value.form) };
 }
 
-impl<K: HashKey, V: Clone + Eq, F: Remap<K, V> + Clone, A: Allocator> Quiet<K, V, F, A> {
+impl<K: HashKey, V: Value, F: Remap<K, V>, A: Allocator> Quiet<K, V, F, A> {
     /// The bins, in walk order.
     pub fn bins(&self) -> &[Bin<K, V, F, A>]
         ensures { result.now ≡ self.now.bins }
@@ -121,12 +121,7 @@ impl<K: HashKey, V: Clone + Eq, F: Remap<K, V> + Clone, A: Allocator> Quiet<K, V
     }
 }
 
-impl<
-    K: HashKey + Drop,
-    V: Clone + Eq + Drop,
-    F: Remap<K, V> + Clone + Drop,
-    A: Allocator + Clone,
-> Quiet<K, V, F, A> {
+impl<K: HashKey, V: Value, F: Remap<K, V>, A: Allocator + Clone> Quiet<K, V, F, A> {
     /// The pairs of the bins, bin by bin.
     ///
     ///     let mut pairs = quiet.entries();
@@ -147,13 +142,8 @@ impl<
 }
 
 /// A loop over a closed map goes over its pairs as `entries` does.
-impl<
-    'a,
-    K: HashKey + Drop,
-    V: Clone + Eq + Drop,
-    F: Remap<K, V> + Clone + Drop,
-    A: Allocator + Clone,
-> IntoIterator for &'a Quiet<K, V, F, A> {
+impl<'a, K: HashKey, V: Value, F: Remap<K, V>, A: Allocator + Clone> IntoIterator
+    for &'a Quiet<K, V, F, A> {
     ghost use Rattle.std.specs.Prelude.{◌≡◌};
     ghost use Rattle.chm.specs.Headline.{entries_of};
 
@@ -170,13 +160,12 @@ impl<
 
 /// The pairs of bins, bin by bin. Contracts see the pairs that are left.
 #[derive(Drop)]
-pub struct Entries<'a, K: HashKey, V: Clone + Eq, F: Remap<K, V> + Clone, A: Allocator> {
+pub struct Entries<'a, K: HashKey, V: Value, F: Remap<K, V>, A: Allocator> {
     own: Walk<'a, K, V, A>,
     bins: &'a [Bin<K, V, F, A>],
 }
 
-impl<'a, K: HashKey, V: Clone + Eq, F: Remap<K, V> + Clone, A: Allocator> Model
-    for Entries<'a, K, V, F, A> {
+impl<'a, K: HashKey, V: Value, F: Remap<K, V>, A: Allocator> Model for Entries<'a, K, V, F, A> {
     ghost use Rattle.std.specs.Prelude.{List, ◌++◌};
     ghost use Rattle.chm.specs.Headline.{entries_of};
 
@@ -185,13 +174,8 @@ impl<'a, K: HashKey, V: Clone + Eq, F: Remap<K, V> + Clone, A: Allocator> Model
     ghost view = { λ e. e.own ++ entries_of e.bins.now };
 }
 
-impl<
-    'a,
-    K: HashKey + Drop,
-    V: Clone + Eq + Drop,
-    F: Remap<K, V> + Clone + Drop,
-    A: Allocator + Clone,
-> Iterator for Entries<'a, K, V, F, A> {
+impl<'a, K: HashKey, V: Value, F: Remap<K, V>, A: Allocator + Clone> Iterator
+    for Entries<'a, K, V, F, A> {
     ghost use Rattle.std.specs.Iterator.{YieldsFirstRef, item_count};
 
     type Item = &'a (K, V);

@@ -11,7 +11,7 @@ use crate::fault::Fault;
 use crate::map::{Map, Opened, no_bases};
 use crate::quiet::{Entries, Quiet};
 use crate::size::size_from;
-use bin_history::Remap;
+use bin_history::{Remap, Value};
 use hashkeys::{HashKey, Salt};
 use std::alloc::{AllocError, Allocator};
 
@@ -19,7 +19,7 @@ use std::alloc::{AllocError, Allocator};
 const MOST_PAIRS: u64 = 4_294_967_295;
 
 /// Copies of pairs, each in the list of its class, of as many classes as there are lists.
-fn deal<K: HashKey + Drop, V: Clone + Eq + Drop, F: Remap<K, V> + Clone, A: Allocator + Clone>(
+fn deal<K: HashKey, V: Value, F: Remap<K, V>, A: Allocator + Clone>(
     alloc: A,
     salt: Salt,
     n: u32,
@@ -42,12 +42,7 @@ fn deal<K: HashKey + Drop, V: Clone + Eq + Drop, F: Remap<K, V> + Clone, A: Allo
     Ok(bases)
 }
 
-impl<
-    K: HashKey + Drop,
-    V: Clone + Eq + Drop,
-    F: Remap<K, V> + Clone + Drop,
-    A: Allocator + Clone,
-> Quiet<K, V, F, A> {
+impl<K: HashKey, V: Value, F: Remap<K, V>, A: Allocator + Clone> Quiet<K, V, F, A> {
     /// Opens a map with copies of the pairs, which go into their bins in walk order, and with
     /// passes that made nothing for 1 to 32 clients. It has this map's form, and its table is the
     /// least from this map's opening one on that has room for them. The closed map stays as it is.

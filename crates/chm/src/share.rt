@@ -4,7 +4,7 @@ ghost use Rattle.std.specs.Prelude.{IsSome, vec_len, vec_capacity, slice_index_o
 ghost use Rattle.chm.specs.Shares.{HasEnded, HaveWorked};
 
 use crate::map::Map;
-use bin_history::{MOST_CLIENTS, Remap};
+use bin_history::{MOST_CLIENTS, Remap, Value};
 use count_ledger::Pass;
 use hashkeys::HashKey;
 use std::alloc::{AllocError, Allocator};
@@ -14,7 +14,7 @@ use std::thread::Threads;
 
 /// What each of the clients that share a map does, in a thread of its own, by calls with the pass
 /// that it is lent.
-pub trait Sharing<K: HashKey, V: Clone + Eq, F: Remap<K, V> + Clone, A: Allocator> {
+pub trait Sharing<K: HashKey, V: Value, F: Remap<K, V>, A: Allocator> {
     ghost use Rattle.count_ledger.specs.Views.{LedgerId, PassView};
 
     /// What each client answers.
@@ -81,8 +81,8 @@ fn seat_all<K, V, F, T, A: Allocator>(
 /// All clients work at the same time.
 fn work_all<
     K: HashKey + Send + Sync,
-    V: Clone + Eq + Send + Sync,
-    F: Remap<K, V> + Clone + Send + Sync,
+    V: Value + Send + Sync,
+    F: Remap<K, V> + Send + Sync,
     A: Allocator + Send + Sync,
     R: Threads + Wait + Sync,
     W: Sharing<K, V, F, A> + Sync,
@@ -127,7 +127,7 @@ fn gather<K, V, F, T, A: Allocator>(
     seats.destroy_empty();
 }
 
-impl<K: HashKey, V: Clone + Eq, F: Remap<K, V> + Clone, A: Allocator + Clone> Map<K, V, F, A> {
+impl<K: HashKey, V: Value, F: Remap<K, V>, A: Allocator + Clone> Map<K, V, F, A> {
     /// Lends each pass to a thread of its own, in which the work makes calls of the map, all at the
     /// same time; where a thread cannot be started its client works in a thread that there is,
     /// after others, so no client may wait for another. All have ended when this returns, and the

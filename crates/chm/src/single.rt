@@ -7,7 +7,7 @@ ghost use Rattle.places.specs.Walks.{HasPassed};
 ghost use Rattle.chm.specs.Headline.{entries_of};
 
 use crate::quiet::Quiet;
-use bin_history::Remap;
+use bin_history::{Remap, Value};
 use hashkeys::{AsKey, Class, HashKey};
 use std::alloc::Allocator;
 
@@ -26,7 +26,7 @@ fn has_passed(n: u32, class: Class, hash: u32) -> bool
     hash % size <= index % size
 }
 
-impl<K: HashKey, V: Clone + Eq, F: Remap<K, V> + Clone, A: Allocator + Clone> Quiet<K, V, F, A> {
+impl<K: HashKey, V: Value, F: Remap<K, V>, A: Allocator + Clone> Quiet<K, V, F, A> {
     /// The place of the bin whose class has the hash, found by halves.
     fn place_of(&self, hash: u32) -> usize
         ensures within { result < length self.now.bins }

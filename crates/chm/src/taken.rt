@@ -4,17 +4,15 @@ ghost use Rattle.bin_history.specs.Entries.{HasDistinctKeys};
 ghost use Rattle.chm.specs.Headline.{entries_of};
 
 use crate::quiet::Quiet;
-use bin_history::{Bin, Remap};
+use bin_history::{Bin, Remap, Value};
 use hashkeys::HashKey;
 use std::alloc::{AllocError, Allocator};
 
 /// Moves the pairs of the bins, bin by bin, into a list that has room for them.
-fn move_all<
-    K: HashKey + Drop,
-    V: Clone + Eq + Drop,
-    F: Remap<K, V> + Clone + Drop,
-    A: Allocator + Clone,
->(bins: Vec<Bin<K, V, F, A>, A>, mut room: Vec<(K, V), A>) -> Vec<(K, V), A>
+fn move_all<K: HashKey, V: Value, F: Remap<K, V>, A: Allocator + Clone>(
+    bins: Vec<Bin<K, V, F, A>, A>,
+    mut room: Vec<(K, V), A>,
+) -> Vec<(K, V), A>
     requires none { room.items ≡ [] }
     requires room { length (entries_of bins.items) ≤ vec_capacity room }
     ensures { result.items ≡ entries_of bins.items }
@@ -25,12 +23,7 @@ fn move_all<
     room
 }
 
-impl<
-    K: HashKey + Drop,
-    V: Clone + Eq + Drop,
-    F: Remap<K, V> + Clone + Drop,
-    A: Allocator + Clone,
-> Quiet<K, V, F, A> {
+impl<K: HashKey, V: Value, F: Remap<K, V>, A: Allocator + Clone> Quiet<K, V, F, A> {
     /// An empty list with room for all pairs.
     fn room(&self) -> Result<Vec<(K, V), A>, AllocError>
         ensures none { IfOk result (λ list. list.items ≡ []) }

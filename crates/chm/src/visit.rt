@@ -11,7 +11,7 @@ ghost use Rattle.chm.specs.Visits.{AreVisits, IsFirstOf, IsOwn, IsShown, IsVisit
 
 use crate::fault::Fault;
 use crate::map::Map;
-use bin_history::Remap;
+use bin_history::{Remap, Value};
 use count_ledger::Pass;
 use crossbeam_utils::Backoff;
 use hashkeys::{AsKey, Class, HashKey};
@@ -36,12 +36,7 @@ impl<K, V, A: Allocator> Model for Visit<K, V, A> {
     ghost view = { λ v. record { class = v.class; entries = v.entries.items } };
 }
 
-impl<
-    K: HashKey + Drop,
-    V: Clone + Eq + Drop,
-    F: Remap<K, V> + Clone + Drop,
-    A: Allocator + Clone,
-> Map<K, V, F, A> {
+impl<K: HashKey, V: Value, F: Remap<K, V>, A: Allocator + Clone> Map<K, V, F, A> {
     /// Waits for the first of the bins of a class. A bin of a wider class has hashes that were
     /// passed before, so it is given back and asked for again.
     pub(crate) fn hold_first<R: Wait>(&self, rt: &R, class: Class) -> Held<'_, K, V, F, A>

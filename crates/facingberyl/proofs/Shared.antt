@@ -16,6 +16,7 @@ use Rattle.boxcar.proofs.slot.OnceSlot.TheSendSync as once
 use Rattle.counted_slot.proofs.Counted.TheSendSync as counted
 use Rattle.hashkeys.specs.declared.hashing.HashKey as HashKey
 use Rattle.bin_history.specs.declared.call.Remap as Remap
+use Rattle.bin_history.specs.declared.call.Value as Value
 use Rattle.count_ledger.specs.contracts.ledger.Ledger as Ledger
 use Rattle.count_ledger.specs.contracts.ledger.Ledger.TheInside as LedgerInside
 use Rattle.count_ledger.specs.contracts.tokens.Pass as Pass
@@ -56,29 +57,29 @@ module _ (K V F : RattleType) where
 
 module _ (K V F A : RattleType) (hash : HashKey.Ghosts K.Denot) (key_eq : Eq.Ghosts K.Denot)
     (key_same : PartialEq.Ghosts K.Denot)
-    (key_clone : Clone.Ghosts K.Denot) (value_clone : Clone.Ghosts V.Denot) (value_eq : Eq.Ghosts V.Denot)
+    (key_clone : Clone.Ghosts K.Denot) (value : Value.Ghosts V.Denot) (value_clone : Clone.Ghosts V.Denot) (value_eq : Eq.Ghosts V.Denot)
     (value_same : PartialEq.Ghosts V.Denot)
     (remap : Remap.Ghosts F.Denot K.Denot V.Denot) (function_clone : Clone.Ghosts F.Denot)
     (alloc : Allocator.Ghosts A.Denot)
     (sk : IsSend K) (sv : IsSend V) (sf : IsSend F) (sa : IsSend A) (yk : IsSync K) (yv : IsSync V) (yf : IsSync F)
     (ya : IsSync A)
     (frees : Frees alloc alloc.dealloc_token) where
-  ledger_fields : AllSend (shape (LedgerInside.the_type K V F A hash key_eq key_same key_clone value_eq value_same remap alloc)).fields
+  ledger_fields : AllSend (shape (LedgerInside.the_type K V F A hash key_eq key_same key_clone value_eq value_same remap function_clone alloc)).fields
   ledger_fields = (
     search (sendable, the_words.the_send, the_lease.the_send) depth 20,
     (search sendable depth 20, (search sendable depth 20, tt)),
   )
 
-  ledger_send : IsSend (Ledger.the_row K V F A hash key_eq key_same key_clone value_eq value_same remap alloc)
+  ledger_send : IsSend (Ledger.the_row K V F A hash key_eq key_same key_clone value_eq value_same remap function_clone alloc)
   ledger_send = search (sendable, ledger_fields) depth 20
 
   map_fields : AllSend
-      (shape (MapInside.the_type K V F A hash key_eq key_same key_clone value_clone value_eq value_same remap
+      (shape (MapInside.the_type K V F A hash key_eq key_same key_clone value value_clone value_eq value_same remap
       function_clone alloc)).fields
   map_fields = (
     ledger_send,
     (
-      homes.map_send K V F A hash key_eq key_same key_clone value_clone value_eq value_same remap function_clone
+      homes.map_send K V F A hash key_eq key_same key_clone value value_clone value_eq value_same remap function_clone
           alloc sk sv sf sa yk yv yf ya frees,
       (
         search (sendable, crosses, wide.crosses, once.the_send, once.the_sync, turns_send, turns_sync) depth 30,
@@ -88,33 +89,33 @@ module _ (K V F A : RattleType) (hash : HashKey.Ghosts K.Denot) (key_eq : Eq.Gho
   )
 
   pub map_send : IsSend
-      (Map.the_row K V F A hash key_eq key_same key_clone value_clone value_eq value_same remap function_clone alloc)
+      (Map.the_row K V F A hash key_eq key_same key_clone value value_clone value_eq value_same remap function_clone alloc)
   map_send = search (sendable, map_fields) depth 30
 
   desk_fields_send : AllSend
-      (shape (DeskInside.the_type K V F A hash key_eq key_same key_clone value_clone value_eq value_same remap
+      (shape (DeskInside.the_type K V F A hash key_eq key_same key_clone value value_clone value_eq value_same remap
       function_clone alloc)).fields
   desk_fields_send = (map_send, (search (sendable, crosses, chair_send) depth 30, tt))
 
   desk_fields_sync : AllSync
-      (shape (DeskInside.the_type K V F A hash key_eq key_same key_clone value_clone value_eq value_same remap
+      (shape (DeskInside.the_type K V F A hash key_eq key_same key_clone value value_clone value_eq value_same remap
       function_clone alloc)).fields
   desk_fields_sync = (
-    map_sync K V F A hash key_eq key_same key_clone value_clone value_eq value_same remap function_clone
+    map_sync K V F A hash key_eq key_same key_clone value value_clone value_eq value_same remap function_clone
         alloc sk sv sf sa yk yv yf ya frees,
     (search (sendable, crosses, chair_sync) depth 30, tt),
   )
 
   desk_send : IsSend
-      (Desk.the_row K V F A hash key_eq key_same key_clone value_clone value_eq value_same remap function_clone alloc)
+      (Desk.the_row K V F A hash key_eq key_same key_clone value value_clone value_eq value_same remap function_clone alloc)
   desk_send = search (sendable, desk_fields_send) depth 30
 
   desk_sync : IsSync
-      (Desk.the_row K V F A hash key_eq key_same key_clone value_clone value_eq value_same remap function_clone alloc)
+      (Desk.the_row K V F A hash key_eq key_same key_clone value value_clone value_eq value_same remap function_clone alloc)
   desk_sync = search (sendable, desk_fields_sync) depth 30
 
   owned_fields : AllSend
-      (shape (OwnedInside.the_type K V F A hash key_eq key_same key_clone value_clone value_eq value_same remap
+      (shape (OwnedInside.the_type K V F A hash key_eq key_same key_clone value value_clone value_eq value_same remap
       function_clone alloc)).fields
   owned_fields = (
     search (sendable, crosses, desk_send, desk_sync) depth 30,
@@ -123,14 +124,14 @@ module _ (K V F A : RattleType) (hash : HashKey.Ghosts K.Denot) (key_eq : Eq.Gho
 
   -- a client that owns its pass
   pub owned_send : IsSend
-      (OwnedClient.the_row K V F A hash key_eq key_same key_clone value_clone value_eq value_same remap function_clone alloc)
+      (OwnedClient.the_row K V F A hash key_eq key_same key_clone value value_clone value_eq value_same remap function_clone alloc)
   owned_send = search (sendable, owned_fields) depth 30
 
   server_fields : AllSend
-      (shape (ServerInside.the_type K V F A hash key_eq key_same key_clone value_clone value_eq value_same remap
+      (shape (ServerInside.the_type K V F A hash key_eq key_same key_clone value value_clone value_eq value_same remap
       function_clone alloc)).fields
   server_fields = (search (sendable, crosses, desk_send, desk_sync) depth 30, tt)
 
   pub server_send : IsSend
-      (Server.the_row K V F A hash key_eq key_same key_clone value_clone value_eq value_same remap function_clone alloc)
+      (Server.the_row K V F A hash key_eq key_same key_clone value value_clone value_eq value_same remap function_clone alloc)
   server_send = search (sendable, server_fields) depth 30

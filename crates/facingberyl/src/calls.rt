@@ -10,20 +10,20 @@ ghost use Rattle.bin_history.specs.declared.call.Reply.TheVariants.{Value, Truth
 ghost use Rattle.facingberyl.specs.Replies.{answers_truth};
 
 use crate::client::{Client, Loan};
-use bin_history::{Given, Op, Remap, Reply};
+use bin_history::{Given, Op, Remap, Reply, Value};
 use chm::Fault;
 use hashkeys::HashKey;
 use std::alloc::Allocator;
 use std::sync::Wait;
 
-impl<
+impl<'c, L: Loan, K: HashKey, V: Value, F: Remap<K, V>, A: Allocator + Clone> Client<
     'c,
-    L: Loan,
-    K: HashKey + Drop,
-    V: Clone + Eq + Drop,
-    F: Remap<K, V> + Clone + Drop,
-    A: Allocator + Clone,
-> Client<'c, L, K, V, F, A> {
+    L,
+    K,
+    V,
+    F,
+    A,
+> {
     /// Makes a call whose reply is a value.
     fn value_given<R: Wait>(
         &mut self,
@@ -133,7 +133,7 @@ impl<
         self.truth_given(rt, Given::Lent(key), Op::Contains)
     }
 
-    /// Gives the key this value. It answers the value before. It waits for the key's bin.
+    /// Gives the key this value. Returns the value before. It waits for the key's bin.
     ///
     ///     client.put(rt, 1, 5)?;
     ///     assert_eq!(client.put(rt, 1, 6)?, Some(5));
@@ -152,7 +152,7 @@ impl<
         self.value_of(rt, key, Op::Put(value))
     }
 
-    /// Gives the key this value where it has none. It answers the value before. It waits for the
+    /// Gives the key this value where it has none. Returns the value before. It waits for the
     /// key's bin.
     ///
     ///     client.put(rt, 1, 5)?;
@@ -172,7 +172,7 @@ impl<
         self.value_of(rt, key, Op::PutIfAbsent(value))
     }
 
-    /// Takes the key away. It answers the value before. It waits for the key's bin.
+    /// Takes the key away. Returns the value before. It waits for the key's bin.
     ///
     ///     client.put(rt, 1, 5)?;
     ///     assert_eq!(client.remove(rt, &1)?, Some(5));
@@ -191,8 +191,8 @@ impl<
         self.value_given(rt, Given::Lent(key), Op::Remove)
     }
 
-    /// Takes the key away where it has this value. It answers whether it had. It waits for the
-    /// key's bin.
+    /// Takes the key away where it has this value. Returns whether it had. It waits for the key's
+    /// bin.
     ///
     ///     client.put(rt, 1, 5)?;
     ///     assert!(!client.remove_if(rt, 1, 6)?);
@@ -211,8 +211,8 @@ impl<
         self.truth_of(rt, key, Op::RemoveIf(value))
     }
 
-    /// Gives the key this value where it has one. It answers the value before. It waits for the
-    /// key's bin.
+    /// Gives the key this value where it has one. Returns the value before. It waits for the key's
+    /// bin.
     ///
     ///     client.remove(rt, &1)?;
     ///     assert_eq!(client.replace(rt, &1, 6)?, None);
@@ -231,8 +231,8 @@ impl<
         self.value_given(rt, Given::Lent(key), Op::Replace(value))
     }
 
-    /// Gives the key the new value where it has the old one. It answers whether it had. It waits
-    /// for the key's bin.
+    /// Gives the key the new value where it has the old one. Returns whether it had. It waits for
+    /// the key's bin.
     ///
     ///     client.put(rt, 1, 5)?;
     ///     assert!(client.replace_if(rt, 1, 5, 6)?);
@@ -251,8 +251,8 @@ impl<
         self.truth_of(rt, key, Op::ReplaceIf(old, new))
     }
 
-    /// Gives the key what the function makes of its value, or of none. It answers the value after.
-    /// The function is used at each such call. It waits for the key's bin.
+    /// Gives the key what the function makes of its value, or of none. Returns the value after.
+    /// The function is always used. It waits for the key's bin.
     ///
     ///     client.put(rt, 1, 5)?;
     ///     assert_eq!(client.compute(rt, 1, Add)?, Some(5));

@@ -7,19 +7,20 @@ ghost use Rattle.chm.specs.Cleared.{HasLeft, HasOwnLeft, HasRemoved, IsCleared, 
 ghost use Rattle.chm.specs.Refusals.{IsOfCall};
 
 use crate::client::{Client, Loan};
-use bin_history::Remap;
+use bin_history::{Remap, Value};
 use chm::Fault;
 use hashkeys::HashKey;
 use std::alloc::Allocator;
 use std::sync::Wait;
 
-impl<
-    L: Loan,
-    K: HashKey + Drop,
-    V: Clone + Eq + Drop,
-    F: Remap<K, V> + Clone + Drop,
-    A: Allocator + Clone,
-> Client<'_, L, K, V, F, A> {
+impl<L: Loan, K: HashKey, V: Value, F: Remap<K, V>, A: Allocator + Clone> Client<
+    '_,
+    L,
+    K,
+    V,
+    F,
+    A,
+> {
     /// Takes all entries away, bin by bin in walk order, each bin under one hold, by a remove of
     /// each entry that it meets, as `Map::clear` does. Others may put new ones into bins that were
     /// left; with one client the map is then empty. It waits for each bin in turn.

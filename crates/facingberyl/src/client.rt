@@ -1,7 +1,7 @@
 //! A client at work.
 ghost use Rattle.std.specs.Prelude.{◌≡◌};
 
-use bin_history::Remap;
+use bin_history::{Remap, Value};
 use chm::Map;
 use count_ledger::Pass;
 use hashkeys::HashKey;
@@ -38,7 +38,7 @@ impl Loan for Brand {
 /// A map and a pass of it that its holder was lent, by which it makes calls. That they belong
 /// together is known of each `Client`, so no call needs to be told.
 #[derive(Drop)]
-pub struct Client<'a, L: Loan, K: HashKey, V: Clone + Eq, F: Remap<K, V> + Clone, A: Allocator> {
+pub struct Client<'a, L: Loan, K: HashKey, V: Value, F: Remap<K, V>, A: Allocator> {
     pub map: &'a Map<K, V, F, A>,
     pub pass: &'a mut Pass<K, V, F>,
     pub loan: PhantomData<L>,
@@ -47,14 +47,7 @@ pub struct Client<'a, L: Loan, K: HashKey, V: Clone + Eq, F: Remap<K, V> + Clone
     pub ghost lent: { pass.ghost_name ≡ L.lent },
 }
 
-impl<L: Loan, K: HashKey, V: Clone + Eq, F: Remap<K, V> + Clone, A: Allocator> Client<
-    '_,
-    L,
-    K,
-    V,
-    F,
-    A,
-> {
+impl<L: Loan, K: HashKey, V: Value, F: Remap<K, V>, A: Allocator> Client<'_, L, K, V, F, A> {
     /// The client's number: 0 for the first of a team, and so on.
     pub fn number(&self) -> usize
         ensures { result ≡ self.now.pass.now.client }

@@ -9,13 +9,13 @@ ghost use Rattle.count_ledger.specs.Words.{word_of};
 ghost use Rattle.facingberyl.specs.Computed.{IsTold};
 
 use crate::client::{Client, Loan};
-use bin_history::{Op, Remap};
+use bin_history::{Op, Remap, Value};
 use chm::Fault;
 use hashkeys::HashKey;
 use std::alloc::Allocator;
 use std::sync::Wait;
 
-/// What a call with a function answers.
+/// What a call returns that may use a function, or not.
 #[derive(Debug, Drop, PartialEq, Eq)]
 pub struct Computed<V> {
     /// The value at the key after the call.
@@ -24,14 +24,7 @@ pub struct Computed<V> {
     pub used: bool,
 }
 
-impl<L: Loan, K: HashKey, V: Clone + Eq, F: Remap<K, V> + Clone, A: Allocator> Client<
-    '_,
-    L,
-    K,
-    V,
-    F,
-    A,
-> {
+impl<L: Loan, K: HashKey, V: Value, F: Remap<K, V>, A: Allocator> Client<'_, L, K, V, F, A> {
     /// How many keys the client's calls added, less how many they took away, as a 64-bit two's
     /// complement number. It takes no memory and waits for nobody.
     ///
@@ -48,14 +41,15 @@ impl<L: Loan, K: HashKey, V: Clone + Eq, F: Remap<K, V> + Clone, A: Allocator> C
     }
 }
 
-impl<
-    L: Loan,
-    K: HashKey + Drop,
-    V: Clone + Eq + Drop,
-    F: Remap<K, V> + Clone + Drop,
-    A: Allocator + Clone,
-> Client<'_, L, K, V, F, A> {
-    /// Gives a key without a value what the function makes of none. It answers the value after, and
+impl<L: Loan, K: HashKey, V: Value, F: Remap<K, V>, A: Allocator + Clone> Client<
+    '_,
+    L,
+    K,
+    V,
+    F,
+    A,
+> {
+    /// Gives a key without a value what the function makes of none. Returns the value after, and
     /// whether the function was used. It waits for the key's bin.
     ///
     ///     client.put(rt, 1, 5)?;
@@ -87,7 +81,7 @@ impl<
         Ok(Computed { value, used })
     }
 
-    /// Gives a key with a value what the function makes of it. It answers the value after, and
+    /// Gives a key with a value what the function makes of it. Returns the value after, and
     /// whether the function was used. It waits for the key's bin.
     ///
     ///     client.put(rt, 1, 5)?;
@@ -120,8 +114,7 @@ impl<
     }
 
     /// Gives a key without a value this one, and a key with a value what the function makes of
-    /// both. It answers the value after, and whether the function was used. It waits for the key's
-    /// bin.
+    /// both. Returns the value after, and whether the function was used. It waits for the key's bin.
     ///
     ///     client.put(rt, 1, 5)?;
     ///     assert_eq!(client.merge(rt, 1, 2, Add)?, Computed { value: Some(7), used: true });

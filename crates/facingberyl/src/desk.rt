@@ -3,7 +3,7 @@ ghost use Rattle.std.specs.Prelude.{◌≡◌, ◌⊎◌, [], All, IfSome, IfOk,
 ghost use Rattle.count_ledger.specs.Names.{numbers_of};
 
 use crate::chair::Chair;
-use bin_history::Remap;
+use bin_history::{Remap, Value};
 use boxcar::tag::{Names, Tag};
 use chm::{Fault, Map};
 use count_ledger::{Pass, retire_all};
@@ -13,12 +13,12 @@ use std::marker::Model;
 
 /// A map, and a chair for the pass of each client.
 #[derive(Drop)]
-pub(crate) struct Desk<K: HashKey, V: Clone + Eq, F: Remap<K, V> + Clone, A: Allocator> {
+pub(crate) struct Desk<K: HashKey, V: Value, F: Remap<K, V>, A: Allocator> {
     map: Map<K, V, F, A>,
     chairs: Vec<Chair<K, V, F>, A>,
 }
 
-impl<K: HashKey, V: Clone + Eq, F: Remap<K, V> + Clone, A: Allocator> Model for Desk<K, V, F, A> {
+impl<K: HashKey, V: Value, F: Remap<K, V>, A: Allocator> Model for Desk<K, V, F, A> {
     ghost use Rattle.chm.specs.Views.{MapView};
     ghost use Rattle.facingberyl.specs.Desks.{IsDesk};
 
@@ -32,8 +32,7 @@ impl<K: HashKey, V: Clone + Eq, F: Remap<K, V> + Clone, A: Allocator> Model for 
 /// A map's ledger, as numbers.
 struct OfMap;
 
-impl<K: HashKey, V: Clone + Eq, F: Remap<K, V> + Clone, A: Allocator> Names<Map<K, V, F, A>>
-    for OfMap {
+impl<K: HashKey, V: Value, F: Remap<K, V>, A: Allocator> Names<Map<K, V, F, A>> for OfMap {
     ghost use Rattle.count_ledger.specs.Names.{numbers_of};
 
     ghost numbers = { λ m. numbers_of m.ledger.id };
@@ -60,7 +59,7 @@ fn seat_all<K, V, F, A: Allocator>(
     passes.destroy_empty();
 }
 
-impl<K: HashKey, V: Clone + Eq, F: Remap<K, V> + Clone, A: Allocator + Clone> Desk<K, V, F, A> {
+impl<K: HashKey, V: Value, F: Remap<K, V>, A: Allocator + Clone> Desk<K, V, F, A> {
     /// A map whose passes are all in. For want of memory the passes end, and the map goes.
     pub(crate) fn new(
         map: Map<K, V, F, A>,
@@ -140,7 +139,7 @@ fn room_for<K, V, F, A: Allocator + Clone>(
     Ok(Vec::with_capacity(alloc, passes.len())?)
 }
 
-impl<K: HashKey, V: Clone + Eq, F: Remap<K, V> + Clone, A: Allocator> Desk<K, V, F, A> {
+impl<K: HashKey, V: Value, F: Remap<K, V>, A: Allocator> Desk<K, V, F, A> {
     /// The map.
     pub(crate) fn map(&self) -> &Map<K, V, F, A>
         ensures { result.now ≡ self.now }

@@ -6,19 +6,20 @@ ghost use Rattle.count_ledger.specs.Limits.{most_calls};
 ghost use Rattle.facingberyl.specs.Filled.{HasPut};
 
 use crate::client::{Client, Loan};
-use bin_history::Remap;
+use bin_history::{Remap, Value};
 use chm::Fault;
 use hashkeys::HashKey;
 use std::alloc::Allocator;
 use std::sync::Wait;
 
-impl<
-    L: Loan,
-    K: HashKey + Drop,
-    V: Clone + Eq + Drop,
-    F: Remap<K, V> + Clone + Drop,
-    A: Allocator + Clone,
-> Client<'_, L, K, V, F, A> {
+impl<L: Loan, K: HashKey, V: Value, F: Remap<K, V>, A: Allocator + Clone> Client<
+    '_,
+    L,
+    K,
+    V,
+    F,
+    A,
+> {
     /// Gives each key its value, by a put of each pair in order: where a key comes twice, the last
     /// value stays. It waits for the bin of each key in turn.
     ///
@@ -28,7 +29,7 @@ impl<
     /// # Errors
     ///
     /// `PassFull` where the client has made all the calls that it may and a pair is left, and
-    /// `NoMemory`. The puts made before that stand; the pairs that are left go.
+    /// `NoMemory`. The puts made before that stand; the pairs that are left are dropped.
     pub fn put_all<R: Wait, B: Allocator>(
         &mut self,
         rt: &R,

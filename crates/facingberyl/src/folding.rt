@@ -5,16 +5,16 @@ ghost use Rattle.bin_history.specs.Calls.{after};
 ghost use Rattle.bin_history.specs.Copies.{IsExact};
 ghost use Rattle.count_ledger.specs.Fronts.{HasSeenMore};
 ghost use Rattle.chm.specs.Visits.{shown_by};
-ghost use Rattle.facingberyl.specs.Folds.{FoldsPairs, turn, use_on, UsesPairs, WalksOver};
+ghost use Rattle.facingberyl.specs.Folds.{FoldsPairs, turn, UsesPairs, WalksOver};
 
 use crate::client::{Client, Loan};
-use bin_history::Remap;
+use bin_history::{Remap, Value};
 use chm::{Fault, Visit};
 use hashkeys::HashKey;
 use std::alloc::Allocator;
 use std::sync::Wait;
 
-/// Goes over the entries of a bin. It answers the last total, and the function.
+/// Goes over the entries of a bin. Returns the last total, and the function.
 fn fold_entries<K: Drop, V: Drop, A: Allocator, B, G: FnMut(B, (K, V)) -> B>(
     entries: Vec<(K, V), A>,
     init: B,
@@ -31,7 +31,7 @@ fn fold_entries<K: Drop, V: Drop, A: Allocator, B, G: FnMut(B, (K, V)) -> B>(
     (total, f)
 }
 
-/// Goes over the entries of bins, one bin after the other, and answers the same.
+/// Goes over the entries of bins, one bin after the other. Returns the last total, and the function.
 fn fold_visits<K: Drop, V: Drop, A: Allocator, B, G: FnMut(B, (K, V)) -> B>(
     visits: Vec<Visit<K, V, A>, A>,
     init: B,
@@ -51,48 +51,19 @@ fn fold_visits<K: Drop, V: Drop, A: Allocator, B, G: FnMut(B, (K, V)) -> B>(
     (total, left)
 }
 
-/// Uses a function on each entry of a bin, and answers it.
-fn use_entries<K: Drop, V: Drop, A: Allocator, G: FnMut((K, V))>(
-    entries: Vec<(K, V), A>,
-    mut f: G,
-) -> G
-    requires { G.IsAlwaysCallable f }
-    ensures callable { G.IsAlwaysCallable result }
-    ensures used { FoldsTo (use_on G.step) f entries.items result }
-{
-    for entry in entries {
-        f(entry);
-    }
-    f
-}
-
-/// Uses a function on each entry of bins, one bin after the other, and answers it.
-fn use_visits<K: Drop, V: Drop, A: Allocator, G: FnMut((K, V))>(
-    visits: Vec<Visit<K, V, A>, A>,
-    f: G,
-) -> G
-    requires { G.IsAlwaysCallable f }
-    ensures { FoldsTo (use_on G.step) f (shown_by visits.items) result }
-{
-    let mut left = f;
-    for visit in visits {
-        let Visit { class: _, entries } = visit;
-        left = use_entries(entries, left);
-    }
-    left
-}
-
-impl<
-    L: Loan,
-    K: HashKey + Drop,
-    V: Clone + Eq + Drop,
-    F: Remap<K, V> + Clone + Drop,
-    A: Allocator + Clone,
-> Client<'_, L, K, V, F, A> {
+impl<L: Loan, K: HashKey, V: Value, F: Remap<K, V>, A: Allocator + Clone> Client<
+    '_,
+    L,
+    K,
+    V,
+    F,
+    A,
+> {
     /// Goes over the entries of a walk, in walk order, from a first total on: the function makes of
-    /// the total so far and an entry, which is a copy, the next total. Each entry is shown as its
-    /// bin had it when the walk came by; no key comes twice. The function is used after the walk,
-    /// so it may wait. It waits for each bin in turn, and takes memory for copies of all entries.
+    /// the total so far and a copy of an entry the next total. Returns the last total. Each entry
+    /// is shown as its bin had it when the walk came by; no key comes twice. The function is used
+    /// after the walk, when no bin is held, so it may wait. The walk waits for each bin in turn, and
+    /// takes memory for copies of all entries.
     ///
     ///     client.put(rt, 1, 5)?;
     ///     assert_eq!(client.fold(rt, 0, |most, (_key, value)| value.max(most))?, 5);
@@ -122,10 +93,10 @@ impl<
         Ok(total)
     }
 
-    /// Uses the function on each entry of a walk, in walk order, which gets a copy of it. Each entry
-    /// is shown as its bin had it when the walk came by; no key comes twice. The function is used
-    /// after the walk, so it may wait. It waits for each bin in turn, and takes memory for copies of
-    /// all entries.
+    /// Gives the function a copy of each entry of a walk, in walk order. Each entry is shown as its
+    /// bin had it when the walk came by; no key comes twice. The function is used after the walk,
+    /// when no bin is held, so it may wait. The walk waits for each bin in turn, and takes memory
+    /// for copies of all entries.
     ///
     ///     client.put(rt, 1, 5)?;
     ///     let mut most = 0;
@@ -135,7 +106,7 @@ impl<
     /// # Errors
     ///
     /// `NoMemory`. The function is not used then.
-    pub fn for_each<R: Wait, G: FnMut((K, V)) + Drop>(&mut self, rt: &R, f: G) -> Result<(), Fault>
+    pub fn for_each<R: Wait, G: FnMut((K, V))>(&mut self, rt: &R, mut f: G) -> Result<(), Fault>
         requires keys { IsExact K.is_clone }
         requires values { IsExact V.is_clone }
         requires callable { G.IsAlwaysCallable f }
@@ -147,7 +118,7 @@ impl<
         ensures map { self.new.map.now ≡ self.old.map.now }
     {
         let visits = self.walk(rt)?;
-        let _last = use_visits(visits, f);
+        let ((), _last) = fold_visits(visits, (), move |(), entry| f(entry));
         Ok(())
     }
 }

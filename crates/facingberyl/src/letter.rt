@@ -33,8 +33,8 @@ impl<K, V, F> About<K, V, F> for Brand {
     ghost told = { λ _. Unit {0} };
 }
 
-/// A moment of which that is so. What is known of a moment is lost in a lock or a channel; of a
-/// letter it is known again by whoever takes it out. It has no bytes.
+/// A moment, of which is so what `B` says. What is known of a moment is lost in a lock or a channel;
+/// of a letter its type says it, to whoever takes it out. It has no bytes.
 #[derive(Drop)]
 pub struct Letter<K, V, F, B: About<K, V, F>> {
     moment: Moment<K, V, F>,

@@ -25,7 +25,7 @@ pub use bulk_tasks as bulk;
 pub use chm::{
     AsKey, ByteString, Bytes, Call, Class, Entries, Fault, Form, Given, HashKey, Key, MOST_BINS,
     MOST_CALLS, MOST_CLIENTS, MOST_LEAN_CALLS, Map, Moment, NotClosed, Op, Opened, Pass, Quiet,
-    Remap, Reply, Salt, Sharing, Visit, retire_all,
+    Remap, Reply, Salt, Sharing, Value, Visit, retire_all,
 };
 pub use client::{Client, Loan};
 pub use computed::Computed;

@@ -4,19 +4,12 @@ ghost use Rattle.bin_history.specs.Calls.{after};
 ghost use Rattle.count_ledger.specs.Fronts.{BeginsWith, HasSeen};
 
 use crate::client::{Client, Loan};
-use bin_history::Remap;
+use bin_history::{Remap, Value};
 use count_ledger::Moment;
 use hashkeys::HashKey;
 use std::alloc::Allocator;
 
-impl<L: Loan, K: HashKey, V: Clone + Eq, F: Remap<K, V> + Clone, A: Allocator> Client<
-    '_,
-    L,
-    K,
-    V,
-    F,
-    A,
-> {
+impl<L: Loan, K: HashKey, V: Value, F: Remap<K, V>, A: Allocator> Client<'_, L, K, V, F, A> {
     /// What the client has seen of the calls on the map: its own, and all that stand before the
     /// last of them, or that it learned of. A moment has no bytes, and can go to another client. It
     /// takes no memory and waits for nobody.

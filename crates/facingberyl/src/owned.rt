@@ -1,13 +1,14 @@
 //! A client that lives as long as it likes.
-ghost use Rattle.std.specs.Prelude.{◌≡◌, IfOk};
+ghost use Rattle.std.specs.Prelude.{◌≡◌, IfOk, IfSome, IfNone};
 ghost use Rattle.std.specs.Arc.{arc_value};
 ghost use Rattle.bin_history.specs.Calls.{after};
+ghost use Rattle.bin_history.specs.Ops.{call_on, key_in};
 ghost use Rattle.chm.specs.Headline.{AreExact, IsAnswered};
 ghost use Rattle.count_ledger.specs.Fronts.{BeginsWith, HasSeen};
 
 use crate::desk::Desk;
 use crate::work::{Lent, Work};
-use bin_history::{Call, Remap, Reply};
+use bin_history::{Call, Given, Op, Remap, Reply, Value};
 use chm::{Fault, Map, Sharing};
 use count_ledger::{Moment, Pass};
 use hashkeys::HashKey;
@@ -21,14 +22,13 @@ use std::thread::{Promise, PromisedHandle, Threads};
 /// A client that owns its pass, and keeps the map for as long as it lives: it moves into a thread,
 /// through a channel or out of a join. That its pass is of its map is known of each, so its work
 /// has no precondition. Dropped, in whichever thread, it gives its pass back to the server.
-pub struct OwnedClient<K: HashKey, V: Clone + Eq, F: Remap<K, V> + Clone, A: Allocator> {
+pub struct OwnedClient<K: HashKey, V: Value, F: Remap<K, V>, A: Allocator> {
     desk: Arc<Desk<K, V, F, A>, A>,
     chair: usize,
     pass: Pass<K, V, F>,
 }
 
-impl<K: HashKey, V: Clone + Eq, F: Remap<K, V> + Clone, A: Allocator> Model
-    for OwnedClient<K, V, F, A> {
+impl<K: HashKey, V: Value, F: Remap<K, V>, A: Allocator> Model for OwnedClient<K, V, F, A> {
     ghost use Rattle.std.specs.Prelude.{◌≡◌};
     ghost use Rattle.std.specs.Arc.{arc_value};
     ghost use Rattle.facingberyl.specs.Desks.{ClientView};
@@ -40,8 +40,7 @@ impl<K: HashKey, V: Clone + Eq, F: Remap<K, V> + Clone, A: Allocator> Model
     ghost invariant = { λ c. c.pass.ledger ≡ (arc_value c.desk).ledger.id };
 }
 
-impl<K: HashKey, V: Clone + Eq, F: Remap<K, V> + Clone, A: Allocator> Drop
-    for OwnedClient<K, V, F, A> {
+impl<K: HashKey, V: Value, F: Remap<K, V>, A: Allocator> Drop for OwnedClient<K, V, F, A> {
     fn drop(self) {
         let OwnedClient { desk, chair, pass } = self;
         desk.bring(chair, pass);
@@ -50,7 +49,7 @@ impl<K: HashKey, V: Clone + Eq, F: Remap<K, V> + Clone, A: Allocator> Drop
 
 /// A client that worked in a thread, and what its work answered.
 #[derive(Drop)]
-pub struct Worked<K: HashKey, V: Clone + Eq, F: Remap<K, V> + Clone, A: Allocator, T> {
+pub struct Worked<K: HashKey, V: Value, F: Remap<K, V>, A: Allocator, T> {
     pub client: OwnedClient<K, V, F, A>,
     pub answer: T,
 }
@@ -58,18 +57,12 @@ pub struct Worked<K: HashKey, V: Clone + Eq, F: Remap<K, V> + Clone, A: Allocato
 /// What is known of who comes back from a thread: the client is of the map that it was of, and its
 /// work did what it does.
 #[derive(Drop)]
-pub struct Working<
-    K: HashKey,
-    V: Clone + Eq,
-    F: Remap<K, V> + Clone,
-    A: Allocator,
-    W: Work<K, V, F, A>,
-> {
+pub struct Working<K: HashKey, V: Value, F: Remap<K, V>, A: Allocator, W: Work<K, V, F, A>> {
     pub client: Snapshot<OwnedClient<K, V, F, A>>,
     pub work: Snapshot<W>,
 }
 
-impl<K: HashKey, V: Clone + Eq, F: Remap<K, V> + Clone, A: Allocator, W: Work<K, V, F, A>> Promise<
+impl<K: HashKey, V: Value, F: Remap<K, V>, A: Allocator, W: Work<K, V, F, A>> Promise<
     Worked<K, V, F, A, W::Out>,
 > for Working<K, V, F, A, W> {
     ghost use Rattle.std.specs.Prelude.{◌≡◌};
@@ -78,7 +71,7 @@ impl<K: HashKey, V: Clone + Eq, F: Remap<K, V> + Clone, A: Allocator, W: Work<K,
         × W.does p.work.value p.client.value.pass r.client.pass r.answer };
 }
 
-impl<K: HashKey, V: Clone + Eq, F: Remap<K, V> + Clone, A: Allocator> OwnedClient<K, V, F, A> {
+impl<K: HashKey, V: Value, F: Remap<K, V>, A: Allocator> OwnedClient<K, V, F, A> {
     /// The client that sits on this chair of the desk.
     pub(crate) fn of(
         desk: Arc<Desk<K, V, F, A>, A>,
@@ -109,7 +102,7 @@ impl<K: HashKey, V: Clone + Eq, F: Remap<K, V> + Clone, A: Allocator> OwnedClien
     }
 
     /// The client works, here and now: the work gets an ordinary client, by which it makes typed
-    /// calls, as the work of a team does. It answers what the work answers. By itself it waits for
+    /// calls, as the work of a team does. Returns what the work answers. By itself it waits for
     /// nobody and takes no memory.
     ///
     /// Where the work puts 5 at the client's number and gets it:
@@ -154,12 +147,7 @@ impl<K: HashKey, V: Clone + Eq, F: Remap<K, V> + Clone, A: Allocator> OwnedClien
     }
 }
 
-impl<
-    K: HashKey + Drop,
-    V: Clone + Eq + Drop,
-    F: Remap<K, V> + Clone + Drop,
-    A: Allocator + Clone,
-> OwnedClient<K, V, F, A> {
+impl<K: HashKey, V: Value, F: Remap<K, V>, A: Allocator + Clone> OwnedClient<K, V, F, A> {
     /// Makes a call, whose reply is a value or a truth. It waits for the key's bin, and takes memory
     /// where an entry is made or copied.
     ///
@@ -178,12 +166,32 @@ impl<
     {
         self.desk.map().call(rt, &mut self.pass, call)
     }
+
+    /// Tries to make a call, and waits for nobody. There is no answer where the key's bin is held just
+    /// then: the call was not made. It takes memory where an entry is made or copied.
+    ///
+    ///     assert_eq!(client.try_call(Given::Owned(1), Op::Put(5)), Some(Ok(Reply::Value(None))));
+    ///
+    /// # Errors
+    ///
+    /// `PassFull` where the client has made all the calls that it may, and `NoMemory`. Nothing is
+    /// changed then.
+    pub fn try_call(&mut self, key: Given<'_, K>, op: Op<V, F>) -> Option<Result<Reply<V>, Fault>>
+        requires exact { AreExact K.is_clone V.is_clone F.is_clone }
+        ensures answered { IfSome result
+            (IsAnswered K.eq V.eq F.remapped F.merged self.old.map.ledger
+            (call_on (key_in key.entry) op) self.old.pass self.new.pass) }
+        ensures busy { IfNone result (self.new.pass ≡ self.old.pass) }
+        ensures map { self.new.map ≡ self.old.map }
+    {
+        self.desk.map().try_call(&mut self.pass, key, op)
+    }
 }
 
 impl<
-    K: HashKey + Drop + Send + Sync + 'static,
-    V: Clone + Eq + Drop + Send + Sync + 'static,
-    F: Remap<K, V> + Clone + Drop + Send + Sync + 'static,
+    K: HashKey + Send + Sync + 'static,
+    V: Value + Send + Sync + 'static,
+    F: Remap<K, V> + Send + Sync + 'static,
     A: Allocator + Send + Sync + 'static,
 > OwnedClient<K, V, F, A> {
     /// The client works in a thread of its own, which begins now, and comes back with what the work

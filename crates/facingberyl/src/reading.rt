@@ -8,19 +8,20 @@ ghost use Rattle.count_ledger.specs.Fronts.{HasSeen, HasSeenMore};
 ghost use Rattle.chm.specs.Visits.{AreVisits, IsOwn, IsShown, shown_by};
 
 use crate::client::{Client, Loan};
-use bin_history::Remap;
+use bin_history::{Remap, Value};
 use chm::{Fault, Visit};
 use hashkeys::{AsKey, HashKey};
 use std::alloc::Allocator;
 use std::sync::Wait;
 
-impl<
-    L: Loan,
-    K: HashKey + Drop,
-    V: Clone + Eq + Drop,
-    F: Remap<K, V> + Clone + Drop,
-    A: Allocator + Clone,
-> Client<'_, L, K, V, F, A> {
+impl<L: Loan, K: HashKey, V: Value, F: Remap<K, V>, A: Allocator + Clone> Client<
+    '_,
+    L,
+    K,
+    V,
+    F,
+    A,
+> {
     /// A copy of the value at the key: what all calls so far left there, which the client has then
     /// seen. It waits for the key's bin.
     ///
@@ -43,8 +44,9 @@ impl<
         self.map.look_up(rt, self.pass, key)
     }
 
-    /// Looks up the key that this stands for, as a slice stands for the key of its bytes: no key is
-    /// made. It tells what `look_up` by the key tells, and waits as that does.
+    /// A copy of the value at the key that the query stands for, as a slice stands for the key of
+    /// its bytes: what all calls so far left there, which the client has then seen. No key is made.
+    /// It waits for the key's bin.
     ///
     ///     client.put(rt, Bytes(b"one"), 5)?;
     ///     assert_eq!(client.look_up_as(rt, b"one".as_slice())?, Some(5));
@@ -65,8 +67,9 @@ impl<
         self.map.look_up_as(rt, self.pass, query)
     }
 
-    /// A copy of the value at the key, read beside others that read the bin. When it was the value
-    /// is not said. It waits for who writes in the key's bin.
+    /// A copy of the value that the key has at some moment: which one is not said. It waits for the
+    /// key's bin. A lean map's bin is held for it, and a recorded one's is read beside others that
+    /// read it.
     ///
     ///     client.put(rt, 1, 5)?;
     ///     assert_eq!(client.glance(rt, &1)?, Some(5));
@@ -83,8 +86,9 @@ impl<
         self.map.glance(rt, key)
     }
 
-    /// Glances at the key that this stands for, as a slice stands for the key of its bytes: no key
-    /// is made. It tells what `glance` by the key tells, and waits as that does.
+    /// A copy of the value at the key that the query stands for, as a slice stands for the key of
+    /// its bytes, at some moment: which one is not said. No key is made. It waits for the key's bin.
+    /// A lean map's bin is held for it, and a recorded one's is read beside others that read it.
     ///
     ///     client.put(rt, Bytes(b"one"), 5)?;
     ///     assert_eq!(client.glance_as(rt, b"one".as_slice())?, Some(5));
@@ -102,10 +106,10 @@ impl<
         self.map.glance_as(rt, query)
     }
 
-    /// Shows the entries of each bin in walk order, one bin after the other, as `Map::walk` does:
-    /// each as all calls before that had left it, those among them that the client had seen when
-    /// the walk began. No key comes twice. With one client the walk shows the map. It waits for
-    /// each bin in turn, and takes memory for copies of all entries.
+    /// Copies of the entries of each bin in walk order, one bin after the other, as `Map::walk`
+    /// shows them: each bin as all calls before had left it, those that the client had seen when
+    /// the walk began, and others made meanwhile. No key comes twice. With one client the walk shows
+    /// the map. It waits for each bin in turn, and takes memory for the copies.
     ///
     ///     client.put(rt, 1, 5)?;
     ///     let visits = client.walk(rt)?;
@@ -133,17 +137,10 @@ impl<
     }
 }
 
-impl<L: Loan, K: HashKey, V: Clone + Eq, F: Remap<K, V> + Clone, A: Allocator> Client<
-    '_,
-    L,
-    K,
-    V,
-    F,
-    A,
-> {
+impl<L: Loan, K: HashKey, V: Value, F: Remap<K, V>, A: Allocator> Client<'_, L, K, V, F, A> {
     /// How many keys there are, as far as a look at one client's count after the other tells: while
-    /// other threads call, it is the number at no one moment, and nothing but its range is
-    /// promised. It waits for nobody.
+    /// other threads call, it is the number at no one moment, and nothing is promised but that it is
+    /// below 2^63. It waits for nobody.
     ///
     ///     client.put(rt, 1, 5)?;
     ///     assert_eq!(client.mapping_count(), 1);

@@ -4,7 +4,7 @@ ghost use Rattle.std.specs.Prelude.{◌≡◌, ◌⊎◌, IfOk, IfErr, IfSome, I
 use crate::desk::Desk;
 use crate::owned::OwnedClient;
 use crate::team::Team;
-use bin_history::Remap;
+use bin_history::{Remap, Value};
 use chm::{Fault, Map, Quiet};
 use hashkeys::HashKey;
 use std::alloc::{AllocError, Allocator};
@@ -12,14 +12,14 @@ use std::marker::Model;
 use std::sync::Arc;
 
 /// A map with clients that come and go: whoever has it takes clients out, moves them into threads
-/// that start when they like, and closes the map once all are back. Its copies, made by `clone`,
-/// are of the same map. Contracts see the map.
+/// that start when they like, and closes the map once all are back. More handles of the same map
+/// are made by `again`. Contracts see the map.
 #[derive(Drop)]
-pub struct Server<K: HashKey, V: Clone + Eq, F: Remap<K, V> + Clone, A: Allocator> {
+pub struct Server<K: HashKey, V: Value, F: Remap<K, V>, A: Allocator> {
     desk: Arc<Desk<K, V, F, A>, A>,
 }
 
-impl<K: HashKey, V: Clone + Eq, F: Remap<K, V> + Clone, A: Allocator> Model for Server<K, V, F, A> {
+impl<K: HashKey, V: Value, F: Remap<K, V>, A: Allocator> Model for Server<K, V, F, A> {
     ghost use Rattle.std.specs.Arc.{arc_value};
     ghost use Rattle.chm.specs.Views.{MapView};
 
@@ -28,21 +28,17 @@ impl<K: HashKey, V: Clone + Eq, F: Remap<K, V> + Clone, A: Allocator> Model for 
     ghost view = { λ s. arc_value s.desk };
 }
 
-/// Why a server was not ended. It comes back, and serves as before, but where its map was given up
-/// when it was to be closed.
+/// Why a server was not ended, and the server, which serves as before. There is none where its map
+/// was given up as it was to be closed.
 #[derive(Drop)]
-pub struct NotEnded<K: HashKey, V: Clone + Eq, F: Remap<K, V> + Clone, A: Allocator> {
+pub struct NotEnded<K: HashKey, V: Value, F: Remap<K, V>, A: Allocator> {
     pub fault: Fault,
     pub server: Option<Server<K, V, F, A>>,
 }
 
-impl<
-    K: HashKey + Drop,
-    V: Clone + Eq + Drop,
-    F: Remap<K, V> + Clone + Drop,
-    A: Allocator + Clone,
-> NotEnded<K, V, F, A> {
-    /// Why the server was not ended, for who gives it up. It goes once the last client goes.
+impl<K: HashKey, V: Value, F: Remap<K, V>, A: Allocator + Clone> NotEnded<K, V, F, A> {
+    /// Why the server was not ended. The server is dropped, and its map ends with the last client
+    /// or server that is of it.
     ///
     ///     server.close().map_err(|refused| refused.give_up())
     pub fn give_up(self) -> Fault
@@ -52,7 +48,7 @@ impl<
     }
 }
 
-impl<K: HashKey, V: Clone + Eq, F: Remap<K, V> + Clone, A: Allocator> Server<K, V, F, A> {
+impl<K: HashKey, V: Value, F: Remap<K, V>, A: Allocator> Server<K, V, F, A> {
     /// The map, which shows what needs no pass.
     pub fn map(&self) -> &Map<K, V, F, A>
         ensures { result.now ≡ self.now }
@@ -61,12 +57,7 @@ impl<K: HashKey, V: Clone + Eq, F: Remap<K, V> + Clone, A: Allocator> Server<K, 
     }
 }
 
-impl<
-    K: HashKey + Drop,
-    V: Clone + Eq + Drop,
-    F: Remap<K, V> + Clone + Drop,
-    A: Allocator + Clone,
-> Server<K, V, F, A> {
+impl<K: HashKey, V: Value, F: Remap<K, V>, A: Allocator + Clone> Server<K, V, F, A> {
     /// A server of the team's map, whose clients are all in. It takes memory for a chair for each
     /// of them, and waits for nobody.
     ///
@@ -94,7 +85,7 @@ impl<
     ///
     /// # Errors
     ///
-    /// Where there are 2^63 of them.
+    /// Where 2^63 clients and servers are of the map.
     pub fn again(&self) -> Result<Server<K, V, F, A>, AllocError>
         ensures { IfOk result (λ s. s ≡ self.now) }
     {

@@ -3,25 +3,24 @@ use crate::client::{Client, Loan};
 use crate::owned::OwnedClient;
 use crate::server::Server;
 use crate::team::Team;
-use bin_history::Remap;
+use bin_history::{Remap, Value};
 use hashkeys::HashKey;
 use std::alloc::Allocator;
 use std::fmt::{self, Debug, Formatter};
 
-impl<K: HashKey, V: Clone + Eq, F: Remap<K, V> + Clone, A: Allocator> Debug for Team<K, V, F, A> {
+impl<K: HashKey, V: Value, F: Remap<K, V>, A: Allocator> Debug for Team<K, V, F, A> {
     fn fmt<W: fmt::Write>(&self, f: &mut Formatter<W>) -> fmt::Result {
         f.debug_struct("Team").field("map", self.map()).finish()
     }
 }
 
-impl<K: HashKey, V: Clone + Eq, F: Remap<K, V> + Clone, A: Allocator> Debug for Server<K, V, F, A> {
+impl<K: HashKey, V: Value, F: Remap<K, V>, A: Allocator> Debug for Server<K, V, F, A> {
     fn fmt<W: fmt::Write>(&self, f: &mut Formatter<W>) -> fmt::Result {
         f.debug_struct("Server").field("map", self.map()).finish()
     }
 }
 
-impl<K: HashKey, V: Clone + Eq, F: Remap<K, V> + Clone, A: Allocator> Debug
-    for OwnedClient<K, V, F, A> {
+impl<K: HashKey, V: Value, F: Remap<K, V>, A: Allocator> Debug for OwnedClient<K, V, F, A> {
     fn fmt<W: fmt::Write>(&self, f: &mut Formatter<W>) -> fmt::Result {
         f.debug_struct("OwnedClient")
             .field("number", &self.number())
@@ -30,7 +29,7 @@ impl<K: HashKey, V: Clone + Eq, F: Remap<K, V> + Clone, A: Allocator> Debug
     }
 }
 
-impl<L: Loan, K: HashKey, V: Clone + Eq, F: Remap<K, V> + Clone, A: Allocator> Debug
+impl<L: Loan, K: HashKey, V: Value, F: Remap<K, V>, A: Allocator> Debug
     for Client<'_, L, K, V, F, A> {
     fn fmt<W: fmt::Write>(&self, f: &mut Formatter<W>) -> fmt::Result {
         f.debug_struct("Client")

@@ -13,7 +13,7 @@ ghost use Rattle.chm.specs.Reopened.{IsReopened};
 ghost use Rattle.chm.specs.Shares.{HaveWorked};
 
 use crate::work::{Lent, Work};
-use bin_history::Remap;
+use bin_history::{Remap, Value};
 use chm::{Fault, Map, NotClosed, Opened, Quiet};
 use count_ledger::{Moment, Pass, retire_all};
 use hashkeys::{HashKey, Salt};
@@ -24,12 +24,12 @@ use std::thread::Threads;
 
 /// A map with the passes of all its clients, which it lends to threads. Dropped, it ends the passes
 /// with the map.
-pub struct Team<K: HashKey, V: Clone + Eq, F: Remap<K, V> + Clone, A: Allocator> {
+pub struct Team<K: HashKey, V: Value, F: Remap<K, V>, A: Allocator> {
     map: Map<K, V, F, A>,
     passes: Vec<Pass<K, V, F>, A>,
 }
 
-impl<K: HashKey, V: Clone + Eq, F: Remap<K, V> + Clone, A: Allocator> Model for Team<K, V, F, A> {
+impl<K: HashKey, V: Value, F: Remap<K, V>, A: Allocator> Model for Team<K, V, F, A> {
     ghost use Rattle.facingberyl.specs.Teams.{TeamView, IsTeam};
 
     ghost Value = { TeamView K V F };
@@ -39,23 +39,23 @@ impl<K: HashKey, V: Clone + Eq, F: Remap<K, V> + Clone, A: Allocator> Model for 
     ghost invariant = { λ t. IsTeam t.map t.passes.items };
 }
 
-impl<K: HashKey, V: Clone + Eq, F: Remap<K, V> + Clone, A: Allocator> Drop for Team<K, V, F, A> {
+impl<K: HashKey, V: Value, F: Remap<K, V>, A: Allocator> Drop for Team<K, V, F, A> {
     fn drop(self) {
         let Team { map: _, passes } = self;
         retire_all(passes);
     }
 }
 
-impl<
-    K: HashKey + Drop,
-    V: Clone + Eq + Drop,
-    F: Remap<K, V> + Clone + Drop,
-    A: Allocator + Clone,
-> Team<K, V, F, A> {
+impl<K: HashKey, V: Value, F: Remap<K, V>, A: Allocator + Clone> Team<K, V, F, A> {
     /// A map without entries and its team of 1 to 32 clients. The map's table begins with the least
     /// power of two of bins that is at least the capacity, which is 1 to 2^26. The salt of its
     /// hashes is 0. The map is lean: it stores no records of calls, and a client makes 2^57 of
-    /// them. `Team::of` takes a map of the other form.
+    /// them. `Team::of` takes a map of the other form. It takes memory, and waits for nobody.
+    ///
+    /// # Errors
+    ///
+    /// `BadCapacity` where the capacity is not 1 to 2^26, else `BadClients` where there are not 1 to
+    /// 32 clients; and `NoMemory`.
     pub fn new(alloc: A, capacity: usize, clients: u32) -> Result<Team<K, V, F, A>, Fault>
         requires keys { IsExact K.is_clone }
         requires values { IsExact V.is_clone }
@@ -66,7 +66,13 @@ impl<
         Team::with_salt(alloc, capacity, clients, Salt(0))
     }
 
-    /// Opens a map and its team as `new` does, with a salt with which the codes of keys are mixed.
+    /// A lean map without entries and its team of 1 to 32 clients, as `new` makes them, but with this
+    /// salt, with which the codes of keys are mixed. It takes memory, and waits for nobody.
+    ///
+    /// # Errors
+    ///
+    /// `BadCapacity` where the capacity is not 1 to 2^26, else `BadClients` where there are not 1 to
+    /// 32 clients; and `NoMemory`.
     pub fn with_salt(
         alloc: A,
         capacity: usize,
@@ -83,7 +89,12 @@ impl<
     }
 
     /// A closed map's pairs in a new map, and its team of 1 to 32 clients, as `Quiet::reopen` opens
-    /// it. The closed map stays as it is.
+    /// it. The closed map stays as it is. It takes memory, and waits for nobody.
+    ///
+    /// # Errors
+    ///
+    /// `BadCapacity` where the closed map has more than 2^32 - 1 pairs, else `BadClients` where there
+    /// are not 1 to 32 clients; and `NoMemory`.
     pub fn reopen(closed: &Quiet<K, V, F, A>, clients: u32) -> Result<Team<K, V, F, A>, Fault>
         requires keys { IsExact K.is_clone }
         requires values { IsExact V.is_clone }
@@ -98,9 +109,9 @@ impl<
 
     /// All clients work at the same time, each in a thread of its own; one whose thread cannot be
     /// started works in a thread that there is, after others, so no client may wait for another.
-    /// All have ended when this returns. It answers what they answered, client 0's first. It waits
-    /// for them, and takes memory for a seat and an answer of each. Where each of four clients
-    /// answers its number, the answers are 0 to 3, in this order:
+    /// When all have ended it returns what they answered, client 0's first. It waits for them, and
+    /// takes memory for a seat and an answer of each. Where each of four clients answers its number,
+    /// the answers are 0 to 3, in this order:
     ///
     ///     let first = team.work(rt, &PutTheNumber)?;
     ///
@@ -152,8 +163,13 @@ impl<
         self.map.learn(&mut self.passes[client], moment);
     }
 
-    /// Closes the map, as `Map::close` does. Where it is refused the passes end, and the map with
-    /// them: to try again take the team apart and close the map itself.
+    /// Closes the map, as `Map::close` does. It takes memory for the lists of the closed map, and
+    /// waits for nobody.
+    ///
+    /// # Errors
+    ///
+    /// `NoMemory`, and `BinMissing`. The passes end, and the map with them: to be able to try again
+    /// take the team apart, and close the map itself.
     pub fn close(self) -> Result<Quiet<K, V, F, A>, Fault>
         ensures ledger { IfOk result (λ q. q.ledger ≡ self.map.ledger) }
         ensures n { IfOk result (λ q. q.n ≡ self.map.n) }
@@ -177,7 +193,7 @@ impl<
     }
 }
 
-impl<K: HashKey, V: Clone + Eq, F: Remap<K, V> + Clone, A: Allocator> Team<K, V, F, A> {
+impl<K: HashKey, V: Value, F: Remap<K, V>, A: Allocator> Team<K, V, F, A> {
     /// The team of a map, of the passes of all its clients.
     pub fn of(map: Map<K, V, F, A>, passes: Vec<Pass<K, V, F>, A>) -> Team<K, V, F, A>
         requires own { All (λ p. p.ledger ≡ map.ledger.id) passes.items }

@@ -6,7 +6,7 @@ use std::alloc::AllocError;
 
 /// What a call with the function makes of a value, or of none, where the key does not matter and no
 /// memory is taken. `ByValue` makes a map's function of it.
-pub trait Update<V> {
+pub trait Update<V>: Clone + Drop {
     ghost use Rattle.std.specs.Prelude.{Option};
 
     ghost updated: { Self → Option V → V };
@@ -16,8 +16,8 @@ pub trait Update<V> {
         ensures { result ≡ updated self.now (option_copied value.entry) };
 }
 
-/// The function of a map, of an update: a compute call gives what the update makes of the value,
-/// and a merge the one given. It is never refused.
+/// An update as the function of a map: a compute call leaves what the update makes of the value,
+/// and a merge the value that it is given. It is never refused.
 #[derive(Clone, Copy, Debug, Drop)]
 pub struct ByValue<U>(pub U);
 

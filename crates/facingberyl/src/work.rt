@@ -2,7 +2,7 @@
 ghost use Rattle.std.specs.Prelude.{◌≡◌, IsSomeAnd};
 
 use crate::client::{Client, Loan};
-use bin_history::Remap;
+use bin_history::{Remap, Value};
 use chm::{Map, Sharing};
 use count_ledger::Pass;
 use hashkeys::HashKey;
@@ -12,7 +12,7 @@ use std::sync::Wait;
 
 /// What each client of a team does, in a thread of its own, by calls with the pass that it is lent,
 /// and what it answers.
-pub trait Work<K: HashKey, V: Clone + Eq, F: Remap<K, V> + Clone, A: Allocator> {
+pub trait Work<K: HashKey, V: Value, F: Remap<K, V>, A: Allocator> {
     ghost use Rattle.count_ledger.specs.Views.{LedgerId, PassView};
 
     /// What each client answers.
@@ -37,8 +37,8 @@ fn work_seated<
     'a,
     L: Loan,
     K: HashKey,
-    V: Clone + Eq,
-    F: Remap<K, V> + Clone,
+    V: Value,
+    F: Remap<K, V>,
     A: Allocator,
     W: Work<K, V, F, A>,
     R: Wait,
@@ -77,12 +77,8 @@ pub(crate) struct Lent<'a, W> {
     pub(crate) work: &'a W,
 }
 
-impl<K: HashKey, V: Clone + Eq, F: Remap<K, V> + Clone, A: Allocator, W: Work<K, V, F, A>> Sharing<
-    K,
-    V,
-    F,
-    A,
-> for Lent<'_, W> {
+impl<K: HashKey, V: Value, F: Remap<K, V>, A: Allocator, W: Work<K, V, F, A>> Sharing<K, V, F, A>
+    for Lent<'_, W> {
     type Out = W::Out;
 
     ghost fits = { λ lent id. W.fits lent.work.now id };

@@ -4,7 +4,7 @@ ghost use Rattle.hashkeys.specs.Limits.{most_bins};
 ghost use Rattle.bin_history.specs.Copies.{IsExact};
 
 use crate::generations::Generations;
-use bin_history::Remap;
+use bin_history::{Remap, Value};
 use count_ledger::Ledger;
 use crossbeam_utils::Backoff;
 use hashkeys::{Class, HashKey};
@@ -12,12 +12,7 @@ use places::{Moved, Refused};
 use std::alloc::{AllocError, Allocator};
 use std::sync::Wait;
 
-impl<
-    K: HashKey + Drop,
-    V: Clone + Eq + Drop,
-    F: Remap<K, V> + Clone + Drop,
-    A: Allocator + Clone,
-> Generations<K, V, F, A> {
+impl<K: HashKey, V: Value, F: Remap<K, V>, A: Allocator + Clone> Generations<K, V, F, A> {
     /// Replaces the bin of the class by its halves. It waits for nobody.
     ///
     /// # Errors

@@ -8,7 +8,7 @@ ghost use Rattle.places.specs.Views.{HomeView, IsPlaceOf, place_of};
 use crate::place::{Place, leave_new};
 use crate::state::State;
 use crate::tables::{Places, SIZES, Slots, no_tables};
-use bin_history::{Form, Remap};
+use bin_history::{Form, Remap, Value};
 use count_ledger::LedgerName;
 use counted_slot::Claim;
 use hashkeys::{Class, HashKey, Salt};
@@ -21,7 +21,7 @@ use std::sync::atomic::Ordering::SeqCst;
 /// The locked bins of one map. Contracts see the map's ledger, its form, its salt and the number of
 /// its opening bins.
 #[derive(Drop)]
-pub struct Generations<K: HashKey, V: Clone + Eq, F: Remap<K, V> + Clone, A: Allocator> {
+pub struct Generations<K: HashKey, V: Value, F: Remap<K, V>, A: Allocator> {
     opening: Vec<Place<K, V, F, A>, A>,
     tables: Slots<K, V, F, A>,
     /// The exponent of the widest table that was made. It saves time and no more.
@@ -31,8 +31,7 @@ pub struct Generations<K: HashKey, V: Clone + Eq, F: Remap<K, V> + Clone, A: All
     pub(crate) ledger: LedgerName,
 }
 
-impl<K: HashKey, V: Clone + Eq, F: Remap<K, V> + Clone, A: Allocator> Model
-    for Generations<K, V, F, A> {
+impl<K: HashKey, V: Value, F: Remap<K, V>, A: Allocator> Model for Generations<K, V, F, A> {
     ghost use Rattle.places.specs.Views.{HomeView};
 
     ghost Value = { HomeView };
@@ -48,7 +47,7 @@ impl<K: HashKey, V: Clone + Eq, F: Remap<K, V> + Clone, A: Allocator> Model
 type Halves<'a, K, V, F, A> = (Claim<'a, State<K, V, F, A>>, Claim<'a, State<K, V, F, A>>);
 
 /// The place of a table that has the hash, and its class, which is told by where it stands.
-fn place_in<'a, K: HashKey, V: Clone + Eq, F: Remap<K, V> + Clone, A: Allocator>(
+fn place_in<'a, K: HashKey, V: Value, F: Remap<K, V>, A: Allocator>(
     places: &'a Places<K, V, F, A>,
     hash: u32,
 ) -> (&'a Place<K, V, F, A>, Class)
@@ -63,7 +62,7 @@ fn place_in<'a, K: HashKey, V: Clone + Eq, F: Remap<K, V> + Clone, A: Allocator>
     (&places[index as usize], Class::new(n, index))
 }
 
-impl<K: HashKey, V: Clone + Eq, F: Remap<K, V> + Clone, A: Allocator> Generations<K, V, F, A> {
+impl<K: HashKey, V: Value, F: Remap<K, V>, A: Allocator> Generations<K, V, F, A> {
     /// The number of opening bins: a power of two from 1 to 2^26.
     pub fn n(&self) -> u32
         ensures value { result ≡ self.now.n }
@@ -134,12 +133,7 @@ impl<K: HashKey, V: Clone + Eq, F: Remap<K, V> + Clone, A: Allocator> Generation
     }
 }
 
-impl<
-    K: HashKey + Drop,
-    V: Clone + Eq + Drop,
-    F: Remap<K, V> + Clone + Drop,
-    A: Allocator + Clone,
-> Generations<K, V, F, A> {
+impl<K: HashKey, V: Value, F: Remap<K, V>, A: Allocator + Clone> Generations<K, V, F, A> {
     /// The map with these opening places and no tables of later ones.
     pub(crate) fn with_opening(
         alloc: A,
@@ -203,29 +197,19 @@ impl<
         ensures { IfOk result (λ t. IsTable self.now size t.now.items) }
     {
         let exponent = size.ilog2();
-        if self.table(exponent).is_none() {
-            let places = self.new_table(size)?;
-            self.keep_table(exponent, places);
+        if let Some(places) = self.table(exponent) {
+            return Ok(places);
         }
+        let places = self.new_table(size)?;
+        self.keep_table(exponent, places);
         match self.table(exponent) {
             Some(places) => Ok(places),
             None => Err(Refused::Busy),
         }
     }
 
-    /// The right to fill the place for a bin of the class. Its table is made where there is none
-    /// yet.
-    fn claim_for(&self, class: Class) -> Result<Claim<'_, State<K, V, F, A>>, Refused>
-        requires least { self.now.n ≤ class.n }
-        ensures { IfOk result (λ c. (c.right ≡ 2) × (c.tag ≡ place_of self.now class)) }
-    {
-        let places = self.table_made(class.n())?;
-        places[class.index() as usize]
-            .claim_new()
-            .ok_or(Refused::Busy)
-    }
-
-    /// The right to fill the places for the two halves of a bin.
+    /// The rights to fill the places for the two halves of a bin, which stand in one table. It is
+    /// made where there is none yet.
     pub(crate) fn claim_halves(&self, class: Class) -> Result<Halves<'_, K, V, F, A>, Refused>
         requires least { self.now.n ≤ class.n }
         requires size { class.n < most_bins }
@@ -234,13 +218,16 @@ impl<
         ensures high { IfOk result
             (λ c. (c.1.right ≡ 2) × (c.1.tag ≡ place_of self.now (high_half class))) }
     {
-        let (low_class, high_class) = class.halves();
-        let low = self.claim_for(low_class)?;
-        match self.claim_for(high_class) {
-            Ok(high) => Ok((low, high)),
-            Err(refused) => {
+        let (low, high) = class.halves();
+        let places = self.table_made(low.n())?;
+        let Some(low) = places[low.index() as usize].claim_new() else {
+            return Err(Refused::Busy);
+        };
+        match places[high.index() as usize].claim_new() {
+            Some(high) => Ok((low, high)),
+            None => {
                 leave_new(low);
-                Err(refused)
+                Err(Refused::Busy)
             }
         }
     }

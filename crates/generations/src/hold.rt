@@ -11,7 +11,7 @@ ghost use Rattle.places.specs.Views.{IsPlaceOf};
 use crate::generations::Generations;
 use crate::place::{AWAY, Place, fill, leave_new};
 use crate::state::State;
-use bin_history::{Bin, Remap};
+use bin_history::{Bin, Remap, Value};
 use count_ledger::{BinRole, Ledger};
 use counted_slot::{Claim, PRESENT};
 use crossbeam_utils::Backoff;
@@ -21,7 +21,7 @@ use std::alloc::Allocator;
 use std::sync::Wait;
 
 /// A place whose bin is held: the right to put it back there.
-pub struct Taken<'a, K: HashKey, V: Clone + Eq, F: Remap<K, V> + Clone, A: Allocator> {
+pub struct Taken<'a, K: HashKey, V: Value, F: Remap<K, V>, A: Allocator> {
     /// Where the bin was, and goes back to.
     pub at: &'a Place<K, V, F, A>,
     /// The map that it is of.
@@ -34,18 +34,13 @@ pub struct Taken<'a, K: HashKey, V: Clone + Eq, F: Remap<K, V> + Clone, A: Alloc
 
 /// A bin that is held, with its role. Nobody else has either until it is released or halved, which
 /// must happen.
-pub struct Held<'a, K: HashKey, V: Clone + Eq, F: Remap<K, V> + Clone, A: Allocator> {
+pub struct Held<'a, K: HashKey, V: Value, F: Remap<K, V>, A: Allocator> {
     pub bin: Bin<K, V, F, A>,
     pub role: BinRole<K, V, F>,
     pub place: Taken<'a, K, V, F, A>,
 }
 
-impl<
-    K: HashKey + Drop,
-    V: Clone + Eq + Drop,
-    F: Remap<K, V> + Clone + Drop,
-    A: Allocator + Clone,
-> Generations<K, V, F, A> {
+impl<K: HashKey, V: Value, F: Remap<K, V>, A: Allocator + Clone> Generations<K, V, F, A> {
     /// Waits for the bin of the hash, and holds it.
     #[inline(always)]
     pub fn hold<R: Wait>(&self, rt: &R, hash: u32) -> Held<'_, K, V, F, A>
@@ -167,13 +162,7 @@ impl<
     }
 }
 
-impl<
-    'a,
-    K: HashKey + Drop,
-    V: Clone + Eq + Drop,
-    F: Remap<K, V> + Clone + Drop,
-    A: Allocator + Clone,
-> Held<'a, K, V, F, A> {
+impl<'a, K: HashKey, V: Value, F: Remap<K, V>, A: Allocator + Clone> Held<'a, K, V, F, A> {
     /// Gives the bin and its role back. They agree, and are of the class and the ledger that were
     /// held. It waits for nobody.
     pub fn release(self)
@@ -240,13 +229,7 @@ impl<
     }
 }
 
-impl<
-    'a,
-    K: HashKey + Drop,
-    V: Clone + Eq + Drop,
-    F: Remap<K, V> + Clone + Drop,
-    A: Allocator + Clone,
-> Taken<'a, K, V, F, A> {
+impl<'a, K: HashKey, V: Value, F: Remap<K, V>, A: Allocator + Clone> Taken<'a, K, V, F, A> {
     /// Gives the bin and its role back to their place. It waits for nobody.
     pub fn release(self, bin: Bin<K, V, F, A>, role: BinRole<K, V, F>)
         requires { AreAt K.eq (after V.eq F.remapped F.merged) self.at.now bin role }

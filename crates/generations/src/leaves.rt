@@ -9,7 +9,7 @@ ghost use Rattle.places.specs.Walks.{IsWalk};
 
 use crate::generations::Generations;
 use crate::place::Place;
-use bin_history::{Bin, Remap};
+use bin_history::{Bin, Remap, Value};
 use count_ledger::BinRole;
 use hashkeys::{Class, HashKey, MOST_BINS};
 use places::next_in_walk;
@@ -17,19 +17,14 @@ use std::alloc::{AllocError, Allocator};
 
 /// Why the bins of a map could not be taken out.
 #[derive(Drop)]
-pub enum NotLeft<K: HashKey, V: Clone + Eq, F: Remap<K, V> + Clone, A: Allocator> {
+pub enum NotLeft<K: HashKey, V: Value, F: Remap<K, V>, A: Allocator> {
     /// For want of memory. Here is the map as it was.
     NoMemory(Generations<K, V, F, A>),
     /// A bin was missing, or there were more than were counted.
     BinMissing,
 }
 
-impl<
-    K: HashKey + Drop,
-    V: Clone + Eq + Drop,
-    F: Remap<K, V> + Clone + Drop,
-    A: Allocator + Clone,
-> Generations<K, V, F, A> {
+impl<K: HashKey, V: Value, F: Remap<K, V>, A: Allocator + Clone> Generations<K, V, F, A> {
     /// How many bins there are.
     fn count_bins(&self) -> u32 {
         let n = self.n();

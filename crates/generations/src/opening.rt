@@ -11,19 +11,14 @@ ghost use Rattle.count_ledger.specs.Views.{LedgerId};
 use crate::generations::Generations;
 use crate::place::Place;
 use crate::state::State;
-use bin_history::{Bin, Form, Remap};
+use bin_history::{Bin, Form, Remap, Value};
 use count_ledger::{BinRole, LedgerName};
 use hashkeys::{Class, HashKey, Salt};
 use places::PlaceTag;
 use std::alloc::{AllocError, Allocator};
 
 /// The place of a bin of these pairs, with its role.
-fn opening_place<
-    K: HashKey + Drop,
-    V: Clone + Eq + Drop,
-    F: Remap<K, V> + Clone + Drop,
-    A: Allocator + Clone,
->(
+fn opening_place<K: HashKey, V: Value, F: Remap<K, V>, A: Allocator + Clone>(
     alloc: &A,
     form: Form,
     salt: Salt,
@@ -57,12 +52,7 @@ fn opening_place<
 }
 
 /// The places of the opening bins, each made of the base and the role at its place.
-fn opening_places<
-    K: HashKey + Drop,
-    V: Clone + Eq + Drop,
-    F: Remap<K, V> + Clone + Drop,
-    A: Allocator + Clone,
->(
+fn opening_places<K: HashKey, V: Value, F: Remap<K, V>, A: Allocator + Clone>(
     alloc: A,
     form: Form,
     salt: Salt,
@@ -99,12 +89,7 @@ fn opening_places<
     Ok(places)
 }
 
-impl<
-    K: HashKey + Drop,
-    V: Clone + Eq + Drop,
-    F: Remap<K, V> + Clone + Drop,
-    A: Allocator + Clone,
-> Generations<K, V, F, A> {
+impl<K: HashKey, V: Value, F: Remap<K, V>, A: Allocator + Clone> Generations<K, V, F, A> {
     /// The map of `n` opening bins of the form, the bin at each place made of the base and
     /// the role at that place, which are as `Ledger::new` made the roles of these bases.
     pub fn new(

@@ -6,7 +6,7 @@ ghost use Rattle.places.specs.Places.{AreAt};
 ghost use Rattle.generations.specs.States.{FitsPlace};
 
 use crate::state::State;
-use bin_history::{Bin, Remap};
+use bin_history::{Bin, Remap, Value};
 use count_ledger::BinRole;
 use counted_slot::{Claim, Counted, FREE, MARKED, MOST_READERS, ONE_READER, PRESENT, TAKEN};
 use hashkeys::HashKey;
@@ -26,11 +26,11 @@ const FILLING: u64 = TAKEN + (1 << 32);
 /// A place for one bin: its lock with the bin. Contracts see what was fixed when it was made; the
 /// bin's class is told by where the place stands in its table.
 #[derive(Drop)]
-pub struct Place<K: HashKey, V: Clone + Eq, F: Remap<K, V> + Clone, A: Allocator> {
+pub struct Place<K: HashKey, V: Value, F: Remap<K, V>, A: Allocator> {
     lock: Counted<State<K, V, F, A>>,
 }
 
-impl<K: HashKey, V: Clone + Eq, F: Remap<K, V> + Clone, A: Allocator> Model for Place<K, V, F, A> {
+impl<K: HashKey, V: Value, F: Remap<K, V>, A: Allocator> Model for Place<K, V, F, A> {
     ghost use Rattle.places.specs.declared.tag.PlaceTag.{PlaceTag};
 
     ghost Value = { PlaceTag };
@@ -38,7 +38,7 @@ impl<K: HashKey, V: Clone + Eq, F: Remap<K, V> + Clone, A: Allocator> Model for 
     ghost view = { λ p. p.lock };
 }
 
-impl<K: HashKey, V: Clone + Eq, F: Remap<K, V> + Clone, A: Allocator> Place<K, V, F, A> {
+impl<K: HashKey, V: Value, F: Remap<K, V>, A: Allocator> Place<K, V, F, A> {
     pub(crate) fn new(tag: &PlaceTag, state: State<K, V, F, A>) -> Place<K, V, F, A>
         requires { FitsPlace K.eq (after V.eq F.remapped F.merged) tag.now state }
         ensures { result ≡ tag.now }
@@ -123,12 +123,11 @@ impl<K: HashKey, V: Clone + Eq, F: Remap<K, V> + Clone, A: Allocator> Place<K, V
 }
 
 /// Puts a bin into a new place that was claimed.
-pub(crate) fn fill<
-    K: HashKey + Drop,
-    V: Clone + Eq + Drop,
-    F: Remap<K, V> + Clone + Drop,
-    A: Allocator,
->(claim: Claim<'_, State<K, V, F, A>>, bin: Bin<K, V, F, A>, role: BinRole<K, V, F>)
+pub(crate) fn fill<K: HashKey, V: Value, F: Remap<K, V>, A: Allocator>(
+    claim: Claim<'_, State<K, V, F, A>>,
+    bin: Bin<K, V, F, A>,
+    role: BinRole<K, V, F>,
+)
     requires right { claim.right ≡ 2 }
     requires at { AreAt K.eq (after V.eq F.remapped F.merged) claim.tag bin role }
 {
@@ -136,12 +135,9 @@ pub(crate) fn fill<
 }
 
 /// Leaves a new place that was claimed as it was.
-pub(crate) fn leave_new<
-    K: HashKey + Drop,
-    V: Clone + Eq + Drop,
-    F: Remap<K, V> + Clone + Drop,
-    A: Allocator,
->(claim: Claim<'_, State<K, V, F, A>>)
+pub(crate) fn leave_new<K: HashKey, V: Value, F: Remap<K, V>, A: Allocator>(
+    claim: Claim<'_, State<K, V, F, A>>,
+)
     requires { claim.right ≡ 2 }
 {
     drop(claim.put(State::Away, FREE));

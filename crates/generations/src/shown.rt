@@ -10,7 +10,7 @@ ghost use Rattle.places.specs.Views.{IsPlaceOf};
 use crate::generations::Generations;
 use crate::place::Place;
 use crate::state::State;
-use bin_history::{Bin, Remap};
+use bin_history::{Bin, Remap, Value};
 use counted_slot::Claim;
 use crossbeam_utils::Backoff;
 use hashkeys::HashKey;
@@ -20,12 +20,11 @@ use std::sync::Wait;
 
 /// A bin that may be read. Several may be shown one bin at once, and nobody holds it meanwhile. It
 /// has to be released. Contracts see the bin and its role.
-pub struct Shown<'a, K: HashKey, V: Clone + Eq, F: Remap<K, V> + Clone, A: Allocator> {
+pub struct Shown<'a, K: HashKey, V: Value, F: Remap<K, V>, A: Allocator> {
     claim: Claim<'a, State<K, V, F, A>>,
 }
 
-impl<'a, K: HashKey, V: Clone + Eq, F: Remap<K, V> + Clone, A: Allocator> Model
-    for Shown<'a, K, V, F, A> {
+impl<'a, K: HashKey, V: Value, F: Remap<K, V>, A: Allocator> Model for Shown<'a, K, V, F, A> {
     ghost use Rattle.std.specs.Prelude.{◌≡◌, Option, IsSome};
     ghost use Rattle.bin_history.specs.Lawful.{BinView};
     ghost use Rattle.count_ledger.specs.Views.{RoleView};
@@ -39,13 +38,7 @@ impl<'a, K: HashKey, V: Clone + Eq, F: Remap<K, V> + Clone, A: Allocator> Model
     ghost invariant = { λ s. (s.claim.right ≡ 1) × IsSome (pair_shown s.claim.value) };
 }
 
-impl<'a, K: HashKey, V: Clone + Eq, F: Remap<K, V> + Clone, A: Allocator + Clone> Shown<
-    'a,
-    K,
-    V,
-    F,
-    A,
-> {
+impl<'a, K: HashKey, V: Value, F: Remap<K, V>, A: Allocator + Clone> Shown<'a, K, V, F, A> {
     /// The claim to read as a bin that is shown, or the claim's end where there is no bin.
     fn of(
         place: &'a Place<K, V, F, A>,
@@ -90,12 +83,7 @@ impl<'a, K: HashKey, V: Clone + Eq, F: Remap<K, V> + Clone, A: Allocator + Clone
     }
 }
 
-impl<
-    K: HashKey + Drop,
-    V: Clone + Eq + Drop,
-    F: Remap<K, V> + Clone + Drop,
-    A: Allocator + Clone,
-> Generations<K, V, F, A> {
+impl<K: HashKey, V: Value, F: Remap<K, V>, A: Allocator + Clone> Generations<K, V, F, A> {
     /// Lets readers come to a place that was never held.
     fn open_up(&self, place: &Place<K, V, F, A>)
         requires { IsPlaceOf self.now place.now }

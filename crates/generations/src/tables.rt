@@ -5,7 +5,7 @@ ghost use Rattle.generations.specs.Generations.{AreSlots, size_named};
 ghost use Rattle.places.specs.Names.{home_named};
 
 use crate::place::Place;
-use bin_history::{Form, Remap};
+use bin_history::{Form, Remap, Value};
 use boxcar::slot::{OnceSlot, SlotRule};
 use boxcar::tag::{Names, Tag};
 use count_ledger::LedgerName;
@@ -22,9 +22,8 @@ pub(crate) type Places<K, V, F, A> = Vec<Place<K, V, F, A>, A>;
 /// map's, of that size.
 pub struct OfSize;
 
-impl<K: HashKey, V: Clone + Eq, F: Remap<K, V> + Clone, A: Allocator> SlotRule<
-    Vec<Place<K, V, F, A>, A>,
-> for OfSize {
+impl<K: HashKey, V: Value, F: Remap<K, V>, A: Allocator> SlotRule<Vec<Place<K, V, F, A>, A>>
+    for OfSize {
     ghost use Rattle.generations.specs.Generations.{IsTable, size_named};
     ghost use Rattle.places.specs.Names.{home_named};
 
@@ -82,12 +81,7 @@ fn tag_of(exponent: u32, n: u32, form: Form, salt: Salt, ledger: &LedgerName) ->
 }
 
 /// The slots of a map that opens with `n` bins. No table is in them yet.
-pub(crate) fn no_tables<
-    K: HashKey + Drop,
-    V: Clone + Eq + Drop,
-    F: Remap<K, V> + Clone + Drop,
-    A: Allocator + Clone,
->(
+pub(crate) fn no_tables<K: HashKey, V: Value, F: Remap<K, V>, A: Allocator + Clone>(
     alloc: A,
     n: u32,
     form: Form,

@@ -5,7 +5,7 @@ ghost use Rattle.hashkeys.specs.Hashing.{spread};
 use crate::as_key::AsKey;
 
 /// A key with a code. `==` is true of a key and itself alone, so equal keys have equal codes.
-pub trait HashKey: Eq + Clone {
+pub trait HashKey: Eq + Clone + Drop {
     ghost code: { Self → ℕ };
 
     /// The key's code, from which its hash is made.

@@ -6,7 +6,7 @@ ghost use Rattle.bin_history.specs.Hashes.{hash_by};
 ghost use Rattle.homes.specs.Glances.{IsGlanced};
 
 use crate::home::{Home, Kind};
-use bin_history::Remap;
+use bin_history::{Remap, Value, lawful_entries};
 use generations::Generations;
 use hashkeys::{AsKey, HashKey};
 use lean_bins::LeanBins;
@@ -28,9 +28,9 @@ fn copied<V: Clone>(value: Option<&V>) -> Result<Option<V>, AllocError>
 /// meanwhile.
 fn glance_recorded<
     R: Wait,
-    K: HashKey + Drop,
-    V: Clone + Eq + Drop,
-    F: Remap<K, V> + Clone + Drop,
+    K: HashKey,
+    V: Value,
+    F: Remap<K, V>,
     A: Allocator + Clone,
     Q: AsKey<K>,
 >(rt: &R, home: &Generations<K, V, F, A>, hash: u32, query: Q) -> Result<Option<V>, AllocError>
@@ -47,14 +47,12 @@ fn glance_recorded<
 }
 
 /// A copy of the value at the key that this stands for, in lean bins. The bin is held meanwhile.
-fn glance_lean<
-    R: Wait,
-    K: HashKey + Drop,
-    V: Clone + Eq + Drop,
-    F: Remap<K, V> + Clone + Drop,
-    A: Allocator + Clone,
-    Q: AsKey<K>,
->(rt: &R, home: &LeanBins<K, V, F, A>, hash: u32, query: Q) -> Result<Option<V>, AllocError>
+fn glance_lean<R: Wait, K: HashKey, V: Value, F: Remap<K, V>, A: Allocator + Clone, Q: AsKey<K>>(
+    rt: &R,
+    home: &LeanBins<K, V, F, A>,
+    hash: u32,
+    query: Q,
+) -> Result<Option<V>, AllocError>
     requires values { IsExact V.is_clone }
     requires hash { hash ≡ hash_by K.code home.now.salt (Q.stands_for query) }
     ensures { IfOk result
@@ -63,18 +61,13 @@ fn glance_lean<
 {
     let mut place = home.hold_found(rt, hash);
     let lying = place.inner.value();
-    lying.entries.lawful::<F>();
+    lawful_entries::<K, V, F, A>(&lying.entries);
     let value = copied(lying.entries.get_as(hash, query));
     place.release();
     value
 }
 
-impl<
-    K: HashKey + Drop,
-    V: Clone + Eq + Drop,
-    F: Remap<K, V> + Clone + Drop,
-    A: Allocator + Clone,
-> Home<K, V, F, A> {
+impl<K: HashKey, V: Value, F: Remap<K, V>, A: Allocator + Clone> Home<K, V, F, A> {
     /// A copy of the value at the key of this hash that this stands for, if it has one. It waits for
     /// the key's bin. A recorded bin is read beside others that read it, and a lean one is held.
     ///

@@ -10,7 +10,7 @@ ghost use Rattle.places.specs.Views.{IsPlaceOf};
 ghost use Rattle.homes.specs.Places.{home_of, tag_of};
 
 use crate::home::{Home, Kind};
-use bin_history::{Bin, Remap};
+use bin_history::{Bin, Remap, Value};
 use count_ledger::{BinRole, Ledger};
 use hashkeys::HashKey;
 use places::Refused;
@@ -18,25 +18,20 @@ use std::alloc::Allocator;
 use std::sync::Wait;
 
 /// A place whose bin is held: the right to put it back there.
-pub enum Place<'a, K: HashKey, V: Clone + Eq, F: Remap<K, V> + Clone, A: Allocator> {
+pub enum Place<'a, K: HashKey, V: Value, F: Remap<K, V>, A: Allocator> {
     Recorded(generations::Taken<'a, K, V, F, A>),
     Lean(lean_bins::Taken<'a, K, V, F, A>),
 }
 
 /// A bin that is held, with its role. Nobody else has either until it is released or halved, which
 /// must happen.
-pub struct Held<'a, K: HashKey, V: Clone + Eq, F: Remap<K, V> + Clone, A: Allocator> {
+pub struct Held<'a, K: HashKey, V: Value, F: Remap<K, V>, A: Allocator> {
     pub bin: Bin<K, V, F, A>,
     pub role: BinRole<K, V, F>,
     pub place: Place<'a, K, V, F, A>,
 }
 
-impl<
-    K: HashKey + Drop,
-    V: Clone + Eq + Drop,
-    F: Remap<K, V> + Clone + Drop,
-    A: Allocator + Clone,
-> Home<K, V, F, A> {
+impl<K: HashKey, V: Value, F: Remap<K, V>, A: Allocator + Clone> Home<K, V, F, A> {
     /// Waits for the bin of the hash, and holds it.
     #[inline(always)]
     pub fn hold<R: Wait>(&self, rt: &R, hash: u32) -> Held<'_, K, V, F, A>
@@ -99,13 +94,7 @@ impl<
     }
 }
 
-impl<
-    'a,
-    K: HashKey + Drop,
-    V: Clone + Eq + Drop,
-    F: Remap<K, V> + Clone + Drop,
-    A: Allocator + Clone,
-> Held<'a, K, V, F, A> {
+impl<'a, K: HashKey, V: Value, F: Remap<K, V>, A: Allocator + Clone> Held<'a, K, V, F, A> {
     /// Gives the bin and its role back. They agree, and are of the class and the ledger that were
     /// held. It waits for nobody.
     #[inline(always)]

@@ -6,7 +6,7 @@ ghost use Rattle.bin_history.specs.Entries.{HasDistinctKeys};
 ghost use Rattle.count_ledger.specs.Opening.{AreOfTheirClasses, lists_of, new_roles};
 ghost use Rattle.count_ledger.specs.Views.{LedgerId};
 
-use bin_history::{Form, Remap};
+use bin_history::{Form, Remap, Value};
 use count_ledger::BinRole;
 use generations::Generations;
 use hashkeys::{HashKey, Salt};
@@ -16,7 +16,7 @@ use std::marker::Model;
 
 /// The bins of a map by their form.
 #[derive(Drop)]
-pub enum Kind<K: HashKey, V: Clone + Eq, F: Remap<K, V> + Clone, A: Allocator> {
+pub enum Kind<K: HashKey, V: Value, F: Remap<K, V>, A: Allocator> {
     Recorded(Generations<K, V, F, A>),
     Lean(LeanBins<K, V, F, A>),
 }
@@ -24,11 +24,11 @@ pub enum Kind<K: HashKey, V: Clone + Eq, F: Remap<K, V> + Clone, A: Allocator> {
 /// The bins of one map, of either form. Contracts see the map's ledger, its form, its salt and the
 /// number of its opening bins.
 #[derive(Drop)]
-pub struct Home<K: HashKey, V: Clone + Eq, F: Remap<K, V> + Clone, A: Allocator> {
+pub struct Home<K: HashKey, V: Value, F: Remap<K, V>, A: Allocator> {
     pub kind: Kind<K, V, F, A>,
 }
 
-impl<K: HashKey, V: Clone + Eq, F: Remap<K, V> + Clone, A: Allocator> Model for Home<K, V, F, A> {
+impl<K: HashKey, V: Value, F: Remap<K, V>, A: Allocator> Model for Home<K, V, F, A> {
     ghost use Rattle.places.specs.Views.{HomeView};
     ghost use Rattle.homes.specs.Homes.{view_of};
 
@@ -37,7 +37,7 @@ impl<K: HashKey, V: Clone + Eq, F: Remap<K, V> + Clone, A: Allocator> Model for 
     ghost view = { λ h. view_of h.kind };
 }
 
-impl<K: HashKey, V: Clone + Eq, F: Remap<K, V> + Clone, A: Allocator> Home<K, V, F, A> {
+impl<K: HashKey, V: Value, F: Remap<K, V>, A: Allocator> Home<K, V, F, A> {
     /// The number of opening bins: a power of two from 1 to 2^26.
     pub fn n(&self) -> u32
         ensures value { result ≡ self.now.n }
@@ -60,12 +60,7 @@ impl<K: HashKey, V: Clone + Eq, F: Remap<K, V> + Clone, A: Allocator> Home<K, V,
     }
 }
 
-impl<
-    K: HashKey + Drop,
-    V: Clone + Eq + Drop,
-    F: Remap<K, V> + Clone + Drop,
-    A: Allocator + Clone,
-> Home<K, V, F, A> {
+impl<K: HashKey, V: Value, F: Remap<K, V>, A: Allocator + Clone> Home<K, V, F, A> {
     /// The map of `n` opening bins of the form, the bin at each place made of the base and the role
     /// at that place, which are as `Ledger::new` made the roles of these bases.
     pub fn new(

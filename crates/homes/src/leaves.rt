@@ -7,14 +7,14 @@ ghost use Rattle.places.specs.Walks.{IsWalk};
 ghost use Rattle.homes.specs.NotLeft.{IfKept};
 
 use crate::home::{Home, Kind};
-use bin_history::{Bin, Remap};
+use bin_history::{Bin, Remap, Value};
 use count_ledger::BinRole;
 use hashkeys::HashKey;
 use std::alloc::Allocator;
 
 /// Why the bins of a map could not be taken out.
 #[derive(Drop)]
-pub enum NotLeft<K: HashKey, V: Clone + Eq, F: Remap<K, V> + Clone, A: Allocator> {
+pub enum NotLeft<K: HashKey, V: Value, F: Remap<K, V>, A: Allocator> {
     /// For want of memory. Here is the map as it was.
     NoMemory(Home<K, V, F, A>),
     /// A bin was missing, or there were more than were counted.
@@ -27,12 +27,7 @@ type Leaves<K, V, F, A> = Result<
     NotLeft<K, V, F, A>,
 >;
 
-impl<
-    K: HashKey + Drop,
-    V: Clone + Eq + Drop,
-    F: Remap<K, V> + Clone + Drop,
-    A: Allocator + Clone,
-> Home<K, V, F, A> {
+impl<K: HashKey, V: Value, F: Remap<K, V>, A: Allocator + Clone> Home<K, V, F, A> {
     /// Takes out the bins in walk order and, place by place, their roles. It waits for nobody.
     ///
     /// # Errors

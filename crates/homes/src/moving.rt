@@ -5,18 +5,13 @@ ghost use Rattle.hashkeys.specs.Limits.{most_bins};
 ghost use Rattle.bin_history.specs.Copies.{IsExact};
 
 use crate::home::{Home, Kind};
-use bin_history::Remap;
+use bin_history::{Remap, Value};
 use count_ledger::Ledger;
 use hashkeys::{Class, HashKey};
 use places::{Moved, Refused};
 use std::alloc::Allocator;
 
-impl<
-    K: HashKey + Drop,
-    V: Clone + Eq + Drop,
-    F: Remap<K, V> + Clone + Drop,
-    A: Allocator + Clone,
-> Home<K, V, F, A> {
+impl<K: HashKey, V: Value, F: Remap<K, V>, A: Allocator + Clone> Home<K, V, F, A> {
     /// Replaces the bin of the class by its halves. It waits for nobody.
     ///
     /// # Errors

@@ -111,11 +111,6 @@ module _ {K V F A : Type 0} (same : K → K → Bool) (after : Call K V F → Op
       → IsSomeAnd (taken l) (LiesAt same after place) → taken l ≡ Some x → LiesAt same after place x
   lies_taken l x place there is = subst (λ o. IsSomeAnd o (LiesAt same after place)) is there
 
-  -- what is taken lies there again
-  pub taken_lies : (l : List (ℕ × Lying K V F A)) (x : Lying K V F A) (place : PlaceTag)
-      → taken l ≡ Some x → LiesAt same after place x → IsSomeAnd (taken l) (LiesAt same after place)
-  taken_lies l x place is there = subst (λ o. IsSomeAnd o (LiesAt same after place)) (sym is) there
-
   -- what lies at a place is of its salt and class, and so is the role
   module _ (place : PlaceTag) (x : Lying K V F A) (there : LiesAt same after place x) where
     pub salt_of_lying : x.entries.salt ≡ place.salt

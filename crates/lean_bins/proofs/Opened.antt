@@ -1,7 +1,6 @@
 -- The bins that a map opens with.
 use Rattle.std.proofs.Common.{◌≡◌, ℕ, zero, suc, ◌+◌, ◌*◌, ◌^◌, ◌<◌, ◌≤◌, ◌⊎◌, inl, inr, Bool, Option, List, [], ◌∷◌}
 use Rattle.std.proofs.Common.{◌++◌, length, sym, ap, subst, refl, ◌∙◌, ⊎_elim, arith, mul-le-mul_left}
-use Rattle.std.proofs.Math.Pow.{pow_mono}
 use mathlib.Core.Option.{some, some-injective, some-ne-none}
 use lib.ListN.{get_elem?}
 use Rattle.hashkeys.specs.Classes.{ClassView, IsTableSize}
@@ -10,6 +9,7 @@ use Rattle.bin_history.specs.declared.call.Call.{Call}
 use Rattle.bin_history.specs.declared.form.Form.TheVariants.{Lean}
 use Rattle.count_ledger.specs.Views.{LedgerId}
 use Rattle.places.specs.Views.{HomeView}
+use Rattle.places.proofs.Sizes.{size_few}
 use Rattle.lean_bins.specs.Lying.{LiesFor, FitsWord, AreOpening}
 use Rattle.lean_bins.specs.Parts.{home_of, class_at}
 use Rattle.lean_bins.specs.declared.lying.PartTag.{PartTag}
@@ -17,10 +17,8 @@ use Rattle.lean_bins.specs.declared.lying.Lying.{Lying}
 
 -- the words of the opening table, each so far from the next
 pub words_few : (n count stride : ℕ) → IsTableSize n → count ≡ n → stride ≤ 8 → 8 + count * stride < 1152921504606846976
-words_few n count stride (e, le, is) same few =
-    let a : count * stride ≤ count * 8 = mul-le-mul_left count few in
-    let b : 2 ^ e ≤ 67108864 = pow_mono {i = e} {j = 26} le in
-    omega arith
+words_few n count stride size same few =
+    let a : count * stride ≤ count * 8 = mul-le-mul_left count few in omega (arith, size_few n size)
 
 at_end : {A : Type 0} (l : List A) (a b : A) (j : ℕ) → get_elem? (l ++ a ∷ []) j ≡ some b →
     (get_elem? l j ≡ some b) ⊎ ((j ≡ length l) × (a ≡ b))

@@ -1,9 +1,9 @@
 -- Threads may share the bins of a map.
 use denote.RattleType.{RattleType}
 use denote.Struct.Declared.{shape}
-use denote.Param.Send.{IsSend, IsSync, Frees, AllSend, AllSync, part_keyless, sendable}
+use denote.Param.Send.{IsSend, IsSync, Frees, AllSend, AllSync, sendable}
 use denote.Struct.Field.{Field}
-use denote.Param.SendFields.{as_row_send, as_row_sync, declared_send, declared_sync}
+use denote.Param.SendFields.{as_row_send, as_row_sync, declared_send}
 use Rattle.std.proofs.CrossingOver.{crosses}
 use Rattle.std.proofs.sync.atomic.AtomicU64.TheSendSync as atomic
 use Rattle.std.specs.declared.alloc.Allocator as Allocator
@@ -11,7 +11,6 @@ use Rattle.std.specs.declared.clone.Clone as Clone
 use Rattle.std.specs.declared.cmp.Eq as Eq
 use Rattle.std.specs.declared.cmp.PartialEq as PartialEq
 use Rattle.std.specs.contracts.vec.Vec as Vec
-use Rattle.atomic_table.specs.contracts.badge.Badge as badge
 use Rattle.atomic_table.proofs.badge.Badge.TheSendSync as the_badge
 use Rattle.atomic_table.proofs.shared.Shared.TheSendSync as the_words
 use Rattle.atomic_table.proofs.send_lease.SendLease.TheSendSync as the_lease
@@ -20,8 +19,9 @@ use Rattle.boxcar.specs.declared.slot.SlotRule as SlotRule
 use Rattle.boxcar.proofs.slot.OnceSlot.TheSendSync as slot
 use Rattle.boxcar.proofs.tag.Tag.TheSendSync as tag
 use Rattle.hashkeys.specs.declared.hashing.HashKey as HashKey
+use Rattle.bin_entries.proofs.Shared.{entries_send}
 use Rattle.bin_history.specs.declared.call.Remap as Remap
-use Rattle.bin_history.proofs.Shared.{entries_send, entries_sync}
+use Rattle.bin_history.specs.declared.call.Value as Value
 use Rattle.count_ledger.specs.contracts.books_by.RoleBook as Book
 use Rattle.bin_table.specs.contracts.rows.Rows as Rows
 use Rattle.lean_bins.specs.contracts.lying.Lying as Lying
@@ -34,9 +34,6 @@ use Rattle.lean_bins.specs.contracts.parts.OfTableSlotRuleVecOnceSlotRowsLyingOf
 use Rattle.lean_bins.specs.contracts.bins.LeanBins as Bins
 use Rattle.lean_bins.specs.contracts.bins.LeanBins.TheInside as Inside
 
-badge_sync : (V : RattleType) → IsSync (badge.the_row V)
-badge_sync V = record { shared = λ d b o κ q. part_keyless (badge.the_row V) (the_badge.the_send V) q d b o }
-
 -- slots in a list
 module _ (A : RattleType) (alloc : Allocator.Ghosts A.Denot) (T Y : RattleType) (rule : SlotRule.Ghosts Y.Denot T.Denot) where
   slots_send : IsSend A → Frees alloc alloc.dealloc_token → IsSend T → IsSend (Vec.the_row (Slot.the_row T Y rule) A alloc)
@@ -47,7 +44,7 @@ module _ (A : RattleType) (alloc : Allocator.Ghosts A.Denot) (T Y : RattleType) 
 
 module _ (K V F A : RattleType) (hash : HashKey.Ghosts K.Denot) (key_eq : Eq.Ghosts K.Denot)
     (key_same : PartialEq.Ghosts K.Denot)
-    (key_clone : Clone.Ghosts K.Denot) (value_clone : Clone.Ghosts V.Denot) (value_eq : Eq.Ghosts V.Denot)
+    (key_clone : Clone.Ghosts K.Denot) (value : Value.Ghosts V.Denot) (value_clone : Clone.Ghosts V.Denot) (value_eq : Eq.Ghosts V.Denot)
     (value_same : PartialEq.Ghosts V.Denot)
     (remap : Remap.Ghosts F.Denot K.Denot V.Denot) (function_clone : Clone.Ghosts F.Denot)
     (alloc : Allocator.Ghosts A.Denot)
@@ -57,37 +54,26 @@ module _ (K V F A : RattleType) (hash : HashKey.Ghosts K.Denot) (key_eq : Eq.Gho
   book_send : IsSend (Book.the_row K V F)
   book_send = search (sendable, the_badge.the_send) depth 30
 
-  book_sync : IsSync (Book.the_row K V F)
-  book_sync = search (sendable, badge_sync) depth 30
-
   lying_send : IsSend (Lying.the_row K V F A hash key_same key_clone alloc)
   lying_send = declared_send (Lying.the_type K V F A hash key_same key_clone alloc) (
-    entries_send K V F A hash key_same key_clone value_clone value_same remap function_clone alloc
-        sk sv sf sa yk yv yf ya frees,
+    entries_send K V A hash key_same key_clone alloc sk sv sa frees,
     (book_send, tt),
-  )
-
-  lying_sync : IsSync (Lying.the_row K V F A hash key_same key_clone alloc)
-  lying_sync = declared_sync (Lying.the_type K V F A hash key_same key_clone alloc) (
-    entries_sync K V F A hash key_same key_clone value_clone value_same remap function_clone alloc
-        sk sv sf sa yk yv yf ya frees,
-    (book_sync, tt),
   )
 
   -- a part of a table
   abbrev rows_field : Field
   rows_field = Rows.the_field (Lying.the_row K V F A hash key_same key_clone alloc) A PartTag.the_row
-      (ghosts K V F A hash no_dict key_eq no_dict key_same no_dict key_clone no_dict value_clone no_dict value_eq no_dict
+      (ghosts K V F A hash no_dict key_eq no_dict key_same no_dict key_clone no_dict value no_dict value_clone no_dict value_eq no_dict
       value_same no_dict remap no_dict function_clone no_dict alloc no_dict no_dict no_dict no_dict no_dict) alloc
 
   abbrev rows : RattleType
   rows = Rows.the_row (Lying.the_row K V F A hash key_same key_clone alloc) A PartTag.the_row
-      (ghosts K V F A hash no_dict key_eq no_dict key_same no_dict key_clone no_dict value_clone no_dict value_eq no_dict
+      (ghosts K V F A hash no_dict key_eq no_dict key_same no_dict key_clone no_dict value no_dict value_clone no_dict value_eq no_dict
       value_same no_dict remap no_dict function_clone no_dict alloc no_dict no_dict no_dict no_dict no_dict) alloc
 
   abbrev part_rule : SlotRule.Ghosts OfPart.the_row.Denot rows.Denot
   part_rule = of_part.ghosts K V F A hash of_part.no_dict key_eq of_part.no_dict key_same of_part.no_dict key_clone
-      of_part.no_dict value_clone of_part.no_dict value_eq of_part.no_dict value_same of_part.no_dict remap
+      of_part.no_dict value of_part.no_dict value_clone of_part.no_dict value_eq of_part.no_dict value_same of_part.no_dict remap
       of_part.no_dict function_clone of_part.no_dict alloc of_part.no_dict of_part.no_dict of_part.no_dict
       of_part.no_dict of_part.no_dict
 
@@ -97,7 +83,7 @@ module _ (K V F A : RattleType) (hash : HashKey.Ghosts K.Denot) (key_eq : Eq.Gho
 
   abbrev table_rule : SlotRule.Ghosts OfTable.the_row.Denot parts.Denot
   table_rule = of_table.ghosts K V F A hash of_table.no_dict key_eq of_table.no_dict key_same of_table.no_dict key_clone
-      of_table.no_dict value_clone of_table.no_dict value_eq of_table.no_dict value_same of_table.no_dict remap
+      of_table.no_dict value of_table.no_dict value_clone of_table.no_dict value_eq of_table.no_dict value_same of_table.no_dict remap
       of_table.no_dict function_clone of_table.no_dict alloc of_table.no_dict of_table.no_dict of_table.no_dict
       of_table.no_dict of_table.no_dict
 
@@ -120,7 +106,7 @@ module _ (K V F A : RattleType) (hash : HashKey.Ghosts K.Denot) (key_eq : Eq.Gho
   parts_sync = slots_sync A alloc rows OfPart.the_row part_rule ya rows_send rows_sync
 
   fields_send : AllSend
-      (shape (Inside.the_type K V F A hash key_eq key_same key_clone value_clone value_eq value_same remap
+      (shape (Inside.the_type K V F A hash key_eq key_same key_clone value value_clone value_eq value_same remap
       function_clone alloc)).fields
   fields_send = (
     bare_send,
@@ -134,7 +120,7 @@ module _ (K V F A : RattleType) (hash : HashKey.Ghosts K.Denot) (key_eq : Eq.Gho
   )
 
   fields_sync : AllSync
-      (shape (Inside.the_type K V F A hash key_eq key_same key_clone value_clone value_eq value_same remap
+      (shape (Inside.the_type K V F A hash key_eq key_same key_clone value value_clone value_eq value_same remap
       function_clone alloc)).fields
   fields_sync = (
     bare_sync,
@@ -148,9 +134,9 @@ module _ (K V F A : RattleType) (hash : HashKey.Ghosts K.Denot) (key_eq : Eq.Gho
   )
 
   pub map_send : IsSend
-      (Bins.the_row K V F A hash key_eq key_same key_clone value_clone value_eq value_same remap function_clone alloc)
+      (Bins.the_row K V F A hash key_eq key_same key_clone value value_clone value_eq value_same remap function_clone alloc)
   map_send = search (sendable, fields_send) depth 30
 
   pub map_sync : IsSync
-      (Bins.the_row K V F A hash key_eq key_same key_clone value_clone value_eq value_same remap function_clone alloc)
+      (Bins.the_row K V F A hash key_eq key_same key_clone value value_clone value_eq value_same remap function_clone alloc)
   map_sync = search (sendable, fields_sync) depth 30

@@ -9,7 +9,7 @@ ghost use Rattle.lean_bins.specs.Homes.{IsSpotOf};
 
 use crate::lying::{Lying, PartTag};
 use crate::parts::{PART, Parts, Tables};
-use bin_history::Remap;
+use bin_history::{Remap, Value};
 use bin_table::{Glance, Rows, Terms};
 use boxcar::slot::OnceSlot;
 use boxcar::tag::{Names, Tag};
@@ -36,7 +36,7 @@ pub(crate) fn stride_from(first: u32) -> usize
 /// The bins of one map, each in the place of its index, where it stays when it is halved. Contracts
 /// see the map's ledger, its form, its salt and the number of its opening bins.
 #[derive(Drop)]
-pub struct LeanBins<K: HashKey, V: Clone + Eq, F: Remap<K, V> + Clone, A: Allocator> {
+pub struct LeanBins<K: HashKey, V: Value, F: Remap<K, V>, A: Allocator> {
     pub(crate) opening: Rows<Lying<K, V, F, A>, A>,
     pub(crate) tables: Tables<K, V, F, A>,
     /// The exponent of the widest table that bins are moved to. It saves time and no more.
@@ -46,8 +46,7 @@ pub struct LeanBins<K: HashKey, V: Clone + Eq, F: Remap<K, V> + Clone, A: Alloca
     pub(crate) ledger: LedgerName,
 }
 
-impl<K: HashKey, V: Clone + Eq, F: Remap<K, V> + Clone, A: Allocator> Model
-    for LeanBins<K, V, F, A> {
+impl<K: HashKey, V: Value, F: Remap<K, V>, A: Allocator> Model for LeanBins<K, V, F, A> {
     ghost use Rattle.bin_history.specs.declared.form.Form.TheVariants.{Lean};
     ghost use Rattle.places.specs.Views.{HomeView};
     ghost use Rattle.lean_bins.specs.Homes.{IsHome};
@@ -62,12 +61,12 @@ impl<K: HashKey, V: Clone + Eq, F: Remap<K, V> + Clone, A: Allocator> Model
 
 /// Where the place of an index lies: in a part, so far from its first place.
 #[derive(Drop)]
-pub(crate) struct Spot<'a, K: HashKey, V: Clone + Eq, F: Remap<K, V> + Clone, A: Allocator> {
+pub(crate) struct Spot<'a, K: HashKey, V: Value, F: Remap<K, V>, A: Allocator> {
     pub(crate) rows: &'a Rows<Lying<K, V, F, A>, A>,
     pub(crate) at: usize,
 }
 
-impl<K: HashKey, V: Clone + Eq, F: Remap<K, V> + Clone, A: Allocator> LeanBins<K, V, F, A> {
+impl<K: HashKey, V: Value, F: Remap<K, V>, A: Allocator> LeanBins<K, V, F, A> {
     /// The number of opening bins: a power of two from 1 to 2^26.
     pub fn n(&self) -> u32
         ensures value { result ≡ self.now.n }
@@ -197,12 +196,7 @@ pub(crate) fn tag_of(first: u32, n: u32, salt: Salt, ledger: &LedgerName) -> Tag
     tag
 }
 
-impl<
-    K: HashKey + Drop,
-    V: Clone + Eq + Drop,
-    F: Remap<K, V> + Clone + Drop,
-    A: Allocator + Clone,
-> LeanBins<K, V, F, A> {
+impl<K: HashKey, V: Value, F: Remap<K, V>, A: Allocator + Clone> LeanBins<K, V, F, A> {
     pub(crate) fn allocator(&self) -> &A {
         self.tables.allocator()
     }
@@ -283,15 +277,15 @@ impl<
             (λ s. IsSpotOf self.now index s.rows.now.table.shared.key.tag
             s.rows.now.table.shared.table_id.slots s.at) }
     {
+        if let Some(spot) = self.spot(index) {
+            return Ok(spot);
+        }
         if index >= self.n {
             let exponent = index.ilog2();
             self.keep_parts(exponent)?;
             self.keep_part(exponent, (index - (1u32 << exponent)) / PART)?;
         }
-        match self.spot(index) {
-            Some(spot) => Ok(spot),
-            None => Err(Refused::Busy),
-        }
+        self.spot(index).ok_or(Refused::Busy)
     }
 
     /// Makes the slots of the parts of the table of this many bins, a power of two from 1 to 2^26,

@@ -8,19 +8,13 @@ ghost use Rattle.places.specs.Views.{place_of};
 
 use crate::bins::LeanBins;
 use crate::hold::{Held, Taken, give_back};
-use bin_history::Remap;
+use bin_history::{Remap, Value};
 use count_ledger::Ledger;
 use hashkeys::{Class, HashKey};
 use places::{Moved, Refused};
 use std::alloc::Allocator;
 
-impl<
-    'a,
-    K: HashKey + Drop,
-    V: Clone + Eq + Drop,
-    F: Remap<K, V> + Clone + Drop,
-    A: Allocator + Clone,
-> Held<'a, K, V, F, A> {
+impl<'a, K: HashKey, V: Value, F: Remap<K, V>, A: Allocator + Clone> Held<'a, K, V, F, A> {
     /// Puts the low half of the bin in its place and the high half in the place so much further,
     /// each with its part of the role. It waits for nobody, and takes memory for the part of the
     /// other place alone, where that is not made yet.
@@ -73,12 +67,7 @@ impl<
     }
 }
 
-impl<
-    K: HashKey + Drop,
-    V: Clone + Eq + Drop,
-    F: Remap<K, V> + Clone + Drop,
-    A: Allocator + Clone,
-> LeanBins<K, V, F, A> {
+impl<K: HashKey, V: Value, F: Remap<K, V>, A: Allocator + Clone> LeanBins<K, V, F, A> {
     /// Replaces the bin of the class by its halves. It waits for nobody.
     ///
     /// # Errors

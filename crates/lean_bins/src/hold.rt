@@ -13,7 +13,7 @@ ghost use Rattle.lean_bins.specs.Parts.{class_at, home_of};
 
 use crate::bins::{LeanBins, MOST_EXPONENT, Spot};
 use crate::lying::Lying;
-use bin_history::{Bin, Remap};
+use bin_history::{Bin, Remap, Value};
 use bin_table::Glance;
 use count_ledger::BinRole;
 use crossbeam_utils::Backoff;
@@ -23,7 +23,7 @@ use std::sync::Wait;
 
 /// A place that is held. A bin and its role lie there, or were taken out and are put back there.
 /// Nobody else has either until it is released.
-pub struct Taken<'a, K: HashKey, V: Clone + Eq, F: Remap<K, V> + Clone, A: Allocator> {
+pub struct Taken<'a, K: HashKey, V: Value, F: Remap<K, V>, A: Allocator> {
     /// What lies there is lent by its `value`.
     pub inner: bin_table::Held<'a, Lying<K, V, F, A>, A>,
     /// The class of the bin's keys.
@@ -35,7 +35,7 @@ pub struct Taken<'a, K: HashKey, V: Clone + Eq, F: Remap<K, V> + Clone, A: Alloc
 }
 
 /// A bin that is held, with its role. Nobody else has either until it is released.
-pub struct Held<'a, K: HashKey, V: Clone + Eq, F: Remap<K, V> + Clone, A: Allocator> {
+pub struct Held<'a, K: HashKey, V: Value, F: Remap<K, V>, A: Allocator> {
     pub bin: Bin<K, V, F, A>,
     pub role: BinRole<K, V, F>,
     pub place: Taken<'a, K, V, F, A>,
@@ -51,7 +51,7 @@ pub(crate) fn index_among(hash: u32, exponent: u32) -> u32
     hash & ((1u32 << exponent) - 1)
 }
 
-impl<K: HashKey, V: Clone + Eq, F: Remap<K, V> + Clone, A: Allocator + Clone> LeanBins<K, V, F, A> {
+impl<K: HashKey, V: Value, F: Remap<K, V>, A: Allocator + Clone> LeanBins<K, V, F, A> {
     /// One try for the bin of a class at its place, where it stays.
     #[inline(always)]
     fn try_at<'a>(
@@ -180,13 +180,7 @@ impl<K: HashKey, V: Clone + Eq, F: Remap<K, V> + Clone, A: Allocator + Clone> Le
     }
 }
 
-impl<'a, K: HashKey, V: Clone + Eq, F: Remap<K, V> + Clone, A: Allocator + Clone> Taken<
-    'a,
-    K,
-    V,
-    F,
-    A,
-> {
+impl<'a, K: HashKey, V: Value, F: Remap<K, V>, A: Allocator + Clone> Taken<'a, K, V, F, A> {
     /// Takes the bin and its role out of their place.
     fn take_out(self) -> Held<'a, K, V, F, A>
         requires { IsSomeAnd (taken self.inner.seat.me.1)
@@ -238,12 +232,7 @@ impl<'a, K: HashKey, V: Clone + Eq, F: Remap<K, V> + Clone, A: Allocator + Clone
 
 /// Puts a bin and its role at a place that is held, as one of 2 to the exponent.
 #[inline(always)]
-pub(crate) fn give_back<
-    K: HashKey + Drop,
-    V: Clone + Eq + Drop,
-    F: Remap<K, V> + Clone + Drop,
-    A: Allocator + Clone,
->(
+pub(crate) fn give_back<K: HashKey, V: Value, F: Remap<K, V>, A: Allocator + Clone>(
     inner: bin_table::Held<'_, Lying<K, V, F, A>, A>,
     exponent: u32,
     bin: Bin<K, V, F, A>,
@@ -259,13 +248,7 @@ pub(crate) fn give_back<
     held.release(exponent);
 }
 
-impl<
-    'a,
-    K: HashKey + Drop,
-    V: Clone + Eq + Drop,
-    F: Remap<K, V> + Clone + Drop,
-    A: Allocator + Clone,
-> Taken<'a, K, V, F, A> {
+impl<'a, K: HashKey, V: Value, F: Remap<K, V>, A: Allocator + Clone> Taken<'a, K, V, F, A> {
     /// Puts the bin and its role, which were taken out, back to their place. It waits for nobody.
     #[inline(always)]
     pub fn put_back(self, bin: Bin<K, V, F, A>, role: BinRole<K, V, F>)
@@ -293,13 +276,7 @@ impl<
     }
 }
 
-impl<
-    'a,
-    K: HashKey + Drop,
-    V: Clone + Eq + Drop,
-    F: Remap<K, V> + Clone + Drop,
-    A: Allocator + Clone,
-> Held<'a, K, V, F, A> {
+impl<'a, K: HashKey, V: Value, F: Remap<K, V>, A: Allocator + Clone> Held<'a, K, V, F, A> {
     /// Gives the bin and its role back. They agree, and are of the class and the ledger that were
     /// held. It waits for nobody.
     #[inline(always)]

@@ -9,7 +9,7 @@ ghost use Rattle.lean_bins.specs.NotLeft.{IfKept};
 
 use crate::bins::{LeanBins, MOST_EXPONENT};
 use crate::hold::Held;
-use bin_history::{Bin, Remap};
+use bin_history::{Bin, Remap, Value};
 use bin_table::Glance;
 use count_ledger::BinRole;
 use hashkeys::{Class, HashKey, MOST_BINS};
@@ -18,19 +18,14 @@ use std::alloc::{AllocError, Allocator};
 
 /// Why the bins of a map could not be taken out.
 #[derive(Drop)]
-pub enum NotLeft<K: HashKey, V: Clone + Eq, F: Remap<K, V> + Clone, A: Allocator> {
+pub enum NotLeft<K: HashKey, V: Value, F: Remap<K, V>, A: Allocator> {
     /// For want of memory. Here is the map as it was.
     NoMemory(LeanBins<K, V, F, A>),
     /// A bin was missing, or there were more than were counted.
     BinMissing,
 }
 
-impl<
-    K: HashKey + Drop,
-    V: Clone + Eq + Drop,
-    F: Remap<K, V> + Clone + Drop,
-    A: Allocator + Clone,
-> LeanBins<K, V, F, A> {
+impl<K: HashKey, V: Value, F: Remap<K, V>, A: Allocator + Clone> LeanBins<K, V, F, A> {
     /// The class of the bin of a hash, where one seems to stand.
     fn class_of(&self, hash: u32) -> Option<Class>
         ensures { IfSome result (λ c. self.now.n ≤ c.n) }

@@ -3,7 +3,7 @@ ghost use Rattle.std.specs.Prelude.{◌≡◌, Some, IsSomeAnd};
 ghost use Rattle.bin_history.specs.declared.form.Form.TheVariants.{Lean};
 ghost use Rattle.lean_bins.specs.Lying.{bin_in};
 
-use bin_history::{Bin, Kind, LeanBin, LeanEntries, Remap};
+use bin_history::{Bin, Kind, LeanBin, LeanEntries, Remap, Value};
 use bin_table::Fits;
 use count_ledger::{BinRole, LedgerName, RoleBook};
 use hashkeys::{Class, HashKey, Salt};
@@ -12,7 +12,7 @@ use std::mem;
 
 /// The entries of a bin and its role, or neither.
 #[derive(Drop)]
-pub struct Lying<K: HashKey, V: Clone + Eq, F: Remap<K, V> + Clone, A: Allocator> {
+pub struct Lying<K: HashKey, V: Value, F: Remap<K, V>, A: Allocator> {
     pub entries: LeanEntries<K, V, A>,
     pub role: RoleBook<K, V, F>,
 }
@@ -27,7 +27,7 @@ pub struct PartTag {
     pub ledger: LedgerName,
 }
 
-impl<K: HashKey, V: Clone + Eq, F: Remap<K, V> + Clone, A: Allocator> Fits for Lying<K, V, F, A> {
+impl<K: HashKey, V: Value, F: Remap<K, V>, A: Allocator> Fits for Lying<K, V, F, A> {
     ghost use Rattle.bin_history.specs.Calls.{after};
     ghost use Rattle.lean_bins.specs.Lying.{FitsWord};
 
@@ -36,7 +36,7 @@ impl<K: HashKey, V: Clone + Eq, F: Remap<K, V> + Clone, A: Allocator> Fits for L
     ghost fits = { FitsWord K.eq (after V.eq F.remapped F.merged) };
 }
 
-impl<K: HashKey, V: Clone + Eq, F: Remap<K, V> + Clone, A: Allocator + Clone> Lying<K, V, F, A> {
+impl<K: HashKey, V: Value, F: Remap<K, V>, A: Allocator + Clone> Lying<K, V, F, A> {
     /// Neither, at a place for bins of the class.
     #[inline(always)]
     pub(crate) fn nothing(salt: Salt, class: Class) -> Lying<K, V, F, A> {
@@ -87,12 +87,7 @@ impl<K: HashKey, V: Clone + Eq, F: Remap<K, V> + Clone, A: Allocator + Clone> Ly
     }
 }
 
-impl<
-    K: HashKey + Drop,
-    V: Clone + Eq + Drop,
-    F: Remap<K, V> + Clone + Drop,
-    A: Allocator + Clone,
-> Lying<K, V, F, A> {
+impl<K: HashKey, V: Value, F: Remap<K, V>, A: Allocator + Clone> Lying<K, V, F, A> {
     /// Puts a role there.
     #[inline(always)]
     pub fn put_role(&mut self, role: BinRole<K, V, F>)

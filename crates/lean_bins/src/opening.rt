@@ -13,7 +13,7 @@ ghost use Rattle.lean_bins.specs.Parts.{AreTables};
 use crate::bins::{LeanBins, stride_from, tag_of};
 use crate::lying::{Lying, PartTag};
 use crate::parts::Tables;
-use bin_history::{Bin, Form, Remap};
+use bin_history::{Bin, Form, Remap, Value};
 use bin_table::{Rows, Terms};
 use boxcar::slot::OnceSlot;
 use count_ledger::{BinRole, LedgerName};
@@ -22,12 +22,7 @@ use std::alloc::{AllocError, Allocator};
 use std::sync::atomic::AtomicU64;
 
 /// A bin of these pairs, with its role.
-fn opening_bin<
-    K: HashKey + Drop,
-    V: Clone + Eq + Drop,
-    F: Remap<K, V> + Clone + Drop,
-    A: Allocator + Clone,
->(
+fn opening_bin<K: HashKey, V: Value, F: Remap<K, V>, A: Allocator + Clone>(
     alloc: &A,
     salt: Salt,
     class: Class,
@@ -48,12 +43,7 @@ fn opening_bin<
 }
 
 /// The opening bins, each made of the base and the role at its place.
-fn opening_bins<
-    K: HashKey + Drop,
-    V: Clone + Eq + Drop,
-    F: Remap<K, V> + Clone + Drop,
-    A: Allocator + Clone,
->(
+fn opening_bins<K: HashKey, V: Value, F: Remap<K, V>, A: Allocator + Clone>(
     alloc: &A,
     salt: Salt,
     n: u32,
@@ -91,12 +81,12 @@ fn opening_bins<
 }
 
 /// The slots of a map's tables. No table is in them yet.
-fn no_tables<
-    K: HashKey + Drop,
-    V: Clone + Eq + Drop,
-    F: Remap<K, V> + Clone + Drop,
-    A: Allocator + Clone,
->(alloc: A, n: u32, salt: Salt, ledger: &LedgerName) -> Result<Tables<K, V, F, A>, AllocError>
+fn no_tables<K: HashKey, V: Value, F: Remap<K, V>, A: Allocator + Clone>(
+    alloc: A,
+    n: u32,
+    salt: Salt,
+    ledger: &LedgerName,
+) -> Result<Tables<K, V, F, A>, AllocError>
     ensures { IfOk result (λ slots. AreTables
         (record { ledger = ledger.now; form = Lean; salt = salt; n = n }) slots.items) }
 {
@@ -108,12 +98,7 @@ fn no_tables<
     Ok(slots)
 }
 
-impl<
-    K: HashKey + Drop,
-    V: Clone + Eq + Drop,
-    F: Remap<K, V> + Clone + Drop,
-    A: Allocator + Clone,
-> LeanBins<K, V, F, A> {
+impl<K: HashKey, V: Value, F: Remap<K, V>, A: Allocator + Clone> LeanBins<K, V, F, A> {
     /// The map with these opening bins and no tables of later ones.
     fn with_opening(
         alloc: A,

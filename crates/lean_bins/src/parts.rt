@@ -1,7 +1,7 @@
 //! The parts of a map's tables: the table of the indexes from 2^e up to 2^(e+1) is cut into parts of
 //! 4,096 places, each of which is made when its first bin is.
 use crate::lying::{Lying, PartTag};
-use bin_history::Remap;
+use bin_history::{Remap, Value};
 use bin_table::{Fits, Rows};
 use boxcar::slot::{OnceSlot, SlotRule};
 use hashkeys::HashKey;
@@ -13,9 +13,8 @@ pub(crate) const PART: u32 = 4096;
 /// The rule of a slot for a part: it is the map's, from the index that the slot's tag names.
 pub struct OfPart;
 
-impl<K: HashKey, V: Clone + Eq, F: Remap<K, V> + Clone, A: Allocator> SlotRule<
-    Rows<Lying<K, V, F, A>, A>,
-> for OfPart {
+impl<K: HashKey, V: Value, F: Remap<K, V>, A: Allocator> SlotRule<Rows<Lying<K, V, F, A>, A>>
+    for OfPart {
     ghost use Rattle.std.specs.Prelude.{min};
     ghost use Rattle.places.specs.Names.{home_named};
     ghost use Rattle.lean_bins.specs.Parts.{IsPart, first_named};
@@ -31,7 +30,7 @@ pub(crate) type Parts<K, V, F, A> = Vec<OnceSlot<Rows<Lying<K, V, F, A>, A>, OfP
 /// names.
 pub struct OfTable;
 
-impl<K: HashKey, V: Clone + Eq, F: Remap<K, V> + Clone, A: Allocator> SlotRule<
+impl<K: HashKey, V: Value, F: Remap<K, V>, A: Allocator> SlotRule<
     Vec<OnceSlot<Rows<Lying<K, V, F, A>, A>, OfPart>, A>,
 > for OfTable {
     ghost use Rattle.places.specs.Names.{home_named};

@@ -5,7 +5,7 @@ use Rattle.std.proofs.lemmas.Grind.{common_steps}
 use Rattle.std.proofs.lemmas.List.Sorted.{IsPermutation-refl, IsPermutation-sym, IsPermutation-cons}
 use Rattle.std.proofs.lemmas.List.Sorted.{IsPermutation-trans, IsPermutation-middle}
 use Rattle.bin_history.specs.Entries.{lookup, HasDistinctKeys, remove}
-use Rattle.bin_history.proofs.Entries.{lookup-remove, HasDistinctKeys-remove}
+use Rattle.bin_entries.proofs.Entries.{lookup-remove, HasDistinctKeys-remove}
 
 module _ {K V : Type 0} (same : K → K → Bool) (tells : (x y : K) → Decides (same x y) (x ≡ y)) where
   nothing : (es : List (K × V)) → ((k : K) → lookup same es k ≡ None) → es ≡ []

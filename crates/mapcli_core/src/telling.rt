@@ -1,5 +1,5 @@
 //! How a run's end is told.
-ghost use Rattle.std.specs.Prelude.{◌≡◌, [], ◌∷◌, true, false, IfOk, IsErrOf, OnOk, OnErr, map};
+ghost use Rattle.std.specs.Prelude.{◌≡◌, ◌≢◌, [], ◌∷◌, true, false, IfOk, IsErrOf, OnOk, OnErr, map};
 ghost use Rattle.std.specs.Prelude.{string_bytes};
 ghost use Rattle.std.specs.Io.KnownBytes.{Appends};
 ghost use Rattle.mapcli_core.specs.Devices.{AppendsFront};
@@ -14,16 +14,6 @@ use itoa::Buffer;
 use script::Kind;
 use std::alloc::{AllocError, Global};
 
-const NO_MEMORY: &str = "mapcli: no memory\n";
-
-const DEVICE: &str = "mapcli: device\n";
-
-const BINS_MISSING: &str = "mapcli: bins missing\n";
-
-const BAD_CAPACITY: &str = "mapcli: the capacity is not 1 to 4096\n";
-
-const BAD_WORKERS: &str = "mapcli: the workers are not 1 to 16\n";
-
 /// The status that the program exits with after this end of a run.
 pub fn status(fault: &Fault) -> u8
     ensures { result ≡ status_of fault.now }
@@ -36,6 +26,23 @@ pub fn status(fault: &Fault) -> u8
     }
 }
 
+/// What is told of an end of a run that is no script's fault: `clap`'s text, or a line that is always
+/// the same.
+fn text_of(fault: &Fault) -> &str
+    requires { status_of fault.now ≢ 1 }
+    ensures { result.now ≡ line_of fault.now }
+{
+    match fault {
+        Fault::Help(text) | Fault::Usage(text) => text,
+        Fault::ScriptFault { line: _, kind: _ } => unreachable!(),
+        Fault::NoMemory => "mapcli: no memory\n",
+        Fault::Device => "mapcli: device\n",
+        Fault::BinMissing => "mapcli: bins missing\n",
+        Fault::BadCapacity => "mapcli: the capacity is not 1 to 4096\n",
+        Fault::BadWorkers => "mapcli: the workers are not 1 to 16\n",
+    }
+}
+
 /// What is told of this end of a run: `clap`'s text, or one line.
 ///
 /// # Errors
@@ -45,17 +52,12 @@ pub fn line(alloc: Global, fault: &Fault) -> Result<String, AllocError>
     ensures { IfOk result (λ told. string_bytes told ≡ line_of fault.now) }
 {
     match fault {
-        Fault::Help(text) | Fault::Usage(text) => String::from_str(alloc, text),
         Fault::ScriptFault { line, kind } => {
             let (line, kind) = (*line, *kind);
             let fault = script::Fault { line, kind };
             format!(in alloc; "mapcli: {fault}\n")
         }
-        Fault::NoMemory => String::from_str(alloc, NO_MEMORY),
-        Fault::Device => String::from_str(alloc, DEVICE),
-        Fault::BinMissing => String::from_str(alloc, BINS_MISSING),
-        Fault::BadCapacity => String::from_str(alloc, BAD_CAPACITY),
-        Fault::BadWorkers => String::from_str(alloc, BAD_WORKERS),
+        _ => String::from_str(alloc, text_of(fault)),
     }
 }
 
@@ -118,12 +120,7 @@ pub fn tell<O: Output, E: Output>(
 {
     match fault {
         Fault::Help(text) => write_all(output, text.as_bytes()),
-        Fault::Usage(text) => write_all(errors, text.as_bytes()),
         Fault::ScriptFault { line, kind } => write_script_fault(errors, *line, *kind),
-        Fault::NoMemory => write_all(errors, NO_MEMORY.as_bytes()),
-        Fault::Device => write_all(errors, DEVICE.as_bytes()),
-        Fault::BinMissing => write_all(errors, BINS_MISSING.as_bytes()),
-        Fault::BadCapacity => write_all(errors, BAD_CAPACITY.as_bytes()),
-        Fault::BadWorkers => write_all(errors, BAD_WORKERS.as_bytes()),
+        _ => write_all(errors, text_of(fault).as_bytes()),
     }
 }

@@ -6,6 +6,7 @@ use crate::body::Body;
 use crate::gate::Gate;
 use crate::labor::Labor;
 use crate::member::Member;
+use crate::order::Order;
 use crate::seats::Seats;
 use crate::task::{Task, Work};
 use completers::{Arrival, Node, Partial, Supply, Ticket, Tree};
@@ -19,16 +20,13 @@ use std::sync::atomic::Ordering::SeqCst;
 /// What all workers of a run share. `done` is set once somebody was last at the root.
 #[derive(Drop)]
 pub(crate) struct Job<'a, B: Body, G, W: Work, A: Allocator> {
+    pub(crate) order: &'a Order<'a, B, G>,
     pub(crate) tree: &'a Tree<B, A>,
-    pub(crate) body: &'a B,
-    pub(crate) gate: &'a G,
-    pub(crate) bins: usize,
-    pub(crate) batch: usize,
     pub(crate) done: &'a AtomicBool,
     pub(crate) work: PhantomData<W>,
     ghost tree_is: { (tree.now.identity ≡ W.tree) × (tree.now.bins ≡ W.bins) × (tree.now.slots ≡ 8) },
-    ghost body_is: { tree.now.relation ≡ body.now },
-    ghost range: { (0 < bins) × (bins ≡ W.bins) × (W.bins ≤ B.limit body.now) },
+    ghost body_is: { tree.now.relation ≡ order.now.body.now },
+    ghost bins_are: { order.now.bins ≡ W.bins },
 }
 
 impl<B: Body, G: Gate, W: Work, A: Allocator + Clone> Job<'_, B, G, W, A> {
@@ -36,8 +34,8 @@ impl<B: Body, G: Gate, W: Work, A: Allocator + Clone> Job<'_, B, G, W, A> {
     // the last. At the root it has the part of the whole range.
     fn climb(&self, ticket: Ticket<B::Part>, part: B::Part) -> Option<B::Part>
         requires tree { ticket.tree ≡ W.tree }
-        requires part { B.relates self.now.body.now ticket.lo ticket.hi part }
-        ensures { IfSome result (B.relates self.now.body.now 0 W.bins) }
+        requires part { B.relates self.now.order.now.body.now ticket.lo ticket.hi part }
+        ensures { IfSome result (B.relates self.now.order.now.body.now 0 W.bins) }
     {
         let mut ticket = ticket;
         let mut part = part;
@@ -49,9 +47,9 @@ impl<B: Body, G: Gate, W: Work, A: Allocator + Clone> Job<'_, B, G, W, A> {
             };
             let Some(next) = above else {
                 self.done.store(true, SeqCst);
-                return Some(self.body.join(0, self.bins, parts));
+                return Some(self.order.body.join(0, self.order.bins, parts));
             };
-            part = self.body.join(next.lo(), next.hi(), parts);
+            part = self.order.body.join(next.lo(), next.hi(), parts);
             ticket = next;
         }
     }
@@ -86,7 +84,7 @@ impl<B: Body, G: Gate, W: Work, A: Allocator + Clone> Job<'_, B, G, W, A> {
         requires tree { node.tree ≡ W.tree }
         requires range { node.hi ≤ W.bins }
         requires room { (batch < 2 ^ node.level) × (node.forks + node.level ≤ 7) }
-        ensures part { IfSome result (B.relates self.now.body.now 0 W.bins) }
+        ensures part { IfSome result (B.relates self.now.order.now.body.now 0 W.bins) }
         ensures shape { shape me.new ≡ shape me.old }
     {
         let mut node = node;
@@ -111,8 +109,8 @@ impl<B: Body, G: Gate, W: Work, A: Allocator + Clone> Job<'_, B, G, W, A> {
         }
         let (lo, hi) = (node.lo(), node.hi());
         let ticket = node.own(self.tree);
-        self.gate.leaf(me.number, lo, hi);
-        let part = self.body.leaf(lo, hi);
+        self.order.gate.leaf(me.number, lo, hi);
+        let part = self.order.body.leaf(lo, hi);
         self.climb(ticket, part)
     }
 }
@@ -123,10 +121,10 @@ impl<B: Body, G: Gate, W: Work, A: Allocator + Clone, S: Seats<A>, Rt: Wait> Lab
     B::Part,
     Rt,
 > for Job<'_, B, G, W, A> {
-    ghost fits = { λ job root. (root.tree ≡ W.tree) × (job.batch < 2 ^ root.level)
+    ghost fits = { λ job root. (root.tree ≡ W.tree) × (job.order.now.batch < 2 ^ root.level)
         × (root.level ≤ 7) };
 
-    ghost gives = { λ job part. B.relates job.body.now 0 W.bins part };
+    ghost gives = { λ job part. B.relates job.order.now.body.now 0 W.bins part };
 
     ghost shape = { λ m. shape m };
 
@@ -137,8 +135,8 @@ impl<B: Body, G: Gate, W: Work, A: Allocator + Clone, S: Seats<A>, Rt: Wait> Lab
         me: &mut Member<Task<B::Part, W>, A, S>,
     ) -> Option<B::Part> {
         if let Some(root) = root.take() {
-            let node = self.tree.open(root, None, 0, self.bins);
-            let found = self.work(rt, me, node, self.batch);
+            let node = self.tree.open(root, None, 0, self.order.bins);
+            let found = self.work(rt, me, node, self.order.batch);
             if found.is_some() {
                 return found;
             }

@@ -16,6 +16,7 @@ mod labor;
 mod limits;
 mod log;
 mod member;
+mod order;
 mod pool;
 mod rule;
 mod seats;

@@ -15,6 +15,7 @@ use crate::gate::Gate;
 use crate::job::Job;
 use crate::labor::{Labor, crew};
 use crate::member::Member;
+use crate::order::Order;
 use crate::seats::Seats;
 use crate::settle::close;
 use crate::task::{Task, Work};
@@ -58,21 +59,6 @@ pub(crate) fn new_deques<T: Drop, A: Allocator + Clone>(
         all.push(new_deque(alloc.clone()?, CAPACITY)?)?;
     }
     Ok(all)
-}
-
-// What the caller of a run asked for.
-#[derive(Drop)]
-pub(crate) struct Order<'a, B: Body, G> {
-    pub(crate) workers: usize,
-    // At most so many threads are started.
-    pub(crate) threads: usize,
-    pub(crate) gate: &'a G,
-    pub(crate) body: &'a B,
-    pub(crate) bins: usize,
-    pub(crate) batch: usize,
-    ghost workers_are: { (0 < workers) × (workers ≤ most_workers) },
-    ghost bins_are: { (0 < bins) × (bins ≤ B.limit body.now) },
-    ghost batch_is: { batch ≤ most_batch },
 }
 
 // The part of all bins, where somebody came to the root, and what the settlement counted.
@@ -121,22 +107,26 @@ fn run_seated<
     rt: &Rt,
     alloc: &A,
     job: &Job<'_, B, G, W, A>,
-    threads: usize,
     deques: &mut Vec<Own<Task<B::Part, W>, A>, A>,
     root: Supply<B::Part>,
 ) -> Result<Outcome<B::Part>, AllocError>
 where
     B::Part: Send,
     requires tree { root.tree ≡ W.tree }
-    requires room { (job.now.batch < 2 ^ root.level) × (root.level ≤ 7) }
+    requires room { (job.now.order.now.batch < 2 ^ root.level) × (root.level ≤ 7) }
     requires few { vec_len deques.old ≤ most_workers }
     requires deques { All IsFresh deques.old.items }
     requires seats { AreSeated worker_deque S.deque deques.old.items }
-    ensures part { IfOk result (λ out. IfSome out.0 (B.relates job.now.body.now 0 W.bins)) }
+    ensures part { IfOk result (λ out. IfSome out.0 (B.relates job.now.order.now.body.now 0 W.bins)) }
     ensures tasks { IfOk result (λ out. IfSome out.1 AreSettled) }
 {
     run_crew::<Task<B::Part, W>, Supply<B::Part>, B::Part, A, S, Job<'_, B, G, W, A>, Rt>(
-        rt, alloc, job, threads, root, deques,
+        rt,
+        alloc,
+        job,
+        job.order.threads,
+        root,
+        deques,
     )
 }
 
@@ -167,16 +157,13 @@ where
 {
     let done = AtomicBool::new(false);
     let job = Job::<B, G, W, A> {
+        order,
         tree,
-        body: order.body,
-        gate: order.gate,
-        bins: order.bins,
-        batch: order.batch,
         done: &done,
         work: PhantomData,
     };
     let mut deques = new_deques(alloc, order.workers)?;
-    run_seated::<B, G, W, A, Brand, Rt>(rt, alloc, &job, order.threads, &mut deques, root)
+    run_seated::<B, G, W, A, Brand, Rt>(rt, alloc, &job, &mut deques, root)
 }
 
 // A run, unless memory is refused.

@@ -1,7 +1,7 @@
 //! Recorded bins at the program's keys.
 use crate::asserts::{assert_same, key};
 use crate::rows::rows;
-use bin_history::{Call, Form, Record, RecordedBin, Reply};
+use bin_history::{Call, Record, RecordedBin, Reply};
 use hashkeys::{Class, Key, Salt};
 use std::alloc::{AllocError, Global};
 use std::process::Abort;
@@ -11,7 +11,7 @@ use test_support::Plus;
 type KeyBin = RecordedBin<Key, u64, Plus, Global>;
 
 fn empty(alloc: Global, class: Class) -> Result<KeyBin, AllocError> {
-    RecordedBin::new(alloc, Form::Recorded, Salt(0), class, Vec::new(alloc))
+    RecordedBin::new(alloc, Salt(0), class, Vec::new(alloc))
 }
 
 /// Makes a call on a bin that has its key, as the next of client 7.

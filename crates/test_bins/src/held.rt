@@ -6,7 +6,7 @@ ghost use Rattle.bin_history.specs.Copies.{IsExact};
 ghost use Rattle.count_ledger.specs.Agreement.{part_of_role};
 ghost use Rattle.count_ledger.specs.Limits.{most_calls};
 
-use bin_history::{Bin, Form, Given, Op, Remap, Reply};
+use bin_history::{Bin, Form, Given, Op, Remap, Reply, Value};
 use count_ledger::{BinRole, Ledger, Pass, Unsettled};
 use hashkeys::{Class, HashKey, Salt};
 use std::alloc::{AllocError, Allocator};
@@ -15,13 +15,13 @@ use std::process::Abort;
 
 /// A bin and its role, which agree. Contracts see the role.
 #[derive(Drop)]
-pub(crate) struct Held<K: HashKey, V: Clone + Eq, F: Remap<K, V> + Clone, A: Allocator> {
+pub(crate) struct Held<K: HashKey, V: Value, F: Remap<K, V>, A: Allocator> {
     alloc: A,
     bin: Bin<K, V, F, A>,
     role: BinRole<K, V, F>,
 }
 
-impl<K: HashKey, V: Clone + Eq, F: Remap<K, V> + Clone, A: Allocator> Model for Held<K, V, F, A> {
+impl<K: HashKey, V: Value, F: Remap<K, V>, A: Allocator> Model for Held<K, V, F, A> {
     ghost use Rattle.bin_history.specs.Calls.{after};
     ghost use Rattle.count_ledger.specs.Agreement.{BinAgrees};
     ghost use Rattle.count_ledger.specs.Views.{RoleView};
@@ -33,12 +33,7 @@ impl<K: HashKey, V: Clone + Eq, F: Remap<K, V> + Clone, A: Allocator> Model for 
     ghost invariant = { λ h. BinAgrees K.eq (after V.eq F.remapped F.merged) h.bin h.role };
 }
 
-impl<
-    K: HashKey + Drop,
-    V: Clone + Eq + Drop,
-    F: Remap<K, V> + Clone + Drop,
-    A: Allocator + Clone,
-> Held<K, V, F, A> {
+impl<K: HashKey, V: Value, F: Remap<K, V>, A: Allocator + Clone> Held<K, V, F, A> {
     /// A new bin for a new role over no pairs.
     fn new(alloc: A, form: Form, salt: Salt, role: BinRole<K, V, F>) -> Result<Self, AllocError>
         requires keys { IsExact K.is_clone }
@@ -156,12 +151,7 @@ impl<
 }
 
 /// A new bin for each of the roles, which keep nothing over no pairs.
-pub(crate) fn hold_all<
-    K: HashKey + Drop,
-    V: Clone + Eq + Drop,
-    F: Remap<K, V> + Clone + Drop,
-    A: Allocator + Clone,
->(
+pub(crate) fn hold_all<K: HashKey, V: Value, F: Remap<K, V>, A: Allocator + Clone>(
     rt: &impl Abort,
     ledger: &Ledger<K, V, F, A>,
     salt: Salt,
@@ -183,12 +173,10 @@ pub(crate) fn hold_all<
 }
 
 /// The roles of the bins.
-pub(crate) fn roles_of<
-    K: HashKey + Drop,
-    V: Clone + Eq + Drop,
-    F: Remap<K, V> + Clone + Drop,
-    A: Allocator + Clone,
->(rt: &impl Abort, bins: Vec<Held<K, V, F, A>, A>) -> Vec<BinRole<K, V, F>, A>
+pub(crate) fn roles_of<K: HashKey, V: Value, F: Remap<K, V>, A: Allocator + Clone>(
+    rt: &impl Abort,
+    bins: Vec<Held<K, V, F, A>, A>,
+) -> Vec<BinRole<K, V, F>, A>
     ensures { result.items ≡ bins.items }
 {
     let alloc = bins.allocator().clone().expect(rt, "memory");

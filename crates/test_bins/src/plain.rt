@@ -211,7 +211,7 @@ fn are_stored(
 /// not those calls, or its base is not what those before them left.
 fn first_misstored(rt: &impl Abort, alloc: Global) -> Result<Option<u64>, AllocError> {
     let class = Class::new(1, 0);
-    let mut bin = RecordedBin::new(alloc, Form::Recorded, Salt(0), class, Vec::new(alloc))?;
+    let mut bin = RecordedBin::new(alloc, Salt(0), class, Vec::new(alloc))?;
     let mut made = Vec::new(alloc);
     let mut folded = Folded {
         pairs: Vec::new(alloc),

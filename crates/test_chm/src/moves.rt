@@ -87,10 +87,10 @@ fn a_later_call_goes_on_with_a_refused_move(rt: HostRuntime) -> Result<(), Fail>
     // The first put takes room for its entry, in a recorded map for the record too; and its move
     // for the table of two places, and three times for the strides, or in a lean map four times.
     // Then a recorded bin takes it for the entry and the record of the half that has the key, and
-    // for two parts of each half; and a lean one four times, for the part of the table that the
-    // other half comes to. Without one of these the table has grown, and the bin is moved by the
-    // next call on it.
-    let rows = [(Form::Recorded, (2, 6, 12)), (Form::Lean, (1, 6, 10))];
+    // for each half's bin; and a lean one four times, for the part of the table that the other half
+    // comes to. Without one of these the table has grown, and the bin is moved by the next call on
+    // it.
+    let rows = [(Form::Recorded, (2, 6, 10)), (Form::Lean, (1, 6, 10))];
     for (form, requests) in rows {
         let (_own, _opened, all): Requests = requests;
         for granted in 0..all.saturating_add(1) {

@@ -4,7 +4,7 @@ ghost use Rattle.bin_history.specs.Copies.{IsExact};
 
 use crate::asserts::{assert_same, numbered};
 use crate::waiting::{Event, Paired, WAIT};
-use bin_history::{Form, Remap, Reply};
+use bin_history::{Form, Remap, Reply, Value};
 use chm::Map;
 use count_ledger::Pass;
 use hashkeys::{Key, Salt};
@@ -56,7 +56,7 @@ fn numbers_of_24(rt: &impl Abort) -> [u32; 24] {
 
 /// Puts copies of a value at the first 23 of these keys, which are told to wait where they are
 /// copied from then on, and the last value at the 24th: a table of 32 bins grows then.
-fn put_24<R: Wait + Abort, V: Clone + Eq + Drop, F: Remap<Key, V> + Clone + Drop>(
+fn put_24<R: Wait + Abort, V: Value, F: Remap<Key, V>>(
     rt: &R,
     map: &Map<Key, V, F, Global>,
     pass: &mut Pass<Key, V, F>,
@@ -89,8 +89,8 @@ fn put_24<R: Wait + Abort, V: Clone + Eq + Drop, F: Remap<Key, V> + Clone + Drop
 /// how many keys there are.
 fn call_while_another_moves<
     R: Threads + Wait + Abort + Sync,
-    V: Clone + Eq + Drop + Send + Sync,
-    F: Remap<Key, V> + Clone + Drop + Send + Sync,
+    V: Value + Send + Sync,
+    F: Remap<Key, V> + Send + Sync,
 >(rt: &R, alloc: Global, value: &V, last: &V, event: &Event, told: &AtomicU64) -> u64
     requires values { IsExact V.is_clone }
     requires functions { IsExact F.is_clone }

@@ -4,7 +4,7 @@ ghost use Rattle.bin_history.specs.Copies.{IsExact};
 
 use crate::asserts::{assert_same, key, numbered};
 use crate::waiting::{Event, Paired, WAIT};
-use bin_history::{Form, Remap, Reply};
+use bin_history::{Form, Remap, Reply, Value};
 use chm::Map;
 use count_ledger::Pass;
 use hashkeys::{Key, Salt};
@@ -32,7 +32,7 @@ fn others(form: Form) -> u32 {
 }
 
 /// Puts copies of a value at so many keys that are not in the bin of `a`.
-fn put_others<R: Wait + Abort, V: Clone + Eq + Drop, F: Remap<Key, V> + Clone + Drop>(
+fn put_others<R: Wait + Abort, V: Value, F: Remap<Key, V>>(
     rt: &R,
     map: &Map<Key, V, F, Global>,
     pass: &mut Pass<Key, V, F>,
@@ -59,7 +59,7 @@ fn put_others<R: Wait + Abort, V: Clone + Eq + Drop, F: Remap<Key, V> + Clone + 
 }
 
 /// Puts a copy of a value at `a` and looks at it there, where its next copy waits.
-fn look_at_a<R: Wait + Abort, V: Clone + Eq + Drop, F: Remap<Key, V> + Clone + Drop>(
+fn look_at_a<R: Wait + Abort, V: Value, F: Remap<Key, V>>(
     rt: &R,
     map: &Map<Key, V, F, Global>,
     pass: &mut Pass<Key, V, F>,
@@ -81,7 +81,7 @@ fn look_at_a<R: Wait + Abort, V: Clone + Eq + Drop, F: Remap<Key, V> + Clone + D
 }
 
 /// How many bins a walk shows.
-fn count_bins<R: Wait + Abort, V: Clone + Eq + Drop, F: Remap<Key, V> + Clone + Drop>(
+fn count_bins<R: Wait + Abort, V: Value, F: Remap<Key, V>>(
     rt: &R,
     map: &Map<Key, V, F, Global>,
     pass: &mut Pass<Key, V, F>,
@@ -94,7 +94,7 @@ fn count_bins<R: Wait + Abort, V: Clone + Eq + Drop, F: Remap<Key, V> + Clone + 
 }
 
 /// How many bins there are before a call on `a`, and how many after it.
-fn bins_round_a_call<R: Wait + Abort, V: Clone + Eq + Drop, F: Remap<Key, V> + Clone + Drop>(
+fn bins_round_a_call<R: Wait + Abort, V: Value, F: Remap<Key, V>>(
     rt: &R,
     map: &Map<Key, V, F, Global>,
     pass: &mut Pass<Key, V, F>,
@@ -112,7 +112,7 @@ fn bins_round_a_call<R: Wait + Abort, V: Clone + Eq + Drop, F: Remap<Key, V> + C
 
 /// Client 0 makes a call on `a`, and the map is closed. Answers how many bins there are before the
 /// call, how many after it, and how many keys.
-fn call_and_close<R: Wait + Abort, V: Clone + Eq + Drop, F: Remap<Key, V> + Clone + Drop>(
+fn call_and_close<R: Wait + Abort, V: Value, F: Remap<Key, V>>(
     rt: &R,
     map: Map<Key, V, F, Global>,
     mut passes: Vec<Pass<Key, V, F>, Global>,
@@ -132,8 +132,8 @@ fn call_and_close<R: Wait + Abort, V: Clone + Eq + Drop, F: Remap<Key, V> + Clon
 /// after the next call on `a`, and how many keys.
 fn grow_round_a_held_bin<
     R: Threads + Wait + Abort + Sync,
-    V: Clone + Eq + Drop + Send + Sync,
-    F: Remap<Key, V> + Clone + Drop + Send + Sync,
+    V: Value + Send + Sync,
+    F: Remap<Key, V> + Send + Sync,
 >(
     rt: &R,
     form: Form,

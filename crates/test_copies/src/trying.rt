@@ -16,7 +16,7 @@ use std::thread::{self, Threads};
 use test_maps::{BOTH, close, open};
 
 /// Tries to put 1 at a key. None where its bin is held.
-fn try_put<F: Remap<Key, u64> + Clone + Drop>(
+fn try_put<F: Remap<Key, u64>>(
     rt: &impl Abort,
     map: &Map<Key, u64, F, Global>,
     pass: &mut Pass<Key, u64, F>,
@@ -34,10 +34,13 @@ fn try_put<F: Remap<Key, u64> + Clone + Drop>(
 
 /// Client 0 computes at `a`, and holds its bin while its function waits. Client 1 tries a put there
 /// meanwhile, which is not made, and one on another bin, which is. Answers how many keys there are.
-fn try_while_another_computes<
-    R: Threads + Wait + Abort + Sync,
-    F: Remap<Key, u64> + Clone + Drop + Send + Sync,
->(rt: &R, alloc: Global, form: Form, function: &F, both: (&Event, &Event)) -> u64
+fn try_while_another_computes<R: Threads + Wait + Abort + Sync, F: Remap<Key, u64> + Send + Sync>(
+    rt: &R,
+    alloc: Global,
+    form: Form,
+    function: &F,
+    both: (&Event, &Event),
+) -> u64
     requires { IsExact F.is_clone }
 {
     let (asked, event) = both;

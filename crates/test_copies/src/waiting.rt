@@ -93,10 +93,13 @@ impl<'a> Remap<Key, u64> for OneAfter<'a> {
 
 /// Client 0 computes at a key with a function that waits until client 1 has put another one, which
 /// client 1 does once the function was asked.
-fn compute_while_another_puts<
-    R: Threads + Wait + Abort + Sync,
-    F: Remap<Key, u64> + Clone + Drop + Send + Sync,
->(rt: &R, alloc: Global, form: Form, function: &F, both: (&Event, &Event)) -> u64
+fn compute_while_another_puts<R: Threads + Wait + Abort + Sync, F: Remap<Key, u64> + Send + Sync>(
+    rt: &R,
+    alloc: Global,
+    form: Form,
+    function: &F,
+    both: (&Event, &Event),
+) -> u64
     requires { IsExact F.is_clone }
 {
     let (asked, event) = both;

@@ -121,11 +121,11 @@ fn refuse_each<R: Wait + Abort>(
 #[test]
 fn a_walk_shows_what_a_refused_put_left(rt: HostRuntime) -> Result<(), Fail> {
     // The put asks for room for the entry, and in a recorded map for the record. The move of a
-    // recorded map asks for the table, three times for the strides, twice for each half of a bin and
+    // recorded map asks for the table, three times for the strides, once for each half of a bin and
     // twice more for each of the twelve that have a key; that of a lean one for the slots of the
     // table's parts, four times for the strides, and four times for the part.
     let counts = Counts::new();
-    for (form, own, wanted) in [(Form::Recorded, 2, 2 + 92), (Form::Lean, 1, 1 + 9)] {
+    for (form, own, wanted) in [(Form::Recorded, 2, 2 + 60), (Form::Lean, 1, 1 + 9)] {
         let requests = refuse_each(&rt, rt.alloc(), &counts, form, own);
         assert_same(&rt, &requests, &wanted);
     }

@@ -33,17 +33,13 @@ fn an_opening_asks_once_for_each_of_its_lists(rt: HostRuntime) -> Result<(), Fai
     // The bases, the moves, the words of the books and the slots beside them, of which there are
     // none, the passes, the roles, the places and the tables. A lean map asks for the words of its
     // places, too, and for both once more where they are put into their table; and a recorded one
-    // twice for each bin: for the bin and for its records.
+    // once for each bin.
     for clients in [1, 32] {
         for bins in [1u64, 16, 4096] {
             let (lean, recorded) = (Refusing::new(rt.alloc()), Refusing::new(rt.alloc()));
             let of_lean = opening(&rt, &lean, Form::Lean, bins as usize, clients).0;
             let of_recorded = opening(&rt, &recorded, Form::Recorded, bins as usize, clients).0;
-            assert_same(
-                &rt,
-                &(of_lean, of_recorded),
-                &(11, bins.wrapping_mul(2).wrapping_add(8)),
-            );
+            assert_same(&rt, &(of_lean, of_recorded), &(11, bins.wrapping_add(8)));
         }
     }
     Ok(())
@@ -93,13 +89,13 @@ fn requests_of_growth<R: Wait + Abort>(
 fn a_move_asks_for_its_table_its_strides_and_copies(rt: HostRuntime) -> Result<(), Fail> {
     // The put asks for room for the entry, and in a recorded map for the record; the move for the
     // table, and three times for the strides, or in a lean map four times. Each half of a recorded
-    // bin asks for the bin and for its records, and where it has the entry and the record of a key
-    // for room for both: no two of the twelve keys share a bin. The lean bins' other halves come to
-    // one part of the table, which asks for its places and for their words, and once more for both.
+    // bin asks for the bin, and where it has the entry and the record of a key for room for both: no
+    // two of the twelve keys share a bin. The lean bins' other halves come to one part of the table,
+    // which asks for its places and for their words, and once more for both.
     let counts = Counts::new();
     for (form, keys, wanted) in [
         (Form::Lean, 23, 1 + 1 + 4 + 4),
-        (Form::Recorded, 11, 2 + 1 + 3 + 32 * 2 + 12 * 2),
+        (Form::Recorded, 11, 2 + 1 + 3 + 32 + 12 * 2),
     ] {
         let alloc = Refusing::new(rt.alloc());
         let requests = requests_of_growth(&rt, &alloc, &counts, form, keys);

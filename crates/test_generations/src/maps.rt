@@ -6,7 +6,7 @@ ghost use Rattle.bin_history.specs.Copies.{IsExact};
 ghost use Rattle.count_ledger.specs.Agreement.{BinAgrees};
 ghost use Rattle.count_ledger.specs.Limits.{most_calls};
 
-use bin_history::{Bin, Form, Given, Op, Remap};
+use bin_history::{Bin, Form, Given, Op, Remap, Value};
 use count_ledger::{BinRole, Ledger, Pass, retire_all};
 use generations::Generations;
 use hashkeys::{HashKey, Key, Salt};
@@ -133,13 +133,7 @@ pub(crate) fn open_quiet<A: Allocator + Clone>(
 }
 
 /// Makes a call on a key of the bin's class, as the next of the pass's client.
-fn make<
-    'a,
-    K: HashKey + Drop,
-    V: Clone + Eq + Drop,
-    F: Remap<K, V> + Clone + Drop,
-    A: Allocator + Clone,
->(
+fn make<'a, K: HashKey, V: Value, F: Remap<K, V>, A: Allocator + Clone>(
     alloc: &A,
     ledger: &Ledger<K, V, F, A>,
     pass: &mut Pass<K, V, F>,

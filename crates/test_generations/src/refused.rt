@@ -67,8 +67,8 @@ fn refused_move<R: Wait + Abort>(
 fn a_refused_move_leaves_the_bin(rt: HostRuntime) -> Result<(), Fail> {
     let alloc = Refusing::new(rt.alloc());
     // The table of two places; of a recorded bin the list of entries and the list of records of the
-    // half that has the key too, and for each half a log and room for the bin.
-    for (form, needed) in [(Form::Recorded, 7), (Form::Lean, 1)] {
+    // half that has the key too, and for each half room for the bin.
+    for (form, needed) in [(Form::Recorded, 5), (Form::Lean, 1)] {
         for granted in 0..9u64 {
             let (moved, refused) = refused_move(&rt, &alloc, form, granted)?;
             assert_same(
@@ -139,8 +139,8 @@ fn refused_map(rt: &impl Abort, alloc: &Refusing<Global>, form: Form, granted: u
 fn a_refused_map_is_made_at_the_next_try(rt: HostRuntime) -> Result<(), Fail> {
     let alloc = Refusing::new(rt.alloc());
     // Lists of bases, passes, roles and places, the two blocks of the ledger's words, and the list
-    // of tables; of each of two recorded bins a log and room for the bin.
-    for (form, needed) in [(Form::Recorded, 11), (Form::Lean, 7)] {
+    // of tables; of each of two recorded bins room for the bin.
+    for (form, needed) in [(Form::Recorded, 9), (Form::Lean, 7)] {
         for granted in 0..14u64 {
             let refused = refused_map(&rt, &alloc, form, granted);
             assert_same(&rt, &refused, &(granted < needed));

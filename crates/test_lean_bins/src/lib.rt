@@ -4,4 +4,6 @@
 #[cfg(test)]
 mod maps;
 #[cfg(test)]
+mod sizes;
+#[cfg(test)]
 mod threads;

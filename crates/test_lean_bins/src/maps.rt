@@ -10,7 +10,7 @@ ghost use Rattle.count_ledger.specs.Limits.{most_calls};
 ghost use Rattle.lean_bins.specs.Lying.{LiesAt};
 ghost use Rattle.places.specs.Views.{place_of};
 
-use bin_history::{Bin, Form, Given, Op, Remap};
+use bin_history::{Bin, Form, Given, Op, Remap, Value, lawful_entries};
 use count_ledger::{BinRole, Ledger, Pass, retire_all};
 use hashkeys::{Class, HashKey, Key, Salt};
 use lean_bins::{LeanBins, Lying};
@@ -163,13 +163,7 @@ pub(crate) fn open_quiet<A: Allocator + Clone>(
 }
 
 /// Makes a call on a key of the bin's class, as the next of the pass's client.
-fn make<
-    'a,
-    K: HashKey + Drop,
-    V: Clone + Eq + Drop,
-    F: Remap<K, V> + Clone + Drop,
-    A: Allocator + Clone,
->(
+fn make<'a, K: HashKey, V: Value, F: Remap<K, V>, A: Allocator + Clone>(
     alloc: &A,
     ledger: &Ledger<K, V, F, A>,
     pass: &mut Pass<K, V, F>,
@@ -225,12 +219,7 @@ pub(crate) fn put<R: Wait + Abort, A: Allocator + Clone>(
 }
 
 /// Makes a call on a key of this hash in the bin of the class, which lies there with its role.
-fn make_in_place<
-    K: HashKey + Drop,
-    V: Clone + Eq + Drop,
-    F: Remap<K, V> + Clone + Drop,
-    A: Allocator + Clone,
->(
+fn make_in_place<K: HashKey, V: Value, F: Remap<K, V>, A: Allocator + Clone>(
     alloc: &A,
     map: &LeanBins<K, V, F, A>,
     ledger: &Ledger<K, V, F, A>,
@@ -252,10 +241,15 @@ fn make_in_place<
     ensures pass { pass.new.ledger ≡ ledger.now.id }
     ensures lies { LiesAt K.eq (after V.eq F.remapped F.merged) (place_of map.now class) lying.new }
 {
-    lying.entries.lawful::<F>();
-    let (_, trace) = lying
-        .entries
-        .make_on(alloc, hash, key, op, pass.client(), pass.made())?;
+    lawful_entries::<K, V, F, A>(&lying.entries);
+    let (_, trace) = op.make_on(
+        &mut lying.entries,
+        alloc,
+        hash,
+        key,
+        pass.client(),
+        pass.made(),
+    )?;
     let mut role = lying.take_role(class);
     ledger.post_trace(pass, &mut role, &trace);
     lying.put_role(role);
@@ -263,14 +257,7 @@ fn make_in_place<
 }
 
 /// Makes a call in the bin of its key, where that lies.
-fn call_in_place<
-    'a,
-    R: Wait,
-    K: HashKey + Drop,
-    V: Clone + Eq + Drop,
-    F: Remap<K, V> + Clone + Drop,
-    A: Allocator + Clone,
->(
+fn call_in_place<'a, R: Wait, K: HashKey, V: Value, F: Remap<K, V>, A: Allocator + Clone>(
     rt: &R,
     alloc: &A,
     map: &'a LeanBins<K, V, F, A>,

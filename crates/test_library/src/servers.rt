@@ -1,7 +1,8 @@
 //! Clients that come and go: a server lends each pass to one client at a time, and is closed when
 //! all are back.
 use facingberyl::{
-    Add, Call, Client, Fault, Loan, NotEnded, OwnedClient, Reply, Server, Team, Work, Worked,
+    Add, Call, Client, Fault, Given, Loan, NotEnded, Op, OwnedClient, Reply, Server, Team, Work,
+    Worked,
 };
 use std::alloc::Global;
 use std::sync::Wait;
@@ -67,6 +68,10 @@ fn call<R: Wait>(rt: &R, client: &mut Owned) -> Result<bool, Fault> {
     Ok(client.call(rt, Call::Get(1))? == Reply::Value(Some(5)))
 }
 
+fn try_call(client: &mut Owned) -> bool {
+    client.try_call(Given::Owned(1), Op::Put(5)) == Some(Ok(Reply::Value(None)))
+}
+
 fn work<R: Wait>(rt: &R, client: &mut Owned) -> Result<bool, Fault> {
     Ok(client.number() == 0 && client.work(rt, &PutFive)? == Some(5))
 }
@@ -87,7 +92,7 @@ fn end(server: Numbers) -> Result<bool, Fault> {
 }
 
 /// The examples at the calls of a server and of its clients.
-fn examples<R: Wait>(rt: &R, alloc: Global) -> Result<[bool; 5], Fault> {
+fn examples<R: Wait>(rt: &R, alloc: Global) -> Result<[bool; 6], Fault> {
     let server = Server::new(Team::new(alloc, 16, 1)?)?;
     let mut client = server.client()?;
     let called = call(rt, &mut client)?;
@@ -96,15 +101,16 @@ fn examples<R: Wait>(rt: &R, alloc: Global) -> Result<[bool; 5], Fault> {
     let ended = end(server)?;
     let server = Server::new(Team::new(alloc, 16, 1)?)?;
     let mut client = server.client()?;
+    let tried = try_call(&mut client);
     let worked = work(rt, &mut client)?;
     drop(client);
-    Ok([called, again, ended, worked, team(server)?])
+    Ok([called, again, ended, tried, worked, team(server)?])
 }
 
 #[test]
 fn each_example_of_a_server_is_as_it_says(rt: HostRuntime) -> Result<(), Fail> {
     let answers = examples(&rt, rt.alloc())?;
-    assert_eq!(rt; answers.as_slice(), [true; 5].as_slice());
+    assert_eq!(rt; answers.as_slice(), [true; 6].as_slice());
     Ok(())
 }
 

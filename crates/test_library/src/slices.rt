@@ -39,7 +39,7 @@ fn told(found: Option<Number<'_>>) -> Option<u64> {
 }
 
 /// Looks for the key that this stands for.
-fn look<'a, L: Loan, R: Wait, K: HashKey + Drop, Q: AsKey<K>>(
+fn look<'a, L: Loan, R: Wait, K: HashKey, Q: AsKey<K>>(
     rt: &R,
     alloc: Alloc<'a>,
     client: &mut Numbers<'_, 'a, L, K>,
@@ -112,7 +112,7 @@ impl<'a> Work<ByteString<Alloc<'a>>, Number<'a>, NoFunction, Alloc<'a>> for Look
 }
 
 /// A team of one client, on a map whose bins store records.
-fn recorded_team<'a, K: HashKey + Drop>(
+fn recorded_team<'a, K: HashKey>(
     alloc: Alloc<'a>,
 ) -> Result<Team<K, Number<'a>, NoFunction, Alloc<'a>>, Fault>
     requires { IsExact K.is_clone }
@@ -122,7 +122,7 @@ fn recorded_team<'a, K: HashKey + Drop>(
 }
 
 /// A team of one client, on a map of the form.
-fn team_of<'a, K: HashKey + Drop>(
+fn team_of<'a, K: HashKey>(
     alloc: Alloc<'a>,
     form: Form,
 ) -> Result<Team<K, Number<'a>, NoFunction, Alloc<'a>>, Fault>
@@ -135,7 +135,7 @@ fn team_of<'a, K: HashKey + Drop>(
 }
 
 /// The number that the closed map has at the key that this stands for.
-fn number_left<'a, K: HashKey + Drop, Q: AsKey<K>>(
+fn number_left<'a, K: HashKey, Q: AsKey<K>>(
     closed: &Quiet<K, Number<'a>, NoFunction, Alloc<'a>>,
     query: Q,
 ) -> Option<u64> {

@@ -4,7 +4,7 @@ ghost use Rattle.bin_history.specs.Copies.{IsExact};
 ghost use Rattle.chm.specs.Opened.{IsLimited, IsNew};
 ghost use Rattle.chm.specs.Refusals.{IsCapacityOf};
 
-use bin_history::{Form, Remap};
+use bin_history::{Form, Remap, Value};
 use chm::{Fault, Map, Opened, Quiet};
 use count_ledger::{Pass, retire_all};
 use hashkeys::{HashKey, Salt};
@@ -29,19 +29,14 @@ pub fn numbered_text(number: u32) -> [u8; 6] {
 }
 
 /// A map and the pass of its last client, with the other passes in their place.
-pub struct Single<K: HashKey, V: Clone + Eq, F: Remap<K, V> + Clone, A: Allocator> {
+pub struct Single<K: HashKey, V: Value, F: Remap<K, V>, A: Allocator> {
     pub map: Map<K, V, F, A>,
     pub pass: Pass<K, V, F>,
     pub place: Vec<Pass<K, V, F>, A>,
 }
 
 /// Makes a map of the form, with the passes of its clients.
-pub fn open_salted<
-    K: HashKey + Drop,
-    V: Clone + Eq + Drop,
-    F: Remap<K, V> + Clone + Drop,
-    A: Allocator + Clone,
->(
+pub fn open_salted<K: HashKey, V: Value, F: Remap<K, V>, A: Allocator + Clone>(
     alloc: A,
     form: Form,
     salt: Salt,
@@ -61,12 +56,12 @@ pub fn open_salted<
 }
 
 /// A map of either form with the salt 0.
-pub fn open<
-    K: HashKey + Drop,
-    V: Clone + Eq + Drop,
-    F: Remap<K, V> + Clone + Drop,
-    A: Allocator + Clone,
->(alloc: A, form: Form, capacity: usize, clients: u32) -> Result<Opened<K, V, F, A>, Fault>
+pub fn open<K: HashKey, V: Value, F: Remap<K, V>, A: Allocator + Clone>(
+    alloc: A,
+    form: Form,
+    capacity: usize,
+    clients: u32,
+) -> Result<Opened<K, V, F, A>, Fault>
     requires keys { IsExact K.is_clone }
     requires values { IsExact V.is_clone }
     ensures new { IfOk result (λ r. IsNew form (record { 0 = 0 }) capacity clients r.0 r.1.items) }
@@ -77,12 +72,9 @@ pub fn open<
 }
 
 /// Takes the pass of the last client out. Where there is none the map is lost.
-pub fn take_pass<
-    K: HashKey + Drop,
-    V: Clone + Eq + Drop,
-    F: Remap<K, V> + Clone + Drop,
-    A: Allocator + Clone,
->(opened: Opened<K, V, F, A>) -> Option<Single<K, V, F, A>>
+pub fn take_pass<K: HashKey, V: Value, F: Remap<K, V>, A: Allocator + Clone>(
+    opened: Opened<K, V, F, A>,
+) -> Option<Single<K, V, F, A>>
     requires { All (λ p. p.ledger ≡ opened.0.ledger.id) opened.1.items }
     ensures map { IfSome result (λ s. s.map ≡ opened.0) }
     ensures passes { IfSome result (λ s. s.place.items ++ (s.pass ∷ []) ≡ opened.1.items) }
@@ -100,12 +92,11 @@ pub fn take_pass<
 }
 
 /// A new map of the form with the salt 0, and the pass of its one client.
-pub fn open_single<
-    K: HashKey + Drop,
-    V: Clone + Eq + Drop,
-    F: Remap<K, V> + Clone + Drop,
-    A: Allocator + Clone,
->(alloc: A, form: Form, capacity: usize) -> Option<Single<K, V, F, A>>
+pub fn open_single<K: HashKey, V: Value, F: Remap<K, V>, A: Allocator + Clone>(
+    alloc: A,
+    form: Form,
+    capacity: usize,
+) -> Option<Single<K, V, F, A>>
     requires keys { IsExact K.is_clone }
     requires values { IsExact V.is_clone }
     ensures new { IfSome result (λ s. IsNew form (record { 0 = 0 }) capacity 1 s.map
@@ -120,12 +111,10 @@ pub fn open_single<
 }
 
 /// Closes a map, with the passes of all clients. Where it does not close both are lost.
-pub fn close<
-    K: HashKey + Drop,
-    V: Clone + Eq + Drop,
-    F: Remap<K, V> + Clone + Drop,
-    A: Allocator + Clone,
->(map: Map<K, V, F, A>, passes: Vec<Pass<K, V, F>, A>) -> Result<Quiet<K, V, F, A>, Fault>
+pub fn close<K: HashKey, V: Value, F: Remap<K, V>, A: Allocator + Clone>(
+    map: Map<K, V, F, A>,
+    passes: Vec<Pass<K, V, F>, A>,
+) -> Result<Quiet<K, V, F, A>, Fault>
     requires { All (λ p. p.ledger ≡ map.ledger.id) passes.items }
 {
     match map.close(passes) {
@@ -135,12 +124,11 @@ pub fn close<
 }
 
 /// Puts a pass back in its place. Where there is no room it is lost, and the map does not close.
-pub fn put_back<
-    K: HashKey + Drop,
-    V: Clone + Eq + Drop,
-    F: Remap<K, V> + Clone + Drop,
-    A: Allocator + Clone,
->(map: &Map<K, V, F, A>, pass: Pass<K, V, F>, place: &mut Vec<Pass<K, V, F>, A>)
+pub fn put_back<K: HashKey, V: Value, F: Remap<K, V>, A: Allocator + Clone>(
+    map: &Map<K, V, F, A>,
+    pass: Pass<K, V, F>,
+    place: &mut Vec<Pass<K, V, F>, A>,
+)
     requires pass { pass.ledger ≡ map.now.ledger.id }
     requires place { All (λ p. p.ledger ≡ map.now.ledger.id) place.old.items }
     ensures { All (λ p. p.ledger ≡ map.now.ledger.id) place.new.items }
@@ -152,12 +140,7 @@ pub fn put_back<
 }
 
 /// Puts a pass back in its place and closes the map.
-pub fn close_single<
-    K: HashKey + Drop,
-    V: Clone + Eq + Drop,
-    F: Remap<K, V> + Clone + Drop,
-    A: Allocator + Clone,
->(
+pub fn close_single<K: HashKey, V: Value, F: Remap<K, V>, A: Allocator + Clone>(
     map: Map<K, V, F, A>,
     pass: Pass<K, V, F>,
     mut place: Vec<Pass<K, V, F>, A>,

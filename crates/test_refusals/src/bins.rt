@@ -124,9 +124,9 @@ fn refuse_news(
 
 #[test]
 fn a_new_bin_takes_its_base(rt: HostRuntime) -> Result<(), Fail> {
-    // Of a recorded bin a list, a copy, the log and the bin itself. A lean one makes a node of each
-    // pair, which it moves.
-    refuse_news(&rt, rt.alloc(), Form::Recorded, 4)?;
+    // Of a recorded bin a list, a copy, and the bin itself. A lean one makes a node of each pair,
+    // which it moves.
+    refuse_news(&rt, rt.alloc(), Form::Recorded, 3)?;
     refuse_news(&rt, rt.alloc(), Form::Lean, 1)?;
     Ok(())
 }

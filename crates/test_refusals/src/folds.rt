@@ -60,7 +60,7 @@ fn assert_bin(
 /// there was one. Answers whether there was.
 fn refuse_fold(rt: &impl Abort, alloc: Alloc<'_>, granted: u64) -> Result<bool, AllocError> {
     let class = Class::new(16, 1);
-    let mut bin = RecordedBin::new(alloc, Form::Recorded, Salt(0), class, Vec::new(alloc))?;
+    let mut bin = RecordedBin::new(alloc, Salt(0), class, Vec::new(alloc))?;
     let filled = fill(rt, alloc, &mut bin);
     alloc.refuse_after(granted);
     let mut outcome = call(rt, &mut bin, put_q(rt, alloc, 3));
@@ -156,8 +156,8 @@ fn refuse_splits(
 #[test]
 fn a_refused_split_leaves_the_bin(rt: HostRuntime) -> Result<(), Fail> {
     // Of entries two lists and two copies; in a recorded bin of records two lists and seven copies,
-    // two logs, and the two bins. A lean bin's entries are moved.
-    refuse_splits(&rt, rt.alloc(), Form::Recorded, 17)?;
+    // and the two bins. A lean bin's entries are moved.
+    refuse_splits(&rt, rt.alloc(), Form::Recorded, 15)?;
     refuse_splits(&rt, rt.alloc(), Form::Lean, 0)?;
     Ok(())
 }

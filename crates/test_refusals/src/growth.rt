@@ -14,7 +14,7 @@ type PlainBin<'a> = Bin<Key, u64, Keep, Alloc<'a>>;
 /// The recorded bin of all keys, without entries.
 fn empty(alloc: Alloc<'_>) -> Result<PlainLog<'_>, AllocError> {
     let class = Class::new(1, 0);
-    RecordedBin::new(alloc, Form::Recorded, Salt(0), class, Vec::new(alloc))
+    RecordedBin::new(alloc, Salt(0), class, Vec::new(alloc))
 }
 
 /// The key of four digits.

@@ -1,7 +1,7 @@
 use Rattle.std.proofs.Common.{◌∙◌, sym, arith}
 use Rattle.bin_history.specs.Calls.{key_of}
 use Rattle.hashkeys.specs.Classes.{is_of}
-use Rattle.bin_history.proofs.Filters.{filter_more_kept, filter_more_left}
+use Rattle.bin_entries.proofs.Filters.{filter_more_kept, filter_more_left}
 use Rattle.bin_history.proofs.split.part_of_records.Goals as goal
 use Rattle.bin_history.proofs.split.part_of_records.Goals.{then-is_of+in_ok-copy_of_record+in_ok-push, else-is_of}
 

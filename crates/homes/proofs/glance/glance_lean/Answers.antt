@@ -17,5 +17,5 @@ returns g c =
     (λ value is. IsGlanced-lying same g.K.HashKey.code after_is c.args.home.now c.args.hash (g.Q.AsKey.stands_for c.args.query) value place x
     (lies_taken same after_is held.inner.seat.me.1 x place c.hold_found-place.ensures.lies
     c.value-lying.ensures.value)
-    c.hold_found-place.ensures.of_map c.lawful.ensures c.hold_found-place.ensures.covers (is ∙ c.get_as.ensures))
+    c.hold_found-place.ensures.of_map c.lawful_entries.ensures c.hold_found-place.ensures.covers (is ∙ c.get_as.ensures))
     c.copied-value.ensures

@@ -2,8 +2,7 @@ use Rattle.std.proofs.Common.{◌≡◌, ◌+◌, ◌≤◌, ◌∷◌, [], ◌+
 use Rattle.std.proofs.lemmas.Bool.Decides.{Decides-eqb}
 use Rattle.std.proofs.lemmas.Grind.{common_steps}
 use Rattle.bin_history.specs.Entries.{lookup, put}
-use Rattle.bin_history.proofs.Entries.{lookup-put, HasDistinctKeys-put}
-use Rattle.bin_history.proofs.Leans.{put-new}
+use Rattle.bin_entries.proofs.Entries.{lookup-put, HasDistinctKeys-put, put-new}
 use Rattle.test_bins.proofs.chains.numbered.Goals as goal
 
 -- a key that a put was not on is still not there

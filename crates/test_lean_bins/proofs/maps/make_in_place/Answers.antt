@@ -64,7 +64,7 @@ post_trace-requires-clause-legal g c =
     c.take_role-role.result refl c.take_role-role.ensures.role in
     IsLegalStep-made g.K.PartialEq.eq (key_tells g.met.K.Eq.laws g.met.K.HashKey.equal_is_same) g.K.HashKey.code
     g.V.PartialEq.eq g.F.Remap.remapped g.F.Remap.merged (as_bin c.args.lying.now.entries) c.take_role-role.result
-    c.in_ok-trace.trace at.agree c.lawful.ensures refl c.in_ok-trace.ensures.made
+    c.in_ok-trace.trace at.agree c.lawful_entries.ensures refl c.in_ok-trace.ensures.made
 
 pub returns-clause-lies : goal.returns-clause-lies
 returns-clause-lies g c =
@@ -73,14 +73,14 @@ returns-clause-lies g c =
     let p = place_of c.args.map.now c.args.class in
     let at = at_taken same after_is p c.args.lying.now c.requires.lies (as_bin c.args.lying.now.entries)
     c.take_role-role.result refl c.take_role-role.ensures.role in
-    lies same after_is p (as_bin c.make_on.new.self) c.post_trace.new.role c.put_role.new.self
+    lies same after_is p (as_bin c.make_on.new.entries) c.post_trace.new.role c.put_role.new.self
     (record {
       class = c.make_on.ensures.class ∙ at.class;
       form = at.form;
       salt = c.make_on.ensures.salt ∙ at.salt;
       ledger = ap (λ (r : RoleView _ _ _). r.ledger) c.post_trace.ensures.role ∙ at.ledger;
       agree = BinAgrees-gone_on same (key_tells g.met.K.Eq.laws g.met.K.HashKey.equal_is_same) g.K.HashKey.code
-          after_is (as_bin c.args.lying.now.entries) (as_bin c.make_on.new.self) c.take_role-role.result
+          after_is (as_bin c.args.lying.now.entries) (as_bin c.make_on.new.entries) c.take_role-role.result
           c.post_trace.new.role (c.in_ok-trace.trace ∷ []) at.agree c.make_on.ensures.class c.make_on.ensures.salt
           c.in_ok-trace.ensures.made.history c.post_trace.ensures.role;
     })
@@ -93,6 +93,6 @@ returns-in_err-trace-clause-lies g c =
     let p = place_of c.args.map.now c.args.class in
     subst
     (λ (e : LeanView _ _). IsSomeAnd c.args.lying.now.role (λ r. AreAt g.K.PartialEq.eq after_is p (as_bin e) r))
-    (sym (entries_are c.make_on.new.self c.args.lying.now.entries c.make_on.ensures.salt c.make_on.ensures.class
+    (sym (entries_are c.make_on.new.entries c.args.lying.now.entries c.make_on.ensures.salt c.make_on.ensures.class
     c.in_err-trace.ensures.refused))
     c.requires.lies

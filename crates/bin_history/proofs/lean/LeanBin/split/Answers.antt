@@ -1,5 +1,5 @@
 use Rattle.bin_history.proofs.Keys.{key_tells}
-use Rattle.bin_history.proofs.Leans.{low_part, high_part, IsLeanChain-part}
+use Rattle.bin_entries.proofs.Leans.{low_part, high_part, IsLeanChain-part}
 use Rattle.bin_history.proofs.lean.LeanBin.split.Goals as goal
 
 pub of_chain-requires : goal.of_chain-requires

@@ -1,5 +1,6 @@
+use Rattle.std.proofs.Common.{refl}
 use Rattle.bin_history.proofs.Keys.{key_tells}
-use Rattle.bin_history.proofs.Lawful.{IsLawful-from_replayed, stored_by_form}
+use Rattle.bin_history.proofs.Lawful.{IsLawful-from_replayed, recorded_is_not_lean}
 use Rattle.bin_history.proofs.recorded.RecordedBin.lawful.Goals as goal
 
 pub returns : goal.returns
@@ -7,6 +8,7 @@ returns g c =
     let tells = key_tells g.met.K.Eq.laws g.met.K.HashKey.equal_is_same in
     rw (← c.self.view_is) (record {
       lawful = IsLawful-from_replayed g.K.PartialEq.eq tells _ _ _ c.self.invariant
-          (stored_by_form c.self.inside.log c.self.inside.entries.items);
+          (λ lean. absurd (recorded_is_not_lean lean));
       replayed = c.self.invariant.replayed;
+      form = refl;
     })

@@ -65,7 +65,7 @@ post_trace-requires-clause-legal g c =
     c.take_role-role.result c.take_role-role.ensures.role c.requires.lies in
     IsLegalStep-made g.K.PartialEq.eq (key_tells g.met.K.Eq.laws g.met.K.HashKey.equal_is_same) g.K.HashKey.code
     g.V.PartialEq.eq g.F.Remap.remapped g.F.Remap.merged (as_bin c.args.lying.now.entries) c.take_role-role.result
-    c.in_ok-reply.trace at.agree c.lawful.ensures refl c.in_ok-reply.ensures.made
+    c.in_ok-reply.trace at.agree c.lawful_entries.ensures refl c.in_ok-reply.ensures.made
 
 pub returns-clause-called : goal.returns-clause-called
 returns-clause-called g c =
@@ -80,8 +80,8 @@ returns-clause-called g c =
     let posted = c.post_trace.ensures.posted in
     let called = IsCalledOn-agreed g.K.PartialEq.eq g.K.HashKey.code g.V.PartialEq.eq g.F.Remap.remapped
     g.F.Remap.merged (key_tells g.met.K.Eq.laws g.met.K.HashKey.equal_is_same) c.self.inside.ledger call
-    c.args.pass.now c.post_trace.new.pass c.in_ok-reply.reply bin (as_bin c.make_on.new.self)
-    c.take_role-role.result c.in_ok-reply.trace c.client.result c.made.result posted.0 at.agree c.lawful.ensures refl
+    c.args.pass.now c.post_trace.new.pass c.in_ok-reply.reply bin (as_bin c.make_on.new.entries)
+    c.take_role-role.result c.in_ok-reply.trace c.client.result c.made.result posted.0 at.agree c.lawful_entries.ensures refl
     c.post_trace.ensures.of_role c.in_ok-reply.ensures.made c.client.ensures.value c.made.ensures.value posted.1 in
     let on = (λ i. covers (at.class i)
     (hash_of (own i).salt (g.K.HashKey.code (key-call_on (key_in c.args.key) c.args.op i))))
@@ -92,7 +92,7 @@ returns-clause-called g c =
     c.args.pass.now c.post_trace.new.pass c.in_ok-reply.reply) own
     (IsCalled-met g.K.PartialEq.eq g.K.HashKey.code g.V.PartialEq.eq g.F.Remap.remapped g.F.Remap.merged
     c.self.inside.ledger call c.args.pass.now c.post_trace.new.pass c.in_ok-reply.reply bin
-    (as_bin c.make_on.new.self) called on)
+    (as_bin c.make_on.new.entries) called on)
 
 pub returns-clause-lies : goal.returns-clause-lies
 returns-clause-lies g c =
@@ -102,15 +102,15 @@ returns-clause-lies g c =
     let at = at_role same after_is p c.args.lying.now.entries c.args.lying.now.role
     c.take_role-role.result c.take_role-role.ensures.role c.requires.lies in
     let left = c.put_role.new.self in
-    same_at same after_is p left.entries c.make_on.new.self left.role
+    same_at same after_is p left.entries c.make_on.new.entries left.role
     (c.put_role.ensures.entries ∙ c.take_role-role.ensures.entries)
-    (role_at same after_is p c.make_on.new.self left.role c.post_trace.new.role c.put_role.ensures.role (record {
+    (role_at same after_is p c.make_on.new.entries left.role c.post_trace.new.role c.put_role.ensures.role (record {
       class = c.make_on.ensures.class ∙ at.class;
       form = at.form;
       salt = c.make_on.ensures.salt ∙ at.salt;
       ledger = ap (λ (r : RoleView _ _ _). r.ledger) c.post_trace.ensures.role ∙ at.ledger;
       agree = BinAgrees-gone_on same (key_tells g.met.K.Eq.laws g.met.K.HashKey.equal_is_same) g.K.HashKey.code
-          after_is (as_bin c.args.lying.now.entries) (as_bin c.make_on.new.self) c.take_role-role.result
+          after_is (as_bin c.args.lying.now.entries) (as_bin c.make_on.new.entries) c.take_role-role.result
           c.post_trace.new.role (c.in_ok-reply.trace ∷ []) at.agree c.make_on.ensures.class c.make_on.ensures.salt
           c.in_ok-reply.ensures.made.history c.post_trace.ensures.role;
     }))
@@ -118,8 +118,8 @@ returns-clause-lies g c =
 pub returns-in_err-reply-clause-lies : goal.returns-in_err-reply-clause-lies
 returns-in_err-reply-clause-lies g c =
     same_at g.K.PartialEq.eq (after g.V.PartialEq.eq g.F.Remap.remapped g.F.Remap.merged)
-    (place_of (bins_of c.args.self.now) c.args.class) c.make_on.new.self c.args.lying.now.entries
+    (place_of (bins_of c.args.self.now) c.args.class) c.make_on.new.entries c.args.lying.now.entries
     c.args.lying.now.role
-    (entries_are c.make_on.new.self c.args.lying.now.entries c.make_on.ensures.salt c.make_on.ensures.class
+    (entries_are c.make_on.new.entries c.args.lying.now.entries c.make_on.ensures.salt c.make_on.ensures.class
     c.in_err-reply.ensures.refused)
     c.requires.lies

@@ -1,4 +1,4 @@
-use Rattle.chm.proofs.Sizes.{size_few}
+use Rattle.places.proofs.Sizes.{size_few}
 use Rattle.chm.proofs.map.Map.grow_if_full.Goals as goal
 
 pub threshold-requires : goal.threshold-requires

@@ -1,5 +1,4 @@
-use Rattle.places.proofs.Sizes.{size_pos}
-use Rattle.chm.proofs.Sizes.{size_few}
+use Rattle.places.proofs.Sizes.{size_pos, size_few}
 use Rattle.chm.proofs.turns.Turns.new.Goals as goal
 
 pub new-requires : goal.new-requires

@@ -17,3 +17,9 @@ returns-in-Some g c =
     let is : 2 ^ c.ilog2-exponent.result ≡ c.args.size = exponent_is c.args.size c.ilog2-exponent.result c.requires.size
     c.ilog2-exponent.ensures.power_le c.ilog2-exponent.ensures.next_power_gt in
     subst (λ (n : ℕ). IsTable c.args.self.now n c.in-Some.places.now.items) is c.in-Some.ensures
+
+pub returns-in-Some-table : goal.returns-in-Some-table
+returns-in-Some-table g c =
+    let is : 2 ^ c.ilog2-exponent.result ≡ c.args.size = exponent_is c.args.size c.ilog2-exponent.result c.requires.size
+    c.ilog2-exponent.ensures.power_le c.ilog2-exponent.ensures.next_power_gt in
+    subst (λ (n : ℕ). IsTable c.args.self.now n c.in-Some-table.places.now.items) is c.in-Some-table.ensures

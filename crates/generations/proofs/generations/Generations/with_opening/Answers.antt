@@ -1,5 +1,5 @@
-use Rattle.std.proofs.Common.{◌≡◌, ℕ, ◌≤◌, ◌^◌, length, subst, arith}
-use Rattle.std.proofs.Math.Pow.{pow_mono}
+use Rattle.std.proofs.Common.{◌≡◌, ℕ, length, subst, arith}
+use Rattle.places.proofs.Sizes.{size_few}
 use Rattle.generations.specs.Generations.{AreSlots}
 use Rattle.generations.proofs.generations.Generations.with_opening.Goals as goal
 
@@ -16,5 +16,4 @@ invariant_of-result g c =
 
 pub overflow_cast-len : goal.overflow_cast-len
 overflow_cast-len g c =
-    let (e, most, is) = c.requires.opening.size in
-    let few : 2 ^ e ≤ 67108864 = pow_mono {i = e} {j = 26} most in omega (arith, is, few, c.len.ensures)
+    omega (arith, size_few _ c.requires.opening.size, c.len.ensures)

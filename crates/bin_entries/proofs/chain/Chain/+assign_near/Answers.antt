@@ -1,0 +1,10 @@
+use Rattle.bin_entries.specs.Chains.{IsHashed}
+use Rattle.bin_entries.proofs.chain.Chain.+assign_near.Goals as goal
+
+pub returns-else-own-hash-clause-hashed : goal.returns-else-own-hash-clause-hashed
+returns-else-own-hash-clause-hashed g t c hash_of h =
+    let own = rw c.in-Link.is at h in
+    let lent = c.deref_mut-else-own-hash.ensures.value in
+    let rest : IsHashed hash_of c.deref_mut-else-own-hash.result.now.next = rw lent own.1 in
+    let behind = c.assign_near.ensures.hashed hash_of rest in
+    (rw lent own.0, behind)
