@@ -76,7 +76,7 @@ def first_line(*words):
     return ran.stdout.strip().split("\n")[0] if ran.returncode == 0 else None
 
 
-def jdk():
+def jdk(_numbers):
     """The JDK's map, plain and with each call recorded."""
     need("java")
     build("JdkMap.java", ["javac", "-d", f"{OUT}/jdk", f"{PEERS}/JdkMap.java"])
@@ -84,12 +84,13 @@ def jdk():
     return [Map("JDK, recorded", words("recorded")), Map("JDK", words("plain"))]
 
 
-def peer(name, program):
-    """A peer whose program takes the workload in five words."""
-    return [Map(name, lambda it: [program, it.mode, it.threads, it.calls, it.keys, it.choice])]
+def peer(name, program, kind=None, **more):
+    """A peer whose program takes the workload in five words, and the kind of its keys in one more where they are no texts."""
+    kinds = [kind] if kind else []
+    return Map(name, lambda it: [program, it.mode, it.threads, it.calls, it.keys, it.choice, *kinds], **more)
 
 
-def dashmap():
+def dashmap(numbers):
     if not os.path.isdir(f"{DEBIAN_CRATES}/"):
         raise Lacking("librust-dashmap-dev is not installed")
     # (a copy, since cargo writes a file beside Cargo.toml)
@@ -97,21 +98,34 @@ def dashmap():
     words = ["cargo", "build", "--release", "--offline", "--target-dir", "target"]
     words += ["--config", 'source.crates-io.replace-with="debian"', "--config", f'source.debian.directory="{DEBIAN_CRATES}"']
     build("dashmap", words, cwd=f"{OUT}/dashmap")
-    return peer("dashmap", f"{OUT}/dashmap/target/release/dashmap_peer")
+    program = f"{OUT}/dashmap/target/release/dashmap_peer"
+    if not numbers:
+        return [peer("dashmap", program)]
+    return [peer("dashmap", program, "numbers"), peer("dashmap, hash as ours", program, "spread")]
 
 
 def of_cpp(name, libraries):
-    words = ["g++", "-O3", "-std=c++17", "-o", f"{OUT}/{name}", f"{PEERS}/{name}.cpp", *libraries, "-pthread"]
+    words = ["g++", "-O3", "-std=c++17", f"-I{TOP}/include", "-o", f"{OUT}/{name}", f"{PEERS}/{name}.cpp", *libraries, "-pthread"]
     build(f"{name}.cpp", words)
     return f"{OUT}/{name}"
 
 
-def tbb():
-    return peer("TBB", of_cpp("tbb", ["-ltbb"]))
+def tbb(numbers):
+    return [peer("TBB", of_cpp("tbb", ["-ltbb"]), numbers)]
 
 
-def libcuckoo():
-    return peer("libcuckoo", of_cpp("libcuckoo", []))
+def libcuckoo(numbers):
+    return [peer("libcuckoo", of_cpp("libcuckoo", []), numbers)]
+
+
+def called_from_c(library):
+    """This repository's map of numbers, through the given static library, or else the proved one."""
+    library = library or f"{TOP}/crates/facing_c/out/libfacing_c.a"
+    if not os.path.exists(library):
+        raise Lacking(f"{library} is not there: make it with `rt lib` in crates/facing_c")
+    heap = f"{os.path.dirname(first_line('rt', 'doc'))}/c/liblibc_c.a"
+    program = of_cpp("facing_c", [library, heap])
+    return [peer("facingberyl, from C", program, "numbers", is_own=True, most_threads=OWN_THREADS)]
 
 
 def own(binary):
@@ -129,16 +143,18 @@ def own(binary):
     return [Map(name, words(more), is_own=True, most_threads=OWN_THREADS) for name, more in OWN_FORMS]
 
 
-PEER_BUILDS = [("the JDK's map", jdk), ("dashmap", dashmap), ("TBB", tbb), ("libcuckoo", libcuckoo)]
+JDK_BUILD, PEER_BUILDS = ("the JDK's map", jdk), [("dashmap", dashmap), ("TBB", tbb), ("libcuckoo", libcuckoo)]
 
 
-def build_all(binary):
-    """Builds what this machine can build. Returns the maps, and a line on each that is left out."""
+def build_all(given, numbers=None):
+    """Builds what this machine can build: maps of texts, or with the word `numbers` those of numbers, this repository's called from
+    C. A program or static library that is given is this repository's. Returns the maps, and a line on each that is left out."""
     os.makedirs(OUT, exist_ok=True)
     found, lacking = [], []
-    for name, make in [("this repository's map", lambda: own(binary)), *PEER_BUILDS]:
+    ours = ("this repository's map", lambda _: called_from_c(given) if numbers else own(given))
+    for name, make in [ours, *([] if numbers else [JDK_BUILD]), *PEER_BUILDS]:
         try:
-            found += make()
+            found += make(numbers)
         except Lacking as why:
             lacking.append(f"{name}: {why}")
             print(f"bench: left out {name}: {why}", file=sys.stderr)

@@ -6,6 +6,8 @@ It proves nothing, and takes some seconds.
   The launchers of bin/ are started in a folder of their own, over small crates and with a stub for `rt`.
   MAPCLI, the program, is given the examples of the pages and wrong words, files and devices. Where no word names it,
     the one that was proved and built last is taken; where there is none, this part is left out.
+  The static library for C that was proved and built last is given the programs and tests of examples/run.py, as far as their
+    tools are here; where there is none, this part is left out.
 It prints a line for each test that failed, and ends with status 1 where one did."""
 import contextlib
 import os
@@ -20,6 +22,7 @@ import time
 
 TOP = os.path.dirname(os.path.dirname(os.path.realpath(__file__)))
 PROVED = f"{TOP}/crates/mapcli/out/mapcli"
+C_LIBRARY = f"{TOP}/crates/facing_c/out/libfacing_c.a"
 # A check of three functions, which waits after the second where a file says so; a library; a program; a trial run.
 STUB = """#!/bin/sh
 echo "$(basename "$PWD") $*" >> "$TOP/calls"
@@ -261,7 +264,7 @@ def test_examples(tests, run):
     with contextlib.suppress(OSError):
         kit = subprocess.run(["rt", "version"], capture_output=True, text=True, check=False).stdout.strip()
         tests.want("README: rt version", f"`{kit}` (`rt version`)" in text_of("README.md"), kit)
-    for name in sorted(os.listdir(f"{TOP}/examples")):
+    for name in sorted(it for it in os.listdir(f"{TOP}/examples") if it.endswith(".script")):
         ran = run(f"examples/{name}")
         tests.want(f"examples/{name}: runs", (ran.status, ran.errors) == (0, ""), ran)
     # (each call of the page follows the word `As`)
@@ -327,6 +330,17 @@ def test_messages(tests, run, program):
     tests.want("no memory is told", told > 0)
 
 
+def test_c(tests):
+    """Runs the programs over the library for C, and tells of those that were left out."""
+    ran = subprocess.run([sys.executable, f"{TOP}/examples/run.py", C_LIBRARY], capture_output=True, text=True, check=False)
+    for line in ran.stdout.splitlines():
+        if ": left out, " in line:
+            print(line)
+        else:
+            tests.want("examples/run.py", line.endswith("0 wrong"), line)
+    tests.want("examples/run.py: its status", ran.returncode == 0, ran.stderr)
+
+
 def main(program=PROVED):
     tests = Tests()
     with tempfile.TemporaryDirectory() as top:
@@ -342,6 +356,10 @@ def main(program=PROVED):
         test_messages(tests, run, program)
     else:
         print(f"{os.path.relpath(program)} is not there: only the launchers were tested")
+    if os.path.exists(C_LIBRARY):
+        test_c(tests)
+    else:
+        print(f"{os.path.relpath(C_LIBRARY)} is not there: the programs in C and in what calls C were left out")
     print(f"{tests.made} tests, {tests.failed} failed")
     return 1 if tests.failed else 0
 

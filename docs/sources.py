@@ -44,7 +44,7 @@ def all_specs():
     return "\n".join(text_of(it) for it in below_top("crates/*/specs/*.antt"))
 
 
-RUST = r"^\s*(?:(?:pub(?:\([a-z]+\))?|ghost|const|unsafe) )*(?:fn|struct|enum|trait|type|const|static|mod|use|macro_rules!) +"
+RUST = r"^\s*(?:(?:pub(?:\([a-z]+\))?|ghost|const|unsafe|extern .C.) )*(?:fn|struct|enum|trait|type|const|static|mod|use|macro_rules!) +"
 SPECS = r"^\s*(?:(?:abbrev|pub|record|data|lemma|def|theorem) )*"
 KINDS = {".rt": RUST, ".antt": SPECS, ".py": r"^\s*(?:def|class) |^"}
 

@@ -5,28 +5,30 @@
 
 namespace {
 
-class Map {
+template <class Its> class Map {
   public:
-    workload::Value get(const workload::Key &key) {
+    using Key = Its;
+
+    workload::Value get(const Key &key) {
         workload::Value value = 0;
         entries.find(key, value);
         return value;
     }
 
-    void put(const workload::Key &key, workload::Value value) {
+    void put(const Key &key, workload::Value value) {
         entries.insert_or_assign(key, value);
     }
 
-    void remove(const workload::Key &key) {
+    void remove(const Key &key) {
         entries.erase(key);
     }
 
-    void merge(const workload::Key &key, workload::Value value) {
+    void merge(const Key &key, workload::Value value) {
         entries.upsert(key, [value](workload::Value &old) { old += value; }, value);
     }
 
   private:
-    libcuckoo::cuckoohash_map<workload::Key, workload::Value> entries;
+    libcuckoo::cuckoohash_map<Key, workload::Value> entries;
 };
 
 } // namespace

@@ -6,32 +6,34 @@
 
 namespace {
 
-class Map {
+template <class Its> class Map {
   public:
-    workload::Value get(const workload::Key &key) {
-        Entries::const_accessor found;
+    using Key = Its;
+
+    workload::Value get(const Key &key) {
+        typename Entries::const_accessor found;
         return entries.find(found, key) ? found->second : 0;
     }
 
-    void put(const workload::Key &key, workload::Value value) {
-        Entries::accessor place;
+    void put(const Key &key, workload::Value value) {
+        typename Entries::accessor place;
         entries.insert(place, key);
         place->second = value;
     }
 
-    void remove(const workload::Key &key) {
+    void remove(const Key &key) {
         entries.erase(key);
     }
 
-    void merge(const workload::Key &key, workload::Value value) {
-        Entries::accessor place;
+    void merge(const Key &key, workload::Value value) {
+        typename Entries::accessor place;
         if (!entries.insert(place, std::make_pair(key, value))) {
             place->second += value;
         }
     }
 
   private:
-    using Entries = tbb::concurrent_hash_map<workload::Key, workload::Value>;
+    using Entries = tbb::concurrent_hash_map<Key, workload::Value>;
 
     Entries entries;
 };

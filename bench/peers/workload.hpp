@@ -1,6 +1,6 @@
 // The workload that docs/SPEED.md describes, for a map of C++.
 //
-// A map is a class with get, put, remove and merge, each of which many threads may call at once.
+// A map is a class with get, put, remove and merge, each of which many threads may call at once; Key is the class of its keys.
 #pragma once
 
 #include <algorithm>
@@ -15,8 +15,20 @@
 
 namespace workload {
 
-using Key = std::string;
+using Text = std::string;
+using Number = std::uint64_t;
 using Value = std::int64_t;
+
+// The key of a number: the text is "k" and the number.
+template <class Key> Key key_of(std::uint64_t number);
+
+template <> inline Text key_of<Text>(std::uint64_t number) {
+    return "k" + std::to_string(number);
+}
+
+template <> inline Number key_of<Number>(std::uint64_t number) {
+    return number;
+}
 
 enum class Mode { mix, get, merge, fill, stall };
 
@@ -86,7 +98,8 @@ class Choice {
 };
 
 // Makes one thread's calls, and returns the sum of what its gets found, so that no get can be left out.
-template <class Map> Value work(Map &map, Mode mode, std::uint64_t seed, long calls, const std::vector<Key> &names, const Choice &choice) {
+template <class Map, class Key>
+Value work(Map &map, Mode mode, std::uint64_t seed, long calls, const std::vector<Key> &names, const Choice &choice) {
     Random random(seed);
     Value sum = 0;
     for (long i = 0; i < calls; i++) {
@@ -107,7 +120,7 @@ template <class Map> Value work(Map &map, Mode mode, std::uint64_t seed, long ca
 }
 
 // Puts the keys from a number on that lie so far apart. Returns the longest put in milliseconds, where puts are timed.
-template <class Map> double fill(Map &map, Mode mode, long first, long step, const std::vector<Key> &names) {
+template <class Map, class Key> double fill(Map &map, Mode mode, long first, long step, const std::vector<Key> &names) {
     double longest = 0;
     for (std::size_t i = first; i < names.size(); i += step) {
         if (mode == Mode::fill) {
@@ -123,7 +136,7 @@ template <class Map> double fill(Map &map, Mode mode, long first, long step, con
 }
 
 // Fills a new map. Returns how many million puts a second the threads made together, or the longest put in milliseconds.
-template <class Map> double run_fill(Mode mode, int threads, const std::vector<Key> &names) {
+template <class Map, class Key> double run_fill(Mode mode, int threads, const std::vector<Key> &names) {
     Map map;
     std::vector<double> longest(threads);
     std::vector<std::thread> started;
@@ -140,12 +153,13 @@ template <class Map> double run_fill(Mode mode, int threads, const std::vector<K
 
 // Returns how many million calls a second the threads made together of a new map.
 template <class Map> double run(Mode mode, int threads, long calls, long keys, bool is_zipf) {
+    using Key = typename Map::Key;
     std::vector<Key> names;
     for (long i = 0; i < keys; i++) {
-        names.push_back("k" + std::to_string(i));
+        names.push_back(key_of<Key>(i));
     }
     if (mode == Mode::fill || mode == Mode::stall) {
-        return run_fill<Map>(mode, threads, names);
+        return run_fill<Map, Key>(mode, threads, names);
     }
     const Choice choice(is_zipf, keys);
     Map map;
@@ -179,17 +193,25 @@ inline Mode mode_named(const char *name) {
     return Mode::mix;
 }
 
-// The program: MODE THREADS CALLS KEYS CHOICE.
-template <class Map> int measure(const char *map, int count, char **words) {
-    if (count != 6) {
-        std::fprintf(stderr, "usage: %s mix|get|merge|fill|stall THREADS CALLS KEYS uniform|zipf\n", words[0]);
-        return 2;
-    }
+template <class Map> int measure_one(const char *map, char **words) {
     const int threads = std::atoi(words[2]);
     const bool is_zipf = !std::strcmp(words[5], "zipf");
     const double rate = run<Map>(mode_named(words[1]), threads, std::atol(words[3]), std::atol(words[4]), is_zipf);
     std::printf("%s %s %d %.3f\n", map, words[1], threads, rate);
     return 0;
+}
+
+inline int tell_usage(const char *program) {
+    std::fprintf(stderr, "usage: %s mix|get|merge|fill|stall THREADS CALLS KEYS uniform|zipf [numbers]\n", program);
+    return 2;
+}
+
+// The program: MODE THREADS CALLS KEYS CHOICE, and whether keys are numbers.
+template <template <class> class Map> int measure(const char *map, int count, char **words) {
+    if (count == 6) {
+        return measure_one<Map<Text>>(map, words);
+    }
+    return count == 7 ? measure_one<Map<Number>>(map, words) : tell_usage(words[0]);
 }
 
 } // namespace workload

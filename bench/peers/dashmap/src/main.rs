@@ -1,8 +1,12 @@
 //! Measures dashmap on the workload that docs/SPEED.md describes.
 //!
-//! usage: dashmap_peer mix|get|merge|fill|stall THREADS CALLS KEYS uniform|zipf
+//! usage: dashmap_peer mix|get|merge|fill|stall THREADS CALLS KEYS uniform|zipf [numbers|spread]
+//!
+//! Keys are texts, or numbers under dashmap's own hash or under the one of this repository's map.
 use dashmap::DashMap;
+use std::collections::hash_map::RandomState;
 use std::env;
+use std::hash::{BuildHasher, BuildHasherDefault, Hash, Hasher};
 use std::hint::black_box;
 use std::process::ExitCode;
 use std::thread;
@@ -27,6 +31,26 @@ impl Mode {
             "stall" => Some(Mode::Stall),
             _ => None,
         }
+    }
+}
+
+/// The hash of this repository's map, 31 bits, in both halves: dashmap goes by upper and by lower bits.
+#[derive(Default)]
+struct Spread(u64);
+
+impl Hasher for Spread {
+    fn write(&mut self, _bytes: &[u8]) {
+        unreachable!();
+    }
+
+    fn write_u64(&mut self, number: u64) {
+        let code = (number.wrapping_mul(0x9e37_79b9_7f4a_7c15) >> 32) as u32;
+        let hash = u64::from((code ^ (code >> 16)) & 0x7fff_ffff);
+        self.0 = hash << 33 | hash;
+    }
+
+    fn finish(&self) -> u64 {
+        self.0
     }
 }
 
@@ -89,23 +113,23 @@ impl Choice {
 }
 
 /// Makes one thread's calls, and returns the sum of what its gets found, so that no get can be left out.
-fn work<'a>(
-    map: &DashMap<&'a str, i64>,
+fn work<K: Copy + Eq + Hash, S: BuildHasher + Clone>(
+    map: &DashMap<K, i64, S>,
     mode: Mode,
     seed: u64,
     calls: u64,
-    names: &'a [String],
+    names: &[K],
     choice: &Choice,
 ) -> i64 {
     let mut random = Random(seed);
     let mut sum = 0_i64;
     for i in 0..calls {
         let drawn = random.draw();
-        let name = names[choice.number(drawn)].as_str();
+        let name = names[choice.number(drawn)];
         match (mode, drawn % 100) {
             (Mode::Merge, _) => *map.entry(name).or_insert(0) += 1,
             (Mode::Get | Mode::Fill | Mode::Stall, _) | (Mode::Mix, 0..=79) => {
-                if let Some(value) = map.get(name) {
+                if let Some(value) = map.get(&name) {
                     sum = sum.wrapping_add(*value);
                 }
             }
@@ -113,7 +137,7 @@ fn work<'a>(
                 map.insert(name, i as i64);
             }
             (Mode::Mix, _) => {
-                map.remove(name);
+                map.remove(&name);
             }
         }
     }
@@ -121,14 +145,20 @@ fn work<'a>(
 }
 
 /// Puts the keys from a number on that lie so far apart, and gives the longest put, where puts are timed.
-fn fill<'a>(map: &DashMap<&'a str, i64>, mode: Mode, first: usize, step: usize, names: &'a [String]) -> Duration {
+fn fill<K: Copy + Eq + Hash, S: BuildHasher + Clone>(
+    map: &DashMap<K, i64, S>,
+    mode: Mode,
+    first: usize,
+    step: usize,
+    names: &[K],
+) -> Duration {
     let mut longest = Duration::ZERO;
-    for (i, name) in names.iter().enumerate().skip(first).step_by(step) {
+    for (i, &name) in names.iter().enumerate().skip(first).step_by(step) {
         if mode == Mode::Fill {
-            map.insert(name.as_str(), i as i64);
+            map.insert(name, i as i64);
         } else {
             let start = Instant::now();
-            map.insert(name.as_str(), i as i64);
+            map.insert(name, i as i64);
             longest = longest.max(start.elapsed());
         }
     }
@@ -136,8 +166,12 @@ fn fill<'a>(map: &DashMap<&'a str, i64>, mode: Mode, first: usize, step: usize, 
 }
 
 /// Fills a new map. Gives how many million puts a second the threads made together, or the longest put in milliseconds.
-fn run_fill(mode: Mode, threads: usize, names: &[String]) -> f64 {
-    let map = DashMap::new();
+fn run_fill<K, S>(mode: Mode, threads: usize, names: &[K], hasher: S) -> f64
+where
+    K: Copy + Eq + Hash + Send + Sync,
+    S: BuildHasher + Clone + Send + Sync,
+{
+    let map = DashMap::with_hasher(hasher);
     let start = Instant::now();
     let longest = thread::scope(|scope| {
         let fillers: Vec<_> = (0..threads)
@@ -156,14 +190,18 @@ fn run_fill(mode: Mode, threads: usize, names: &[String]) -> f64 {
 }
 
 /// How many million calls a second the threads made together of a new map.
-fn run(mode: Mode, threads: u64, calls: u64, names: &[String], is_zipf: bool) -> f64 {
+fn run<K, S>(mode: Mode, threads: u64, calls: u64, names: &[K], is_zipf: bool, hasher: S) -> f64
+where
+    K: Copy + Eq + Hash + Send + Sync,
+    S: BuildHasher + Clone + Send + Sync,
+{
     if mode == Mode::Fill || mode == Mode::Stall {
-        return run_fill(mode, threads as usize, names);
+        return run_fill(mode, threads as usize, names, hasher);
     }
     let choice = Choice::new(is_zipf, names.len() as u64);
-    let map = DashMap::new();
-    for (i, name) in names.iter().enumerate().step_by(2) {
-        map.insert(name.as_str(), i as i64);
+    let map = DashMap::with_hasher(hasher);
+    for (i, &name) in names.iter().enumerate().step_by(2) {
+        map.insert(name, i as i64);
     }
     let start = Instant::now();
     thread::scope(|scope| {
@@ -176,13 +214,24 @@ fn run(mode: Mode, threads: u64, calls: u64, names: &[String], is_zipf: bool) ->
 }
 
 fn measure(words: &[String]) -> Option<()> {
+    let (words, kind) = words.split_at(words.len().min(5));
     let [mode, threads, calls, keys, choice] = words else {
         return None;
     };
-    let threads = threads.parse().ok()?;
-    let keys: u64 = keys.parse().ok()?;
-    let names: Vec<String> = (0..keys).map(|i| format!("k{i}")).collect();
-    let rate = run(Mode::named(mode)?, threads, calls.parse().ok()?, &names, choice == "zipf");
+    let (threads, calls, keys): (u64, u64, u64) = (threads.parse().ok()?, calls.parse().ok()?, keys.parse().ok()?);
+    let (its_mode, is_zipf, numbers): (Mode, bool, Vec<u64>) = (Mode::named(mode)?, choice == "zipf", (0..keys).collect());
+    let rate = match kind {
+        [] => {
+            let names: Vec<String> = numbers.iter().map(|i| format!("k{i}")).collect();
+            let names: Vec<&str> = names.iter().map(String::as_str).collect();
+            run(its_mode, threads, calls, &names, is_zipf, RandomState::new())
+        }
+        [kind] if kind == "numbers" => run(its_mode, threads, calls, &numbers, is_zipf, RandomState::new()),
+        [kind] if kind == "spread" => {
+            run(its_mode, threads, calls, &numbers, is_zipf, BuildHasherDefault::<Spread>::default())
+        }
+        _ => return None,
+    };
     println!("dashmap {mode} {threads} {rate:.3}");
     Some(())
 }
@@ -190,7 +239,7 @@ fn measure(words: &[String]) -> Option<()> {
 fn main() -> ExitCode {
     let words: Vec<String> = env::args().skip(1).collect();
     if measure(&words).is_none() {
-        eprintln!("usage: dashmap_peer mix|get|merge|fill|stall THREADS CALLS KEYS uniform|zipf");
+        eprintln!("usage: dashmap_peer mix|get|merge|fill|stall THREADS CALLS KEYS uniform|zipf [numbers|spread]");
         return ExitCode::from(2);
     }
     ExitCode::SUCCESS

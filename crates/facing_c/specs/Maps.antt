@@ -1,0 +1,54 @@
+-- Maps, from their opening to their close.
+use Rattle.std.specs.Prelude.{◌≡◌, ◌≢◌, ◌⊎◌, ℕ, nat_eq, List, Result, Ok, Err}
+use Rattle.hashkeys.specs.declared.hashing.Salt.{Salt}
+use Rattle.hashkeys.specs.Numbers.{number_code}
+use Rattle.bin_history.specs.Calls.{after}
+use Rattle.bin_history.specs.Records.{RecordView}
+use Rattle.bin_history.specs.declared.form.Form.TheVariants.{Lean}
+use Rattle.count_ledger.specs.Views.{PassView}
+use Rattle.chm.specs.Headline.{IsOneOrder}
+use Rattle.chm.specs.Opened.{IsNew}
+use Rattle.chm.specs.Reopened.{IsReopened}
+use Rattle.chm.specs.Views.{MapView}
+use Rattle.facing_c.specs.Functions.{remapped, merged}
+use Rattle.facing_c.specs.declared.merging.Merging.{Merging}
+use Rattle.facing_c.specs.declared.thing.Thing.{Thing}
+use Rattle.facing_c.specs.declared.thing.Thing.TheVariants as thing
+
+-- it is a new map, whose passes made nothing
+abbrev pub IsOpened : Salt → ℕ → ℕ → Thing → Type 0
+IsOpened salt capacity clients (thing.Map map) =
+    (passes : List (PassView ℕ ℕ Merging)) × IsNew Lean salt capacity clients map passes
+IsOpened _ _ _ _ = ⊥
+
+-- it is a new map with the pairs of the closed one that this was
+abbrev pub IsReopenedFrom : Thing → ℕ → Thing → Type 0
+IsReopenedFrom (thing.Closed q) clients (thing.Map map) =
+    (passes : List (PassView ℕ ℕ Merging)) × IsReopened nat_eq number_code q q.ledger.salt clients map passes
+IsReopenedFrom _ _ _ = ⊥
+
+-- it is a client of the map that this is
+abbrev pub IsClientOf : Thing → Thing → Type 0
+IsClientOf (thing.Map map) (thing.Client c) = c.map ≡ map
+IsClientOf _ _ = ⊥
+
+-- it was made, or it was refused, and the status is not 0
+abbrev pub IsMadeOr : (Thing → Type 0) → Result Thing ℕ → Type 0
+IsMadeOr IsIt (Ok t) = IsIt t
+IsMadeOr IsIt (Err status) = status ≢ 0
+
+-- a map closes, with its books, and there is one order of all calls; or it was refused, and is as it was; or its team
+-- stands by, to be closed again; or it ended, for bins were missing
+abbrev pub IsCloseOf : MapView ℕ ℕ → Thing → ℕ → Type 0
+IsCloseOf map (thing.Closed q) status = (status ≡ 0) × (q.ledger ≡ map.ledger) × (q.n ≡ map.n)
+    × (calls : List (RecordView ℕ ℕ Merging)) × IsOneOrder nat_eq number_code (after nat_eq remapped merged) q calls
+IsCloseOf map (thing.Map same) status = (same ≡ map) × ((status ≡ 2) ⊎ (status ≡ 6))
+IsCloseOf map (thing.Closing team) status = (team.map ≡ map) × ((status ≡ 2) ⊎ (status ≡ 6))
+IsCloseOf map thing.Gone status = status ≡ 7
+IsCloseOf map (thing.Client c) status = ⊥
+
+-- what a map is after it was to be closed; anything else is as it was, and the status 8
+abbrev pub IsClosedAs : Thing → Thing → ℕ → Type 0
+IsClosedAs (thing.Map map) then status = IsCloseOf map then status
+IsClosedAs (thing.Closing team) then status = IsCloseOf team.map then status
+IsClosedAs other then status = (then ≡ other) × (status ≡ 8)

@@ -1,0 +1,21 @@
+//! The map of whole numbers, for programs in C and in languages that call C.
+//!
+//! Each export tries its work, waits for nobody, and says so where another thread was in its way: the
+//! functions of `facing.h` then try again. A handle stands for an open map, for one of its clients, or
+//! for a closed map. An export takes it and gives it back through `out`, so one call has it at a time.
+//! Null, or a handle of something else, is answered by a status, and nothing is touched then.
+#![tactic(auto)]
+
+mod calls;
+mod closed;
+mod exports;
+mod handle;
+mod maps;
+mod merging;
+mod owners;
+mod status;
+mod thing;
+
+pub use handle::{FacingHandle, FacingOut};
+pub use merging::Merging;
+pub use status::FacingAnswer;
