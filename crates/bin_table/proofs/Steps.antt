@@ -1,17 +1,15 @@
 -- The steps on a place keep the rule.
 use Rattle.std.proofs.Common.{◌≡◌, ℕ, zero, suc, ◌+◌, ◌*◌, ◌/◌, ◌<◌, ◌≤◌, eqb, ◌≢◌, ◌⊎◌, List, []}
-use Rattle.std.proofs.Common.{◌∷◌, ◌++◌, map, length, get_or, set, replicate, sym, refl, ap, ◌∙◌, subst, inl, inr, ⊎_elim}
+use Rattle.std.proofs.Common.{◌∷◌, map, length, get_or, set, replicate, sym, refl, ap, ◌∙◌, subst, ⊎_elim}
 use Rattle.std.proofs.Common.{arith, length-set, mul-le-mul_right}
 use Rattle.std.proofs.lemmas.List.{length-map, length-replicate}
 use Rattle.std.proofs.Math.Nat.{mul-div_cancel}
 use Rattle.std.specs.Prelude.{Some, IsSomeAnd}
-use mathlib.Core.Logic.{dite}
 use mathlib.Core.Option.{Option, none, some, some-injective, some-ne-none}
-use native.Mathlib.Decide.{ℕ_discrete}
 use lib.ListN.{get_elem?}
 use prog.Atomic.{either}
-use Rattle.atomic_table.specs.Table.{State, Me, step, Act, keeps, takes, gives, Valid, carried_after, stepped, put_back, rest, opening, Allows, Enters}
-use Rattle.atomic_table.proofs.Lists.{at_set, exchanged, some_there, set_again}
+use Rattle.atomic_table.specs.Table.{State, Me, step, Act, keeps, takes, gives, Valid, carried_after, stepped, put_back, opening, Allows, Enters}
+use Rattle.atomic_table.proofs.Lists.{at_set, exchanged, set_again}
 use Rattle.bin_table.specs.declared.terms.Terms.{Terms}
 use Rattle.bin_table.specs.Places.{word_of, present, IsHome, AreHome}
 use Rattle.bin_table.specs.Plays.{Sits, Gives, Took, Takes}

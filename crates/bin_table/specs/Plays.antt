@@ -1,5 +1,5 @@
 -- What the steps on a place tell: of the step, the seat before, the number found and the seat after.
-use Rattle.std.specs.Prelude.{◌≡◌, ◌≢◌, ℕ, ◌<◌, ◌∷◌}
+use Rattle.std.specs.Prelude.{◌≡◌, ◌≢◌, ℕ, ◌∷◌}
 use Rattle.atomic_table.specs.Table.{Me, Step, rest}
 use Rattle.bin_table.specs.declared.terms.Terms.{Terms}
 use Rattle.bin_table.specs.Places.{word_of, present}

@@ -1,6 +1,6 @@
 -- What a seat holds.
 use Rattle.std.specs.Prelude.{◌≡◌, ℕ, Option, Some, None, List, [], ◌∷◌, map, drop}
-use Rattle.std.proofs.Common.{ap, ◌∙◌, refl, sym}
+use Rattle.std.proofs.Common.{ap, ◌∙◌, refl}
 use Rattle.atomic_table.specs.Table.{rest}
 
 -- the value that was taken last

@@ -1,8 +1,7 @@
 -- What the visits of a walk show.
-use Rattle.std.proofs.Common.{◌≡◌, ℕ, ◌<◌, ◌==◌, Bool, true, Option, Some, None, List, [], ◌∷◌}
+use Rattle.std.proofs.Common.{◌≡◌, ℕ, ◌<◌, ◌==◌, Bool, true, Option, List, [], ◌∷◌}
 use Rattle.std.proofs.Common.{◌++◌, map, All, refl, sym, ap, subst, ◌∙◌}
 use Rattle.std.proofs.Common.{arith}
-use Rattle.std.specs.Option.{IsSomeAnd}
 use Rattle.std.proofs.Common.{Decides}
 use Rattle.std.proofs.lemmas.Bool.Decides.{nat_tests}
 use Rattle.std.proofs.lemmas.List.{map-append}
@@ -10,14 +9,13 @@ use Rattle.std.proofs.lemmas.List.Elements.{All-head, All-tail, All-nil, All-con
 use Rattle.hashkeys.specs.Classes.{covers, is_of}
 use Rattle.hashkeys.specs.Hashing.{hash_of}
 use Rattle.bin_history.specs.Clients.{by_client}
-use Rattle.bin_history.specs.Entries.{lookup, HasDistinctKeys, replay}
-use Rattle.bin_history.specs.Lawful.{BinView}
+use Rattle.bin_history.specs.Entries.{HasDistinctKeys, replay}
 use Rattle.bin_history.specs.Part.{part_of_entries}
 use Rattle.bin_history.specs.declared.call.Call.{Call}
 use Rattle.bin_history.specs.Records.{RecordView}
 use Rattle.bin_history.proofs.Parts.{replay-part}
 use Rattle.count_ledger.specs.Fronts.{IsFront, HasSeen, HasSeenMore}
-use Rattle.count_ledger.specs.Views.{LedgerView, PassView, RoleView}
+use Rattle.count_ledger.specs.Views.{LedgerView, PassView}
 use Rattle.count_ledger.proofs.Fronts.{BeginsWith-all, BeginsWith-more}
 use Rattle.places.specs.BinsWithRoles.{IsBinWithRole}
 use Rattle.places.specs.Views.{HomeView}

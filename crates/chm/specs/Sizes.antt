@@ -1,5 +1,5 @@
 -- How many bins a table has.
-use Rattle.std.specs.Prelude.{◌≡◌, ℕ, ◌+◌, ◌-◌, ◌/◌, ◌<◌, ◌≤◌, ◌⊎◌}
+use Rattle.std.specs.Prelude.{ℕ, ◌+◌, ◌-◌, ◌/◌, ◌<◌, ◌≤◌, ◌⊎◌}
 use Rattle.hashkeys.specs.Classes.{IsTableSize}
 use Rattle.hashkeys.specs.Limits.{most_bins}
 use Rattle.bin_history.specs.declared.form.Form.{Form}

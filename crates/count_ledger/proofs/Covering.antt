@@ -1,6 +1,7 @@
 -- Classes that have no hash in common cover every hash just where as many hashes side by side as a table has bins at
 -- most have as many of them as there are.
-use Rattle.std.proofs.Common.{◌≡◌, ℕ, zero, suc, ◌+◌, ◌-◌, ◌*◌, ◌/◌, ◌%◌, ◌^◌, ◌<◌, ◌≤◌, ◌==◌, Bool, true, false, cond}
+use Rattle.std.proofs.Common.{◌≡◌, ℕ, zero, suc, ◌+◌, ◌-◌, ◌*◌, ◌/◌, ◌%◌, ◌^◌, ◌<◌, ◌≤◌, ◌==◌, Bool, true, false}
+use Rattle.std.proofs.Common.{cond}
 use Rattle.std.proofs.Common.{List, [], ◌∷◌, MatchBool, sum_by}
 use Rattle.std.proofs.Common.{count_by, sym, refl, ap, subst, ◌∙◌, arith, All}
 use Rattle.std.specs.Int.{◌∣◌}

@@ -1,8 +1,8 @@
 -- A role that lies by.
-use Rattle.std.specs.Prelude.{ℕ, Option, Some, None, List, [], ◌∷◌}
+use Rattle.std.specs.Prelude.{Option, Some, None, List, [], ◌∷◌}
 use Rattle.count_ledger.specs.Views.{LedgerId, RoleView}
 use Rattle.count_ledger.specs.declared.books.Book.{Book}
-use Rattle.count_ledger.specs.declared.books.Book.TheVariants.{Pass, Role}
+use Rattle.count_ledger.specs.declared.books.Book.TheVariants.{Role}
 
 -- the role that the views of a badge show, if it has one
 abbrev pub role_in : {K V F : Type 0} → LedgerId → List (List (Book K V F)) → Option (RoleView K V F)

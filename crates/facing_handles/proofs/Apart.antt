@@ -37,7 +37,8 @@ module _ (E : Bx) {M : Type 1} {𝓤 : Ura M} {𝓛 : Logic 𝓤} {K : Type 0} {
       → Seq K 𝓛 (‵ (box_owns (token E.al pair.1) (R E) (block_ptr b o) x) ∷ ‵ (handle E pair.1 h) ∷ Γ) G)
       → Seq K 𝓛 (‵ (box_owns (token E.al pair.1) (R E) pair.0 x) ∷ ‵ ((Pair E).own_val pair (u ∷ [])) ∷ Γ) G
   pair_opens t pair u x then =
-      in_a_block t pair.0 (λ p. box_owns (token E.al pair.1) (R E) p x) (fst∗ 𝓤 (never 𝓤) (sem 𝓛 (token E.al pair.1 (bare (τ E)) null_ptr))) (λ b o at.
+      in_a_block t pair.0 (λ p. box_owns (token E.al pair.1) (R E) p x)
+      (fst∗ 𝓤 (never 𝓤) (sem 𝓛 (token E.al pair.1 (bare (τ E)) null_ptr))) (λ b o at.
       move t (1 ∷ []) $ fpick t (λ fields. fsplit t $ feq_l t (λ is. fsplit t $ feq_l t (λ first. fsplit t $
       handle_tells E.al t pair.1 fields.1.0 (λ h second fits. move t (1 ∷ []) $ drop t $ move t (1 ∷ []) $
       let placed : fields.0 ≡ vptr b o ∷ [] = first ∙ ap (λ (p : Ptr). ptr_val p ∷ []) at in
@@ -57,4 +58,5 @@ module _ (E : Bx) {M : Type 1} {𝓤 : Ura M} {𝓛 : Logic 𝓤} {K : Type 0} {
       (‵ (box_owns (token E.al a) (R E) (block_ptr b o) x) ∷ ‵ (handle E a h) ∷ Γ) G
   parts_close t b o h a x =
       let boxed : D E = record { ptr = block_ptr b o; alloc = a; value = x } in
-      step (λ rest. fsplit t $ box_in E t boxed b o x refl refl $ use1 𝓛 (‵ ((Parts E).own_val (parts_at E b o a x) (word E h b o ∷ []))) (id⊢ 𝓤 _) $ rest)
+      step (λ rest. fsplit t $ box_in E t boxed b o x refl refl $
+      use1 𝓛 (‵ ((Parts E).own_val (parts_at E b o a x) (word E h b o ∷ []))) (id⊢ 𝓤 _) $ rest)

@@ -1,5 +1,5 @@
 -- Puts of many pairs, one after the other.
-use Rattle.std.proofs.Common.{◌≡◌, Bool, Option, List, ◌∷◌, ◌++◌, ap, sym, ◌∙◌}
+use Rattle.std.proofs.Common.{◌≡◌, Bool, Option, List, ◌∷◌, ap, sym, ◌∙◌}
 use Rattle.bin_history.specs.declared.call.Call.TheVariants.{Put}
 use Rattle.bin_history.specs.declared.call.Reply.{Reply}
 use Rattle.count_ledger.specs.Views.{LedgerView, PassView}

@@ -23,7 +23,7 @@ use Rattle.count_ledger.specs.contracts.tokens.Pass as Pass
 use Rattle.homes.proofs.Shared as homes
 use Rattle.chm.specs.contracts.map.Map as Map
 use Rattle.chm.specs.contracts.map.Map.TheInside as MapInside
-use Rattle.chm.proofs.Shared.{map_sync, turns_send, turns_sync}
+use Rattle.chm.proofs.Shared.{map_sync, turns_send}
 use Rattle.facingberyl.specs.contracts.chair.Waiting as Waiting
 use Rattle.facingberyl.specs.contracts.chair.Chair as Chair
 use Rattle.facingberyl.specs.contracts.desk.Desk as Desk
@@ -82,7 +82,7 @@ module _ (K V F A : RattleType) (hash : HashKey.Ghosts K.Denot) (key_eq : Eq.Gho
       homes.map_send K V F A hash key_eq key_same key_clone value value_clone value_eq value_same remap function_clone
           alloc sk sv sf sa yk yv yf ya frees,
       (
-        search (sendable, crosses, wide.crosses, once.the_send, once.the_sync, turns_send, turns_sync) depth 30,
+        search (sendable, crosses, wide.crosses, once.the_send, turns_send) depth 30,
         (search sendable depth 20, tt),
       ),
     ),

@@ -93,7 +93,7 @@ module _ (K V F A : RattleType) (hash : HashKey.Ghosts K.Denot) (key_eq : Eq.Gho
     search (sendable, crosses, place_sync) depth 20,
     (
       search
-          (sendable, crosses, slot.the_send, slot.the_sync, place_send, place_sync) depth 30,
+          (sendable, crosses, slot.the_sync, place_send, place_sync) depth 30,
       (
         search (sendable, atomic.the_sync) depth 20,
         (search sendable depth 20, (search sendable depth 20, (search (sendable, tag.the_sync) depth 20, tt))),

@@ -1,5 +1,6 @@
 -- Walk order, at classes and at their halves.
-use Rattle.std.proofs.Common.{◌≡◌, ◌≢◌, ℕ, zero, suc, ◌+◌, ◌-◌, ◌*◌, ◌/◌, ◌%◌, ◌^◌, ◌<◌, ◌≤◌, ◌⊎◌, inl, inr, ◌↔◌, ◌||◌}
+use Rattle.std.proofs.Common.{◌≡◌, ◌≢◌, ℕ, zero, suc, ◌+◌, ◌-◌, ◌*◌, ◌/◌, ◌%◌, ◌^◌, ◌<◌, ◌≤◌, ◌⊎◌, inl}
+use Rattle.std.proofs.Common.{inr, ◌↔◌, ◌||◌}
 use Rattle.std.proofs.Common.{Bool, true, false, sym, ap, subst, refl}
 use Rattle.std.proofs.Common.{◌∙◌, add-one, arith, Option, Some, None, IfSome, IfNone}
 use Rattle.std.specs.Int.{◌∣◌}

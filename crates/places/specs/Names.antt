@@ -1,6 +1,5 @@
 -- The name of a map, in the tag of a slot.
 use Rattle.std.specs.Prelude.{ℕ, zero, suc, List, [], ◌∷◌}
-use Rattle.hashkeys.specs.declared.hashing.Salt.{Salt}
 use Rattle.bin_history.specs.declared.form.Form.{Form}
 use Rattle.bin_history.specs.declared.form.Form.TheVariants.{Recorded, Lean}
 use Rattle.count_ledger.specs.Names.{id_of}

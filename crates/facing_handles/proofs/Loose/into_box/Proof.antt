@@ -66,14 +66,18 @@ module _ (E : Bx) where
     W = walk_of 𝓛 ended spent clauses
 
     abbrev Makes : Contract 𝓤
-    Makes = triple_of 𝓛 (maker.signature E.row E.al.row E.al.g E.al.d E.al.drops) (maker.spec E.row E.al.row E.al.g E.al.d E.al.drops 𝓛 𝓜.mem 𝓡.returns)
+    Makes = triple_of 𝓛 (maker.signature E.row E.al.row E.al.g E.al.d E.al.drops)
+        (maker.spec E.row E.al.row E.al.g E.al.d E.al.drops 𝓛 𝓜.mem 𝓡.returns)
 
-    walk : Triple 𝓤 (𝓣.C (maker_key.name (args E))) Makes → (z : W.Ghost) → ent 𝓤 (W.pre z) (WpFn 𝓤 𝓛.H 𝓣.C 𝓣.Λ body (W.args z) (W.post z))
+    walk : Triple 𝓤 (𝓣.C (maker_key.name (args E))) Makes → (z : W.Ghost)
+        → ent 𝓤 (W.pre z) (WpFn 𝓤 𝓛.H 𝓣.C 𝓣.Λ body (W.args z) (W.post z))
     walk makes z =
         let v : (Parts E).Denot = z.0.3.0 in
         let alive : Item 𝓤 = ‵ (flft z.0.0.0 z.0.1.0) ⊛ ‵ (flft z.0.0.1.0 z.0.1.1.0) ⊛ ‵ ftrue in
-        let value_bound : Item 𝓤 = raw (fact 𝓤 (z.0.0.0 ⊑ E.row.lives)) in let alloc_bound : Item 𝓤 = raw (fact 𝓤 (z.0.0.1.0 ⊑ E.al.row.lives)) in
-        qed 𝓛 ((alive ⊛ ‵ (fsep ((Parts E).own_val v z.0.4.0) ftrue)) ∷ (value_bound ⊛ alloc_bound ⊛ ‵ ftrue) ∷ []) ∵ split ! $ move ! (1 ∷ []) $ fsplit ! $
+        let value_bound : Item 𝓤 = raw (fact 𝓤 (z.0.0.0 ⊑ E.row.lives)) in
+        let alloc_bound : Item 𝓤 = raw (fact 𝓤 (z.0.0.1.0 ⊑ E.al.row.lives)) in
+        qed 𝓛 ((alive ⊛ ‵ (fsep ((Parts E).own_val v z.0.4.0) ftrue)) ∷ (value_bound ⊛ alloc_bound ⊛ ‵ ftrue) ∷ []) ∵
+        split ! $ move ! (1 ∷ []) $ fsplit ! $
         parts_open E ! v z.0.4.0 (λ b o h at is fits.
         -- [what the box owned; the allocator; true; the tokens; the bounds]
         let w = word E h b o in

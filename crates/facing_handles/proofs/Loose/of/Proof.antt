@@ -66,9 +66,11 @@ module _ (E : Bx) (dx : Dict) where
     W = walk_of 𝓛 ended spent clauses
 
     abbrev Opens : Contract 𝓤
-    Opens = triple_of 𝓛 (opener.signature E.row E.al.row E.al.g E.al.d E.al.drops dx) (opener.spec E.row E.al.row E.al.g E.al.d E.al.drops dx 𝓛 𝓜.mem 𝓡.returns)
+    Opens = triple_of 𝓛 (opener.signature E.row E.al.row E.al.g E.al.d E.al.drops dx)
+        (opener.spec E.row E.al.row E.al.g E.al.d E.al.drops dx 𝓛 𝓜.mem 𝓡.returns)
 
-    walk : Triple 𝓤 (𝓣.C (opener_key.name params)) Opens → (z : W.Ghost) → ent 𝓤 (W.pre z) (WpFn 𝓤 𝓛.H 𝓣.C 𝓣.Λ body (W.args z) (W.post z))
+    walk : Triple 𝓤 (𝓣.C (opener_key.name params)) Opens → (z : W.Ghost)
+        → ent 𝓤 (W.pre z) (WpFn 𝓤 𝓛.H 𝓣.C 𝓣.Λ body (W.args z) (W.post z))
     walk opens z =
         let v : D E = z.0.3.0 in
         let alive : Item 𝓤 = ‵ (flft z.0.0.0 z.0.1.0) ⊛ ‵ (flft z.0.0.1.0 z.0.1.1.0) ⊛ ‵ ftrue in
@@ -103,6 +105,7 @@ module _ (E : Bx) (dx : Dict) where
 pub of_spec : {M : Type 1} → statement M
 of_spec 𝓤 𝓛 𝓜 𝓡 wired X Z LX LZ g d dd dx allocator dropped drops =
     let E : Bx = record { row = X; laws = LX; al = record { row = Z; laws = LZ; g = g; d = d; drops = dd } } in
-    let opens = opener_thm.met 𝓤 𝓛 𝓜 𝓡 (code.calls-std_alloc::boxed::Box::into_raw_with_allocator 𝓡.env wired) X Z LX LZ g d dd dx allocator dropped drops in
+    let opens = opener_thm.met 𝓤 𝓛 𝓜 𝓡 (code.calls-std_alloc::boxed::Box::into_raw_with_allocator 𝓡.env wired)
+    X Z LX LZ g d dd dx allocator dropped drops in
     proved_at 𝓛 (ended E dx) (spent E dx) (clauses E dx 𝓛 𝓜 𝓡) 𝓜 𝓡 (Goes-blank 𝓛 2 (plain (λ _. B E)) no (λ κs x f. tt), tt)
     (#self (params E dx)) (body E dx) (code.unfolded 𝓤 𝓛.H 𝓜 𝓡 wired (X, (Z, tt)) d dd dx) (λ z are. walk E dx 𝓛 𝓜 𝓡 opens z)

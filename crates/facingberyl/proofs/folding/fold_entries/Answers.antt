@@ -1,4 +1,4 @@
-use Rattle.std.proofs.Common.{◌≡◌, ◌++◌, List, sym, ap, ◌∙◌, append_assoc, of_calls}
+use Rattle.std.proofs.Common.{◌++◌, List, sym, ap, ◌∙◌, append_assoc, of_calls}
 use Rattle.std.proofs.lemmas.Fn.{FoldsTo-push}
 use Rattle.facingberyl.proofs.folding.fold_entries.Goals as goal
 

@@ -1,4 +1,4 @@
-use Rattle.std.proofs.Common.{◌≡◌, ◌++◌, List, sym, ap, ◌∙◌, append_assoc}
+use Rattle.std.proofs.Common.{◌++◌, List, sym, ap, ◌∙◌, append_assoc}
 use Rattle.chm.specs.Visits.{VisitView, shown_by}
 use Rattle.facingberyl.proofs.Turns.{FoldsTo-append, shown_by-push}
 use Rattle.facingberyl.proofs.folding.fold_visits.Goals as goal

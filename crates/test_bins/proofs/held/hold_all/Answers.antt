@@ -1,5 +1,4 @@
 use Rattle.std.proofs.Common.{◌≡◌, [], ◌∷◌, ◌++◌, List, All, sym, ap, subst, ◌∙◌}
-use Rattle.std.proofs.lemmas.List.{append-nil}
 use Rattle.std.proofs.lemmas.List.Elements.{All-head, All-tail}
 use Rattle.std.specs.Vec.Iter.{into_iter_items}
 use Rattle.hashkeys.specs.declared.hashing.Salt.{Salt}

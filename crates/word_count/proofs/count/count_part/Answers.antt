@@ -1,9 +1,8 @@
-use Rattle.std.proofs.Common.{◌≡◌, ℕ, ◌+◌, ◌<◌, ◌++◌, List, [], ◌∷◌, take, length, slice_index_or, ap, sym, ◌∙◌, subst}
+use Rattle.std.proofs.Common.{◌≡◌, ℕ, ◌+◌, ◌++◌, List, [], ◌∷◌, take, slice_index_or, ap, sym, ◌∙◌, subst}
 use Rattle.std.proofs.Common.{arith}
 use Rattle.std.proofs.Math.Nat.{lt_of_not-le}
 use Rattle.bin_history.specs.Limits.{most_calls}
-use Rattle.bin_history.specs.declared.form.Form.TheVariants.{Lean}
-use Rattle.word_count.specs.Counted.{WordPass, WordRecord, HasCounted}
+use Rattle.word_count.specs.Counted.{WordPass, HasCounted}
 use Rattle.word_count.proofs.Worked.{HasCounted-push, most_calls-le}
 use Rattle.word_count.proofs.count.count_part.Goals as goal
 

@@ -1,6 +1,5 @@
-use Rattle.std.proofs.Common.{◌≡◌, ◌∙◌, ◌++◌, ◌∷◌, [], ap}
+use Rattle.std.proofs.Common.{◌∙◌, ap}
 use Rattle.bin_history.specs.Calls.{after}
-use Rattle.bin_history.specs.Readiness.{record_of}
 use Rattle.bin_history.proofs.Keys.{key_tells}
 use Rattle.bin_history.proofs.Histories.{GoesOn-called}
 use Rattle.bin_history.proofs.Lawful.{IsReplayed-applied}

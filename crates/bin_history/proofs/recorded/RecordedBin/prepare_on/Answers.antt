@@ -1,4 +1,4 @@
-use Rattle.std.proofs.Common.{◌≡◌, ◌-◌, ℕ, Option, vec_len, vec_capacity, subst, sym, arith}
+use Rattle.std.proofs.Common.{◌-◌, ℕ, Option, vec_len, vec_capacity, subst, sym, arith}
 use Rattle.std.proofs.lemmas.Bool.{true≢false}
 use Rattle.bin_history.specs.Calls.{after}
 use Rattle.bin_history.specs.Logs.{IsKeptOrFolded}

@@ -1,6 +1,6 @@
-use Rattle.std.proofs.Common.{rules, subst, arith, ◌≡◌, ◌∙◌, ◌∷◌, sym, ap}
+use Rattle.std.proofs.Common.{rules, arith, ◌∙◌, ◌∷◌, sym, ap}
 use Rattle.atomic_table.specs.Table.{rest}
-use Rattle.bin_table.proofs.Steps.{gives_it, one_taken, some_taken}
+use Rattle.bin_table.proofs.Steps.{gives_it, one_taken}
 use Rattle.bin_table.proofs.held.Held.take.Goals as goal
 
 pub exchange-taken-requires : goal.exchange-taken-requires

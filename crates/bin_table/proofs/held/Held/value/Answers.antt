@@ -1,12 +1,10 @@
-use Rattle.std.proofs.Common.{rules, ◌≡◌, ◌∙◌, ℕ, ◌<◌, [], ◌∷◌, ap, sym, refl}
-use Rattle.std.specs.Prelude.{Some}
+use Rattle.std.proofs.Common.{rules, ◌≡◌, ◌∙◌, ◌<◌, [], ◌∷◌, ap, sym, refl}
 use Rattle.std.specs.Coded.{Coded-set}
 use denote.Struct.Props.{props}
 use Rattle.atomic_table.specs.Table.{rest}
 use Rattle.atomic_table.specs.Lent.{seat_with}
 use Rattle.atomic_table.specs.Seated.{table_id_coded}
 use Rattle.bin_table.specs.Taken.{taken, places}
-use Rattle.bin_table.specs.Lending.{with_value}
 use Rattle.atomic_table.specs.declared.shared.Seat.{Seat}
 use Rattle.bin_table.specs.declared.held.Held.{Held}
 use Rattle.bin_table.specs.declared.terms.Terms.{Terms}

@@ -1,4 +1,4 @@
-use Rattle.std.proofs.Common.{rules, refl, sym, subst, ◌∙◌, ◌≡◌, ◌+◌, ◌*◌, ℕ, List, replicate, length}
+use Rattle.std.proofs.Common.{rules, refl, subst, ◌≡◌, ◌+◌, ◌*◌, ℕ, List, replicate, length}
 use Rattle.atomic_table.specs.Table.{opening}
 use Rattle.bin_table.specs.Places.{AreHome}
 use Rattle.bin_table.proofs.Steps.{opens}

@@ -1,4 +1,4 @@
-use Rattle.std.proofs.Common.{rules, refl, sym, ◌∙◌}
+use Rattle.std.proofs.Common.{rules}
 use Rattle.bin_table.proofs.Steps.{sits, takes_it}
 use Rattle.bin_table.proofs.rows.Rows.try_word.Goals as goal
 

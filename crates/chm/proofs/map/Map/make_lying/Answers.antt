@@ -1,11 +1,10 @@
-use Rattle.std.proofs.Common.{◌≡◌, ap, sym, subst, ◌∙◌}
+use Rattle.std.proofs.Common.{ap, sym, subst, ◌∙◌}
 use Rattle.std.specs.Option.{IsSomeAnd}
 use Rattle.bin_history.specs.Calls.{after}
 use Rattle.bin_history.specs.Ops.{call_on, key_in}
 use Rattle.lean_bins.specs.Lying.{LiesAt}
 use Rattle.places.specs.Views.{HomeView, place_of}
 use Rattle.chm.specs.Headline.{IsCalled}
-use Rattle.chm.specs.Views.{bins_of}
 use Rattle.chm.proofs.map.Map.make_lying.Goals as goal
 
 pub call_lying-made-requires-clause-lies : goal.call_lying-made-requires-clause-lies

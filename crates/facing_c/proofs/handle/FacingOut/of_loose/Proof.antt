@@ -30,7 +30,8 @@ pub of_loose_spec : {M : Type 1} → statement M
 of_loose_spec 𝓤 𝓛 𝓜 𝓡 wired =
     let c = own.clauses 𝓛 𝓜.mem 𝓡.returns in let 𝓣 = tables 𝓤 𝓛.H 𝓜 𝓡 𝓡.env in let W = walk_of 𝓛 own.ended spent c in
     let Out = type_at (own.signature).result tt in
-    proved_at 𝓛 own.ended spent c 𝓜 𝓡 (Goes-dropped 𝓛 0 of_parts yes (λ κs x f. refl), tt) #self code.function (code.unfolded 𝓤 𝓛.H 𝓜 𝓡 wired) (λ z are.
+    proved_at 𝓛 own.ended spent c 𝓜 𝓡 (Goes-dropped 𝓛 0 of_parts yes (λ κs x f. refl), tt)
+    #self code.function (code.unfolded 𝓤 𝓛.H 𝓜 𝓡 wired) (λ z are.
     let parts : (Parts boxed).Denot = z.0.3.0 in
     qed 𝓛 ((‵ ftrue ⊛ ‵ (fsep ((Parts boxed).own_val parts z.0.4.0) ftrue)) ∷ raw (emp 𝓤) ∷ []) ∵ split ! $ drop ! $ fsplit ! $
     parts_open boxed ! parts z.0.4.0 (λ b o h at is fits.
