@@ -103,6 +103,13 @@ impl<A: Allocator> ByteString<A> {
     {
         self.bytes.as_slice()
     }
+
+    /// The bytes themselves, with the room that they have.
+    pub fn into_bytes(self) -> Vec<u8, A>
+        ensures { result.items ≡ self }
+    {
+        self.bytes
+    }
 }
 
 impl<A: Allocator + Clone> Clone for ByteString<A> {

@@ -178,5 +178,6 @@ fn byte_strings_are_keys(rt: HostRuntime) -> Result<(), Fail> {
     assert_eq!(rt; copy.bytes(), b"BB".as_slice());
     assert!(rt; copy == own);
     assert!(rt; Bytes(b"Aa") != Bytes(b"BB"));
+    assert_eq!(rt; own.into_bytes().as_slice(), b"BB".as_slice());
     Ok(())
 }
