@@ -26,9 +26,10 @@ pub record IsTold (ledger : LedgerView ℕ ℕ) (call : Call ℕ ℕ Merging) (o
   pub status_is : status ≡ status_of tried
   pub answer_is : answer ≡ shown_of tried
 
--- what was a client is the client that tried the call, on the same map; anything else is as it was, and the status 8
-abbrev pub IsToldTo : Thing → Call ℕ ℕ Merging → Thing → ℕ → FacingAnswer → Type 0
-IsToldTo (Client c) call then status answer =
+-- what was a client is the client that tried the call, on the same map; anything else is as it was, with the answer,
+-- and the status is 8
+abbrev pub IsToldTo : Thing → Call ℕ ℕ Merging → Thing → ℕ → (before after : FacingAnswer) → Type 0
+IsToldTo (Client c) call then status _ answer =
     (d : ClientView ℕ ℕ Merging) × (tried : Option (Result (Reply ℕ) Fault))
     × (then ≡ Client d) × (d.map ≡ c.map) × IsTold c.map.ledger call c.pass d.pass tried status answer
-IsToldTo thing _ then status _ = (then ≡ thing) × (status ≡ 8)
+IsToldTo thing _ then status before after = (then ≡ thing) × (status ≡ 8) × (after ≡ before)

@@ -14,7 +14,7 @@ pub(crate) fn try_call(
     op: Op<u64, Merging>,
     answer: &mut FacingAnswer,
 ) -> u32
-    ensures { IsToldTo thing.old (call_on key op) thing.new result answer.new }
+    ensures { IsToldTo thing.old (call_on key op) thing.new result answer.old answer.new }
 {
     match thing {
         Thing::Client(client) => {

@@ -10,7 +10,7 @@ use std::alloc::Global;
 
 /// The number of keys: just so of a closed map, and of another as far as a look tells.
 pub(crate) fn count(thing: &Thing, answer: &mut FacingAnswer) -> u32
-    ensures { IsCounted thing.now result answer.new }
+    ensures { IsCounted thing.now result answer.old answer.new }
 {
     match thing {
         Thing::Map(server) => {
@@ -35,7 +35,7 @@ pub(crate) fn count(thing: &Thing, answer: &mut FacingAnswer) -> u32
 
 /// The value at the key in the closed map that this is.
 pub(crate) fn find(thing: &Thing, key: u64, answer: &mut FacingAnswer) -> u32
-    ensures { IsFound thing.now key result answer.new }
+    ensures { IsFound thing.now key result answer.old answer.new }
 {
     match thing {
         Thing::Closed(quiet) => {
@@ -55,7 +55,8 @@ fn copy_pairs(
     keys: &mut [u64],
     values: &mut [u64],
 ) -> usize
-    ensures { AreCopied (entries_of quiet.now.bins) keys.new values.new result }
+    ensures { AreCopied (entries_of quiet.now.bins) (keys.old, values.old)
+        (keys.new, values.new) result }
 {
     let mut count = 0;
     for (key, value) in quiet {
@@ -77,7 +78,8 @@ pub(crate) fn pairs(
     values: &mut [u64],
     answer: &mut FacingAnswer,
 ) -> u32
-    ensures { IsCopied thing.now keys.new values.new result answer.new }
+    ensures { IsCopied thing.now (keys.old, values.old) (keys.new, values.new) result
+        answer.old answer.new }
 {
     match thing {
         Thing::Closed(quiet) => {

@@ -23,7 +23,7 @@ fn call(
 ) -> u32
     ensures filled { IsFilled client.ptr → IsFilled out.new.ptr }
     ensures told { IsFilled client.ptr →
-        IsToldTo client.thing (call_on key op) out.new.thing result answer.new }
+        IsToldTo client.thing (call_on key op) out.new.thing result answer.old answer.new }
     ensures null { ¬ IsFilled client.ptr →
         (result ≡ 8) × (out.new ≡ out.old) × (answer.new ≡ answer.old) }
 {
@@ -45,7 +45,7 @@ pub extern "C" fn facing_c_try_get(
 ) -> u32
     ensures filled { IsFilled client.ptr → IsFilled out.new.ptr }
     ensures told { IsFilled client.ptr →
-        IsToldTo client.thing (Get key) out.new.thing result answer.new }
+        IsToldTo client.thing (Get key) out.new.thing result answer.old answer.new }
     ensures null { ¬ IsFilled client.ptr →
         (result ≡ 8) × (out.new ≡ out.old) × (answer.new ≡ answer.old) }
 {
@@ -62,7 +62,7 @@ pub extern "C" fn facing_c_try_contains(
 ) -> u32
     ensures filled { IsFilled client.ptr → IsFilled out.new.ptr }
     ensures told { IsFilled client.ptr →
-        IsToldTo client.thing (Contains key) out.new.thing result answer.new }
+        IsToldTo client.thing (Contains key) out.new.thing result answer.old answer.new }
     ensures null { ¬ IsFilled client.ptr →
         (result ≡ 8) × (out.new ≡ out.old) × (answer.new ≡ answer.old) }
 {
@@ -80,7 +80,7 @@ pub extern "C" fn facing_c_try_put(
 ) -> u32
     ensures filled { IsFilled client.ptr → IsFilled out.new.ptr }
     ensures told { IsFilled client.ptr →
-        IsToldTo client.thing (Put key value) out.new.thing result answer.new }
+        IsToldTo client.thing (Put key value) out.new.thing result answer.old answer.new }
     ensures null { ¬ IsFilled client.ptr →
         (result ≡ 8) × (out.new ≡ out.old) × (answer.new ≡ answer.old) }
 {
@@ -98,7 +98,7 @@ pub extern "C" fn facing_c_try_put_if_absent(
 ) -> u32
     ensures filled { IsFilled client.ptr → IsFilled out.new.ptr }
     ensures told { IsFilled client.ptr →
-        IsToldTo client.thing (PutIfAbsent key value) out.new.thing result answer.new }
+        IsToldTo client.thing (PutIfAbsent key value) out.new.thing result answer.old answer.new }
     ensures null { ¬ IsFilled client.ptr →
         (result ≡ 8) × (out.new ≡ out.old) × (answer.new ≡ answer.old) }
 {
@@ -115,7 +115,7 @@ pub extern "C" fn facing_c_try_remove(
 ) -> u32
     ensures filled { IsFilled client.ptr → IsFilled out.new.ptr }
     ensures told { IsFilled client.ptr →
-        IsToldTo client.thing (Remove key) out.new.thing result answer.new }
+        IsToldTo client.thing (Remove key) out.new.thing result answer.old answer.new }
     ensures null { ¬ IsFilled client.ptr →
         (result ≡ 8) × (out.new ≡ out.old) × (answer.new ≡ answer.old) }
 {
@@ -133,7 +133,7 @@ pub extern "C" fn facing_c_try_remove_if(
 ) -> u32
     ensures filled { IsFilled client.ptr → IsFilled out.new.ptr }
     ensures told { IsFilled client.ptr →
-        IsToldTo client.thing (RemoveIf key value) out.new.thing result answer.new }
+        IsToldTo client.thing (RemoveIf key value) out.new.thing result answer.old answer.new }
     ensures null { ¬ IsFilled client.ptr →
         (result ≡ 8) × (out.new ≡ out.old) × (answer.new ≡ answer.old) }
 {
@@ -151,7 +151,7 @@ pub extern "C" fn facing_c_try_replace(
 ) -> u32
     ensures filled { IsFilled client.ptr → IsFilled out.new.ptr }
     ensures told { IsFilled client.ptr →
-        IsToldTo client.thing (Replace key value) out.new.thing result answer.new }
+        IsToldTo client.thing (Replace key value) out.new.thing result answer.old answer.new }
     ensures null { ¬ IsFilled client.ptr →
         (result ≡ 8) × (out.new ≡ out.old) × (answer.new ≡ answer.old) }
 {
@@ -170,7 +170,7 @@ pub extern "C" fn facing_c_try_replace_if(
 ) -> u32
     ensures filled { IsFilled client.ptr → IsFilled out.new.ptr }
     ensures told { IsFilled client.ptr →
-        IsToldTo client.thing (ReplaceIf key old new) out.new.thing result answer.new }
+        IsToldTo client.thing (ReplaceIf key old new) out.new.thing result answer.old answer.new }
     ensures null { ¬ IsFilled client.ptr →
         (result ≡ 8) × (out.new ≡ out.old) × (answer.new ≡ answer.old) }
 {
@@ -188,7 +188,7 @@ pub extern "C" fn facing_c_try_add(
 ) -> u32
     ensures filled { IsFilled client.ptr → IsFilled out.new.ptr }
     ensures told { IsFilled client.ptr →
-        IsToldTo client.thing (Merge key value Merging.Add) out.new.thing result answer.new }
+        IsToldTo client.thing (Merge key value Merging.Add) out.new.thing result answer.old answer.new }
     ensures null { ¬ IsFilled client.ptr →
         (result ≡ 8) × (out.new ≡ out.old) × (answer.new ≡ answer.old) }
 {
@@ -206,7 +206,7 @@ pub extern "C" fn facing_c_try_greatest(
 ) -> u32
     ensures filled { IsFilled client.ptr → IsFilled out.new.ptr }
     ensures told { IsFilled client.ptr →
-        IsToldTo client.thing (Merge key value Merging.Greatest) out.new.thing result answer.new }
+        IsToldTo client.thing (Merge key value Merging.Greatest) out.new.thing result answer.old answer.new }
     ensures null { ¬ IsFilled client.ptr →
         (result ≡ 8) × (out.new ≡ out.old) × (answer.new ≡ answer.old) }
 {
@@ -230,7 +230,7 @@ pub extern "C" fn facing_c_try_set(
 ) -> u32
     ensures filled { IsFilled client.ptr → IsFilled out.new.ptr }
     ensures told { IsFilled client.ptr →
-        IsToldTo client.thing (Merge key value Merging.Set) out.new.thing result answer.new }
+        IsToldTo client.thing (Merge key value Merging.Set) out.new.thing result answer.old answer.new }
     ensures null { ¬ IsFilled client.ptr →
         (result ≡ 8) × (out.new ≡ out.old) × (answer.new ≡ answer.old) }
 {

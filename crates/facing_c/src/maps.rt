@@ -1,6 +1,11 @@
 //! Maps, from their opening to their close.
-ghost use Rattle.std.specs.Prelude.{IfOk};
+ghost use Rattle.std.specs.Prelude.{IfOk, ◌≤◌, length};
+ghost use Rattle.bin_history.specs.declared.form.Form.TheVariants.{Lean};
+ghost use Rattle.chm.specs.Headline.{entries_of};
+ghost use Rattle.chm.specs.Opened.{IsLimited};
+ghost use Rattle.chm.specs.Refusals.{IsCapacityOf};
 ghost use Rattle.facing_c.specs.Maps.{IsOpened, IsReopenedFrom, IsClientOf, IsMadeOr};
+ghost use Rattle.facing_c.specs.Maps.{IsReopeningStatus, IsClientStatus, status_in};
 ghost use Rattle.facing_c.specs.Maps.{IsCloseOf, IsClosedAs};
 
 use crate::merging::Merging;
@@ -15,7 +20,8 @@ use std::mem;
 
 /// A map without entries, whose clients are all in.
 pub(crate) fn open(alloc: Global, capacity: usize, clients: u32, salt: u32) -> Result<Thing, Fault>
-    ensures { IfOk result (IsOpened (record { 0 = salt }) capacity clients) }
+    ensures new { IfOk result (IsOpened (record { 0 = salt }) capacity clients) }
+    ensures limits { IsLimited (IsCapacityOf Lean capacity) clients result }
 {
     let team = Team::with_salt(alloc, capacity, clients, Salt(salt))?;
     Ok(Thing::Map(Server::new(team)?))
@@ -23,7 +29,8 @@ pub(crate) fn open(alloc: Global, capacity: usize, clients: u32, salt: u32) -> R
 
 /// A map that begins with copies of these pairs, whose clients are all in.
 fn reopened(quiet: &Quiet<u64, u64, Merging, Global>, clients: u32) -> Result<Thing, Fault>
-    ensures { IfOk result (IsReopenedFrom (Thing.Closed quiet.now) clients) }
+    ensures new { IfOk result (IsReopenedFrom (Thing.Closed quiet.now) clients) }
+    ensures limits { IsLimited (length (entries_of quiet.now.bins) ≤ 4294967295) clients result }
 {
     let team = Team::reopen(quiet, clients)?;
     Ok(Thing::Map(Server::new(team)?))
@@ -31,7 +38,8 @@ fn reopened(quiet: &Quiet<u64, u64, Merging, Global>, clients: u32) -> Result<Th
 
 /// A map that begins with copies of the pairs of the closed map that this is, which stays as it is.
 pub(crate) fn reopen(thing: &Thing, clients: u32) -> Result<Thing, u32>
-    ensures { IsMadeOr (IsReopenedFrom thing.now clients) result }
+    ensures made { IsMadeOr (IsReopenedFrom thing.now clients) result }
+    ensures status { IsReopeningStatus thing.now clients (status_in result) }
 {
     match thing {
         Thing::Closed(quiet) => match reopened(quiet, clients) {
@@ -47,7 +55,8 @@ pub(crate) fn reopen(thing: &Thing, clients: u32) -> Result<Thing, u32>
 
 /// A client of the map that this is, which was in.
 pub(crate) fn client(thing: &Thing) -> Result<Thing, u32>
-    ensures { IsMadeOr (IsClientOf thing.now) result }
+    ensures made { IsMadeOr (IsClientOf thing.now) result }
+    ensures status { IsClientStatus thing.now (status_in result) }
 {
     match thing {
         Thing::Map(server) => match server.client() {

@@ -1,8 +1,11 @@
 //! The exports that make no call of a client.
-ghost use Rattle.std.specs.Prelude.{◌≡◌, ◌≢◌};
+ghost use Rattle.std.specs.Prelude.{◌≡◌, ◌≢◌, ◌⊎◌};
+ghost use Rattle.bin_history.specs.declared.form.Form.TheVariants.{Lean};
+ghost use Rattle.chm.specs.Refusals.{IsCapacityOf};
 ghost use Rattle.facing_c.specs.Closed.{IsCounted, IsFound, IsCopied};
 ghost use Rattle.facing_c.specs.Handles.{IsFilled};
 ghost use Rattle.facing_c.specs.Maps.{IsOpened, IsReopenedFrom, IsClientOf, IsClosedAs};
+ghost use Rattle.facing_c.specs.Maps.{IsMakingStatus, IsReopeningStatus, IsClientStatus};
 
 use crate::handle::{FacingHandle, FacingOut};
 use crate::status::{DONE, FacingAnswer, NO_MEMORY, WRONG_HANDLE, code_of};
@@ -14,6 +17,7 @@ use std::alloc::Global;
 fn give(alloc: Global, thing: Thing, out: &mut FacingOut) -> u32
     ensures given { result ≡ 0 → IsFilled out.new.ptr × (out.new.thing ≡ thing) }
     ensures refused { result ≢ 0 → out.new ≡ out.old }
+    ensures codes { (result ≡ 0) ⊎ (result ≡ 2) }
 {
     match Box::new(alloc, thing) {
         Ok(boxed) => {
@@ -40,6 +44,7 @@ pub extern "C" fn facing_c_open(
     ensures new { result ≡ 0 → IsFilled out.new.ptr
         × IsOpened (record { 0 = salt }) capacity clients out.new.thing }
     ensures refused { result ≢ 0 → out.new ≡ out.old }
+    ensures status { IsMakingStatus (IsCapacityOf Lean capacity) clients result }
 {
     match maps::open(alloc, capacity, clients, salt) {
         Ok(map) => give(alloc, map, out),
@@ -60,6 +65,7 @@ pub extern "C" fn facing_c_client(
     ensures client { result ≡ 0 → IsFilled client.new.ptr
         × IsClientOf map.thing client.new.thing }
     ensures refused { result ≢ 0 → client.new ≡ client.old }
+    ensures status { IsFilled map.ptr → IsClientStatus map.thing result }
     ensures null { ¬ IsFilled map.ptr → (result ≡ 8) × (out.new ≡ out.old) }
 {
     let Some(thing) = map.into_box() else {
@@ -82,7 +88,7 @@ pub extern "C" fn facing_c_count(
 ) -> u32
     ensures filled { IsFilled handle.ptr → IsFilled out.new.ptr }
     ensures same { IsFilled handle.ptr → out.new.thing ≡ handle.thing }
-    ensures counted { IsFilled handle.ptr → IsCounted handle.thing result answer.new }
+    ensures counted { IsFilled handle.ptr → IsCounted handle.thing result answer.old answer.new }
     ensures null { ¬ IsFilled handle.ptr →
         (result ≡ 8) × (out.new ≡ out.old) × (answer.new ≡ answer.old) }
 {
@@ -119,7 +125,8 @@ pub extern "C" fn facing_c_find(
 ) -> u32
     ensures filled { IsFilled closed.ptr → IsFilled out.new.ptr }
     ensures same { IsFilled closed.ptr → out.new.thing ≡ closed.thing }
-    ensures found { IsFilled closed.ptr → IsFound closed.thing key result answer.new }
+    ensures found { IsFilled closed.ptr →
+        IsFound closed.thing key result answer.old answer.new }
     ensures null { ¬ IsFilled closed.ptr →
         (result ≡ 8) × (out.new ≡ out.old) × (answer.new ≡ answer.old) }
 {
@@ -143,9 +150,11 @@ pub extern "C" fn facing_c_pairs(
     ensures filled { IsFilled closed.ptr → IsFilled out.new.ptr }
     ensures same { IsFilled closed.ptr → out.new.thing ≡ closed.thing }
     ensures copied { IsFilled closed.ptr →
-        IsCopied closed.thing keys.new values.new result answer.new }
+        IsCopied closed.thing (keys.old, values.old) (keys.new, values.new) result
+        answer.old answer.new }
     ensures null { ¬ IsFilled closed.ptr →
-        (result ≡ 8) × (out.new ≡ out.old) × (answer.new ≡ answer.old) }
+        (result ≡ 8) × (out.new ≡ out.old) × (answer.new ≡ answer.old)
+        × (keys.new ≡ keys.old) × (values.new ≡ values.old) }
 {
     let Some(thing) = closed.into_box() else {
         return WRONG_HANDLE;
@@ -169,6 +178,7 @@ pub extern "C" fn facing_c_reopen(
     ensures new { result ≡ 0 → IsFilled map.new.ptr
         × IsReopenedFrom closed.thing clients map.new.thing }
     ensures refused { result ≢ 0 → map.new ≡ map.old }
+    ensures status { IsFilled closed.ptr → IsReopeningStatus closed.thing clients result }
     ensures null { ¬ IsFilled closed.ptr → (result ≡ 8) × (out.new ≡ out.old) }
 {
     let Some(thing) = closed.into_box() else {

@@ -1,5 +1,5 @@
--- The pairs up to here are copied, and there is room for them.
-use Rattle.std.proofs.Common.{◌≡◌, ℕ, ◌≤◌, ◌++◌, List, length, take, map}
+-- The pairs up to here are copied, and there is room for them; the rest of the room is as it was.
+use Rattle.std.proofs.Common.{◌≡◌, ℕ, ◌≤◌, ◌++◌, List, length, take, drop, map}
 use Rattle.chm.specs.Headline.{entries_of}
 use Rattle.facing_c.proofs.closed.copy_pairs.Given as goal
 
@@ -12,4 +12,6 @@ invariant-loop-key l =
     × (l.count ≤ length l.keys)
     × (l.count ≤ length l.values)
     × (take l.count l.keys ≡ map (λ entry. entry.0) done)
-    × (take l.count l.values ≡ map (λ entry. entry.1) done))
+    × (take l.count l.values ≡ map (λ entry. entry.1) done)
+    × (drop l.count l.keys ≡ drop l.count l.fn.keys)
+    × (drop l.count l.values ≡ drop l.count l.fn.values))
