@@ -1,0 +1,4 @@
+pub mod Heap
+pub mod Handles
+pub mod Crossing
+pub mod Walking
