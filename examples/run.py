@@ -1,11 +1,13 @@
 #!/usr/bin/env python3
-"""Builds and runs the examples in C, C++, Rust and Python over the static library facing_c, and its tests in C: as they are, with
-the sanitizers of addresses and of undefined behaviour, and under valgrind. Each compares what it got with what it must be.
+"""Builds and runs the examples in C, C++, Rust and Python over the static libraries facing_c and facing_c_bytes, and the tests in C
+of both: as they are, with the sanitizers of addresses and of undefined behaviour, and under valgrind. Each compares what it got with
+what it must be.
 
-usage: python3 examples/run.py [LIBRARY]
+usage: python3 examples/run.py [LIBRARY [BYTES_LIBRARY]]
 
-LIBRARY is libfacing_c.a, or where no word names it the one that `rt lib` made in crates/facing_c. It takes half a minute. It
-leaves out what needs a tool that is not there, and says so. It ends with status 1 where one fails."""
+LIBRARY is libfacing_c.a, or where no word names it the one that `rt lib` made in crates/facing_c, and so is BYTES_LIBRARY
+libfacing_c_bytes.a. It takes a minute. It leaves out what needs a tool or a library that is not there, and says so. It ends with
+status 1 where one fails."""
 import os
 import shutil
 import subprocess
@@ -15,6 +17,7 @@ import tempfile
 HERE = os.path.dirname(os.path.realpath(__file__))
 TOP = os.path.dirname(HERE)
 BUILT = f"{TOP}/crates/facing_c/out/libfacing_c.a"
+BYTES_BUILT = f"{TOP}/crates/facing_c_bytes/out/libfacing_c_bytes.a"
 C, CPP = ["cc", "-std=c11"], ["c++", "-std=c++17", "-x", "c++"]
 SANITIZED = ["-g", "-O1", "-fsanitize=address,undefined", "-fno-sanitize-recover=all"]
 VALGRIND = ["valgrind", "-q", "--leak-check=full", "--show-leak-kinds=all", "--error-exitcode=9"]
@@ -23,7 +26,7 @@ WRAPPED = ["-Wl,--wrap=malloc,--wrap=realloc,--wrap=free"]
 
 
 class Lacking(Exception):
-    """A tool is not there."""
+    """A tool or a library is not there."""
 
 
 def need(tool):
@@ -41,16 +44,25 @@ def heap_library():
 class Place:
     """The folder of what is built, and the libraries."""
 
-    def __init__(self, folder, library):
+    def __init__(self, folder, library, bytes_library):
         self.folder, self.libraries = folder, [os.path.realpath(library), heap_library()]
+        self.bytes_libraries = [os.path.realpath(bytes_library), heap_library()]
         self.made = 0
+
+    def libraries_of(self, source):
+        """Returns the libraries that a program in C stands on."""
+        libraries = self.bytes_libraries if os.path.basename(source).startswith("bytes") else self.libraries
+        if not os.path.exists(libraries[0]):
+            raise Lacking(f"there is no {os.path.basename(libraries[0])}: make it with `rt lib`")
+        return libraries
 
     def program(self, compiler, source, flags=("-O2",), more=()):
         """Builds a program, and returns its path."""
         need(compiler[0])
         self.made += 1
         program = f"{self.folder}/program_{self.made}"
-        words = [*compiler, *flags, "-Wall", "-Wextra", "-Werror", f"-I{TOP}/include", f"{HERE}/c/{source}", "-x", "none", *self.libraries]
+        warned = ["-Wall", "-Wextra", "-Werror", f"-I{TOP}/include"]
+        words = [*compiler, *flags, *warned, f"{HERE}/c/{source}", "-x", "none", *self.libraries_of(source)]
         if (ran := subprocess.run([*words, *more, "-lpthread", "-o", program], capture_output=True, text=True, check=False)).returncode:
             if "cannot find" in ran.stderr and "-fsanitize" in " ".join(flags):
                 raise Lacking("the sanitizers' libraries are not installed")
@@ -66,12 +78,14 @@ class Place:
 
     def cargo(self, *words):
         need("cargo")
+        self.libraries_of("rust")
         folders = ":".join(dict.fromkeys(os.path.dirname(it) for it in self.libraries))
         environment = {**os.environ, "FACING_LIBS": folders, "CARGO_TARGET_DIR": f"{self.folder}/rust"}
         return run(["cargo", words[0], "--release", "--quiet", "--offline", *words[1:]], cwd=f"{HERE}/rust", env=environment)
 
     def python(self, program):
         need("cc")
+        self.libraries_of(program)
         shared = f"{self.folder}/libfacing.so"
         whole = ["-Wl,--whole-archive", self.libraries[0], "-Wl,--no-whole-archive", self.libraries[1]]
         subprocess.run(["cc", "-shared", *whole, "-o", shared], check=True)
@@ -122,15 +136,24 @@ WORKS = [
     ("C++, valgrind, 4 threads", lambda it: run(*each(it.under_valgrind(CPP, "tests/counts.c"), *FEW))),
     ("C, valgrind, memory refused", lambda it: run([*it.under_valgrind(C, "tests/refused.c", WRAPPED), "7"])),
     ("C, valgrind, misuses", lambda it: run(it.under_valgrind(C, "tests/misuse.c"))),
+    ("bytes, C, word count", lambda it: run(it.program(C, "bytes.c"))),
+    ("bytes, C++, word count", lambda it: run(it.program(CPP, "bytes.c"))),
+    ("bytes, C, memory refused", lambda it: run(it.program(C, "tests/bytes_refused.c", more=WRAPPED))),
+    ("bytes, C, misuses", lambda it: run(it.program(C, "tests/bytes_misuse.c"))),
+    ("bytes, C, sanitized, word count", lambda it: run(it.sanitized(C, "bytes.c"))),
+    ("bytes, C, sanitized, memory refused", lambda it: run(it.sanitized(C, "tests/bytes_refused.c", WRAPPED))),
+    ("bytes, C++, sanitized, misuses", lambda it: run(it.sanitized(CPP, "tests/bytes_misuse.c"))),
+    ("bytes, C, valgrind, memory refused", lambda it: run([*it.under_valgrind(C, "tests/bytes_refused.c", WRAPPED), "7"])),
+    ("bytes, C, valgrind, misuses", lambda it: run([*it.under_valgrind(C, "tests/bytes_misuse.c"), "2000"])),
 ]
 
 
-def main(library=BUILT):
-    if not os.path.exists(library):
+def main(library=BUILT, bytes_library=BYTES_BUILT):
+    if not os.path.exists(library) and not os.path.exists(bytes_library):
         sys.exit(f"{library} is not there: make it with `rt lib` in crates/facing_c")
     is_right = True
     with tempfile.TemporaryDirectory() as folder:
-        place = Place(folder, library)
+        place = Place(folder, library, bytes_library)
         for name, work in WORKS:
             try:
                 its, said = work(place)

@@ -32,7 +32,8 @@ enum facing_status {
     FACING_CLIENT_OUT,   /* refused: no client is in; or one is out of the map that was to be closed */
     FACING_BIN_MISSING,  /* the map ended when it was to be closed: a part of it was not found */
     FACING_WRONG_HANDLE, /* refused: the handle is null, or stands for something else */
-    FACING_BAD_ARGUMENT  /* the functions' below alone: a pointer is null, two are one, or a length is past 2^60 - 1 */
+    FACING_BAD_ARGUMENT, /* the functions' below alone: a pointer is null, two are one, or a length is past 2^60 - 1 */
+    FACING_TOO_LONG      /* facing_bytes.h's alone: refused, a key or a value has more than 65,536 bytes */
 };
 
 /* A handle of an open map, of one of its clients, or of a closed map. It begins as {0}, or where a call gives it out. */

@@ -1,0 +1,358 @@
+/* Makes calls at random on handles of maps of byte strings, right ones and wrong ones: null, freed, of a closed map, of another
+ * kind, with null pointers, with room that lies over a key, and with keys, values and numbers past the limits. Each wrong one must
+ * end with its code and change nothing.
+ *
+ * usage: bytes_misuse [MISUSES [SEED]] */
+#include "facing_bytes.h"
+#include <stdio.h>
+#include <stdlib.h>
+#include <string.h>
+
+enum { SLOTS = 12, KEYS = 16, VALUES = 5, SMALL = 40 };
+
+/* What the handle in a slot stands for. */
+enum kind { NOTHING, MAP, CLIENT, CLOSED };
+
+/* What is in a map, the number of each key's value or 0, and how many clients it has and gave out; alive by so many handles. */
+struct content {
+    unsigned values[KEYS];
+    uint32_t clients, out, handles;
+};
+
+struct slot {
+    facing_bytes_handle handle;
+    enum kind kind;
+    struct content *of;
+};
+
+/* Some bytes. */
+struct text {
+    const uint8_t *at;
+    size_t len;
+};
+
+static struct slot slots[SLOTS];
+static uint8_t pattern[FACING_LONGEST + 300], room[FACING_LONGEST + 300];
+static uint64_t state, misuses, wrong, calls;
+
+static uint64_t below(uint64_t count) {
+    uint64_t z = (state += 0x9e3779b97f4a7c15u);
+    z = (z ^ (z >> 30)) * 0xbf58476d1ce4e5b9u;
+    z = (z ^ (z >> 27)) * 0x94d049bb133111ebu;
+    return (z ^ (z >> 31)) % count;
+}
+
+/* One in twenty. */
+static int seldom(void) {
+    return below(20) == 0;
+}
+
+static void want(int is_so, const char *what) {
+    if (is_so) return;
+    wrong++;
+    printf("call %llu: %s\n", (unsigned long long)calls, what);
+}
+
+static void want_status(uint32_t status, uint32_t expected, const char *what) {
+    calls++;
+    misuses += expected != FACING_DONE;
+    if (status == expected) return;
+    wrong++;
+    printf("call %llu: %s: %u, and not %u\n", (unsigned long long)calls, what, status, expected);
+}
+
+/* The handle in a slot is there where the slot stands for something. */
+static void want_kept(const struct slot *it) {
+    want((it->handle.at != NULL) == (it->kind != NOTHING), "whether a handle is there");
+}
+
+/* The bytes of a key, the last of which are the most that a key may have; key 0 has none. */
+static struct text key_of(unsigned key) {
+    struct text text = {pattern + key, key + 1 == KEYS ? (size_t)FACING_LONGEST : (size_t)key * 3};
+    return text;
+}
+
+/* The bytes of a value, the last of which are the most that a value may have. */
+static struct text value_of(unsigned value) {
+    struct text text = {pattern + 100 + value, value + 1 == VALUES ? (size_t)FACING_LONGEST : (size_t)value * 9};
+    return text;
+}
+
+/* A slot that stands for this, in two of three cases where there is one. */
+static struct slot *some_slot(enum kind kind) {
+    uint64_t from = below(SLOTS), end = below(3) == 0 ? from : from + SLOTS;
+    for (uint64_t i = from; i < end; i++)
+        if (slots[i % SLOTS].kind == kind) return &slots[i % SLOTS];
+    return &slots[from];
+}
+
+static void fill(struct slot *it, enum kind kind, struct content *of) {
+    it->kind = kind;
+    it->of = of;
+    of->handles++;
+}
+
+static struct content *content_like(const struct content *from, uint32_t clients) {
+    struct content *it = (struct content *)calloc(1, sizeof *it);
+    if (it == NULL) exit(2);
+    if (from != NULL) *it = *from;
+    it->clients = clients;
+    it->out = it->handles = 0;
+    return it;
+}
+
+static void free_slot(struct slot *it) {
+    facing_bytes_free(seldom() ? NULL : &it->handle);
+    facing_bytes_free(&it->handle);
+    if (it->kind != NOTHING) {
+        if (it->kind == CLIENT) it->of->out--;
+        it->kind = NOTHING;
+        if (--it->of->handles == 0) free(it->of);
+    }
+    want_kept(it);
+}
+
+static void open_map(struct slot *it) {
+    uint32_t expected = seldom() ? FACING_BAD_CAPACITY : seldom() ? FACING_BAD_CLIENTS : FACING_DONE;
+    uint32_t clients = expected == FACING_BAD_CLIENTS ? (below(2) ? 0 : 33) : (uint32_t)below(4) + 1;
+    size_t capacity = expected == FACING_BAD_CAPACITY ? (below(2) ? 0 : ((size_t)1 << 26) + 1) : (size_t)below(64) + 1;
+    if (seldom()) want_status(facing_bytes_open(capacity, clients, 0, NULL), FACING_BAD_ARGUMENT, "open");
+    free_slot(it);
+    want_status(facing_bytes_open(capacity, clients, (uint32_t)below(1000), &it->handle), expected, "open");
+    if (expected == FACING_DONE) fill(it, MAP, content_like(NULL, clients));
+    want_kept(it);
+}
+
+static void take_client(struct slot *it, struct slot *to) {
+    if (it == to || seldom()) {
+        want_status(facing_bytes_client(below(2) ? &it->handle : NULL, it == to ? &it->handle : NULL), FACING_BAD_ARGUMENT,
+                    "client");
+    } else {
+        uint32_t expected;
+        free_slot(to);
+        expected = it->kind != MAP ? FACING_WRONG_HANDLE : it->of->out == it->of->clients ? FACING_CLIENT_OUT : FACING_DONE;
+        want_status(facing_bytes_client(&it->handle, &to->handle), expected, "client");
+        if (expected == FACING_DONE) fill(to, CLIENT, it->of), it->of->out++;
+    }
+    want_kept(it);
+    want_kept(to);
+}
+
+/* The call of a number, by a client or by what is none. */
+static uint32_t call(unsigned kind, facing_bytes_handle *client, struct text k, struct text v, struct text w, size_t len,
+                     facing_bytes_answer *answer) {
+    switch (kind) {
+    case 0: return facing_bytes_get(client, k.at, k.len, room, len, answer);
+    case 1: return facing_bytes_contains(client, k.at, k.len, answer);
+    case 2: return facing_bytes_put(client, k.at, k.len, v.at, v.len, room, len, answer);
+    case 3: return facing_bytes_put_if_absent(client, k.at, k.len, v.at, v.len, room, len, answer);
+    case 4: return facing_bytes_remove(client, k.at, k.len, room, len, answer);
+    case 5: return facing_bytes_remove_if(client, k.at, k.len, v.at, v.len, answer);
+    case 6: return facing_bytes_replace(client, k.at, k.len, v.at, v.len, room, len, answer);
+    default: return facing_bytes_replace_if(client, k.at, k.len, v.at, v.len, w.at, w.len, answer);
+    }
+}
+
+static int is_truth(unsigned kind) {
+    return kind == 1 || kind == 5 || kind == 7;
+}
+
+/* What the call does to a map with this content; it tells whether the answer is that there is something. */
+static int note(unsigned kind, struct content *of, unsigned key, unsigned value, unsigned other) {
+    unsigned *at = &of->values[key], old = *at;
+    switch (kind) {
+    case 0: case 1: break;
+    case 2: *at = value; break;
+    case 3: *at = old == 0 ? value : old; break;
+    case 4: *at = 0; break;
+    case 5: *at = old == value ? 0 : old; return old == value;
+    case 6: *at = old == 0 ? 0 : value; break;
+    default: *at = old == value ? other : old; return old == value;
+    }
+    return old != 0;
+}
+
+/* The room has the value as far as it goes, and is as it was beyond it. */
+static void want_room(struct text value, size_t len, const char *what) {
+    size_t n = value.len < len ? value.len : len;
+    want(n == 0 || memcmp(room, value.at, n) == 0, what);
+    for (size_t i = n; i < n + SMALL && i < sizeof room; i++) want(room[i] == 7, "what is beyond a value");
+}
+
+static size_t some_len(void) {
+    return below(3) == 0 ? (size_t)FACING_LONGEST : (size_t)below(SMALL);
+}
+
+static void make_call(struct slot *it) {
+    unsigned kind = (unsigned)below(8), key = (unsigned)below(KEYS), value = 1 + (unsigned)below(VALUES - 1);
+    unsigned other = 1 + (unsigned)below(VALUES - 1), old;
+    struct text k = key_of(key), v = value_of(value), w = value_of(other), none = {NULL, 0};
+    size_t len = some_len();
+    facing_bytes_answer answer = {7, 7};
+    uint32_t expected = it->kind == CLIENT ? FACING_DONE : FACING_WRONG_HANDLE;
+    memset(room, 7, (size_t)2 * SMALL);
+    memset(room + FACING_LONGEST - SMALL, 7, (size_t)2 * SMALL);
+    old = it->kind == CLIENT ? it->of->values[key] : 0;
+    if (seldom()) {
+        k.at = NULL;
+        k.len += k.len == 0;
+        want_status(call(kind, &it->handle, k, v, w, len, &answer), FACING_BAD_ARGUMENT, "a key that lies nowhere");
+    } else if (seldom() && len != 0 && !is_truth(kind)) {
+        k.at = room + below(len);
+        k.len = 1;
+        want_status(call(kind, &it->handle, k, v, w, len, &answer), FACING_BAD_ARGUMENT, "a key in the room");
+    } else if (seldom()) {
+        want_status(call(kind, NULL, k, v, w, len, &answer), FACING_BAD_ARGUMENT, "a call of nothing");
+    } else if (seldom()) {
+        int is_key = kind < 2 || kind == 4 || below(2);
+        if (expected == FACING_DONE) expected = FACING_TOO_LONG;
+        if (is_key) k.at = pattern, k.len = (size_t)FACING_LONGEST + 1 + below(100);
+        else v.at = pattern, v.len = (size_t)FACING_LONGEST + 1 + below(100);
+        want_status(call(kind, &it->handle, k, v, w, len, &answer), expected, "a long key or value");
+        want(answer.found == 0 && answer.len == 0, "the answer to a long key or value");
+        want_room(none, 0, "what a long key leaves");
+    } else {
+        int is_there = 0;
+        want_status(call(kind, &it->handle, key == 0 && below(2) ? none : k, v, w, len, &answer), expected, "a call");
+        if (it->kind == CLIENT) is_there = note(kind, it->of, key, value, other);
+        want(answer.found == (uint32_t)is_there, "what a call finds");
+        want(answer.len == (is_there && !is_truth(kind) ? value_of(old).len : 0), "the length of a value");
+        want_room(is_there && !is_truth(kind) ? value_of(old) : none, len, "the value before");
+    }
+    want_kept(it);
+}
+
+static uint64_t live(const struct content *of) {
+    uint64_t count = 0;
+    for (int i = 0; i < KEYS; i++) count += of->values[i] != 0;
+    return count;
+}
+
+static void count_keys(struct slot *it) {
+    uint64_t count = 7;
+    int is_null = seldom();
+    want_status(facing_bytes_count(is_null ? NULL : &it->handle, &count),
+                is_null ? FACING_BAD_ARGUMENT : it->kind == NOTHING ? FACING_WRONG_HANDLE : FACING_DONE, "count");
+    want(count == (is_null || it->kind == NOTHING ? 0 : live(it->of)), "a count");
+    want_kept(it);
+}
+
+static void close_map(struct slot *it) {
+    uint32_t expected = it->kind != MAP ? FACING_WRONG_HANDLE : it->of->out != 0 ? FACING_CLIENT_OUT : FACING_DONE;
+    if (seldom()) want_status(facing_bytes_close(NULL), FACING_BAD_ARGUMENT, "close");
+    want_status(facing_bytes_close(&it->handle), expected, "close");
+    if (expected == FACING_DONE) it->kind = CLOSED;
+    want_kept(it);
+}
+
+static void find_key(struct slot *it) {
+    unsigned key = (unsigned)below(KEYS), value = it->kind == CLOSED ? it->of->values[key] : 0;
+    struct text k = key_of(key), none = {NULL, 0};
+    int is_long = seldom();
+    size_t len = some_len();
+    facing_bytes_answer answer = {7, 7};
+    if (is_long) k.at = pattern, k.len = FACING_LONGEST + 1, value = 0;
+    memset(room, 7, (size_t)2 * SMALL);
+    memset(room + FACING_LONGEST - SMALL, 7, (size_t)2 * SMALL);
+    want_status(facing_bytes_find(&it->handle, k.at, k.len, room, len, &answer),
+                it->kind != CLOSED ? FACING_WRONG_HANDLE : is_long ? FACING_TOO_LONG : FACING_DONE, "find");
+    want(answer.found == (value != 0) && answer.len == (value != 0 ? value_of(value).len : 0), "what is found");
+    want_room(value != 0 ? value_of(value) : none, len, "the value that is found");
+    want_kept(it);
+}
+
+/* Whether the next bytes of the room are a pair of the map. */
+static int is_pair(const struct content *of, const uint8_t *at, uint64_t key_len, uint64_t value_len) {
+    for (unsigned key = 0; key < KEYS; key++) {
+        struct text k = key_of(key), v = value_of(of->values[key]);
+        if (of->values[key] != 0 && k.len == key_len && memcmp(k.at, at, k.len) == 0)
+            return v.len == value_len && memcmp(v.at, at + key_len, v.len) == 0;
+    }
+    return 0;
+}
+
+/* Walks over a closed map, some pairs at a time. */
+static void walk(struct slot *it) {
+    uint64_t key_lens[KEYS], value_lens[KEYS], from = 0;
+    static uint8_t pairs[4 * FACING_LONGEST];
+    size_t len = 1 + (size_t)below(KEYS), copied = 7;
+    uint32_t expected = it->kind == CLOSED ? FACING_DONE : FACING_WRONG_HANDLE;
+    if (seldom())
+        want_status(facing_bytes_pairs(&it->handle, 0, key_lens, key_lens, len, pairs, sizeof pairs, &copied), FACING_BAD_ARGUMENT,
+                    "pairs with one room for both lengths");
+    do {
+        size_t at = 0;
+        want_status(facing_bytes_pairs(&it->handle, from, key_lens, value_lens, len, pairs, sizeof pairs, &copied), expected,
+                    "pairs");
+        for (size_t i = 0; i < copied; i++) {
+            want(is_pair(it->of, pairs + at, key_lens[i], value_lens[i]), "a pair");
+            at += key_lens[i] + value_lens[i];
+        }
+        from += copied;
+    } while (copied != 0);
+    want(from == (it->kind == CLOSED ? live(it->of) : 0), "how many pairs");
+    want_kept(it);
+}
+
+static void open_again(struct slot *it, struct slot *to) {
+    uint32_t clients = (uint32_t)below(4) + 1;
+    if (it == to || seldom()) {
+        want_status(facing_bytes_reopen(below(2) ? &it->handle : NULL, clients, it == to ? &it->handle : NULL),
+                    FACING_BAD_ARGUMENT, "reopen");
+    } else {
+        uint32_t expected = it->kind == CLOSED ? FACING_DONE : FACING_WRONG_HANDLE;
+        free_slot(to);
+        if (expected == FACING_DONE && seldom()) clients = 0, expected = FACING_BAD_CLIENTS;
+        want_status(facing_bytes_reopen(&it->handle, clients, &to->handle), expected, "reopen");
+        if (expected == FACING_DONE) fill(to, MAP, content_like(it->of, clients));
+    }
+    want_kept(it);
+    want_kept(to);
+}
+
+/* An export that is handed null refuses it, and leaves everything as it was. */
+static void call_with_null(void) {
+    facing_bytes_handle null = {NULL}, out = {NULL}, more = {NULL};
+    facing_bytes_answer answer = {7, 7};
+    uint8_t key[1] = {7}, to[1] = {7};
+    uint64_t lens[1] = {7}, others[1] = {7};
+    uint32_t status;
+    switch (below(9)) {
+    case 0: status = facing_c_bytes_client(null, &out, &more); break;
+    case 1: status = facing_c_bytes_try_get(null, &out, key, 1, to, 1, &answer); break;
+    case 2: status = facing_c_bytes_try_put(null, &out, key, 1, key, 1, to, 1, &answer); break;
+    case 3: status = facing_c_bytes_try_replace_if(null, &out, key, 1, key, 1, key, 1, &answer); break;
+    case 4: status = facing_c_bytes_count(null, &out, &answer); break;
+    case 5: status = facing_c_bytes_close(null, &out); break;
+    case 6: status = facing_c_bytes_find(null, &out, key, 1, to, 1, &answer); break;
+    case 7: status = facing_c_bytes_pairs(null, &out, 0, lens, 1, others, 1, to, 1, &answer); break;
+    default: status = facing_c_bytes_reopen(null, &out, 1, &more);
+    }
+    want_status(status, FACING_WRONG_HANDLE, "a call of null");
+    want(out.at == NULL && more.at == NULL, "null's room");
+    want(answer.found == 7 && answer.len == 7 && to[0] == 7 && lens[0] == 7 && others[0] == 7, "what null's call leaves");
+    facing_c_bytes_free(null);
+}
+
+int main(int argc, char **argv) {
+    uint64_t most = argc > 1 ? strtoull(argv[1], NULL, 10) : 10000;
+    state = argc > 2 ? strtoull(argv[2], NULL, 10) : 1;
+    for (size_t i = 0; i < sizeof pattern; i++) pattern[i] = (uint8_t)(i * i / 3 + i);
+    while (misuses < most && wrong == 0) {
+        switch (below(40)) {
+        case 0: open_map(some_slot(NOTHING)); break;
+        case 1: case 2: case 3: take_client(some_slot(MAP), some_slot(NOTHING)); break;
+        case 4: close_map(some_slot(MAP)); break;
+        case 5: open_again(some_slot(CLOSED), some_slot(NOTHING)); break;
+        case 6: free_slot(some_slot(below(2) ? CLIENT : CLOSED)); break;
+        case 7: count_keys(some_slot((enum kind)below(4))); break;
+        case 8: case 9: find_key(some_slot(CLOSED)); break;
+        case 10: walk(some_slot(CLOSED)); break;
+        case 11: call_with_null(); break;
+        default: make_call(some_slot(CLIENT));
+        }
+    }
+    for (int i = 0; i < SLOTS; i++) free_slot(&slots[i]);
+    printf("%llu calls, %llu misuses, %llu wrong\n", (unsigned long long)calls, (unsigned long long)misuses, (unsigned long long)wrong);
+    return wrong != 0;
+}

@@ -1,0 +1,214 @@
+/* Goes through the life of a map of byte strings again and again, and refuses another request for memory each time: the first,
+ * the second and so on, alone or with all that follow it until a call tells of it. Each refusal is a code, and leaves the map as
+ * it was. A look takes memory for neither key nor value: it takes none, but where the map is to grow and was refused memory for that.
+ *
+ * It is linked so that the library's malloc and realloc are those below (--wrap). */
+#include "facing_bytes.h"
+#include <stdio.h>
+#include <stdlib.h>
+#include <string.h>
+
+enum { CLIENTS = 2, KEYS = 40, ROOM = KEYS + 10, MOST = 300 };
+
+/* How many requests there were, which is refused, whether those after it are, and how many blocks are out. */
+static long requests, refused_from, refused_to, blocks;
+
+static int is_refused(void) {
+    requests++;
+    return requests >= refused_from && requests < refused_to;
+}
+
+void *__real_malloc(size_t size);
+void *__real_realloc(void *block, size_t size);
+void __real_free(void *block);
+
+void *__wrap_malloc(size_t size) {
+    void *block = is_refused() ? NULL : __real_malloc(size);
+    blocks += block != NULL;
+    return block;
+}
+
+void *__wrap_realloc(void *block, size_t size) {
+    return is_refused() ? NULL : __real_realloc(block, size);
+}
+
+void __wrap_free(void *block) {
+    blocks -= block != NULL;
+    __real_free(block);
+}
+
+/* Some bytes. */
+struct text {
+    size_t len;
+    uint8_t at[MOST];
+};
+
+/* What the map must hold: the number of the value of each key, or 0 where it has none. */
+static unsigned model[ROOM];
+static long wrong, refusals;
+
+static void want(int is_so, const char *what) {
+    if (is_so) return;
+    wrong++;
+    printf("request %ld to %ld refused: %s\n", refused_from, refused_to, what);
+}
+
+/* A key's bytes; key 0 has none. */
+static struct text key_of(unsigned key) {
+    struct text text;
+    text.len = (size_t)(key * 5 % 250);
+    for (size_t i = 0; i < text.len; i++) text.at[i] = (uint8_t)(key + i);
+    return text;
+}
+
+/* A value's bytes. */
+static struct text value_of(unsigned value) {
+    struct text text;
+    text.len = (size_t)(value * 13 % MOST);
+    for (size_t i = 0; i < text.len; i++) text.at[i] = (uint8_t)(value * 7 + i);
+    return text;
+}
+
+static int is_value(unsigned value, const uint8_t *at, uint64_t len) {
+    struct text text = value_of(value);
+    return len == text.len && memcmp(at, text.at, text.len) == 0;
+}
+
+/* Whether a call was refused for want of memory; memory is there again then. */
+static int was_refused(uint32_t status, const char *what) {
+    if (status == FACING_NO_MEMORY) {
+        want(requests >= refused_from && refused_to != 0, what);
+        refused_to = 0;
+        refusals++;
+        return 1;
+    }
+    want(status == FACING_DONE, what);
+    return 0;
+}
+
+/* The open map has just what the model has; where it is not about to grow, looks take no memory. */
+static void look(facing_bytes_handle *any, facing_bytes_handle *client, int may_grow) {
+    long before = requests;
+    uint64_t count, live = 0;
+    for (unsigned key = 0; key < ROOM; key++) {
+        struct text text = key_of(key);
+        uint8_t room[MOST];
+        facing_bytes_answer answer;
+        want(facing_bytes_get(client, text.at, text.len, room, MOST, &answer) == FACING_DONE, "a get");
+        want(answer.found == (model[key] != 0), "a key's presence");
+        want(!answer.found || is_value(model[key], room, answer.len), "a value");
+        want(facing_bytes_contains(client, text.at, text.len, &answer) == FACING_DONE && answer.found == (model[key] != 0),
+             "whether a key is there");
+        live += answer.found;
+    }
+    want(facing_bytes_count(any, &count) == FACING_DONE && count == live, "the count of an open map");
+    want(may_grow || requests == before, "a look that takes memory");
+}
+
+/* The closed map has just what the model has. */
+static void look_closed(facing_bytes_handle *closed) {
+    static uint64_t key_lens[ROOM], value_lens[ROOM];
+    static uint8_t room[ROOM * 2 * MOST];
+    uint64_t count, live = 0;
+    size_t copied, at = 0;
+    long before = requests;
+    for (unsigned key = 0; key < ROOM; key++) live += model[key] != 0;
+    want(facing_bytes_pairs(closed, 0, key_lens, value_lens, ROOM, room, sizeof room, &copied) == FACING_DONE && copied == live,
+         "how many pairs");
+    for (size_t i = 0; i < copied; i++) {
+        unsigned key = 0;
+        for (struct text text = key_of(0); key < ROOM; text = key_of(++key))
+            if (model[key] != 0 && text.len == key_lens[i] && memcmp(text.at, room + at, text.len) == 0) break;
+        want(key < ROOM && is_value(model[key], room + at + key_lens[i], value_lens[i]), "a pair");
+        at += key_lens[i] + value_lens[i];
+    }
+    want(facing_bytes_count(closed, &count) == FACING_DONE && count == live, "the count of a closed map");
+    want(requests == before, "a look at a closed map that takes memory");
+}
+
+/* Each kind of call: 1 puts, 2 removes, and else gives a key that has none a value, puts another in its place, or puts another in
+ * the place of the one that it has. */
+static uint32_t call(facing_bytes_handle *client, int kind, unsigned key, unsigned value, facing_bytes_answer *answer) {
+    struct text k = key_of(key), v = value_of(value), old = value_of(model[key]);
+    uint8_t room[MOST];
+    switch (kind) {
+    case 1: return facing_bytes_put(client, k.at, k.len, v.at, v.len, room, MOST, answer);
+    case 2: return facing_bytes_remove(client, k.at, k.len, room, MOST, answer);
+    case 3: return facing_bytes_put_if_absent(client, k.at, k.len, v.at, v.len, room, MOST, answer);
+    case 4: return facing_bytes_replace(client, k.at, k.len, v.at, v.len, room, MOST, answer);
+    case 5: return facing_bytes_remove_if(client, k.at, k.len, old.at, old.len, answer);
+    default: return facing_bytes_replace_if(client, k.at, k.len, old.at, old.len, v.at, v.len, answer);
+    }
+}
+
+static void note(int kind, unsigned key, unsigned value) {
+    switch (kind) {
+    case 1: model[key] = value; break;
+    case 2: case 5: model[key] = 0; break;
+    case 3: if (model[key] == 0) model[key] = value; break;
+    default: if (model[key] != 0) model[key] = value;
+    }
+}
+
+static void make(facing_bytes_handle *map, facing_bytes_handle *client, int kind, unsigned key, unsigned value) {
+    facing_bytes_answer answer;
+    while (was_refused(call(client, kind, key, value, &answer), "a call")) {
+        want(answer.found == 0 && answer.len == 0, "an empty answer");
+        look(map, client, 1);
+        look(map, client, 0);
+    }
+    note(kind, key, value);
+}
+
+static void work(facing_bytes_handle *map) {
+    facing_bytes_handle clients[CLIENTS];
+    for (int i = 0; i < CLIENTS; i++)
+        while (was_refused(facing_bytes_client(map, &clients[i]), "a client"))
+            want(map->at != NULL && clients[i].at == NULL, "no client");
+    for (unsigned key = 0; key < KEYS; key++) make(map, &clients[key % CLIENTS], 1, key, 1 + key);
+    for (unsigned key = 0; key < ROOM; key++) make(map, &clients[key % CLIENTS], 2 + (int)(key % 5), key, 100 + key);
+    look(map, &clients[0], 0);
+    for (int i = 0; i < CLIENTS; i++) facing_bytes_free(&clients[i]);
+}
+
+static void close_and_look(facing_bytes_handle *map) {
+    uint64_t count, again;
+    want(facing_bytes_count(map, &count) == FACING_DONE, "a count before the close");
+    while (was_refused(facing_bytes_close(map), "a close"))
+        want(map->at != NULL && facing_bytes_count(map, &again) == FACING_DONE && again == count,
+             "the count where the close was refused");
+    look_closed(map);
+}
+
+static void live(void) {
+    facing_bytes_handle map, second;
+    for (int key = 0; key < ROOM; key++) model[key] = 0;
+    while (was_refused(facing_bytes_open(16, CLIENTS, 0, &map), "an open")) want(map.at == NULL, "no map");
+    work(&map);
+    close_and_look(&map);
+    while (was_refused(facing_bytes_reopen(&map, CLIENTS, &second), "a reopen")) {
+        want(second.at == NULL, "no second map");
+        look_closed(&map);
+    }
+    facing_bytes_free(&map);
+    work(&second);
+    close_and_look(&second);
+    facing_bytes_free(&second);
+    want(blocks == 0, "blocks that are left");
+}
+
+int main(int argc, char **argv) {
+    long step = argc > 1 ? strtol(argv[1], NULL, 10) : 1, runs = 0, all;
+    live();
+    all = requests;
+    for (int with_rest = 0; with_rest < 2; with_rest++) {
+        for (long from = 1; from <= all; from += step, runs++) {
+            requests = 0;
+            refused_from = from;
+            refused_to = with_rest ? all + 1 : from + 1;
+            live();
+        }
+    }
+    printf("%ld requests, %ld runs, %ld calls refused, %ld wrong\n", all, runs, refusals, wrong);
+    return wrong != 0 || refusals == 0;
+}
