@@ -17,6 +17,8 @@ SECONDS = 900
 
 # The forms of this repository's own map: the name of a form, and the words that map_bench takes for it.
 OWN_FORMS = [("facingberyl", ["--form", "lean"]), ("facingberyl, recorded", ["--form", "recorded"])]
+# The crates of its static libraries, by the kind of the map.
+OWN_LIBRARIES = {"numbers": "facing_c", "bytes": "facing_c_bytes"}
 # This repository's map lends each caller one of at most 32 passes, and one caller fills it.
 OWN_THREADS = 31
 
@@ -76,7 +78,7 @@ def first_line(*words):
     return ran.stdout.strip().split("\n")[0] if ran.returncode == 0 else None
 
 
-def jdk(_numbers):
+def jdk(_kind):
     """The JDK's map, plain and with each call recorded."""
     need("java")
     build("JdkMap.java", ["javac", "-d", f"{OUT}/jdk", f"{PEERS}/JdkMap.java"])
@@ -85,12 +87,12 @@ def jdk(_numbers):
 
 
 def peer(name, program, kind=None, **more):
-    """A peer whose program takes the workload in five words, and the kind of its keys in one more where they are no texts."""
+    """A peer whose program takes the workload in five words, and its kind in one more where keys are no texts."""
     kinds = [kind] if kind else []
     return Map(name, lambda it: [program, it.mode, it.threads, it.calls, it.keys, it.choice, *kinds], **more)
 
 
-def dashmap(numbers):
+def dashmap(kind):
     if not os.path.isdir(f"{DEBIAN_CRATES}/"):
         raise Lacking("librust-dashmap-dev is not installed")
     # (a copy, since cargo writes a file beside Cargo.toml)
@@ -99,9 +101,7 @@ def dashmap(numbers):
     words += ["--config", 'source.crates-io.replace-with="debian"', "--config", f'source.debian.directory="{DEBIAN_CRATES}"']
     build("dashmap", words, cwd=f"{OUT}/dashmap")
     program = f"{OUT}/dashmap/target/release/dashmap_peer"
-    if not numbers:
-        return [peer("dashmap", program)]
-    return [peer("dashmap", program, "numbers"), peer("dashmap, hash as ours", program, "spread")]
+    return [peer("dashmap", program, kind), *([peer("dashmap, hash as ours", program, "spread")] if kind == "numbers" else [])]
 
 
 def of_cpp(name, libraries):
@@ -110,22 +110,23 @@ def of_cpp(name, libraries):
     return f"{OUT}/{name}"
 
 
-def tbb(numbers):
-    return [peer("TBB", of_cpp("tbb", ["-ltbb"]), numbers)]
+def tbb(kind):
+    return [peer("TBB", of_cpp("tbb", ["-ltbb"]), kind)]
 
 
-def libcuckoo(numbers):
-    return [peer("libcuckoo", of_cpp("libcuckoo", []), numbers)]
+def libcuckoo(kind):
+    return [peer("libcuckoo", of_cpp("libcuckoo", []), kind)]
 
 
-def called_from_c(library):
-    """This repository's map of numbers, through the given static library, or else the proved one."""
-    library = library or f"{TOP}/crates/facing_c/out/libfacing_c.a"
+def called_from_c(library, kind):
+    """This repository's map of this kind, through the given static library, or else the proved one."""
+    crate = OWN_LIBRARIES[kind]
+    library = library or f"{TOP}/crates/{crate}/out/lib{crate}.a"
     if not os.path.exists(library):
-        raise Lacking(f"{library} is not there: make it with `rt lib` in crates/facing_c")
+        raise Lacking(f"{library} is not there: make it with `rt lib` in crates/{crate}")
     heap = f"{os.path.dirname(first_line('rt', 'doc'))}/c/liblibc_c.a"
-    program = of_cpp("facing_c", [library, heap])
-    return [peer("facingberyl, from C", program, "numbers", is_own=True, most_threads=OWN_THREADS)]
+    program = of_cpp(crate, [library, heap])
+    return [peer("facingberyl, from C", program, kind, is_own=True, most_threads=OWN_THREADS)]
 
 
 def own(binary):
@@ -146,15 +147,16 @@ def own(binary):
 JDK_BUILD, PEER_BUILDS = ("the JDK's map", jdk), [("dashmap", dashmap), ("TBB", tbb), ("libcuckoo", libcuckoo)]
 
 
-def build_all(given, numbers=None):
-    """Builds what this machine can build: maps of texts, or with the word `numbers` those of numbers, this repository's called from
-    C. A program or static library that is given is this repository's. Returns the maps, and a line on each that is left out."""
+def build_all(given, kind=None):
+    """Builds what this machine can build: maps of texts, or with the word `numbers` or `bytes` those of numbers or of byte strings,
+    this repository's called from C. A program or static library that is given is this repository's. Returns the maps, and a line on
+    each that is left out."""
     os.makedirs(OUT, exist_ok=True)
     found, lacking = [], []
-    ours = ("this repository's map", lambda _: called_from_c(given) if numbers else own(given))
-    for name, make in [ours, *([] if numbers else [JDK_BUILD]), *PEER_BUILDS]:
+    ours = ("this repository's map", lambda _: called_from_c(given, kind) if kind else own(given))
+    for name, make in [ours, *([] if kind else [JDK_BUILD]), *PEER_BUILDS]:
         try:
-            found += make(numbers)
+            found += make(kind)
         except Lacking as why:
             lacking.append(f"{name}: {why}")
             print(f"bench: left out {name}: {why}", file=sys.stderr)

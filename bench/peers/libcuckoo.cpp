@@ -7,15 +7,15 @@ namespace {
 
 template <class Its> class Map {
   public:
-    using Key = Its;
+    using Kind = Its;
+    using Key = typename Kind::Key;
+    using Value = typename Kind::Value;
 
-    workload::Value get(const Key &key) {
-        workload::Value value = 0;
-        entries.find(key, value);
-        return value;
+    bool get(const Key &key, Value &value) {
+        return entries.find(key, value);
     }
 
-    void put(const Key &key, workload::Value value) {
+    void put(const Key &key, const Value &value) {
         entries.insert_or_assign(key, value);
     }
 
@@ -23,12 +23,12 @@ template <class Its> class Map {
         entries.erase(key);
     }
 
-    void merge(const Key &key, workload::Value value) {
-        entries.upsert(key, [value](workload::Value &old) { old += value; }, value);
+    void merge(const Key &key, Value value) {
+        entries.upsert(key, [value](Value &old) { old += value; }, value);
     }
 
   private:
-    libcuckoo::cuckoohash_map<Key, workload::Value> entries;
+    libcuckoo::cuckoohash_map<Key, Value> entries;
 };
 
 } // namespace

@@ -8,14 +8,20 @@ namespace {
 
 template <class Its> class Map {
   public:
-    using Key = Its;
+    using Kind = Its;
+    using Key = typename Kind::Key;
+    using Value = typename Kind::Value;
 
-    workload::Value get(const Key &key) {
+    bool get(const Key &key, Value &value) {
         typename Entries::const_accessor found;
-        return entries.find(found, key) ? found->second : 0;
+        if (!entries.find(found, key)) {
+            return false;
+        }
+        value = found->second;
+        return true;
     }
 
-    void put(const Key &key, workload::Value value) {
+    void put(const Key &key, const Value &value) {
         typename Entries::accessor place;
         entries.insert(place, key);
         place->second = value;
@@ -25,7 +31,7 @@ template <class Its> class Map {
         entries.erase(key);
     }
 
-    void merge(const Key &key, workload::Value value) {
+    void merge(const Key &key, Value value) {
         typename Entries::accessor place;
         if (!entries.insert(place, std::make_pair(key, value))) {
             place->second += value;
@@ -33,7 +39,7 @@ template <class Its> class Map {
     }
 
   private:
-    using Entries = tbb::concurrent_hash_map<Key, workload::Value>;
+    using Entries = tbb::concurrent_hash_map<Key, Value>;
 
     Entries entries;
 };

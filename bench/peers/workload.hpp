@@ -1,6 +1,7 @@
 // The workload that docs/SPEED.md describes, for a map of C++.
 //
-// A map is a class with get, put, remove and merge, each of which many threads may call at once; Key is the class of its keys.
+// A map is a class with get, put, remove and, where values are numbers, merge, each of which many threads may call at once; Kind is
+// one of the kinds below, and Key and Value are its. A get copies a value into its caller's, and returns whether there is one.
 #pragma once
 
 #include <algorithm>
@@ -9,24 +10,67 @@
 #include <cstdio>
 #include <cstdlib>
 #include <cstring>
+#include <stdexcept>
 #include <string>
 #include <thread>
+#include <type_traits>
 #include <vector>
 
 namespace workload {
 
-using Text = std::string;
-using Number = std::uint64_t;
-using Value = std::int64_t;
+using Number = std::int64_t;
 
-// The key of a number: the text is "k" and the number.
-template <class Key> Key key_of(std::uint64_t number);
+// The kinds of maps, by what the key of a number is: "k" and the number,
+struct Texts {
+    using Key = std::string;
+    using Value = Number;
 
-template <> inline Text key_of<Text>(std::uint64_t number) {
-    return "k" + std::to_string(number);
+    static Key key_of(std::uint64_t number) {
+        return "k" + std::to_string(number);
+    }
+};
+
+// or the number itself,
+struct Numbers {
+    using Key = std::uint64_t;
+    using Value = Number;
+
+    static Key key_of(std::uint64_t number) {
+        return number;
+    }
+};
+
+// or its 16 digits of base 16.
+struct Bytes {
+    using Key = std::string;
+    using Value = std::string;
+
+    static Key key_of(std::uint64_t number) {
+        char digits[17];
+        std::snprintf(digits, sizeof digits, "%016llx", static_cast<unsigned long long>(number));
+        return digits;
+    }
+};
+
+// Makes the value that of a number: the bytes are the number's eight, twice.
+inline void set(Number &value, Number number) {
+    value = number;
 }
 
-template <> inline Number key_of<Number>(std::uint64_t number) {
+inline void set(std::string &value, Number number) {
+    value.resize(2 * sizeof number);
+    std::memcpy(&value[0], &number, sizeof number);
+    std::memcpy(&value[sizeof number], &number, sizeof number);
+}
+
+// Returns the number of a value.
+inline Number number_of(Number value) {
+    return value;
+}
+
+inline Number number_of(const std::string &value) {
+    Number number;
+    std::memcpy(&number, value.data(), sizeof number);
     return number;
 }
 
@@ -97,21 +141,35 @@ class Choice {
     std::vector<std::uint64_t> starts;
 };
 
+template <class Map> using Names = std::vector<typename Map::Key>;
+
+// Adds 1 to the key's value.
+template <class Map> void merge(Map &map, const typename Map::Key &name) {
+    if constexpr (std::is_same_v<typename Map::Value, Number>) {
+        map.merge(name, 1);
+    } else {
+        throw std::invalid_argument("byte strings are not merged");
+    }
+}
+
 // Makes one thread's calls, and returns the sum of what its gets found, so that no get can be left out.
-template <class Map, class Key>
-Value work(Map &map, Mode mode, std::uint64_t seed, long calls, const std::vector<Key> &names, const Choice &choice) {
+template <class Map>
+Number work(Map &map, Mode mode, std::uint64_t seed, long calls, const Names<Map> &names, const Choice &choice) {
     Random random(seed);
-    Value sum = 0;
+    typename Map::Value value;
+    set(value, 0);
+    Number sum = 0;
     for (long i = 0; i < calls; i++) {
         const std::uint64_t drawn = random.draw();
-        const Key &name = names[choice.number(drawn)];
+        const typename Map::Key &name = names[choice.number(drawn)];
         const unsigned part = drawn % 100;
         if (mode == Mode::merge) {
-            map.merge(name, 1);
+            merge(map, name);
         } else if (mode == Mode::get || part < 80) {
-            sum += map.get(name);
+            sum += map.get(name, value) ? number_of(value) : 0;
         } else if (part < 95) {
-            map.put(name, i);
+            set(value, i);
+            map.put(name, value);
         } else {
             map.remove(name);
         }
@@ -120,15 +178,17 @@ Value work(Map &map, Mode mode, std::uint64_t seed, long calls, const std::vecto
 }
 
 // Puts the keys from a number on that lie so far apart. Returns the longest put in milliseconds, where puts are timed.
-template <class Map, class Key> double fill(Map &map, Mode mode, long first, long step, const std::vector<Key> &names) {
+template <class Map> double fill(Map &map, Mode mode, long first, long step, const Names<Map> &names) {
     double longest = 0;
+    typename Map::Value value;
     for (std::size_t i = first; i < names.size(); i += step) {
+        set(value, i);
         if (mode == Mode::fill) {
-            map.put(names[i], i);
+            map.put(names[i], value);
             continue;
         }
         const auto start = std::chrono::steady_clock::now();
-        map.put(names[i], i);
+        map.put(names[i], value);
         const std::chrono::duration<double, std::milli> taken = std::chrono::steady_clock::now() - start;
         longest = std::max(longest, taken.count());
     }
@@ -136,7 +196,7 @@ template <class Map, class Key> double fill(Map &map, Mode mode, long first, lon
 }
 
 // Fills a new map. Returns how many million puts a second the threads made together, or the longest put in milliseconds.
-template <class Map, class Key> double run_fill(Mode mode, int threads, const std::vector<Key> &names) {
+template <class Map> double run_fill(Mode mode, int threads, const Names<Map> &names) {
     Map map;
     std::vector<double> longest(threads);
     std::vector<std::thread> started;
@@ -153,20 +213,21 @@ template <class Map, class Key> double run_fill(Mode mode, int threads, const st
 
 // Returns how many million calls a second the threads made together of a new map.
 template <class Map> double run(Mode mode, int threads, long calls, long keys, bool is_zipf) {
-    using Key = typename Map::Key;
-    std::vector<Key> names;
+    Names<Map> names;
     for (long i = 0; i < keys; i++) {
-        names.push_back(key_of<Key>(i));
+        names.push_back(Map::Kind::key_of(i));
     }
     if (mode == Mode::fill || mode == Mode::stall) {
-        return run_fill<Map, Key>(mode, threads, names);
+        return run_fill<Map>(mode, threads, names);
     }
     const Choice choice(is_zipf, keys);
     Map map;
+    typename Map::Value value;
     for (long i = 0; i < keys; i += 2) {
-        map.put(names[i], i);
+        set(value, i);
+        map.put(names[i], value);
     }
-    std::vector<Value> sums(threads);
+    std::vector<Number> sums(threads);
     std::vector<std::thread> started;
     const auto start = std::chrono::steady_clock::now();
     for (int i = 0; i < threads; i++) {
@@ -176,8 +237,8 @@ template <class Map> double run(Mode mode, int threads, long calls, long keys, b
         thread.join();
     }
     const std::chrono::duration<double> taken = std::chrono::steady_clock::now() - start;
-    volatile Value kept = 0;
-    for (Value sum : sums) {
+    volatile Number kept = 0;
+    for (Number sum : sums) {
         kept = kept + sum;
     }
     return threads * calls / taken.count() / 1e6;
@@ -202,16 +263,19 @@ template <class Map> int measure_one(const char *map, char **words) {
 }
 
 inline int tell_usage(const char *program) {
-    std::fprintf(stderr, "usage: %s mix|get|merge|fill|stall THREADS CALLS KEYS uniform|zipf [numbers]\n", program);
+    std::fprintf(stderr, "usage: %s mix|get|merge|fill|stall THREADS CALLS KEYS uniform|zipf [numbers|bytes]\n", program);
     return 2;
 }
 
-// The program: MODE THREADS CALLS KEYS CHOICE, and whether keys are numbers.
+// The program: MODE THREADS CALLS KEYS CHOICE, and the kind of the map, where it is not of texts.
 template <template <class> class Map> int measure(const char *map, int count, char **words) {
     if (count == 6) {
-        return measure_one<Map<Text>>(map, words);
+        return measure_one<Map<Texts>>(map, words);
     }
-    return count == 7 ? measure_one<Map<Number>>(map, words) : tell_usage(words[0]);
+    if (count == 7 && !std::strcmp(words[6], "numbers")) {
+        return measure_one<Map<Numbers>>(map, words);
+    }
+    return count == 7 && !std::strcmp(words[6], "bytes") ? measure_one<Map<Bytes>>(map, words) : tell_usage(words[0]);
 }
 
 } // namespace workload

@@ -1,8 +1,9 @@
 //! Measures dashmap on the workload that docs/SPEED.md describes.
 //!
-//! usage: dashmap_peer mix|get|merge|fill|stall THREADS CALLS KEYS uniform|zipf [numbers|spread]
+//! usage: dashmap_peer mix|get|merge|fill|stall THREADS CALLS KEYS uniform|zipf [numbers|spread|bytes]
 //!
-//! Keys are texts, or numbers under dashmap's own hash or under the one of this repository's map.
+//! Keys are texts, or numbers under dashmap's own hash or under the one of this repository's map, or byte strings, as their
+//! values then are, too.
 use dashmap::DashMap;
 use std::collections::hash_map::RandomState;
 use std::env;
@@ -31,6 +32,47 @@ impl Mode {
             "stall" => Some(Mode::Stall),
             _ => None,
         }
+    }
+}
+
+/// A value that stands for a number.
+trait Value: Clone + Send + Sync {
+    fn of(number: i64) -> Self;
+
+    fn number(&self) -> i64;
+
+    fn add_one(&mut self);
+}
+
+impl Value for i64 {
+    fn of(number: i64) -> i64 {
+        number
+    }
+
+    fn number(&self) -> i64 {
+        *self
+    }
+
+    fn add_one(&mut self) {
+        *self += 1;
+    }
+}
+
+/// The number's eight bytes, twice.
+impl Value for Box<[u8]> {
+    fn of(number: i64) -> Box<[u8]> {
+        let mut bytes = [0; 16];
+        bytes[..8].copy_from_slice(&number.to_ne_bytes());
+        bytes[8..].copy_from_slice(&number.to_ne_bytes());
+        Box::new(bytes)
+    }
+
+    fn number(&self) -> i64 {
+        self.first_chunk().map_or(0, |it| i64::from_ne_bytes(*it))
+    }
+
+    fn add_one(&mut self) {
+        unimplemented!("byte strings are not merged");
     }
 }
 
@@ -113,8 +155,8 @@ impl Choice {
 }
 
 /// Makes one thread's calls, and returns the sum of what its gets found, so that no get can be left out.
-fn work<K: Copy + Eq + Hash, S: BuildHasher + Clone>(
-    map: &DashMap<K, i64, S>,
+fn work<K: Clone + Eq + Hash, V: Value, S: BuildHasher + Clone>(
+    map: &DashMap<K, V, S>,
     mode: Mode,
     seed: u64,
     calls: u64,
@@ -122,22 +164,24 @@ fn work<K: Copy + Eq + Hash, S: BuildHasher + Clone>(
     choice: &Choice,
 ) -> i64 {
     let mut random = Random(seed);
+    let mut found = V::of(0);
     let mut sum = 0_i64;
     for i in 0..calls {
         let drawn = random.draw();
-        let name = names[choice.number(drawn)];
+        let name = &names[choice.number(drawn)];
         match (mode, drawn % 100) {
-            (Mode::Merge, _) => *map.entry(name).or_insert(0) += 1,
+            (Mode::Merge, _) => map.entry(name.clone()).or_insert(V::of(0)).add_one(),
             (Mode::Get | Mode::Fill | Mode::Stall, _) | (Mode::Mix, 0..=79) => {
-                if let Some(value) = map.get(&name) {
-                    sum = sum.wrapping_add(*value);
+                if let Some(value) = map.get(name) {
+                    found.clone_from(&value);
+                    sum = sum.wrapping_add(found.number());
                 }
             }
             (Mode::Mix, 80..=94) => {
-                map.insert(name, i as i64);
+                map.insert(name.clone(), V::of(i as i64));
             }
             (Mode::Mix, _) => {
-                map.remove(&name);
+                map.remove(name);
             }
         }
     }
@@ -145,20 +189,20 @@ fn work<K: Copy + Eq + Hash, S: BuildHasher + Clone>(
 }
 
 /// Puts the keys from a number on that lie so far apart, and gives the longest put, where puts are timed.
-fn fill<K: Copy + Eq + Hash, S: BuildHasher + Clone>(
-    map: &DashMap<K, i64, S>,
+fn fill<K: Clone + Eq + Hash, V: Value, S: BuildHasher + Clone>(
+    map: &DashMap<K, V, S>,
     mode: Mode,
     first: usize,
     step: usize,
     names: &[K],
 ) -> Duration {
     let mut longest = Duration::ZERO;
-    for (i, &name) in names.iter().enumerate().skip(first).step_by(step) {
+    for (i, name) in names.iter().enumerate().skip(first).step_by(step) {
         if mode == Mode::Fill {
-            map.insert(name, i as i64);
+            map.insert(name.clone(), V::of(i as i64));
         } else {
             let start = Instant::now();
-            map.insert(name, i as i64);
+            map.insert(name.clone(), V::of(i as i64));
             longest = longest.max(start.elapsed());
         }
     }
@@ -166,12 +210,13 @@ fn fill<K: Copy + Eq + Hash, S: BuildHasher + Clone>(
 }
 
 /// Fills a new map. Gives how many million puts a second the threads made together, or the longest put in milliseconds.
-fn run_fill<K, S>(mode: Mode, threads: usize, names: &[K], hasher: S) -> f64
+fn run_fill<K, V, S>(mode: Mode, threads: usize, names: &[K], hasher: S) -> f64
 where
-    K: Copy + Eq + Hash + Send + Sync,
+    K: Clone + Eq + Hash + Send + Sync,
+    V: Value,
     S: BuildHasher + Clone + Send + Sync,
 {
-    let map = DashMap::with_hasher(hasher);
+    let map = DashMap::<K, V, S>::with_hasher(hasher);
     let start = Instant::now();
     let longest = thread::scope(|scope| {
         let fillers: Vec<_> = (0..threads)
@@ -190,18 +235,19 @@ where
 }
 
 /// How many million calls a second the threads made together of a new map.
-fn run<K, S>(mode: Mode, threads: u64, calls: u64, names: &[K], is_zipf: bool, hasher: S) -> f64
+fn run<K, V, S>(mode: Mode, threads: u64, calls: u64, names: &[K], is_zipf: bool, hasher: S) -> f64
 where
-    K: Copy + Eq + Hash + Send + Sync,
+    K: Clone + Eq + Hash + Send + Sync,
+    V: Value,
     S: BuildHasher + Clone + Send + Sync,
 {
     if mode == Mode::Fill || mode == Mode::Stall {
-        return run_fill(mode, threads as usize, names, hasher);
+        return run_fill::<K, V, S>(mode, threads as usize, names, hasher);
     }
     let choice = Choice::new(is_zipf, names.len() as u64);
-    let map = DashMap::with_hasher(hasher);
-    for (i, &name) in names.iter().enumerate().step_by(2) {
-        map.insert(name, i as i64);
+    let map = DashMap::<K, V, S>::with_hasher(hasher);
+    for (i, name) in names.iter().enumerate().step_by(2) {
+        map.insert(name.clone(), V::of(i as i64));
     }
     let start = Instant::now();
     thread::scope(|scope| {
@@ -224,11 +270,15 @@ fn measure(words: &[String]) -> Option<()> {
         [] => {
             let names: Vec<String> = numbers.iter().map(|i| format!("k{i}")).collect();
             let names: Vec<&str> = names.iter().map(String::as_str).collect();
-            run(its_mode, threads, calls, &names, is_zipf, RandomState::new())
+            run::<_, i64, _>(its_mode, threads, calls, &names, is_zipf, RandomState::new())
         }
-        [kind] if kind == "numbers" => run(its_mode, threads, calls, &numbers, is_zipf, RandomState::new()),
+        [kind] if kind == "numbers" => run::<_, i64, _>(its_mode, threads, calls, &numbers, is_zipf, RandomState::new()),
         [kind] if kind == "spread" => {
-            run(its_mode, threads, calls, &numbers, is_zipf, BuildHasherDefault::<Spread>::default())
+            run::<_, i64, _>(its_mode, threads, calls, &numbers, is_zipf, BuildHasherDefault::<Spread>::default())
+        }
+        [kind] if kind == "bytes" => {
+            let names: Vec<Box<[u8]>> = numbers.iter().map(|i| format!("{i:016x}").into_bytes().into()).collect();
+            run::<_, Box<[u8]>, _>(its_mode, threads, calls, &names, is_zipf, RandomState::new())
         }
         _ => return None,
     };
@@ -239,7 +289,7 @@ fn measure(words: &[String]) -> Option<()> {
 fn main() -> ExitCode {
     let words: Vec<String> = env::args().skip(1).collect();
     if measure(&words).is_none() {
-        eprintln!("usage: dashmap_peer mix|get|merge|fill|stall THREADS CALLS KEYS uniform|zipf [numbers|spread]");
+        eprintln!("usage: dashmap_peer mix|get|merge|fill|stall THREADS CALLS KEYS uniform|zipf [numbers|spread|bytes]");
         return ExitCode::from(2);
     }
     ExitCode::SUCCESS
