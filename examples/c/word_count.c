@@ -1,12 +1,9 @@
 /* Counts words in threads, each with a client of one map, and compares the counts with one thread's.
  *
  * usage: word_count [FILE]; a text of its own where there is none. A word's key is its first eight letters, as a number. */
+#include "words.h"
 #include "facing.h"
-#include <ctype.h>
 #include <pthread.h>
-#include <stdio.h>
-#include <stdlib.h>
-#include <string.h>
 
 enum { THREADS = 4 };
 
@@ -45,8 +42,7 @@ static uint32_t count_all(facing_handle *map, const char *text, size_t len) {
     size_t at = 0;
     uint32_t status = facing_open(16, THREADS, 0, map);
     for (int i = 0; i < THREADS && status == FACING_DONE; i++) {
-        size_t to = i + 1 == THREADS ? len : len / THREADS * (size_t)(i + 1);
-        while (to < len && isalpha((unsigned char)text[to])) to++;
+        size_t to = part_end(text, len, i, THREADS);
         shares[i].text = text;
         shares[i].from = at;
         shares[i].to = at = to < at ? at : to;
@@ -85,22 +81,6 @@ static size_t differences(facing_handle *map, const char *text, size_t len, size
     free(all);
     *words = n;
     return wrong;
-}
-
-static char *read_text(const char *name, size_t *len) {
-    static const char line[] = "the map that many threads share has one order of all calls and the calls of each thread in its order ";
-    FILE *file = name != NULL ? fopen(name, "rb") : NULL;
-    size_t room = (size_t)1 << 24, n = 0;
-    char *text = (char *)malloc(room);
-    if (text == NULL || (name != NULL && file == NULL)) exit(2);
-    if (file != NULL) {
-        n = fread(text, 1, room, file);
-        fclose(file);
-    } else {
-        for (int i = 0; i < 20000; i++) n += (size_t)sprintf(text + n, "%s%c%c ", line, 'a' + i % 26, 'a' + i / 26 % 26);
-    }
-    *len = n;
-    return text;
 }
 
 int main(int argc, char **argv) {

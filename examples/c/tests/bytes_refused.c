@@ -4,38 +4,10 @@
  *
  * It is linked so that the library's malloc and realloc are those below (--wrap). */
 #include "facing_bytes.h"
-#include <stdio.h>
-#include <stdlib.h>
+#include "refusing.h"
 #include <string.h>
 
 enum { CLIENTS = 2, KEYS = 40, ROOM = KEYS + 10, MOST = 300 };
-
-/* How many requests there were, which is refused, whether those after it are, and how many blocks are out. */
-static long requests, refused_from, refused_to, blocks;
-
-static int is_refused(void) {
-    requests++;
-    return requests >= refused_from && requests < refused_to;
-}
-
-void *__real_malloc(size_t size);
-void *__real_realloc(void *block, size_t size);
-void __real_free(void *block);
-
-void *__wrap_malloc(size_t size) {
-    void *block = is_refused() ? NULL : __real_malloc(size);
-    blocks += block != NULL;
-    return block;
-}
-
-void *__wrap_realloc(void *block, size_t size) {
-    return is_refused() ? NULL : __real_realloc(block, size);
-}
-
-void __wrap_free(void *block) {
-    blocks -= block != NULL;
-    __real_free(block);
-}
 
 /* Some bytes. */
 struct text {
@@ -45,13 +17,6 @@ struct text {
 
 /* What the map must hold: the number of the value of each key, or 0 where it has none. */
 static unsigned model[ROOM];
-static long wrong, refusals;
-
-static void want(int is_so, const char *what) {
-    if (is_so) return;
-    wrong++;
-    printf("request %ld to %ld refused: %s\n", refused_from, refused_to, what);
-}
 
 /* A key's bytes; key 0 has none. */
 static struct text key_of(unsigned key) {
@@ -72,18 +37,6 @@ static struct text value_of(unsigned value) {
 static int is_value(unsigned value, const uint8_t *at, uint64_t len) {
     struct text text = value_of(value);
     return len == text.len && memcmp(at, text.at, text.len) == 0;
-}
-
-/* Whether a call was refused for want of memory; memory is there again then. */
-static int was_refused(uint32_t status, const char *what) {
-    if (status == FACING_NO_MEMORY) {
-        want(requests >= refused_from && refused_to != 0, what);
-        refused_to = 0;
-        refusals++;
-        return 1;
-    }
-    want(status == FACING_DONE, what);
-    return 0;
 }
 
 /* The open map has just what the model has; where it is not about to grow, looks take no memory. */

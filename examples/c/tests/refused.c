@@ -2,63 +2,15 @@
  * on, alone or with all that follow it until a call tells of it. Each refusal is a code, and leaves the map as it was.
  *
  * It is linked so that the library's malloc and realloc are those below (--wrap). */
-#include "facing.h"
-#include <stdio.h>
-#include <stdlib.h>
+#include "refusing.h"
 
 enum { CLIENTS = 2, KEYS = 300, ROOM = KEYS + 10 };
-
-/* How many requests there were, which is refused, whether those after it are, and how many blocks are out. */
-static long requests, refused_from, refused_to, blocks;
-
-static int is_refused(void) {
-    requests++;
-    return requests >= refused_from && requests < refused_to;
-}
-
-void *__real_malloc(size_t size);
-void *__real_realloc(void *block, size_t size);
-void __real_free(void *block);
-
-void *__wrap_malloc(size_t size) {
-    void *block = is_refused() ? NULL : __real_malloc(size);
-    blocks += block != NULL;
-    return block;
-}
-
-void *__wrap_realloc(void *block, size_t size) {
-    return is_refused() ? NULL : __real_realloc(block, size);
-}
-
-void __wrap_free(void *block) {
-    blocks -= block != NULL;
-    __real_free(block);
-}
 
 /* What the map must hold. */
 static struct {
     int has;
     uint64_t value;
 } model[ROOM];
-static long wrong, refusals;
-
-static void want(int is_so, const char *what) {
-    if (is_so) return;
-    wrong++;
-    printf("request %ld to %ld refused: %s\n", refused_from, refused_to, what);
-}
-
-/* Whether a call was refused for want of memory; memory is there again then. */
-static int was_refused(uint32_t status, const char *what) {
-    if (status == FACING_NO_MEMORY) {
-        want(requests >= refused_from && refused_to != 0, what);
-        refused_to = 0;
-        refusals++;
-        return 1;
-    }
-    want(status == FACING_DONE, what);
-    return 0;
-}
 
 /* The open map has just what the model has. */
 static void look(facing_handle *any, facing_handle *client) {

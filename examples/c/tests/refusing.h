@@ -1,0 +1,58 @@
+/* A malloc that refuses some requests, and what comes of it. It is linked so that the library's malloc and realloc are those
+ * below (--wrap). */
+#ifndef REFUSING_H
+#define REFUSING_H
+
+#include "facing.h"
+#include <stdio.h>
+#include <stdlib.h>
+
+/* How many requests there were, which is refused, whether those after it are, and how many blocks are out. */
+static long requests, refused_from, refused_to, blocks;
+
+static int is_refused(void) {
+    requests++;
+    return requests >= refused_from && requests < refused_to;
+}
+
+void *__real_malloc(size_t size);
+void *__real_realloc(void *block, size_t size);
+void __real_free(void *block);
+
+void *__wrap_malloc(size_t size) {
+    void *block = is_refused() ? NULL : __real_malloc(size);
+    blocks += block != NULL;
+    return block;
+}
+
+void *__wrap_realloc(void *block, size_t size) {
+    return is_refused() ? NULL : __real_realloc(block, size);
+}
+
+void __wrap_free(void *block) {
+    blocks -= block != NULL;
+    __real_free(block);
+}
+
+/* What was not as it should be, and how many calls were refused. */
+static long wrong, refusals;
+
+static void want(int is_so, const char *what) {
+    if (is_so) return;
+    wrong++;
+    printf("request %ld to %ld refused: %s\n", refused_from, refused_to, what);
+}
+
+/* Whether a call was refused for want of memory; memory is there again then. */
+static int was_refused(uint32_t status, const char *what) {
+    if (status == FACING_NO_MEMORY) {
+        want(requests >= refused_from && refused_to != 0, what);
+        refused_to = 0;
+        refusals++;
+        return 1;
+    }
+    want(status == FACING_DONE, what);
+    return 0;
+}
+
+#endif
