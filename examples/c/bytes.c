@@ -4,21 +4,11 @@
  * usage: bytes [FILE]; a text of its own where there is none. */
 #include "words.h"
 #include "facing_bytes.h"
-#include <pthread.h>
 #include <string.h>
-
-enum { THREADS = 4 };
 
 struct word {
     const char *at;
     size_t len;
-};
-
-struct share {
-    facing_bytes_handle client;
-    const char *text;
-    size_t from, to;
-    uint32_t status;
 };
 
 /* Finds the next word from a place on; it has no letters where there is none. */
@@ -47,37 +37,28 @@ static uint32_t count_word(facing_bytes_handle *client, struct word word) {
     return status;
 }
 
-static void *count_share(void *it) {
-    struct share *share = (struct share *)it;
+static void *count_part(void *it) {
+    struct part *part = (struct part *)it;
+    facing_bytes_handle *client = (facing_bytes_handle *)part->client;
     struct word word;
-    while (share->status == FACING_DONE && (word = next_word(share->text, &share->from, share->to)).len != 0)
-        share->status = count_word(&share->client, word);
-    facing_bytes_free(&share->client);
+    while (part->status == FACING_DONE && (word = next_word(part->text, &part->from, part->to)).len != 0)
+        part->status = count_word(client, word);
+    facing_bytes_free(client);
     return NULL;
 }
 
 /* Counts in threads, and closes the map. */
 static uint32_t count_all(facing_bytes_handle *map, const char *text, size_t len) {
-    struct share shares[THREADS];
-    pthread_t threads[THREADS];
-    size_t at = 0;
+    facing_bytes_handle clients[THREADS];
+    struct part parts[THREADS];
     uint32_t status = facing_bytes_open(16, THREADS, 0, map);
+    cut(text, len, parts);
     for (int i = 0; i < THREADS && status == FACING_DONE; i++) {
-        size_t to = part_end(text, len, i, THREADS);
-        shares[i].text = text;
-        shares[i].from = at;
-        shares[i].to = at = to < at ? at : to;
-        shares[i].status = FACING_DONE;
-        status = facing_bytes_client(map, &shares[i].client);
+        parts[i].client = &clients[i];
+        status = facing_bytes_client(map, &clients[i]);
     }
-    if (status != FACING_DONE) return status;
-    for (int i = 0; i < THREADS; i++)
-        if (pthread_create(&threads[i], NULL, count_share, &shares[i])) exit(2);
-    for (int i = 0; i < THREADS; i++) {
-        pthread_join(threads[i], NULL);
-        if (shares[i].status != FACING_DONE) return shares[i].status;
-    }
-    return facing_bytes_close(map);
+    if (status == FACING_DONE) status = go_over(parts, count_part);
+    return status == FACING_DONE ? facing_bytes_close(map) : status;
 }
 
 static int by_letters(const void *a, const void *b) {

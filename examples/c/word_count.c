@@ -3,16 +3,6 @@
  * usage: word_count [FILE]; a text of its own where there is none. A word's key is its first eight letters, as a number. */
 #include "words.h"
 #include "facing.h"
-#include <pthread.h>
-
-enum { THREADS = 4 };
-
-struct share {
-    facing_handle client;
-    const char *text;
-    size_t from, to;
-    uint32_t status;
-};
 
 /* Finds the next word from a place on, and returns its key, or 0 where there is none. */
 static uint64_t next_word(const char *text, size_t *from, size_t to) {
@@ -25,38 +15,29 @@ static uint64_t next_word(const char *text, size_t *from, size_t to) {
     return key;
 }
 
-static void *count_share(void *it) {
-    struct share *share = (struct share *)it;
+static void *count_part(void *it) {
+    struct part *part = (struct part *)it;
+    facing_handle *client = (facing_handle *)part->client;
     facing_answer answer;
     uint64_t key;
-    while (share->status == FACING_DONE && (key = next_word(share->text, &share->from, share->to)) != 0)
-        share->status = facing_add(&share->client, key, 1, &answer);
-    facing_free(&share->client);
+    while (part->status == FACING_DONE && (key = next_word(part->text, &part->from, part->to)) != 0)
+        part->status = facing_add(client, key, 1, &answer);
+    facing_free(client);
     return NULL;
 }
 
 /* Counts in threads, and closes the map. */
 static uint32_t count_all(facing_handle *map, const char *text, size_t len) {
-    struct share shares[THREADS];
-    pthread_t threads[THREADS];
-    size_t at = 0;
+    facing_handle clients[THREADS];
+    struct part parts[THREADS];
     uint32_t status = facing_open(16, THREADS, 0, map);
+    cut(text, len, parts);
     for (int i = 0; i < THREADS && status == FACING_DONE; i++) {
-        size_t to = part_end(text, len, i, THREADS);
-        shares[i].text = text;
-        shares[i].from = at;
-        shares[i].to = at = to < at ? at : to;
-        shares[i].status = FACING_DONE;
-        status = facing_client(map, &shares[i].client);
+        parts[i].client = &clients[i];
+        status = facing_client(map, &clients[i]);
     }
-    if (status != FACING_DONE) return status;
-    for (int i = 0; i < THREADS; i++)
-        if (pthread_create(&threads[i], NULL, count_share, &shares[i])) exit(2);
-    for (int i = 0; i < THREADS; i++) {
-        pthread_join(threads[i], NULL);
-        if (shares[i].status != FACING_DONE) return shares[i].status;
-    }
-    return facing_close(map);
+    if (status == FACING_DONE) status = go_over(parts, count_part);
+    return status == FACING_DONE ? facing_close(map) : status;
 }
 
 static int by_number(const void *a, const void *b) {

@@ -151,17 +151,5 @@ static void live(void) {
 }
 
 int main(int argc, char **argv) {
-    long step = argc > 1 ? strtol(argv[1], NULL, 10) : 1, runs = 0, all;
-    live();
-    all = requests;
-    for (int with_rest = 0; with_rest < 2; with_rest++) {
-        for (long from = 1; from <= all; from += step, runs++) {
-            requests = 0;
-            refused_from = from;
-            refused_to = with_rest ? all + 1 : from + 1;
-            live();
-        }
-    }
-    printf("%ld requests, %ld runs, %ld calls refused, %ld wrong\n", all, runs, refusals, wrong);
-    return wrong != 0 || refusals == 0;
+    return refuse_each(argc > 1 ? strtol(argv[1], NULL, 10) : 1, live);
 }

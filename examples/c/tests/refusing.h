@@ -55,4 +55,21 @@ static int was_refused(uint32_t status, const char *what) {
     return 0;
 }
 
+/* Lives once, and then again for each request, or for each such step, refused alone and with all after it. */
+static int refuse_each(long step, void (*live)(void)) {
+    long runs = 0, all;
+    live();
+    all = requests;
+    for (int with_rest = 0; with_rest < 2; with_rest++) {
+        for (long from = 1; from <= all; from += step, runs++) {
+            requests = 0;
+            refused_from = from;
+            refused_to = with_rest ? all + 1 : from + 1;
+            live();
+        }
+    }
+    printf("%ld requests, %ld runs, %ld calls refused, %ld wrong\n", all, runs, refusals, wrong);
+    return wrong != 0 || refusals == 0;
+}
+
 #endif
