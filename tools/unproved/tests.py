@@ -1,0 +1,109 @@
+"""Builds the tests of several crates, and programs that read nothing, as one program without their proofs: what is below them is read and
+compiled once for all. Unlike other builds it keeps the trial run's checks of steps, so that a step that a proof would refuse ends the test."""
+import copy
+import hashlib
+import os
+import re
+
+from . import module
+from .build import Build, Room
+from .crates import NotBuilt
+
+# The modules that the crates become, and the tests that the programs become.
+PREFIX, PROGRAM = "in_", "the_program"
+# A crate's tests are built with those of other crates that have the same one of these below them, the first that they have.
+LAYERS = ("facingberyl", "mapcli_core", "chm")
+MAIN = re.compile(r"^fn main\(", re.M)
+
+
+def has_tests(repository, crate):
+    return count_of_tests(repository, crate) > 0
+
+
+def count_of_tests(repository, crate):
+    """Returns how many tests the sources of a crate have."""
+    count = 0
+    for path in repository.files(crate):
+        with open(path, encoding="utf-8") as it:
+            count += len(re.findall(r"^\s*#\[test\]$", it.read(), re.M))
+    return count
+
+
+def is_program(repository, crate):
+    return os.path.isfile(f"{repository.folder(crate)}/src/main.rt")
+
+
+def reads_nothing(repository, crate):
+    """Returns whether a program takes no words, and reads no input and no file."""
+    if any(os.path.exists(f"{repository.folder(crate)}/{it}") for it in ("args", "stdin", "data", "status")):
+        return False
+    texts = []
+    for path in repository.files(crate):
+        with open(path, encoding="utf-8") as it:
+            texts.append(it.read())
+    return "env::args" not in "".join(texts)
+
+
+def groups_of(repository):
+    """Returns the crates whose tests, or whose program, are built together, by what they stand on."""
+    groups = {}
+    for crate in repository.used:
+        if has_tests(repository, crate) or is_program(repository, crate) and reads_nothing(repository, crate):
+            below = repository.below(crate)
+            layer = next((it for it in LAYERS if it in below), "lower")
+            groups.setdefault(layer, []).append(crate)
+    return groups
+
+
+def write_module(folder, crate, to):
+    """Writes the sources of a crate as those of a module of another one."""
+    name = PREFIX + crate
+    top = "main.rt" if os.path.isfile(f"{folder}/main.rt") else "lib.rt"
+    for at, _, files in os.walk(folder):
+        for file in (it for it in files if it.endswith(".rt")):
+            path = os.path.relpath(f"{at}/{file}", folder)
+            with open(f"{folder}/{path}", encoding="utf-8") as it:
+                text = re.sub(r"\bcrate::(?!(?:proofs|specs)::)", f"crate::{name}::", it.read())
+            if path == top:
+                text = MAIN.sub(f"#[test]\nfn {PROGRAM}(", re.sub(r"(?m)^(?:#!\[.*\]|//!.*)\n", "", text))
+            written = f"{to}/{name}.rt" if path == top else f"{to}/{name}/{path}"
+            os.makedirs(os.path.dirname(written), exist_ok=True)
+            with open(written, "w", encoding="utf-8") as it:
+                it.write(text)
+
+
+class Tests(Build):
+    """The build of the tests of some crates."""
+
+    def __init__(self, repository, layer, crates, tell=lambda step: None):
+        self.repository, self.crates = copy.copy(repository), crates
+        self.crate = f"tests_{layer}"
+        uses = [it for crate in crates for it in repository.used[crate]]
+        self.repository.used = {**repository.used, self.crate: list(dict.fromkeys(uses))}
+        self.repository.kinds = {**repository.kinds, self.crate: []}
+        self.set_up(tell, f"{repository.folder(crates[0])}/out/unproved", self.crate)
+
+    def kept(self):
+        made = hashlib.sha256()
+        for it in self.crates:
+            made.update(self.repository.sum(self.kit, it).encode())
+        return f"{self.place}/{self.kind}-{made.hexdigest()[:24]}"
+
+    def room(self, folder, log):
+        return TestsRoom(self, folder, log)
+
+
+class TestsRoom(Room):
+    level, extra = "-O1", ("--test",)
+
+    def root(self):
+        to = f"{self.folder}/src"
+        for it in self.build.crates:
+            write_module(f"{self.build.repository.folder(it)}/src", it, to)
+        with open(f"{to}/lib.rt", "w", encoding="utf-8") as it:
+            it.write("//! Tests of several crates.\n#![tactic(auto)]\n\n")
+            it.write("".join(f"#[cfg(test)]\nmod {PREFIX}{crate};\n" for crate in self.build.crates))
+        return f"{to}/lib.rt"
+
+    def rewritten(self, lines, given):
+        return module.plain(lines, given, has_checks=True)
