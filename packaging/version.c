@@ -1,0 +1,5 @@
+#include "facing.h"
+
+const char *facing_version(void) {
+    return FACING_VERSION;
+}
