@@ -1,13 +1,13 @@
 #!/usr/bin/env python3
-"""Builds and runs the examples in C, C++, Rust and Python over the static libraries facing_c and facing_c_bytes, and the tests in C
-of both: as they are, with the sanitizers of addresses and of undefined behaviour, and under valgrind. Each compares what it got with
-what it must be.
+"""Installs the C library into a temporary folder, and builds and runs over it the examples in C, C++, Rust and Python, and the
+tests in C: as they are, with the sanitizers of addresses and of undefined behaviour, and under valgrind. Each compares what it got
+with what it must be.
 
-usage: python3 examples/run.py [LIBRARY [BYTES_LIBRARY]]
+usage: python3 examples/run.py [--proved] [--all] [WORD]
 
-LIBRARY is libfacing_c.a, or where no word names it the one that `rt lib` made in crates/facing_c, and so is BYTES_LIBRARY
-libfacing_c_bytes.a. It takes a minute. It leaves out what needs a tool or a library that is not there, and says so. It ends with
-status 1 where one fails."""
+Without --proved the libraries are built without their proofs; with it they are those of `rt lib`. WORD: only what has it in its
+name. What needs a tool that is not there is left out and named; with --all that is a failure. The last line is
+`N passed, M failed, K left out`; the status is 1 where one failed."""
 import os
 import shutil
 import subprocess
@@ -16,80 +16,102 @@ import tempfile
 
 HERE = os.path.dirname(os.path.realpath(__file__))
 TOP = os.path.dirname(HERE)
-BUILT = f"{TOP}/crates/facing_c/out/libfacing_c.a"
-BYTES_BUILT = f"{TOP}/crates/facing_c_bytes/out/libfacing_c_bytes.a"
-C, CPP = ["cc", "-std=c11"], ["c++", "-std=c++17", "-x", "c++"]
+C, CPP, CPP17 = ["cc", "-std=c11"], ["c++", "-std=c++17", "-x", "c++"], ["c++", "-std=c++17"]
 SANITIZED = ["-g", "-O1", "-fsanitize=address,undefined", "-fno-sanitize-recover=all"]
+WATCHED = ["-g", "-O1", "-fsanitize=thread"]
 VALGRIND = ["valgrind", "-q", "--leak-check=full", "--show-leak-kinds=all", "--error-exitcode=9"]
 # The test that refuses memory stands between the library and the heap.
 WRAPPED = ["-Wl,--wrap=malloc,--wrap=realloc,--wrap=free"]
+WARNED = ["-Wall", "-Wextra", "-Wpedantic", "-Wshadow", "-Wconversion", "-Werror"]
+CMAKE = """cmake_minimum_required(VERSION 3.13)
+project(tried C)
+find_package(facing @VERSION@ REQUIRED CONFIG)
+add_executable(shared {0})
+target_link_libraries(shared facing::facing)
+add_executable(static {0})
+target_link_libraries(static facing::static)
+"""
 
 
 class Lacking(Exception):
-    """A tool or a library is not there."""
+    """A tool is not there."""
 
 
-def need(tool):
-    if not shutil.which(tool):
-        raise Lacking(f"there is no {tool}")
-
-
-def heap_library():
-    """Returns the path of the functions of the C heap, which come with the toolchain."""
-    need("rt")
-    start = subprocess.run(["rt", "doc"], capture_output=True, text=True, check=True).stdout.split()[0]
-    return os.path.join(os.path.dirname(start), "c", "liblibc_c.a")
+def need(*tools):
+    for tool in tools:
+        if not shutil.which(tool):
+            raise Lacking(f"there is no {tool}")
 
 
 class Place:
-    """The folder of what is built, and the libraries."""
+    """The folder of what is built, and the package in it."""
 
-    def __init__(self, folder, library, bytes_library):
-        self.folder, self.libraries = folder, [os.path.realpath(library), heap_library()]
-        self.bytes_libraries = [os.path.realpath(bytes_library), heap_library()]
-        self.made = 0
+    def __init__(self, folder, is_proved):
+        self.folder, self.prefix, self.made = folder, f"{folder}/installed", 0
+        unproved = {} if is_proved else {"UNPROVED": "1"}
+        subprocess.run([f"{TOP}/tools/install", self.prefix], env={**os.environ, **unproved}, check=True)
+        self.found = {**os.environ, "PKG_CONFIG_PATH": f"{self.prefix}/lib/pkgconfig"}
 
-    def libraries_of(self, source):
-        """Returns the libraries that a program in C stands on."""
-        libraries = self.bytes_libraries if os.path.basename(source).startswith("bytes") else self.libraries
-        if not os.path.exists(libraries[0]):
-            raise Lacking(f"there is no {os.path.basename(libraries[0])}: make it with `rt lib`")
-        return libraries
-
-    def program(self, compiler, source, flags=("-O2",), more=()):
-        """Builds a program, and returns its path."""
-        need(compiler[0])
-        self.made += 1
-        program = f"{self.folder}/program_{self.made}"
-        warned = ["-Wall", "-Wextra", "-Werror", f"-I{TOP}/include"]
-        words = [*compiler, *flags, *warned, f"{HERE}/c/{source}", "-x", "none", *self.libraries_of(source)]
-        if (ran := subprocess.run([*words, *more, "-lpthread", "-o", program], capture_output=True, text=True, check=False)).returncode:
+    def built(self, words, flags=()):
+        ran = subprocess.run(words, capture_output=True, text=True, check=False)
+        if ran.returncode:
             if "cannot find" in ran.stderr and "-fsanitize" in " ".join(flags):
                 raise Lacking("the sanitizers' libraries are not installed")
             raise subprocess.CalledProcessError(ran.returncode, words, ran.stdout, ran.stderr)
+
+    def program(self, compiler, source, flags=("-O2",), more=()):
+        """Builds a program with the static library, and returns its path."""
+        need(compiler[0])
+        self.made += 1
+        program = f"{self.folder}/program_{self.made}"
+        words = [*compiler, *flags, *WARNED, f"-I{self.prefix}/include", f"{HERE}/{source}", "-x", "none"]
+        self.built([*words, f"{self.prefix}/lib/libfacing.a", *more, "-lpthread", "-o", program], flags)
         return program
 
     def sanitized(self, compiler, source, more=()):
         return self.program(compiler, source, SANITIZED, more)
 
+    def watched(self, source):
+        """A program that ThreadSanitizer watches."""
+        return self.program(C, source, WATCHED)
+
+    def finds_race(self):
+        """Whether ThreadSanitizer finds two threads that use one client."""
+        ran = subprocess.run(self.watched("c/tests/race.c"), capture_output=True, text=True, check=False)
+        is_found = "data race" in ran.stderr and "facing_put" in ran.stderr
+        return is_found, "found" if is_found else f"not found: {ran.stderr}"
+
     def under_valgrind(self, compiler, source, more=()):
         need("valgrind")
         return [*VALGRIND, self.program(compiler, source, more=more)]
 
+    def by_pkg_config(self):
+        """A program with the shared library, as pkg-config says to build it."""
+        need("cc", "pkg-config")
+        told = subprocess.run(["pkg-config", "--cflags", "--libs", "facing"], capture_output=True, text=True, check=True, env=self.found)
+        program = f"{self.folder}/by_pkg_config"
+        self.built([*C, f"{HERE}/c/first.c", *told.stdout.split(), "-lpthread", "-o", program])
+        return run(program, env={**os.environ, "LD_LIBRARY_PATH": f"{self.prefix}/lib"})
+
+    def by_cmake(self):
+        """The same by CMake, with the shared and with the static library."""
+        need("cmake", "cc")
+        folder, version = f"{self.folder}/cmake", open(f"{TOP}/VERSION", encoding="utf-8").read().strip()
+        os.makedirs(folder)
+        with open(f"{folder}/CMakeLists.txt", "w", encoding="utf-8") as it:
+            it.write(CMAKE.format(f"{HERE}/c/first.c").replace("@VERSION@", version))
+        self.built(["cmake", "-S", folder, "-B", f"{folder}/out", f"-DCMAKE_PREFIX_PATH={self.prefix}"])
+        self.built(["cmake", "--build", f"{folder}/out"])
+        return run(f"{folder}/out/shared", f"{folder}/out/static")
+
     def cargo(self, *words):
         need("cargo")
-        self.libraries_of("rust")
-        folders = ":".join(dict.fromkeys(os.path.dirname(it) for it in self.libraries))
-        environment = {**os.environ, "FACING_LIBS": folders, "CARGO_TARGET_DIR": f"{self.folder}/rust"}
-        return run(["cargo", words[0], "--release", "--quiet", "--offline", *words[1:]], cwd=f"{HERE}/rust", env=environment)
+        more = {"CARGO_TARGET_DIR": f"{self.folder}/rust", "FACING_LIBS": f"{self.prefix}/lib"}
+        return run(["cargo", words[0], "--release", "--quiet", "--offline", *words[1:]], cwd=f"{HERE}/rust", env={**os.environ, **more})
 
     def python(self, program):
-        need("cc")
-        self.libraries_of(program)
-        shared = f"{self.folder}/libfacing.so"
-        whole = ["-Wl,--whole-archive", self.libraries[0], "-Wl,--no-whole-archive", self.libraries[1]]
-        subprocess.run(["cc", "-shared", *whole, "-o", shared], check=True)
-        return run([sys.executable, f"{HERE}/python/{program}"], env={**os.environ, "FACING": shared, "PYTHONDONTWRITEBYTECODE": "1"})
+        more = {"FACING": f"{self.prefix}/lib/libfacing.so", "PYTHONDONTWRITEBYTECODE": "1"}
+        return run([sys.executable, f"{HERE}/python/{program}"], env={**os.environ, **more})
 
 
 def run(*commands, **more):
@@ -117,54 +139,81 @@ def each(program, *counts):
 
 MANY, FEW = ((1, 100000), (16, 100000), (60000, 300000)), ((1, 5000), (16, 10000), (60000, 10000))
 WORKS = [
-    ("C, the first program", lambda it: run(it.program(C, "first.c"))),
-    ("C, word count", lambda it: run(it.program(C, "word_count.c"))),
-    ("C++, word count", lambda it: run(it.program(CPP, "word_count.c"))),
+    ("C, the first program", lambda it: run(it.program(C, "c/first.c"))),
+    ("C, the first program by pkg-config", lambda it: it.by_pkg_config()),
+    ("C, the first program by CMake", lambda it: it.by_cmake()),
+    ("C++, the first program", lambda it: run(it.program(CPP17, "cpp/first.cpp"))),
+    ("C++, calls", lambda it: run(it.program(CPP17, "cpp/calls.cpp"))),
+    ("C++, sanitized, calls", lambda it: run(it.sanitized(CPP17, "cpp/calls.cpp"))),
+    ("C, word count", lambda it: run(it.program(C, "c/word_count.c"))),
+    ("C++, word count", lambda it: run(it.program(CPP, "c/word_count.c"))),
     ("Rust, word count", lambda it: it.cargo("run", "--example", "word_count")),
     ("Rust, tests", lambda it: counted(it.cargo("test"))),
     ("Python, word count", lambda it: it.python("word_count.py")),
     ("Python, tests", lambda it: counted(it.python("test_facing.py"))),
-    ("C, 4 threads on 1, 16 and 60000 keys", lambda it: run(*each(it.program(C, "tests/counts.c"), *MANY))),
-    ("C, memory refused", lambda it: run(it.program(C, "tests/refused.c", more=WRAPPED))),
-    ("C, misuses", lambda it: run(it.program(C, "tests/misuse.c"))),
-    ("C, sanitized, 4 threads", lambda it: run(*each(it.sanitized(C, "tests/counts.c"), *MANY))),
-    ("C++, sanitized, 4 threads", lambda it: run(*each(it.sanitized(CPP, "tests/counts.c"), *MANY))),
-    ("C, sanitized, memory refused", lambda it: run(it.sanitized(C, "tests/refused.c", WRAPPED))),
-    ("C, sanitized, misuses", lambda it: run(it.sanitized(C, "tests/misuse.c"))),
-    ("C++, sanitized, misuses", lambda it: run(it.sanitized(CPP, "tests/misuse.c"))),
-    ("C, valgrind, 4 threads", lambda it: run(*each(it.under_valgrind(C, "tests/counts.c"), *FEW))),
-    ("C++, valgrind, 4 threads", lambda it: run(*each(it.under_valgrind(CPP, "tests/counts.c"), *FEW))),
-    ("C, valgrind, memory refused", lambda it: run([*it.under_valgrind(C, "tests/refused.c", WRAPPED), "7"])),
-    ("C, valgrind, misuses", lambda it: run(it.under_valgrind(C, "tests/misuse.c"))),
-    ("bytes, C, word count", lambda it: run(it.program(C, "bytes.c"))),
-    ("bytes, C++, word count", lambda it: run(it.program(CPP, "bytes.c"))),
-    ("bytes, C, memory refused", lambda it: run(it.program(C, "tests/bytes_refused.c", more=WRAPPED))),
-    ("bytes, C, misuses", lambda it: run(it.program(C, "tests/bytes_misuse.c"))),
-    ("bytes, C, sanitized, word count", lambda it: run(it.sanitized(C, "bytes.c"))),
-    ("bytes, C, sanitized, memory refused", lambda it: run(it.sanitized(C, "tests/bytes_refused.c", WRAPPED))),
-    ("bytes, C++, sanitized, misuses", lambda it: run(it.sanitized(CPP, "tests/bytes_misuse.c"))),
-    ("bytes, C, valgrind, memory refused", lambda it: run([*it.under_valgrind(C, "tests/bytes_refused.c", WRAPPED), "7"])),
-    ("bytes, C, valgrind, misuses", lambda it: run([*it.under_valgrind(C, "tests/bytes_misuse.c"), "2000"])),
+    ("C, many keys at once", lambda it: run(it.program(C, "c/tests/many.c"))),
+    ("C, a pool of clients", lambda it: run(it.program(C, "c/tests/pool.c"))),
+    ("C++, a pool of clients", lambda it: run(it.program(CPP, "c/tests/pool.c"))),
+    ("C, 4 threads on 1, 16 and 60000 keys", lambda it: run(*each(it.program(C, "c/tests/counts.c"), *MANY))),
+    ("C, memory refused", lambda it: run(it.program(C, "c/tests/refused.c", more=WRAPPED))),
+    ("C, misuses", lambda it: run(it.program(C, "c/tests/misuse.c"))),
+    ("C, sanitized, many keys at once", lambda it: run(it.sanitized(C, "c/tests/many.c"))),
+    ("C, sanitized, a pool of clients", lambda it: run(it.sanitized(C, "c/tests/pool.c"))),
+    ("C, sanitized, 4 threads", lambda it: run(*each(it.sanitized(C, "c/tests/counts.c"), *MANY))),
+    ("C++, sanitized, 4 threads", lambda it: run(*each(it.sanitized(CPP, "c/tests/counts.c"), *MANY))),
+    ("C, sanitized, memory refused", lambda it: run(it.sanitized(C, "c/tests/refused.c", WRAPPED))),
+    ("C, sanitized, misuses", lambda it: run(it.sanitized(C, "c/tests/misuse.c"))),
+    ("C++, sanitized, misuses", lambda it: run(it.sanitized(CPP, "c/tests/misuse.c"))),
+    ("C, ThreadSanitizer, 4 threads", lambda it: run(*each(it.watched("c/tests/counts.c"), *FEW))),
+    ("C, ThreadSanitizer, many keys at once", lambda it: run(it.watched("c/tests/many.c"))),
+    ("C, ThreadSanitizer, a pool of clients", lambda it: run([it.watched("c/tests/pool.c"), "2000"])),
+    ("C, ThreadSanitizer, two threads that use one client", lambda it: it.finds_race()),
+    ("bytes, C, ThreadSanitizer, word count", lambda it: run(it.watched("c/bytes.c"))),
+    ("C, valgrind, 4 threads", lambda it: run(*each(it.under_valgrind(C, "c/tests/counts.c"), *FEW))),
+    ("C++, valgrind, 4 threads", lambda it: run(*each(it.under_valgrind(CPP, "c/tests/counts.c"), *FEW))),
+    ("C, valgrind, memory refused", lambda it: run([*it.under_valgrind(C, "c/tests/refused.c", WRAPPED), "7"])),
+    ("C, valgrind, misuses", lambda it: run(it.under_valgrind(C, "c/tests/misuse.c"))),
+    ("bytes, C, word count", lambda it: run(it.program(C, "c/bytes.c"))),
+    ("bytes, C++, word count", lambda it: run(it.program(CPP, "c/bytes.c"))),
+    ("bytes, C, memory refused", lambda it: run(it.program(C, "c/tests/bytes_refused.c", more=WRAPPED))),
+    ("bytes, C, misuses", lambda it: run(it.program(C, "c/tests/bytes_misuse.c"))),
+    ("bytes, C, sanitized, word count", lambda it: run(it.sanitized(C, "c/bytes.c"))),
+    ("bytes, C, sanitized, memory refused", lambda it: run(it.sanitized(C, "c/tests/bytes_refused.c", WRAPPED))),
+    ("bytes, C++, sanitized, misuses", lambda it: run(it.sanitized(CPP, "c/tests/bytes_misuse.c"))),
+    ("bytes, C, valgrind, memory refused", lambda it: run([*it.under_valgrind(C, "c/tests/bytes_refused.c", WRAPPED), "7"])),
+    ("bytes, C, valgrind, misuses", lambda it: run([*it.under_valgrind(C, "c/tests/bytes_misuse.c"), "2000"])),
 ]
 
 
-def main(library=BUILT, bytes_library=BYTES_BUILT):
-    if not os.path.exists(library) and not os.path.exists(bytes_library):
-        sys.exit(f"{library} is not there: make it with `rt lib` in crates/facing_c")
-    is_right = True
+def main(words):
+    is_proved, needs_all = "--proved" in words, "--all" in words
+    wanted = [it for it in words if it not in ("--proved", "--all")]
+    if len(wanted) > 1 or any(it.startswith("-") for it in wanted):
+        print(__doc__)
+        return 2
+    passed = failed = left_out = 0
     with tempfile.TemporaryDirectory() as folder:
-        place = Place(folder, library, bytes_library)
+        try:
+            place = Place(folder, is_proved)
+        except subprocess.CalledProcessError:
+            print("0 passed, 1 failed, 0 left out")
+            return 1
         for name, work in WORKS:
+            if wanted and wanted[0] not in name:
+                continue
             try:
-                its, said = work(place)
-                is_right = is_right and its
+                is_right, said = work(place)
+                passed, failed = passed + is_right, failed + (not is_right)
             except Lacking as why:
-                said = f"left out, {why}"
+                said, left_out = f"left out, {why}", left_out + 1
             except subprocess.CalledProcessError as why:
-                is_right, said = False, f"not built: {why.stderr or why}"
+                said, failed = f"not built: {why.stderr or why}", failed + 1
             print(f"{name}: {said}", flush=True)
-    return 0 if is_right else 1
+    if needs_all:
+        failed, left_out = failed + left_out, 0
+    print(f"{passed} passed, {failed} failed, {left_out} left out")
+    return 1 if failed else 0
 
 
 if __name__ == "__main__":
-    sys.exit(main(*sys.argv[1:]))
+    sys.exit(main(sys.argv[1:]))

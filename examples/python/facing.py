@@ -1,19 +1,34 @@
-"""A map of 64-bit numbers that threads share, over the static library facing_c as a shared object.
+"""Concurrent hash maps that Python's threads share: 64-bit numbers to 64-bit numbers (Map), and bytes to bytes (BytesMap).
 
-ctypes lets other threads run in each call, so calls run side by side. A handle is in one call at a time: each of the
-classes has a lock for that. FACING names the shared object."""
+They stand on the shared library that tools/install makes. ctypes lets other threads run during each call. A client serves one
+call at a time, for which it has a lock; give each thread a client of its own. Where all threads spend their time in Python code a
+dict under a lock is faster: a call from Python takes microseconds, most of them on the way to the library. put_all, get_all and
+add_all pass many keys at once."""
+import array
+import collections.abc
 import ctypes
+import ctypes.util
+import operator
 import os
 import threading
-import time
 
 U64, U32, SIZE = ctypes.c_uint64, ctypes.c_uint32, ctypes.c_size_t
-DONE, BUSY, WRONG_HANDLE = 0, 1, 8
-WORDS = "done busy no-memory client-full bad-capacity bad-clients client-out bin-missing wrong-handle".split()
+LONGEST = 65536
+NAMES = (
+    "DONE BUSY NO_MEMORY CLIENT_FULL BAD_CAPACITY BAD_CLIENTS CLIENT_OUT BIN_MISSING WRONG_HANDLE BAD_ARGUMENT TOO_LONG NO_CLIENT"
+).split()
 
 
 class Fault(Exception):
-    """Why something was refused, as a word of WORDS."""
+    """Why a call failed; `name` is a name of NAMES. The map is as it was."""
+
+    def __init__(self, status):
+        super().__init__(_LIB.facing_strerror(status).decode())
+        self.name = NAMES[status]
+
+
+class NoMemory(Fault, MemoryError):
+    """Out of memory."""
 
 
 class _Handle(ctypes.Structure):
@@ -24,29 +39,102 @@ class _Answer(ctypes.Structure):
     _fields_ = [("found", U32), ("value", U64)]
 
 
+def _places():
+    """The paths at which the shared library may lie, the likeliest first."""
+    if "FACING" in os.environ:
+        return [os.environ["FACING"]]
+    here = os.path.dirname(os.path.realpath(__file__))
+    beside = [os.path.join(here, "libfacing.so"), os.path.join(here, "..", "..", "libfacing.so")]
+    return [it for it in beside if os.path.exists(it)] + [it for it in [ctypes.util.find_library("facing")] if it]
+
+
 def _load():
-    lib = ctypes.CDLL(os.environ["FACING"])
-    out, told, numbers = ctypes.POINTER(_Handle), ctypes.POINTER(_Answer), ctypes.POINTER(U64)
-    one, two, three = [_Handle, out, U64, told], [_Handle, out, U64, U64, told], [_Handle, out, U64, U64, U64, told]
-    forms = {"open": [SIZE, U32, U32, out], "client": [_Handle, out, out], "close": [_Handle, out], "find": one,
-             "count": [_Handle, out, told], "pairs": [_Handle, out, numbers, SIZE, numbers, SIZE, told],
-             "reopen": [_Handle, out, U32, out], "free": [_Handle], "try_replace_if": three}
-    forms.update({f"try_{name}": one for name in ("get", "contains", "remove")})
-    forms.update({f"try_{name}": two for name in ("put", "put_if_absent", "remove_if", "replace", "add", "greatest", "set")})
-    for name, form in forms.items():
-        export = getattr(lib, f"facing_c_{name}")
-        export.argtypes, export.restype = form, None if name == "free" else U32
-    return lib
+    for place in _places():
+        try:
+            return ctypes.CDLL(place)
+        except OSError as why:
+            raise ImportError(f"facing: {why}") from None
+    raise ImportError(
+        "facing: libfacing.so lies neither beside this module nor where the linker looks. Install it with tools/install PREFIX, or "
+        "set FACING to its path"
+    )
 
 
 _LIB = _load()
+_LIB.facing_strerror.argtypes, _LIB.facing_strerror.restype = [U32], ctypes.c_char_p
+_LIB.facing_version.argtypes, _LIB.facing_version.restype = [], ctypes.c_char_p
+
+
+def _declare():
+    """Declares the functions of facing.h and facing_bytes.h."""
+    handle, answer, numbers, size = (ctypes.POINTER(it) for it in (_Handle, _Answer, U64, SIZE))
+    data = [ctypes.c_char_p, SIZE]
+    room = [ctypes.c_char_p, SIZE]
+    both = {
+        "open": [SIZE, U32, U32, handle], "client": [handle, handle], "close": [handle], "free": [handle],
+        "count": [handle, numbers], "reopen": [handle, U32, handle],
+    }
+    forms = {f"facing_{name}": form for name, form in both.items()}
+    forms |= {f"facing_bytes_{name}": form for name, form in both.items()}
+    forms |= {f"facing_{name}": [handle, U64, answer] for name in ("get", "contains", "remove", "find")}
+    forms |= {
+        f"facing_{name}": [handle, U64, U64, answer]
+        for name in ("put", "put_if_absent", "remove_if", "replace", "add", "greatest", "set")
+    }
+    forms["facing_replace_if"] = [handle, U64, U64, U64, answer]
+    forms["facing_pairs"] = [handle, numbers, numbers, SIZE, size]
+    forms |= {f"facing_{name}_all": [handle, numbers, numbers, SIZE, size] for name in ("put", "add")}
+    forms["facing_get_all"] = [handle, numbers, answer, SIZE, size]
+    forms |= {f"facing_bytes_{name}": [handle, *data, *room, answer] for name in ("get", "remove", "find")}
+    forms |= {f"facing_bytes_{name}": [handle, *data, *data, *room, answer] for name in ("put", "put_if_absent", "replace")}
+    forms["facing_bytes_contains"] = [handle, *data, answer]
+    forms["facing_bytes_remove_if"] = [handle, *data, *data, answer]
+    forms["facing_bytes_replace_if"] = [handle, *data, *data, *data, answer]
+    forms["facing_bytes_pairs"] = [handle, U64, numbers, numbers, SIZE, *room, size]
+    for name, form in forms.items():
+        function = getattr(_LIB, name)
+        function.argtypes, function.restype = form, None if name.endswith("_free") else U32
+
+
+_declare()
+
+
+def version():
+    """The library's version, as "0.1.0"; "0.1.0 unproved" where it was built without its proofs."""
+    return _LIB.facing_version().decode()
+
+
+def number(value):
+    """Returns a value that fits into 64 bits; else it raises OverflowError, or TypeError where it is no integer."""
+    value = operator.index(value)
+    if not 0 <= value < 1 << 64:
+        raise OverflowError(f"{value} is not a number of 64 bits: 0 to 2**64 - 1")
+    return value
+
+
+def numbers(values):
+    """Returns values as an array that the library can read."""
+    try:
+        packed = array.array("Q", values)
+    except OverflowError:
+        raise OverflowError("a number is not of 64 bits: 0 to 2**64 - 1") from None
+    return packed, ctypes.cast(packed.buffer_info()[0] or None, ctypes.POINTER(U64))
+
+
+def _check(status):
+    if status == NAMES.index("NO_MEMORY"):
+        raise NoMemory(status)
+    if status:
+        raise Fault(status)
 
 
 class _Owned:
-    """A handle, which ends with its `with` block or with this object."""
+    """A handle, which is freed with its `with` block or with this object. It cannot be copied."""
 
-    def __init__(self, handle):
-        self._handle, self._lock = handle, threading.Lock()
+    _kind = "facing"
+
+    def __init__(self):
+        self._handle, self._lock = _Handle(), threading.Lock()
 
     def __enter__(self):
         return self
@@ -55,131 +143,302 @@ class _Owned:
         self.free()
 
     def __del__(self):
-        self.free()
+        if hasattr(self, "_lock"):
+            self.free()
+
+    def __copy__(self):
+        raise TypeError(f"a {type(self).__name__} cannot be copied: it stands for something that is freed once")
+
+    def __deepcopy__(self, _memo):
+        return self.__copy__()
+
+    def __reduce__(self):
+        return self.__copy__()
 
     def free(self):
+        """Frees what the handle stands for. A client goes back to its map."""
         with self._lock:
-            if self._handle.at:
-                _LIB.facing_c_free(self._handle)
-            self._handle = _Handle()
-
-    def _lend(self, name, *arguments):
-        """Hands the handle to an export, takes it back, and returns the status."""
-        with self._lock:
-            if not self._handle.at:
-                return WRONG_HANDLE
-            back = _Handle()
-            status = getattr(_LIB, f"facing_c_{name}")(self._handle, back, *arguments)
-            self._handle = back
-            return status
+            getattr(_LIB, f"{self._kind}_free")(self._handle)
 
     def _do(self, name, *arguments):
-        status = self._lend(name, *arguments)
-        if status != DONE:
-            raise Fault(WORDS[status])
+        with self._lock:
+            _check(getattr(_LIB, f"{self._kind}_{name}")(self._handle, *arguments))
 
     def _count(self):
-        answer = _Answer()
-        self._do("count", answer)
-        return answer.value
+        count = U64()
+        self._do("count", count)
+        return count.value
 
 
 class Map(_Owned):
-    """An open map for 1 to 32 clients, with a table for so many bins to begin with."""
+    """An open map, with a table of so many buckets to begin with, and so many clients."""
 
-    def __init__(self, capacity=16, clients=4, handle=None):
-        super().__init__(handle or _Handle())
-        if handle is None:
-            status = _LIB.facing_c_open(capacity, clients, 0, self._handle)
-            if status != DONE:
-                raise Fault(WORDS[status])
+    def __init__(self, capacity=16, clients=4, salt=0):
+        super().__init__()
+        for it in (capacity, clients, salt):
+            number(it)
+        _check(getattr(_LIB, f"{self._kind}_open")(capacity, min(clients, 2**32 - 1), salt & 0xFFFFFFFF, self._handle))
 
     def client(self):
-        client = _Handle()
-        self._do("client", client)
-        return Client(client)
+        """Returns a client that is not in use, for one thread at a time."""
+        client = self._client()
+        self._do("client", client._handle)
+        return client
 
     def close(self):
-        """Returns the closed map. The clients must all be freed."""
+        """Closes the map, whose clients must all be freed, and returns the closed map."""
         self._do("close")
-        closed, self._handle = self._handle, _Handle()
-        return Closed(closed)
+        closed = self._closed()
+        closed._handle, self._handle = self._handle, closed._handle
+        return closed
 
     def count(self):
+        """Returns how many keys there are; an estimate while calls run."""
+        return self._count()
+
+    def _client(self):
+        return Client()
+
+    def _closed(self):
+        return Closed()
+
+
+class _Calls(_Owned):
+    """The calls of a client over keys and values as they are."""
+
+    def __getitem__(self, key):
+        if (value := self.get(key)) is None:
+            raise KeyError(key)
+        return value
+
+    def __setitem__(self, key, value):
+        self.put(key, value)
+
+    def __delitem__(self, key):
+        if self.remove(key) is None:
+            raise KeyError(key)
+
+    def __contains__(self, key):
+        return self.contains(key)
+
+    def count(self):
+        """Returns how many keys the map has; an estimate while calls run."""
         return self._count()
 
 
-class Client(_Owned):
-    """A client, which goes back to its map when it is freed."""
+class Client(_Calls):
+    """A client of a map of numbers. It goes back to its map when it is freed."""
 
     def _call(self, name, *arguments):
-        answer, tries = _Answer(), 0
-        while True:
-            status = self._lend(f"try_{name}", *arguments, answer)
-            if status != BUSY:
-                break
-            time.sleep(0 if tries < 64 else 0.001)
-            tries += 1
-        if status != DONE:
-            raise Fault(WORDS[status])
+        answer = _Answer()
+        self._do(name, *map(number, arguments), answer)
         return answer
 
     def _value(self, name, *arguments):
         answer = self._call(name, *arguments)
         return answer.value if answer.found else None
 
-    def get(self, key):
-        return self._value("get", key)
+    def get(self, key, default=None):
+        value = self._value("get", key)
+        return default if value is None else value
 
     def contains(self, key):
         return self._call("contains", key).found == 1
 
     def put(self, key, value):
+        """Stores the value, and returns the one before."""
         return self._value("put", key, value)
 
     def put_if_absent(self, key, value):
+        """Stores the value where the key has none, and returns the one before."""
         return self._value("put_if_absent", key, value)
 
     def remove(self, key):
+        """Removes the key, and returns its value."""
         return self._value("remove", key)
 
     def remove_if(self, key, value):
+        """Removes the key where it has this value, and returns whether it had."""
         return self._call("remove_if", key, value).found == 1
 
     def replace(self, key, value):
+        """Stores the value where the key has one, and returns the one before."""
         return self._value("replace", key, value)
 
     def replace_if(self, key, old, new):
+        """Stores the new value where the key has the old one, and returns whether it had."""
         return self._call("replace_if", key, old, new).found == 1
 
     def add(self, key, value=1):
+        """Adds to the value, up to 2**64 - 1, and returns the value after."""
         return self._value("add", key, value)
 
     def greatest(self, key, value):
+        """Stores the greater of the key's value and this one, and returns it."""
         return self._value("greatest", key, value)
 
     def set(self, key, value):
+        """Stores the value, and returns it."""
         return self._value("set", key, value)
 
+    def put_all(self, pairs):
+        """Stores each pair of a mapping or of a list of pairs."""
+        self._all("put_all", pairs)
 
-class Closed(_Owned):
-    """A closed map."""
+    def add_all(self, pairs):
+        """Adds each pair's value to the one at its key. A collections.Counter is such a mapping."""
+        self._all("add_all", pairs)
+
+    def _all(self, name, pairs):
+        pairs = list(pairs.items() if isinstance(pairs, collections.abc.Mapping) else pairs)
+        (keys, at_keys), (values, at_values) = numbers(it for it, _ in pairs), numbers(it for _, it in pairs)
+        self._do(name, at_keys, at_values, len(keys), SIZE())
+        del values
+
+    def get_all(self, keys):
+        """Returns the values at the keys, None where there is none."""
+        keys, at_keys = numbers(keys)
+        answers = (_Answer * max(len(keys), 1))()
+        self._do("get_all", at_keys, answers, len(keys), SIZE())
+        return [it.value if it.found else None for it in answers[: len(keys)]]
+
+
+class _Mapping(_Owned, collections.abc.Mapping):
+    """A closed map, as a mapping that does not change."""
+
+    __hash__ = None
 
     def __len__(self):
         return self._count()
 
-    def get(self, key):
-        answer = _Answer()
-        self._do("find", key, answer)
-        return answer.value if answer.found else None
+    def __iter__(self):
+        return (key for key, _ in self.pairs())
+
+    def __getitem__(self, key):
+        if (value := self._find(key)) is None:
+            raise KeyError(key)
+        return value
 
     def items(self):
-        count, answer = len(self), _Answer()
+        return self.pairs()
+
+    def _reopened(self, opened, clients):
+        self._do("reopen", min(number(clients), 2**32 - 1), opened._handle)
+        return opened
+
+
+class Closed(_Mapping):
+    """A closed map of numbers."""
+
+    def _find(self, key):
+        answer = _Answer()
+        self._do("find", number(key), answer)
+        return answer.value if answer.found else None
+
+    def pairs(self):
+        """Returns all pairs as a list."""
+        count, copied = len(self), SIZE()
         keys, values = (U64 * max(count, 1))(), (U64 * max(count, 1))()
-        self._do("pairs", keys, count, values, count, answer)
-        return list(zip(keys[: answer.value], values[: answer.value]))
+        self._do("pairs", keys, values, count, copied)
+        return list(zip(keys[: copied.value], values[: copied.value]))
 
     def reopen(self, clients=4):
-        handle = _Handle()
-        self._do("reopen", clients, handle)
-        return Map(handle=handle)
+        """Returns an open map with copies of the pairs."""
+        opened = Map.__new__(Map)
+        _Owned.__init__(opened)
+        return self._reopened(opened, clients)
+
+
+class BytesMap(Map):
+    """An open map from bytes to bytes of at most 65,536."""
+
+    _kind = "facing_bytes"
+
+    def _client(self):
+        return BytesClient()
+
+    def _closed(self):
+        return ClosedBytes()
+
+
+class BytesClient(_Calls):
+    """A client of a map of bytes."""
+
+    _kind = "facing_bytes"
+
+    def __init__(self):
+        super().__init__()
+        self._room = ctypes.create_string_buffer(LONGEST)
+
+    def _call(self, name, *data, room=True):
+        answer = _Answer()
+        given = [part for it in data for part in (bytes(it), len(it))]
+        with self._lock:
+            more = [self._room, LONGEST] if room else []
+            _check(getattr(_LIB, f"facing_bytes_{name}")(self._handle, *given, *more, answer))
+            if not room:
+                return answer.found == 1
+            return self._room.raw[: answer.value] if answer.found else None
+
+    def get(self, key, default=None):
+        value = self._call("get", key)
+        return default if value is None else value
+
+    def contains(self, key):
+        return self._call("contains", key, room=False)
+
+    def put(self, key, value):
+        """Stores the value, and returns the one before."""
+        return self._call("put", key, value)
+
+    def put_if_absent(self, key, value):
+        """Stores the value where the key has none, and returns the one before."""
+        return self._call("put_if_absent", key, value)
+
+    def remove(self, key):
+        """Removes the key, and returns its value."""
+        return self._call("remove", key)
+
+    def remove_if(self, key, value):
+        """Removes the key where it has this value, and returns whether it had."""
+        return self._call("remove_if", key, value, room=False)
+
+    def replace(self, key, value):
+        """Stores the value where the key has one, and returns the one before."""
+        return self._call("replace", key, value)
+
+    def replace_if(self, key, old, new):
+        """Stores the new value where the key has the old one, and returns whether it had."""
+        return self._call("replace_if", key, old, new, room=False)
+
+
+class ClosedBytes(_Mapping):
+    """A closed map of bytes."""
+
+    _kind = "facing_bytes"
+
+    def _find(self, key):
+        answer, room = _Answer(), ctypes.create_string_buffer(LONGEST)
+        self._do("find", bytes(key), len(key), room, LONGEST, answer)
+        return room.raw[: answer.value] if answer.found else None
+
+    def pairs(self):
+        """Returns all pairs as a list."""
+        pairs, count = [], 4096
+        room = ctypes.create_string_buffer(16 * LONGEST)
+        keys, values = (U64 * count)(), (U64 * count)()
+        while True:
+            copied = SIZE()
+            self._do("pairs", len(pairs), keys, values, count, room, len(room), copied)
+            if not copied.value:
+                return pairs
+            raw, at = room.raw, 0
+            for key, value in zip(keys[: copied.value], values[: copied.value]):
+                pairs.append((raw[at : at + key], raw[at + key : at + key + value]))
+                at += key + value
+
+    def reopen(self, clients=4):
+        """Returns an open map with copies of the pairs."""
+        opened = BytesMap.__new__(BytesMap)
+        _Owned.__init__(opened)
+        return self._reopened(opened, clients)

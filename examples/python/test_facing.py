@@ -1,14 +1,17 @@
 """What calls answer, and what is refused."""
+import collections
+import copy
+import pickle
 import unittest
 
 import facing
 
 
 class Calls(unittest.TestCase):
-    def refuses(self, word, call, *arguments):
+    def refuses(self, name, call, *arguments):
         with self.assertRaises(facing.Fault) as caught:
             call(*arguments)
-        self.assertEqual(str(caught.exception), word)
+        self.assertEqual(caught.exception.name, name)
 
     def test_calls_answer_as_they_say(self):
         with facing.Map(16, 1) as shared, shared.client() as client:
@@ -29,25 +32,89 @@ class Calls(unittest.TestCase):
             self.assertIsNone(client.get(1))
 
     def test_numbers_past_the_limits_are_refused(self):
-        self.refuses("bad-capacity", facing.Map, 0, 1)
-        self.refuses("bad-capacity", facing.Map, 2**26 + 1, 1)
-        self.refuses("bad-clients", facing.Map, 16, 0)
-        self.refuses("bad-clients", facing.Map, 16, 33)
+        self.refuses("BAD_CAPACITY", facing.Map, 0, 1)
+        self.refuses("BAD_CAPACITY", facing.Map, 2**26 + 1, 1)
+        self.refuses("BAD_CLIENTS", facing.Map, 16, 0)
+        self.refuses("BAD_CLIENTS", facing.Map, 16, 33)
 
     def test_a_map_closes_when_its_clients_are_back(self):
         shared = facing.Map(16, 1)
         client = shared.client()
-        self.refuses("client-out", shared.client)
+        self.refuses("NO_CLIENT", shared.client)
         client.put(1, 5)
-        self.refuses("client-out", shared.close)
+        self.refuses("CLIENT_OUT", shared.close)
         client.free()
-        self.refuses("wrong-handle", client.get, 1)
+        self.refuses("WRONG_HANDLE", client.get, 1)
         with shared.close() as closed:
-            self.refuses("wrong-handle", shared.count)
+            self.refuses("WRONG_HANDLE", shared.count)
             self.assertEqual((len(closed), closed.get(1), closed.get(2)), (1, 5, None))
             with closed.reopen(2) as again, again.client() as client:
                 self.assertEqual(client.add(1), 6)
-            self.assertEqual(closed.items(), [(1, 5)])
+            self.assertEqual((closed.items(), dict(closed)), ([(1, 5)], {1: 5}))
+
+    def test_numbers_that_have_no_64_bits_raise(self):
+        with facing.Map(16, 1) as shared, shared.client() as client:
+            for wrong in (2**64, -1):
+                with self.assertRaises(OverflowError):
+                    client.put(wrong, 7)
+                with self.assertRaises(OverflowError):
+                    client.add_all([(1, wrong)])
+            with self.assertRaises(TypeError):
+                client.put(1.5, 7)
+            self.assertEqual((client.get(0), client.get(1), client.count()), (None, None, 0))
+
+    def test_copies_raise(self):
+        with facing.Map(16, 1) as shared, shared.client() as client:
+            for it in (shared, client):
+                for call in (copy.copy, copy.deepcopy, pickle.dumps):
+                    with self.assertRaises(TypeError):
+                        call(it)
+            client[1] = 5
+            self.assertEqual(client[1], 5)
+
+    def test_a_client_is_like_a_mapping(self):
+        with facing.Map(16, 1) as shared, shared.client() as client:
+            client[1] = 5
+            self.assertTrue(1 in client)
+            self.assertFalse(2 in client)
+            self.assertEqual((client[1], client.get(2, 7)), (5, 7))
+            with self.assertRaises(KeyError):
+                client[2]
+            del client[1]
+            with self.assertRaises(KeyError):
+                del client[1]
+
+    def test_many_keys_at_once(self):
+        with facing.Map(16, 1) as shared:
+            with shared.client() as client:
+                client.put_all({1: 5, 2: 6})
+                client.add_all(collections.Counter({1: 1, 3: 9}))
+                client.add_all([])
+                self.assertEqual(client.get_all([1, 2, 3, 4]), [6, 6, 9, None])
+                self.assertEqual(client.get_all([]), [])
+            with shared.close() as closed:
+                self.assertEqual(dict(closed), {1: 6, 2: 6, 3: 9})
+
+
+class Bytes(unittest.TestCase):
+    def test_calls_on_bytes(self):
+        with facing.BytesMap(16, 1) as shared:
+            with shared.client() as client:
+                self.assertIsNone(client.put(b"a", b"one"))
+                self.assertEqual(client.put(b"a", b"two"), b"one")
+                self.assertEqual(client.put_if_absent(b"", b""), None)
+                self.assertEqual(client.get(b""), b"")
+                self.assertTrue(client.replace_if(b"a", b"two", b"x" * 65536))
+                self.assertEqual(client[b"a"], b"x" * 65536)
+                with self.assertRaises(facing.Fault) as caught:
+                    client.put(b"a" * 65537, b"")
+                self.assertEqual(caught.exception.name, "TOO_LONG")
+                self.assertFalse(client.remove_if(b"", b"1"))
+                self.assertEqual(client.remove(b""), b"")
+                self.assertFalse(client.contains(b""))
+            with shared.close() as closed:
+                self.assertEqual(closed.items(), [(b"a", b"x" * 65536)])
+                self.assertEqual((len(closed), closed[b"a"], closed.get(b"b")), (1, b"x" * 65536, None))
 
 
 if __name__ == "__main__":

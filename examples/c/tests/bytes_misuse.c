@@ -65,7 +65,7 @@ static void take_client(struct slot *it, struct slot *to) {
     } else {
         uint32_t expected;
         free_slot(to);
-        expected = it->kind != MAP ? FACING_WRONG_HANDLE : it->of->out == it->of->clients ? FACING_CLIENT_OUT : FACING_DONE;
+        expected = it->kind != MAP ? FACING_WRONG_HANDLE : it->of->out == it->of->clients ? FACING_NO_CLIENT : FACING_DONE;
         want_status(facing_bytes_client(&it->handle, &to->handle), expected, "client");
         if (expected == FACING_DONE) fill(to, CLIENT, it->of), it->of->out++;
     }
@@ -154,6 +154,18 @@ static void make_call(struct slot *it) {
         want(answer.len == (is_there && !is_truth(kind) ? value_of(old).len : 0), "the length of a value");
         want_room(is_there && !is_truth(kind) ? value_of(old) : none, len, "the value before");
     }
+    want_kept(it);
+}
+
+/* A call that is not made leaves the answer as it was: one of what is no client, or with a key that is too long. */
+static void call_in_vain(struct slot *it) {
+    facing_bytes_handle out = {NULL};
+    facing_bytes_answer answer = {7, 7};
+    size_t len = (size_t)FACING_LONGEST + (it->kind == CLIENT ? 1 : below(2));
+    want_status(facing_c_bytes_try_contains(it->handle, &out, pattern, len, &answer),
+                it->kind == CLIENT ? FACING_TOO_LONG : FACING_WRONG_HANDLE, "a call in vain");
+    it->handle = out;
+    want(answer.found == 7 && answer.len == 7, "what a call in vain leaves");
     want_kept(it);
 }
 
@@ -284,6 +296,7 @@ int main(int argc, char **argv) {
         case 8: case 9: find_key(some_slot(CLOSED)); break;
         case 10: walk(some_slot(CLOSED)); break;
         case 11: call_with_null(); break;
+        case 12: call_in_vain(some_slot((enum kind)below(4))); break;
         default: make_call(some_slot(CLIENT));
         }
     }

@@ -53,7 +53,7 @@ static void open_map(struct slot *it) {
 }
 
 static void take_client(struct slot *it, struct slot *to) {
-    uint32_t expected = it->kind != MAP ? FACING_WRONG_HANDLE : it->of->out == it->of->clients ? FACING_CLIENT_OUT : FACING_DONE;
+    uint32_t expected = it->kind != MAP ? FACING_WRONG_HANDLE : it->of->out == it->of->clients ? FACING_NO_CLIENT : FACING_DONE;
     if (it == to || seldom()) {
         facing_handle *one = it == to || below(2) ? &it->handle : NULL;
         want_status(facing_client(one, one == NULL ? &to->handle : below(2) ? one : NULL), FACING_BAD_ARGUMENT, "client");
@@ -136,14 +136,24 @@ static void make_call(struct slot *it) {
     uint64_t key = below(KEYS), value = seldom() ? UINT64_MAX - below(3) : below(4);
     facing_answer answer = {7, 7}, expected = {0, 0};
     if (seldom()) {
-        int is_null = (int)below(2);
-        want_status(call(kind, is_null ? NULL : &it->handle, key, value, is_null ? &answer : NULL), FACING_BAD_ARGUMENT, "a call");
+        want_status(call(kind, NULL, key, value, below(2) ? &answer : NULL), FACING_BAD_ARGUMENT, "a call");
         want_kept(it);
         return;
     }
     want_status(call(kind, &it->handle, key, value, &answer), it->kind == CLIENT ? FACING_DONE : FACING_WRONG_HANDLE, "a call");
     if (it->kind == CLIENT) expected = answer_of(kind, it->of, key, value);
     want(answer.found == expected.found && answer.value == expected.value, "the answer of a call");
+    want_kept(it);
+}
+
+/* A call of what is no client leaves the answer as it was. */
+static void call_another_kind(struct slot *it) {
+    facing_handle out = {NULL};
+    facing_answer answer = {7, 7};
+    if (it->kind == CLIENT) return;
+    want_status(facing_c_try_get(it->handle, &out, below(KEYS), &answer), FACING_WRONG_HANDLE, "get of another kind");
+    it->handle = out;
+    want(answer.found == 7 && answer.value == 7, "what a get of another kind leaves");
     want_kept(it);
 }
 
@@ -233,6 +243,7 @@ int main(int argc, char **argv) {
         case 8: case 9: find_key(some_slot(CLOSED)); break;
         case 10: case 11: copy_pairs(some_slot(CLOSED)); break;
         case 12: call_with_null(); break;
+        case 13: call_another_kind(some_slot((enum kind)below(4))); break;
         default: make_call(some_slot(CLIENT));
         }
     }

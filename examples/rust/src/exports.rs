@@ -15,6 +15,10 @@ pub(crate) struct Answer {
 }
 
 impl Answer {
+    pub(crate) const fn none() -> Answer {
+        Answer { found: 0, value: 0 }
+    }
+
     pub(crate) fn value(self) -> Option<u64> {
         (self.found == 1).then_some(self.value)
     }

@@ -1,5 +1,5 @@
 //! What calls answer, and what is refused.
-use facing::{Fault, Map};
+use facing::{Fault, Map, Pool};
 
 #[test]
 fn calls_answer_as_they_say() -> Result<(), Fault> {
@@ -35,10 +35,11 @@ fn numbers_past_the_limits_are_refused() {
 fn a_map_closes_when_its_clients_are_back() -> Result<(), Fault> {
     let mut map = Map::open(16, 1)?;
     let mut client = map.client()?;
-    assert_eq!(map.client().err(), Some(Fault::ClientOut));
+    assert_eq!(map.client().err(), Some(Fault::NoClient));
     client.put(1, 5)?;
     let refused = map.close().err().expect("a client is out");
     assert_eq!(refused.fault, Fault::ClientOut);
+    assert_eq!(refused.to_string(), "the map was not closed: a client of the map is not dropped yet");
     let map = refused.map.expect("the map comes back");
     drop(client);
     let mut closed = map.close().map_err(|refused| refused.fault)?;
@@ -58,4 +59,26 @@ fn a_client_outlives_its_map() -> Result<(), Fault> {
     let its = std::thread::spawn(move || second.get(1));
     assert_eq!(its.join().expect("the thread ended"), Ok(Some(5)));
     Ok(())
+}
+
+#[test]
+fn threads_share_a_pool() -> Result<(), Fault> {
+    let pool = Pool::open(16, 2)?;
+    std::thread::scope(|scope| {
+        for _ in 0..8 {
+            scope.spawn(|| (0..1000).try_for_each(|key| pool.with(|client| client.add(key % 10, 1)).map(drop)));
+        }
+    });
+    let mut closed = pool.close().map_err(|refused| refused.fault)?;
+    assert_eq!(closed.count()?, 10);
+    for key in 0..10 {
+        assert_eq!(closed.get(key)?, Some(800));
+    }
+    Ok(())
+}
+
+#[test]
+fn a_pool_that_cannot_be_opened() {
+    assert_eq!(Pool::open(16, 0).err(), Some(Fault::BadClients));
+    assert_eq!(Pool::open(0, 1).err(), Some(Fault::BadCapacity));
 }
