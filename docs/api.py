@@ -2,10 +2,12 @@
 
 usage: python3 docs/api.py
 
-Of each `pub fn` of the crates and files in PARTS: a link to it and its form, the first sentence of its comment, its errors
-(the section `# Errors` of the comment, else the type of its error), whether it waits and takes memory (what its comment
-says with these words, else what its form says: a call without `Wait` waits for nobody, one that answers no `Result` takes
-no memory), the names of its clauses, which are its promise, and its example, as it stands in the comment."""
+Of each `pub fn` of the crates and files in PARTS: a link to it, its signature, the first sentence of its comment, and the
+names of its clauses, which are its promise. Errors (the section `# Errors` of the comment, else the type of its error),
+waiting and memory (what its comment says with these words, else what its signature says: a call without `Wait` waits for
+nobody, one that returns no `Result` takes no memory) stand once for a file where most of its calls share them, and with a
+call where it has others."""
+import collections
 import os
 import re
 import textwrap
@@ -15,15 +17,19 @@ import sources
 PATH = "docs/API.md"
 HEAD = """# The library's calls
 
-Made by `python3 docs/api.py` from the sources of [facingberyl](../crates/facingberyl/README.md) and of the bulk operations
-that it passes on; [check.py](check.py) compares. [USE.md](USE.md) tells how they go together. `rt` is the runtime handle;
-a call that takes it with `Wait` may wait. *Promise* names the clauses of a call, which stand with it in the source.
+Made by `python3 docs/api.py` from the sources; [check.py](check.py) compares. [USE.md](USE.md) explains how the calls go
+together, and an example stands with each call in its source. `rt` is the runtime handle. A call whose `R` has `Wait` may
+wait for a lock. *Promise* names the clauses of a call, which stand with it in the source. Below a heading stands what most
+of its calls share; a call says where it differs.
 """
-# What is listed: a heading, the crate, and the files, in order; no files for all of the crate.
+CLOSED = ("quiet.rt", "single.rt", "taken.rt", "reopen.rt")
+# What is listed: the crate, a heading, the files, and those that are left out; no files for all of the crate.
 PARTS = (
-    ("facingberyl", "The library", ()),
-    ("bulk_tasks", "Bulk operations (`facingberyl::bulk`)", ("operations.rt", "reducing.rt", "searching.rt", "acting.rt", "plan.rt")),
-    ("chm", "The closed map (`facingberyl::Quiet`)", ("quiet.rt", "single.rt", "taken.rt", "reopen.rt")),
+    ("facingberyl", "The library", (), ()),
+    ("bulk_tasks", "Bulk operations (`facingberyl::bulk`)", ("operations.rt", "reducing.rt", "searching.rt", "acting.rt", "plan.rt"), ()),
+    ("chm", "The closed map (`facingberyl::Quiet`)", CLOSED, ()),
+    ("chm", "The map and its passes apart (`facingberyl::Map`)", (), CLOSED + ("debug.rt", "fault.rt", "laws.rt")),
+    ("count_ledger", "Passes (`facingberyl::Pass`)", ("tokens.rt",), ()),
 )
 
 
@@ -66,28 +72,17 @@ def owner_of(lines, index):
     return ""
 
 
-def form_of(head):
-    """Returns the arguments' names and the answer of a function, from its head."""
+def signature_of(head):
+    """Returns a function's head up to its answer, in one line, and the type of its answer."""
     flat = " ".join(head.split())
-    while re.search(r"<[^<>]*>(?=\()", flat.partition("(")[0] + "("):
-        name, _, rest = flat.partition("(")
-        flat = re.sub(r"<[^<>]*>", "", name) + "(" + rest
+    flat = re.split(r" (?:where|requires|ensures) ", flat + " where ")[0].strip()
+    flat = flat.replace("( ", "(").replace(", )", ")").replace(",)", ")")
     depth, end = 0, 0
-    for end in range(flat.index("("), len(flat)):
-        depth += (flat[end] == "(") - (flat[end] == ")")
-        if not depth:
+    for end, letter in enumerate(flat):
+        depth += (letter in "(<") - (letter in ")>" and flat[end - 1] != "-")
+        if letter == ")" and not depth:
             break
-    depth, arguments = 0, [""]
-    for letter in flat[flat.index("(") + 1 : end]:
-        depth += (letter in "<(") - (letter in ">)")
-        if letter == "," and not depth:
-            arguments.append("")
-        else:
-            arguments[-1] += letter
-    names = [it.split(":")[0].strip() for it in arguments if it.strip()]
-    names = [it for it in names if not it.endswith("self")]
-    answer = re.match(r" -> (.*?)(?= where | requires | ensures |$)", flat[end + 1 :])
-    return names, answer[1].strip() if answer else ""
+    return flat, flat[end + 1 :].removeprefix(" -> ")
 
 
 def sentences_with(text, word):
@@ -114,40 +109,56 @@ def errors_of(parts, answer):
     return f"`{answer.removesuffix('>').rpartition(',')[2].strip()}`."
 
 
-def entry(path, lines, index):
-    text = "\n".join(lines[index:])
-    head = (sources.heads_of(re.search(r"fn (\w+)", lines[index])[1], text) or [""])[0].rstrip("{; \n")
-    names, answer = form_of(head)
-    parts = sections(comment_before(lines, index))
-    name = re.search(r"fn (\w+)", lines[index])[1]
-    clauses = re.findall(r"(?m)^\s*ensures (\w+) \{", head)
-    promise = ", ".join(f"`{it}`" for it in clauses) or ("its one clause" if re.search(r"(?m)^\s*ensures \{", head) else "its type alone")
-    first = re.split(r"(?<=\.)\s", parts[""], maxsplit=1)[0]
-    form = f"`{name}({', '.join(names)})" + (f" -> {answer}`" if answer else "`")
-    owner = owner_of(lines, index) if lines[index].startswith(" ") else ""
-    shown = f"{owner}::{name}" if owner else name
-    said = f"- [`{shown}`](../{path}#L{index + 1}): {first} Form: {form}. Errors: {errors_of(parts, answer)}"
-    waits, memory = wait_of(parts, head), memory_of(parts, answer)
-    said += f" Waiting and memory: {waits}" if waits == memory else f" Waiting: {waits} Memory: {memory}"
-    said += f" Promise: {promise}."
-    if parts["Example"]:
-        said += f" Example: `{parts['Example']}`."
-    return "\n".join(textwrap.wrap(said, 120, subsequent_indent="  ", break_long_words=False, break_on_hyphens=False))
+class Call:
+    """A public function: where it stands, and what is said of it."""
+
+    def __init__(self, path, lines, index):
+        name = re.search(r"fn (\w+)", lines[index])[1]
+        head = (sources.heads_of(name, "\n".join(lines[index:])) or [""])[0].rstrip("{; \n")
+        signature, answer = signature_of(head)
+        parts = sections(comment_before(lines, index))
+        clauses = re.findall(r"(?m)^\s*ensures (\w+) \{", head)
+        owner = owner_of(lines, index) if lines[index].startswith(" ") else ""
+        self.link = f"[`{owner}::{name}`](../{path}#L{index + 1})" if owner else f"[`{name}`](../{path}#L{index + 1})"
+        self.signature, self.first = signature, re.split(r"(?<=\.)\s", parts[""], maxsplit=1)[0]
+        self.promise = ", ".join(f"`{it}`" for it in clauses) or ("its one clause" if re.search(r"(?m)^\s*ensures \{", head) else "its type alone")
+        self.said = {"Errors": errors_of(parts, answer), "Waiting": wait_of(parts, head), "Memory": memory_of(parts, answer)}
+
+    def entry(self, shared):
+        own = [f"{key}: {it}" for key, it in self.said.items() if it != shared.get(key)]
+        signature = re.sub(r"^(?:pub )?fn \w+", "", self.signature)
+        text = " ".join([f"- {self.link} `{signature}`.", f"{self.first} Promise: {self.promise}.", *own])
+        return "\n".join(textwrap.wrap(text, 120, subsequent_indent="  ", break_long_words=False, break_on_hyphens=False))
+
+
+def shared_by(calls):
+    """Returns what most of the calls say alike."""
+    shared = {}
+    for key in ("Errors", "Waiting", "Memory"):
+        said, count = collections.Counter(it.said[key] for it in calls).most_common(1)[0]
+        if count > 1 and 2 * count >= len(calls):
+            shared[key] = said
+    return shared
 
 
 def page():
     out = [HEAD]
-    for crate, title, files in PARTS:
+    for crate, title, files, without in PARTS:
         out.append(f"## {title}\n")
-        paths = [it for it in sources.sources_of(crate) if not files or os.path.basename(it) in files]
-        for path in paths:
+        for path in sources.sources_of(crate):
+            if files and os.path.basename(path) not in files or os.path.basename(path) in without:
+                continue
             lines = sources.text_of(path).splitlines()
             # The calls of a trait that users write are its own; those of `impl Trait for` are not listed.
             inside = [it for it, line in enumerate(lines) if re.match(r"    (?:pub )?fn \w+|pub fn \w+", line)]
-            public = [it for it in inside if "pub fn" in lines[it] or in_public_trait(lines, it)]
-            if public:
+            calls = [Call(path, lines, it) for it in inside if "pub fn" in lines[it] or in_public_trait(lines, it)]
+            if calls:
+                shared = shared_by(calls)
                 out.append(f"### {sources.sentence(sources.module_comment(path))}\n")
-                out += [entry(path, lines, it) for it in public]
+                if shared:
+                    said = " ".join(f"{key}: {it}" for key, it in shared.items())
+                    out += ["\n".join(textwrap.wrap(said, 120, break_long_words=False, break_on_hyphens=False)), ""]
+                out += [it.entry(shared) for it in calls]
                 out.append("")
     return "\n".join(out).rstrip() + "\n"
 

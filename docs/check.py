@@ -3,7 +3,7 @@
 usage: python3 docs/check.py [--fix]
 
 It proves nothing. It looks whether
-  a line of a page has at most 200 characters, and the pages together and the top README no more words than they may;
+  a line of a page has at most 200 characters;
   a link leads to a file, a folder or a heading that is there, and each page is reached from the top README;
   a link whose text is one name in backticks, as [`IsFront`](..), leads to a file that defines it, and where it names a
     line (`#L12`) to that line; clauses in parentheses behind it, as (`called`, `refused`), are clauses of that function;
@@ -12,9 +12,10 @@ It proves nothing. It looks whether
     for line breaks and indents where they are code, in that file; or by `<!-- typed -->`: it is a command, or a form;
   each line of an example that stands with a call of the library stands in the tests that run it;
   each crate of crates.txt has a README and a link in ARCHITECTURE.md;
-  the rows of wrong_bodies.csv name clauses and tests that are there, and each stored edit has its row;
+  the rows of wrong_bodies.csv name clauses and tests that are there; each stored edit has its row, and changes the sources;
   API.md and TESTS.md are what api.py and tests.py make of the sources, and refusals.csv what refusals.py finds;
-  VERSION has the version that mapcli tells, and the top README the logic of the toolchain that is here.
+  VERSION has the version that mapcli tells, and bin/words.py the texts, names and ranges that the programs tell;
+  KIT names the toolchain that is here, and the top README names it too.
 It prints a line for each fault, and ends with status 1 where there is one. With --fix it first writes the generated pages
 anew and mends the lines that links name, and the file where another of the same crate defines the name."""
 import csv
@@ -30,7 +31,7 @@ import sources
 import tests
 from sources import is_file, text_of
 
-COLUMNS, WORDS, README_WORDS = 200, 23000, 1000
+COLUMNS = 200
 ANTT_PATH = r"[a-z_]+/(?:src|specs)/\w+\.(?:rt|antt)"
 BODIES = "docs/wrong_bodies.csv"
 COLUMNS_OF_BODIES = ["crate", "body", "function", "clauses", "test", "edit"]
@@ -55,18 +56,6 @@ def wide_lines(page, text):
     for number, line in enumerate(text.splitlines(), 1):
         if len(line) > COLUMNS:
             yield f"{page}:{number}: {len(line)} characters"
-
-
-def is_counted(page):
-    return page not in sources.GENERATED and not page.startswith("docs/history/")
-
-
-def too_many_words(pages):
-    counts = {it: len(text_of(it).split()) for it in pages if is_counted(it)}
-    if counts["README.md"] > README_WORDS:
-        yield f"README.md: {counts['README.md']} words, more than {README_WORDS}"
-    if sum(counts.values()) > WORDS:
-        yield f"the pages have {sum(counts.values())} words, more than {WORDS}"
 
 
 # == Links ==
@@ -113,8 +102,14 @@ def wrong_name(where, name, path, fragment):
         return
     if line is None:
         yield f"{where}: the file does not define it"
-    elif fragment and fragment != f"L{line}":
+    elif fragment and fragment != f"L{line}" and not is_function_at(name, path, fragment):
         yield f"{where}#{fragment}: it is in line {line}"
+
+
+def is_function_at(name, path, fragment):
+    """Whether a function of this name is defined in the line that a link names: two types of a file may have one each."""
+    lines, number = text_of(path).splitlines(), int(fragment.removeprefix("L") or 0)
+    return 0 < number <= len(lines) and bool(re.search(rf"\bfn {re.escape(name.split('::')[-1])}\b", lines[number - 1]))
 
 
 def lost_clauses(where, name, path, after):
@@ -153,7 +148,8 @@ def mended(page):
                 return found[0]
             path = others[0]
             target = posixpath.relpath(path, posixpath.dirname(page) or ".")
-        line = f"#L{sources.line_of(name[1], path)}" if fragment else ""
+        is_right = fragment and is_function_at(name[1], path, fragment)
+        line = f"#{fragment}" if is_right else f"#L{sources.line_of(name[1], path)}" if fragment else ""
         return f"[{found[1]}]({target}{line})"
 
     return re.sub(LINK, mend, text_of(page))
@@ -255,8 +251,10 @@ def lost_crates():
 
 
 def wrong_bodies():
-    """Rows that name a function, a clause, a test or an edit that is not there, and edits without a row."""
+    """Rows that name a function, a clause, a test or an edit that is not there, and edits without a row or that change nothing."""
     every_test = {name for it in sources.crates() for path in sources.sources_of(it) for name, _, _ in sources.tests_in(path)}
+    for path in sources.below_top("tools/test_*.py"):
+        every_test |= set(re.findall(r"(?m)^ +def test_(\w+)\(", text_of(path)))
     told = set()
     with open(f"{sources.TOP}/{BODIES}", encoding="utf-8", newline="") as it:
         rows = list(csv.DictReader(it))
@@ -268,8 +266,11 @@ def wrong_bodies():
             yield from wrong_body(where, row, every_test)
             told.add((row["crate"], row["edit"]))
     for crate in sources.crates():
-        stored = {os.path.basename(it)[: -len(".edit")] for it in sources.below_top(f"crates/{crate}/must-fail/*.edit")}
+        stored = [f"must-fail/{it}" for it in sources.edits_in(f"crates/{crate}/must-fail")]
+        stored += [f"tools/edits/{it}" for it in sources.edits_in(f"tools/edits/{crate}")]
         yield from (f"{BODIES}: of {crate} there is no row for the edit {it}" for it in stored if (crate, it) not in told)
+        for path in (sources.path_of_edit(crate, it) for it in stored):
+            yield from (f"{path}: the sources have not, or have more than once: {it}" for it in sources.misses_of(crate, path))
 
 
 def wrong_body(where, row, every_test):
@@ -284,10 +285,10 @@ def wrong_body(where, row, every_test):
         if heads and not any(sources.has_clause(it, clause) for it in heads):
             yield f"{where}: {row['function']} has no clause {clause}"
     for test in row["test"].split():
-        if test not in every_test:
+        if test not in every_test and not (test.endswith(".c") and is_file(f"examples/c/tests/{test}")):
             yield f"{where}: there is no test {test}"
-    if row["edit"] and not is_file(f"crates/{row['crate']}/must-fail/{row['edit']}.edit"):
-        yield f"{where}: the edit {row['edit']} is not stored"
+    if row["edit"] and not is_file(sources.path_of_edit(row["crate"], row["edit"])):
+        yield f"{where}: the edit {row['edit']} is not stored: its place is must-fail/NAME or tools/edits/NAME"
     if not (row["function"] or row["test"]):
         yield f"{where}: nothing refuses it"
 
@@ -297,6 +298,30 @@ def other_version():
     told = re.search(r'const VERSION: &str = "([^"]*)"', "\n".join(text_of(it) for it in sources.sources_of("mapcli_core")))
     if told and (not is_file("VERSION") or text_of("VERSION").strip() != told[1]):
         yield f"VERSION: mapcli_core tells {told[1]}"
+
+
+def other_words():
+    """Texts, names and ranges that the launchers tell in the programs' place and that the programs' sources have otherwise, or more or fewer."""
+    sys.path.append(f"{sources.TOP}/bin")
+    import words
+
+    for command, crate in ((words.MAPCLI, "mapcli_core"), (words.MAP_BENCH, "map_bench")):
+        text = "\n".join(text_of(it) for it in sources.sources_of(crate)).replace("_", "")
+        told = [command.about, command.file, command.after, command.version]
+        for it in command.options:
+            told += [it.name, it.text, it.default, it.value, *it.names]
+            if it.most and it.most != words.U32:
+                told.append(f"{it.least}..={it.most}")
+        for it in told:
+            quoted = it if "..=" in it or "\n" in it else f'"{it}"'
+            if it and quoted.replace("_", "") not in text:
+                yield f"bin/words.py: {crate} has not: {it[:80]!r}"
+        args = len(re.findall(r"(?m)^fn \w+<'a>\(alloc: Global\) -> Arg<'a>", text))
+        if args != len(command.options) + bool(command.file):
+            yield f"bin/words.py: {crate} takes {args} arguments"
+    refused = re.search(r'NOT_UTF_8: &str = "([^"]*)"', text_of("crates/mapcli/src/main.rt"))
+    if refused and refused[1] != words.NOT_UTF_8:
+        yield "bin/words.py: mapcli tells something else of words that are not UTF-8"
 
 
 def old_pages():
@@ -314,12 +339,15 @@ def other_refusals():
         yield from refusals.faults()
 
 
-def other_logic():
-    """The logic of the toolchain that the top README says its proofs were checked with, where there is one to ask."""
+def other_kit():
+    """The kit that the file KIT names: the top README names it too, and its logic is that of the toolchain, where there is one to ask."""
+    kit = text_of("KIT").strip() if is_file("KIT") else ""
+    if not kit or kit not in text_of("README.md"):
+        yield f"README.md: the file KIT names {kit or 'no kit'}"
     if shutil.which("rt"):
         logic = re.search(r"\blogic \w+", subprocess.run(["rt", "version"], capture_output=True, text=True).stdout)
-        if logic and logic[0] not in text_of("README.md"):
-            yield f"README.md: the toolchain that is here has another: {logic[0]}"
+        if logic and logic[0] not in kit:
+            yield f"KIT: the toolchain that is here has another: {logic[0]}"
 
 
 def fix(pages):
@@ -344,14 +372,12 @@ def main():
         for look in (wide_lines, wrong_quotes, wrong_examples):
             faults += look(page, text)
         faults += wrong_links(page)
-    for look in (too_many_words, unreached):
-        faults += look(pages)
-    for look in (wrong_call_examples, lost_crates, wrong_bodies, old_pages, other_refusals, other_version, other_logic):
+    faults += unreached(pages)
+    for look in (wrong_call_examples, lost_crates, wrong_bodies, old_pages, other_refusals, other_version, other_words, other_kit):
         faults += look()
     for fault in faults:
         print(fault)
-    words = sum(len(text_of(it).split()) for it in pages if is_counted(it))
-    print(f"{len(pages)} pages, {words} words, {len(faults)} faults")
+    print(f"{len(pages)} pages, {len(faults)} faults")
     return 1 if faults else 0
 
 

@@ -2,234 +2,32 @@
 
 usage: python3 docs/check_commands.py [MAPCLI]
 
-It proves nothing, and takes some seconds.
-  The launchers of bin/ are started in a folder of their own, over small crates and with a stub for `rt`.
+It proves nothing, builds nothing, and takes half a minute.
+  The launchers of bin/, bin/vendor and tools/build_unproved are started in a folder of their own, over small crates and with a
+    stub for the kit; the gate over parts that stand in for its own; bin/test and others are given wrong words.
   MAPCLI, the program, is given the examples of the pages and wrong words, files and devices. Where no word names it,
-    the one that was proved and built last is taken; where there is none, this part is left out.
-  The static library for C that was proved and built last is given the programs and tests of examples/run.py, as far as their
-    tools are here; where there is none, this part is left out.
+    the one that was proved and built last is taken, or what `bin/mapcli --unproved` kept of the sources of now; where there is
+    none, this part is left out. What the launchers tell of words in the programs' place is compared with what these tell.
 It prints a line for each test that failed, and ends with status 1 where one did."""
 import contextlib
 import os
-import pty
+import random
 import re
-import shutil
-import signal
 import subprocess
 import sys
 import tempfile
-import time
 
-TOP = os.path.dirname(os.path.dirname(os.path.realpath(__file__)))
-PROVED = f"{TOP}/crates/mapcli/out/mapcli"
-C_LIBRARY = f"{TOP}/crates/facing_c/out/libfacing_c.a"
-# A check of three functions, which waits after the second where a file says so; a library; a program; a trial run.
-STUB = """#!/bin/sh
-echo "$(basename "$PWD") $*" >> "$TOP/calls"
-wait_for() {
-    if [ -f "$TOP/$1" ]; then sleep 60 & its=$!; trap 'kill $its; exit 1' TERM; : > "$TOP/waits"; wait $its; fi
-}
-case $1 in
-check)
-    echo 'checked a, 1 of 3'; echo 'checked b, 2 of 3'
-    wait_for "pause_$(basename "$PWD")"
-    if [ -f "$TOP/wrong_$(basename "$PWD")" ]; then exit 1; fi
-    echo 'checked c, 3 of 3' ;;
-lib) mkdir -p out/rlib; : > out/rlib/stamp ;;
-run)
-    its=out/$(basename "$PWD")
-    mkdir -p out; printf '#!/bin/sh\\necho "program %s of $*"\\n' "$(cat src/main.rt)" > "$its"
-    wait_for pause_run
-    chmod +x "$its" ;;
-try)
-    echo tried
-    echo 'checked: ended' >&2; echo 'mapcli: line 1: word' >&2
-    echo 'run=ended status=1 runners=1 races=unchecked proved=no' >&2; exit 1 ;;
-esac
-"""
+import commands_gate
+import commands_launch
+import commands_vendor
+from commands_stub import TOP, Ran, Repository, Tests
 
+sys.path += [f"{TOP}/bin", f"{TOP}/tools"]
 
-class Ran:
-    """What a command did."""
-
-    def __init__(self, status, output, errors):
-        self.status, self.output, self.errors = status, output, errors
-
-    def __repr__(self):
-        return f"status {self.status}, output {self.output!r}, errors {self.errors!r}"
-
-
-class Tests:
-    """Counts tests, and tells of those that fail."""
-
-    def __init__(self):
-        self.made = self.failed = 0
-
-    def want(self, what, is_so, found=""):
-        self.made += 1
-        if not is_so:
-            self.failed += 1
-            print(f"{what}: {found}")
-
-
-class Launcher:
-    """Launchers over some small crates, and a stub for `rt`."""
-
-    def __init__(self, top):
-        self.top = top
-        shutil.copytree(f"{TOP}/bin", f"{top}/bin")
-        self.write("crates.txt", "low:\nhigh: low std\nother: low\nmapcli: high\nmap_bench: low\n")
-        for crate in ("low", "high", "other"):
-            self.write(f"crates/{crate}/src/lib.rt", "1\n")
-        for program in ("mapcli", "map_bench"):
-            self.write(f"crates/{program}/src/main.rt", "1")
-        self.write("tools/rt", STUB)
-        os.chmod(f"{top}/tools/rt", 0o755)
-        self.environment = {**os.environ, "PATH": f"{top}/tools:{os.environ['PATH']}", "TOP": top}
-        self.clock = 0
-
-    def write(self, path, text):
-        path = f"{self.top}/{path}"
-        os.makedirs(os.path.dirname(path), exist_ok=True)
-        with open(path, "w", encoding="utf-8") as it:
-            it.write(text)
-
-    def change(self, path, text):
-        """Writes a file as one that is newer than all that there is."""
-        self.write(path, text)
-        self.clock += 5
-        later = time.time() + self.clock
-        os.utime(f"{self.top}/{path}", (later, later))
-
-    def calls(self):
-        """Returns what `rt` was asked since the last time."""
-        with contextlib.suppress(OSError), open(f"{self.top}/calls", encoding="utf-8") as it:
-            said = it.read().splitlines()
-            os.remove(f"{self.top}/calls")
-            return said
-        return []
-
-    def popen(self, *words, program="mapcli", **how):
-        return subprocess.Popen([f"{self.top}/bin/{program}", *words], env=self.environment, cwd=self.top, text=True, **how)
-
-    def start(self, *words, program="mapcli"):
-        ran = self.popen(*words, program=program, stdin=subprocess.DEVNULL, stdout=subprocess.PIPE, stderr=subprocess.PIPE)
-        output, errors = ran.communicate(timeout=60)
-        return Ran(ran.returncode, output, errors)
-
-    def begin(self, at):
-        """Starts it, and returns once the stub waits at this step."""
-        self.write(f"pause_{at}", "")
-        begun = self.popen("x", stdin=subprocess.DEVNULL, stdout=subprocess.PIPE, stderr=subprocess.PIPE)
-        for _ in range(300):
-            if os.path.exists(f"{self.top}/waits"):
-                break
-            time.sleep(0.1)
-        os.remove(f"{self.top}/pause_{at}")
-        os.remove(f"{self.top}/waits")
-        return begun
-
-    def stop(self, begun, number):
-        begun.send_signal(number)
-        output, errors = begun.communicate(timeout=60)
-        return Ran(begun.returncode, output, errors)
-
-    def on_terminal(self):
-        """Starts it with a terminal for its errors, and returns what is shown there."""
-        ours, its = pty.openpty()
-        ran = self.popen("x", stdin=subprocess.DEVNULL, stdout=subprocess.DEVNULL, stderr=its)
-        os.close(its)
-        shown = b""
-        with contextlib.suppress(OSError):
-            while got := os.read(ours, 65536):
-                shown += got
-        os.close(ours)
-        ran.wait(timeout=60)
-        return shown.decode()
-
-
-BUILT = ["low check", "low lib", "high check", "high lib", "mapcli check", "mapcli run -- --help"]
-
-
-def test_launcher(tests, top):
-    it = Launcher(top)
-
-    ran = it.start("--unproved", "bin/mapcli")
-    tests.want("unproved: its status, and its output", (ran.status, ran.output) == (1, "tried\n"), ran)
-    tests.want("unproved: says so, and what the program says", "no proof is checked" in ran.errors and ran.errors.endswith("mapcli: line 1: word\n"), ran)
-    tests.want("unproved: no check", it.calls() == [f"mapcli try --steps 1 --seconds 600 --data mapcli.copy={top}/bin/mapcli -- mapcli.copy"])
-    it.start("--unproved", "--workers=2", "bin/mapcli", "--salt", "3")
-    tests.want("unproved: FILE after an option", it.calls()[0].endswith("-- --workers=2 mapcli.copy --salt 3"))
-
-    ran = it.start("a", "b c")
-    lines = ran.errors.splitlines()
-    tests.want("first start: the program runs", (ran.status, ran.output) == (0, "program 1 of a b c\n"), ran)
-    tests.want("first start: says first what it will do", "3 of 3 crates are to be proved first. That takes about" in lines[0].replace("a minute", "about a minute"), ran)
-    tests.want("first start: crate i of n", [f"crate {i}" in ran.errors for i in ("1 of 3, low", "2 of 3, high", "3 of 3, mapcli")] == [True] * 3, ran)
-    tests.want("first start: no terminal, plain lines", "\r" not in ran.errors and "\033" not in ran.errors, ran)
-    tests.want("first start: each crate after those below it", it.calls() == BUILT)
-
-    def is_at_once(what):
-        ran = it.start("a")
-        calls = it.calls()
-        tests.want(f"{what}: at once", (ran.status, ran.errors, calls) == (0, "", []), (ran, calls))
-
-    is_at_once("second start")
-    it.change("crates/other/src/lib.rt", "2\n")
-    is_at_once("a crate changed that it does not stand on")
-    it.change("crates.txt", "low:\nhigh: low std\nother: low std\nnew: low\nmapcli: high\nmap_bench: low\n")
-    is_at_once("lines of crates.txt changed that it does not stand on")
-    it.change("crates/low/src/lib.rt", "1\n")
-    is_at_once("a file was touched")
-    it.change("crates/low/must-fail/a.edit", "2\n")
-    is_at_once("a stored edit changed")
-
-    ran = it.start("y", program="map_bench")
-    tests.want("map_bench: it runs, and says what it will do", (ran.output, "map_bench: the program is not built yet: 1 of 2 crates" in ran.errors) == ("program 1 of y\n", True), ran)
-    tests.want("map_bench: what mapcli kept is not proved again", it.calls() == ["map_bench check", "map_bench run -- --help"])
-
-    it.change("crates/high/src/lib.rt", "2\n")
-    ran = it.stop(it.begin("high"), signal.SIGINT)
-    tests.want("stopped: its status", ran.status == 130, ran)
-    tests.want("stopped: says so", "stopped after 0 minutes. What was proved is kept" in ran.errors, ran)
-    tests.want("stopped: names the old program", "crates/mapcli/out/mapcli" in ran.errors, ran)
-    is_old = subprocess.run([f"{top}/crates/mapcli/out/mapcli", "x"], capture_output=True, text=True, check=False)
-    tests.want("stopped: the old program is there", is_old.stdout == "program 1 of x\n", is_old)
-    it.calls()
-    it.change("crates/mapcli/src/main.rt", "2")
-    ran = it.stop(it.begin("run"), signal.SIGTERM)
-    tests.want("stopped while it compiles: its status", ran.status == 143, ran)
-    tests.want("stopped while it compiles: from where it was", it.calls() == BUILT[2:])
-    is_old = subprocess.run([f"{top}/crates/mapcli/out/mapcli", "x"], capture_output=True, text=True, check=False)
-    tests.want("stopped while it compiles: the old program is there", is_old.stdout == "program 1 of x\n", is_old)
-
-    begun = it.begin("mapcli")
-    second = it.popen("z", stdin=subprocess.DEVNULL, stdout=subprocess.PIPE, stderr=subprocess.PIPE)
-    tests.want("two starts: the second waits", "another start of it builds the program: waiting" in second.stderr.readline())
-    it.stop(begun, signal.SIGHUP)
-    output, errors = second.communicate(timeout=60)
-    tests.want("two starts: the second builds what the first did not", (second.returncode, output) == (0, "program 2 of z\n"), errors)
-    it.calls()
-
-    it.change("crates/mapcli/src/main.rt", "3")
-    shown = it.on_terminal()
-    tests.want("terminal: one line that changes", shown.count("\n") == 3 and "\r\033[K" in shown, repr(shown))
-    tests.want("terminal: functions proved of all, minutes gone", "crate 1 of 1, mapcli: 3 of 3 functions, 0 minutes gone" in shown, repr(shown))
-    tests.want("after a stop: what was kept is not proved again", it.calls() == BUILT[4:])
-    ran = it.start("x")
-    tests.want("after a stop: the new program", ran.output == "program 3 of x\n", ran)
-
-    it.change("crates/low/src/lib.rt", "3\n")
-    it.write("wrong_low", "")
-    ran = it.start("x")
-    tests.want("not proved: status 3, and why", ran.status == 3 and "the program was not built: low is not proved; crates/mapcli/out/build.log has" in ran.errors, ran)
-    os.remove(f"{top}/wrong_low")
-    it.calls()
-    it.start("x")
-    tests.want("a change below: all above it", it.calls() == BUILT)
-    it.change("crates/mapcli/out/mapcli", "#!/bin/sh\necho by hand\n")
-    ran = it.start("x")
-    tests.want("another program in its place: built again", ran.output == "program 3 of x\n", ran)
+import words  # noqa: E402
+from unproved.build import Build  # noqa: E402
+from unproved.crates import NotBuilt  # noqa: E402
+from unproved.crates import Repository as Crates  # noqa: E402
 
 
 def text_of(path):
@@ -330,36 +128,70 @@ def test_messages(tests, run, program):
     tests.want("no memory is told", told > 0)
 
 
-def test_c(tests):
-    """Runs the programs over the library for C, and tells of those that were left out."""
-    ran = subprocess.run([sys.executable, f"{TOP}/examples/run.py", C_LIBRARY], capture_output=True, text=True, check=False)
-    for line in ran.stdout.splitlines():
-        if ": left out, " in line:
-            print(line)
-        else:
-            tests.want("examples/run.py", line.endswith("0 wrong"), line)
-    tests.want("examples/run.py: its status", ran.returncode == 0, ran.stderr)
+ANY = ["", "-", "--", "--help", "-h", "-hx", "-xh", "--help=", "--nothing", "--=", "---", "-1", "0", "4", "+5", "04", "x", "a b", "\u00e9", "nothing/here", "9" * 23]
+PROGRAMS = {
+    "mapcli": [*ANY, "--workers", "--workers=3", "--workers=17", "--capacity", "--capacity=", "--salt", "--salt=x", "--salt=-4", "-V", "--version", "--work", "--salty", "--versio"],
+    "map_bench": [*ANY, "--threads", "--threads=32", "--calls=0", "--keys=1e3", "--mode", "--mode=mic", "--mode=", "--form=leen", "--choice", "--mod", "--version", "--formm"],
+}
 
 
-def main(program=PROVED):
+def test_words(tests, name, program):
+    """Compares what a launcher tells of words with what the program tells of them."""
+    # (the same words each time)
+    drawn = random.Random(1)
+    for _ in range(400):
+        given = [drawn.choice(PROGRAMS[name]) for _ in range(drawn.choice((0, 1, 1, 2, 2, 3, 4)))]
+        try:
+            words.answer(name, given)
+            told = None
+        except words.Answered as by:
+            told = (by.status, by.text if by.is_output else "", "" if by.is_output else by.text)
+        if told is None and name == "map_bench":
+            # (it would measure)
+            continue
+        ran = subprocess.run([name, *given], executable=program, stdin=subprocess.DEVNULL, capture_output=True, text=True, timeout=60, check=False)
+        # (what the launcher does not answer is a script: here an empty one, from standard input)
+        wanted = told or (1, "", "mapcli: line 1: missing\n")
+        tests.want(f"launcher: the words {given}", (ran.returncode, ran.stdout, ran.stderr) == wanted, (wanted, ran))
+
+
+def test_program(tests, program):
+    def run(*words, given=b""):
+        ran = subprocess.run([program, *words], cwd=TOP, input=given, capture_output=True, timeout=60, check=False)
+        return Ran(ran.returncode, ran.stdout.decode(), ran.stderr.decode())
+
+    test_examples(tests, run)
+    test_messages(tests, run, program)
+
+
+def built(name):
+    """Returns the program that was proved and built last, or the one that a build without proofs kept, or None."""
+    proved = f"{TOP}/crates/{name}/out/{name}"
+    if os.path.exists(proved):
+        return proved
+    with contextlib.suppress(NotBuilt):
+        kept = Build(Crates(TOP), name).kept()
+        return kept if os.path.exists(kept) else None
+    return None
+
+
+def main(program=None):
     tests = Tests()
     with tempfile.TemporaryDirectory() as top:
-        test_launcher(tests, os.path.realpath(top))
-    if os.access(program, os.X_OK):
-        program = os.path.realpath(program)
-
-        def run(*words, given=b""):
-            ran = subprocess.run([program, *words], cwd=TOP, input=given, capture_output=True, timeout=60, check=False)
-            return Ran(ran.returncode, ran.stdout.decode(), ran.stderr.decode())
-
-        test_examples(tests, run)
-        test_messages(tests, run, program)
-    else:
-        print(f"{os.path.relpath(program)} is not there: only the launchers were tested")
-    if os.path.exists(C_LIBRARY):
-        test_c(tests)
-    else:
-        print(f"{os.path.relpath(C_LIBRARY)} is not there: the programs in C and in what calls C were left out")
+        repository = Repository(os.path.realpath(top))
+        for test in (*commands_launch.ALL, *commands_vendor.ALL):
+            test(tests, repository)
+    with tempfile.TemporaryDirectory() as top:
+        commands_gate.test_gate(tests, os.path.realpath(top))
+    commands_gate.test_words(tests)
+    programs = {"mapcli": os.path.realpath(program) if program else built("mapcli"), "map_bench": built("map_bench")}
+    if programs["mapcli"]:
+        test_program(tests, programs["mapcli"])
+    for name, its in programs.items():
+        if its:
+            test_words(tests, name, its)
+        else:
+            print(f"{name} was not built: what it tells was left out; bin/{name} --unproved builds it")
     print(f"{tests.made} tests, {tests.failed} failed")
     return 1 if tests.failed else 0
 

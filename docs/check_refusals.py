@@ -2,7 +2,7 @@
 
 usage: python3 docs/check_refusals.py [MAPCLI]
 
-It proves nothing, and takes some minutes. MAPCLI is the program; where no word names it, the one that was proved and
+It proves nothing, and takes some seconds. MAPCLI is the program; where no word names it, the one that was proved and
 built last is taken. It compiles tools/refuse.c with `cc`, and loads that before the program, which so runs over and over:
   with the first request refused, the second, and so on to the last, and with all refused from the first on, and so on:
     it writes what it writes with no refusal, or it ends with status 3 and the line `mapcli: no memory`;

@@ -39,6 +39,29 @@ def sources_of(crate):
     return sorted({*below_top(f"crates/{crate}/src/*.rt"), *below_top(f"crates/{crate}/src/*/*.rt")})
 
 
+def edits_in(folder):
+    """Returns the names of the edits that are stored in a folder."""
+    return [os.path.basename(it).removesuffix(".edit") for it in below_top(f"{folder}/*.edit")]
+
+
+def path_of_edit(crate, edit):
+    """Returns where an edit is stored, by its place in wrong_bodies.csv: `must-fail/NAME`, which the gate tries, or `tools/edits/NAME`."""
+    folder, _, name = edit.rpartition("/")
+    return {"must-fail": f"crates/{crate}/must-fail/{name}.edit", "tools/edits": f"tools/edits/{crate}/{name}.edit"}.get(folder, "")
+
+
+def misses_of(crate, path):
+    """Returns the texts that an edit replaces and that do not stand exactly once in the file that it names."""
+    file = ""
+    for line in text_of(path).splitlines():
+        if line.startswith("file: "):
+            file = f"crates/{crate}/{line[len('file: '):].strip()}"
+        elif line.startswith("old: "):
+            old = line[len("old: "):]
+            if not is_file(file) or text_of(file).count(old) != 1:
+                yield old
+
+
 @functools.cache
 def all_specs():
     return "\n".join(text_of(it) for it in below_top("crates/*/specs/*.antt"))
