@@ -20,6 +20,8 @@ C, CPP, CPP17 = ["cc", "-std=c11"], ["c++", "-std=c++17", "-x", "c++"], ["c++", 
 SANITIZED = ["-g", "-O1", "-fsanitize=address,undefined", "-fno-sanitize-recover=all"]
 WATCHED = ["-g", "-O1", "-fsanitize=thread"]
 VALGRIND = ["valgrind", "-q", "--leak-check=full", "--show-leak-kinds=all", "--error-exitcode=9"]
+# No program takes so many seconds, on a busy machine either.
+LONGEST = 1200
 # The test that refuses memory stands between the library and the heap.
 WRAPPED = ["-Wl,--wrap=malloc,--wrap=realloc,--wrap=free"]
 WARNED = ["-Wall", "-Wextra", "-Wpedantic", "-Wshadow", "-Wconversion", "-Werror"]
@@ -77,7 +79,7 @@ class Place:
 
     def finds_race(self):
         """Whether ThreadSanitizer finds two threads that use one client."""
-        ran = subprocess.run(self.watched("c/tests/race.c"), capture_output=True, text=True, check=False)
+        ran = subprocess.run(self.watched("c/tests/race.c"), capture_output=True, text=True, check=False, timeout=LONGEST)
         is_found = "data race" in ran.stderr and "facing_put" in ran.stderr
         return is_found, "found" if is_found else f"not found: {ran.stderr}"
 
@@ -119,7 +121,7 @@ def run(*commands, **more):
     said, is_right = [], True
     for command in commands:
         command = [command] if isinstance(command, str) else command
-        ran = subprocess.run(command, capture_output=True, text=True, check=False, **more)
+        ran = subprocess.run(command, capture_output=True, text=True, check=False, timeout=LONGEST, **more)
         is_right = is_right and ran.returncode == 0
         said.append(ran.stdout.strip() if ran.returncode == 0 else f"status {ran.returncode}: {ran.stdout}{ran.stderr}")
     return is_right, "; ".join(said)
@@ -208,6 +210,8 @@ def main(words):
                 said, left_out = f"left out, {why}", left_out + 1
             except subprocess.CalledProcessError as why:
                 said, failed = f"not built: {why.stderr or why}", failed + 1
+            except subprocess.TimeoutExpired:
+                said, failed = f"no end in {LONGEST} seconds", failed + 1
             print(f"{name}: {said}", flush=True)
     if needs_all:
         failed, left_out = failed + left_out, 0

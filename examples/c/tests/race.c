@@ -1,11 +1,15 @@
-/* Two threads use one client, which a program must not do: ThreadSanitizer finds it. Not run but under it. */
+/* Two threads use one client, one well after the other, with nothing that hands it over: ThreadSanitizer finds it. Not run but
+ * under it. */
 #include "facing.h"
+#include <poll.h>
 #include <pthread.h>
 #include <stddef.h>
 
 static facing_handle client;
 
+/* Waits for two seconds times the key, so that the calls do not meet. */
 static void *call(void *key) {
+    poll(NULL, 0, (int)(uintptr_t)key * 2000);
     for (int i = 0; i < 100; i++)
         if (facing_put(&client, (uint64_t)(uintptr_t)key, 1, NULL) != FACING_DONE) break;
     return NULL;
