@@ -11,8 +11,8 @@
  * The functions check the rest: they reject null pointers and lengths that no array has, and set a handle to null once it
  * is freed.
  *
- * Every function returns a status. Where it is not FACING_DONE the map and its clients are as they were, and an answer is
- * {0, 0}. `answer` may be NULL. */
+ * Every function but facing_free returns a status. Where it is not FACING_DONE nothing was changed, but where facing_close
+ * says so, and an answer is {0, 0}. The `answer` of a client's call may be NULL. */
 #ifndef FACING_H
 #define FACING_H
 #include <poll.h>

@@ -1,7 +1,7 @@
 // A concurrent hash map for C++17, over facing.h: move-only classes, std::optional for values, exceptions for failures.
 //
 // A facing::client is used by one thread at a time, and may be moved to another. Every function throws facing::error where
-// its status is not FACING_DONE; the map is as it was then.
+// its status is not FACING_DONE; nothing was changed then, but by a close that failed with FACING_BIN_MISSING.
 #ifndef FACING_HPP
 #define FACING_HPP
 #include "facing.h"
