@@ -6,12 +6,21 @@ use crate::hashing::HashKey;
 use std::alloc::{AllocError, Allocator};
 use std::marker::Model;
 
-/// The code of bytes: 31 times the code so far plus the byte, for each, modulo 2^32.
+/// The code of bytes: 31 times the code so far plus the byte, for each, modulo 2^32. Four bytes are
+/// added at once, by the powers of 31: the multiplications of one byte do not wait for those of
+/// another.
 pub(crate) fn bytes_code(bytes: &[u8]) -> u32
     ensures { result ≡ code_of bytes.now }
 {
     let mut code = 0u32;
-    for byte in bytes {
+    let mut rest = bytes;
+    while let [a, b, c, d, more @ ..] = rest {
+        let pair = 31 * u32::from(*c) + u32::from(*d);
+        let four = 29_791 * u32::from(*a) + 961 * u32::from(*b) + pair;
+        code = code.wrapping_mul(923_521).wrapping_add(four);
+        rest = more;
+    }
+    for byte in rest {
         code = code.wrapping_mul(31).wrapping_add(u32::from(*byte));
     }
     code

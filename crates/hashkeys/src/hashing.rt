@@ -17,6 +17,7 @@ pub trait HashKey: Eq + Clone + Drop {
 
 /// The upper half of a code mixed into its lower half, with the top bit cleared: a number below
 /// 2^31.
+#[inline(always)]
 pub fn spread(code: u32) -> u32
     ensures value { result ≡ spread code }
     ensures bound { result < 2 ^ 31 }
@@ -34,6 +35,7 @@ impl Salt {
     ghost use Rattle.hashkeys.specs.Hashing.{hash_of};
 
     /// The key's hash under this salt, below 2^31.
+    #[inline(always)]
     pub fn hash_of<K: HashKey>(&self, key: &K) -> u32
         ensures hash { result ≡ hash_of self.now (K.code key.now) }
         ensures bound { result < 2 ^ 31 }

@@ -1,6 +1,7 @@
 //! The program's keys: short words of ASCII letters, digits and `_`.
 ghost use Rattle.std.specs.Prelude.{◌≡◌, ◌≤◌, ◌++◌, true, false, MatchOption, length, take, drop};
-ghost use Rattle.std.specs.Prelude.{replicate};
+ghost use Rattle.std.specs.Prelude.{replicate, nat_eq};
+ghost use Rattle.std.specs.Cmp.Lexicographic.{pointwise};
 ghost use Rattle.hashkeys.specs.Text.{is_key, are_word_bytes, code_of};
 
 use crate::bytes::bytes_code;
@@ -14,19 +15,21 @@ use std::simd::prelude::*;
 /// takes no memory. Contracts see a key as its bytes.
 #[derive(Drop)]
 pub struct Key {
+    /// The key's bytes, and `_` after them: so equal keys are the same in all 32.
     bytes: [u8; 32],
     len: u8,
 }
 
 impl Model for Key {
-    ghost use Rattle.std.specs.Prelude.{◌≡◌, ◌≤◌, ℕ, List, true, take};
+    ghost use Rattle.std.specs.Prelude.{◌≡◌, ◌≤◌, ℕ, List, true, take, drop, replicate};
     ghost use Rattle.hashkeys.specs.Text.{is_key};
 
     ghost Value = { List ℕ };
 
     ghost view = { λ k. take k.len k.bytes };
 
-    ghost invariant = { λ k. (k.len ≤ 32) × (is_key (take k.len k.bytes) ≡ true) };
+    ghost invariant = { λ k. (k.len ≤ 32) × (is_key (take k.len k.bytes) ≡ true)
+        × (drop k.len k.bytes ≡ drop k.len (replicate 32 95)) };
 }
 
 /// Whether these 32 bytes are all ASCII letters, digits or `_`. They are looked at together.
@@ -42,6 +45,17 @@ fn are_word_bytes(bytes: &[u8]) -> bool
     let is_no_digit = from_0.simd_ge(u8x32::splat(10));
     let others = is_no_letter & is_no_digit & bytes.simd_ne(u8x32::splat(b'_'));
     others.to_bitmask() == 0
+}
+
+/// Whether these 32 bytes are the same as those. They are compared together.
+#[inline(always)]
+fn are_same_lanes(these: &[u8], those: &[u8]) -> bool
+    requires here { length these.now ≡ 32 }
+    requires there { length those.now ≡ 32 }
+    ensures { result ≡ pointwise nat_eq these.now those.now }
+{
+    let (these, those) = (u8x32::from_slice(these), u8x32::from_slice(those));
+    these.simd_eq(those).to_bitmask() == 0xffff_ffff
 }
 
 /// The places of 32 bytes.
@@ -133,7 +147,7 @@ impl PartialEq for Key {
     ghost laws = { partial_equiv_from_equiv nat_list_eq_equiv };
 
     fn eq(&self, other: &Key) -> bool {
-        self.bytes() == other.bytes()
+        self.len == other.len && are_same_lanes(&self.bytes, &other.bytes)
     }
 }
 

@@ -1,0 +1,26 @@
+//! Bytes with their code, in place of a key.
+ghost use Rattle.std.specs.Prelude.{◌≡◌};
+
+use crate::hashed::Hashed;
+use hashkeys::{AsKey, ByteString};
+use std::alloc::Allocator;
+
+/// Bytes that lie elsewhere, with the code that a seed gives them: they stand for the key that the
+/// seed makes of them.
+#[derive(Clone, Copy)]
+pub struct Query<'a> {
+    pub(crate) code: u32,
+    pub(crate) bytes: &'a [u8],
+}
+
+impl<'a, A: Allocator + Clone> AsKey<Hashed<ByteString<A>>> for Query<'a> {
+    ghost stands_for = { λ q. record { code = q.code; bytes = q.bytes.now } };
+
+    fn key_code(&self) -> u32 {
+        self.code
+    }
+
+    fn is_key(&self, key: &Hashed<ByteString<A>>) -> bool {
+        key.code == self.code && key.bytes.bytes() == self.bytes
+    }
+}
