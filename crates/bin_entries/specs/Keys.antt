@@ -1,8 +1,8 @@
 -- Keys as they are given.
-use Rattle.bin_entries.specs.declared.given.Given.{Given}
-use Rattle.bin_entries.specs.declared.given.Given.TheVariants.{Owned, Lent}
+use Rattle.bin_entries.specs.declared.key_arg.KeyArg.{KeyArg}
+use Rattle.bin_entries.specs.declared.key_arg.KeyArg.TheVariants.{Owned, Borrowed}
 
 -- the key that was given
-abbrev pub key_in : {K : Type 0} → Given K → K
+abbrev pub key_in : {K : Type 0} → KeyArg K → K
 key_in (Owned k) = k
-key_in (Lent r) = r.now
+key_in (Borrowed r) = r.now

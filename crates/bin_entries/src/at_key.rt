@@ -10,6 +10,7 @@ use std::mem::replace;
 
 impl<K: HashKey, V, A: Allocator> Chain<K, V, A> {
     /// The value at the key that this stands for.
+    #[inline(always)]
     pub fn get_as<Q: AsKey<K>>(&self, hash: u32, query: Q) -> Option<&V>
         requires hashed { (hash_of : K → ℕ) × IsHashed hash_of self.now
             × (hash ≡ hash_of (Q.stands_for query)) }
@@ -39,21 +40,21 @@ impl<K: HashKey, V: Drop, A: Allocator> Chain<K, V, A> {
         ensures hashed { (hash_of : K → ℕ) → IsHashed hash_of self.old → IsHashed hash_of self.new }
         ensures value { result ≡ lookup K.eq (entries_of self.old) key.now }
     {
-        let _ = key;
         match self {
             Chain::End => unreachable!(),
             Chain::Link(_, node) => Some(replace(&mut node.entry.1, value)),
         }
     }
 
-    /// Takes the first entry, which is this key's, out, if there is one. It gives back the value.
-    fn take_first(&mut self, key: &K) -> Option<V>
-        requires starts { StartsAt K.eq (entries_of self.old) key.now }
-        ensures entries { entries_of self.new ≡ remove K.eq (entries_of self.old) key.now }
+    /// Takes the first entry out, if there is one, which is of the key that this stands for. Returns
+    /// its value.
+    fn take_first<Q: AsKey<K>>(&mut self, query: Q) -> Option<V>
+        requires starts { StartsAt K.eq (entries_of self.old) (Q.stands_for query) }
+        ensures entries { entries_of self.new
+            ≡ remove K.eq (entries_of self.old) (Q.stands_for query) }
         ensures hashed { (hash_of : K → ℕ) → IsHashed hash_of self.old → IsHashed hash_of self.new }
-        ensures value { result ≡ lookup K.eq (entries_of self.old) key.now }
+        ensures value { result ≡ lookup K.eq (entries_of self.old) (Q.stands_for query) }
     {
-        let _ = key;
         match replace(self, Chain::End).pop() {
             Some((entry, next)) => {
                 let (_key, value) = entry;
@@ -80,17 +81,20 @@ impl<K: HashKey, V: Drop, A: Allocator> Chain<K, V, A> {
         taken
     }
 
-    /// Takes the entry of a key out of a long chain. Returns its value, if there was one.
+    /// Takes the entry of the key that this stands for out of a long chain. Returns its value, if there
+    /// was one.
     #[cold]
     #[inline(never)]
-    fn take_far(&mut self, hash: u32, key: &K) -> Option<V>
-        requires hashed { (hash_of : K → ℕ) × IsHashed hash_of self.old × (hash ≡ hash_of key.now) }
-        ensures entries { entries_of self.new ≡ remove K.eq (entries_of self.old) key.now }
+    fn take_far<Q: AsKey<K>>(&mut self, hash: u32, query: Q) -> Option<V>
+        requires hashed { (hash_of : K → ℕ) × IsHashed hash_of self.old
+            × (hash ≡ hash_of (Q.stands_for query)) }
+        ensures entries { entries_of self.new
+            ≡ remove K.eq (entries_of self.old) (Q.stands_for query) }
         ensures hashed { (hash_of : K → ℕ) → IsHashed hash_of self.old → IsHashed hash_of self.new }
-        ensures value { result ≡ lookup K.eq (entries_of self.old) key.now }
+        ensures value { result ≡ lookup K.eq (entries_of self.old) (Q.stands_for query) }
     {
-        let (before, mut rest) = replace(self, Chain::End).parted(hash, key);
-        let taken = rest.take_first(key);
+        let (before, mut rest) = replace(self, Chain::End).parted(hash, query);
+        let taken = rest.take_first(query);
         *self = before.onto(rest);
         taken
     }
@@ -120,6 +124,7 @@ impl<K: HashKey, V: Drop, A: Allocator> Chain<K, V, A> {
     }
 
     /// A key that is there gets the value. It gives back the value before.
+    #[inline(always)]
     pub fn assign(&mut self, hash: u32, key: &K, value: V) -> Option<V>
         requires hashed { (hash_of : K → ℕ) × IsHashed hash_of self.old × (hash ≡ hash_of key.now) }
         requires there { is_some (lookup K.eq (entries_of self.old) key.now) ≡ true }
@@ -130,36 +135,41 @@ impl<K: HashKey, V: Drop, A: Allocator> Chain<K, V, A> {
         self.assign_near(NEAR, hash, key, value)
     }
 
-    /// Takes the entry of a key out; so many entries are gone past by calls in calls. Returns its
-    /// value, if there was one.
-    fn take_near(&mut self, steps: u32, hash: u32, key: &K) -> Option<V>
-        requires hashed { (hash_of : K → ℕ) × IsHashed hash_of self.old × (hash ≡ hash_of key.now) }
-        ensures entries { entries_of self.new ≡ remove K.eq (entries_of self.old) key.now }
+    /// Takes the entry of the key that this stands for out; so many entries are gone past by calls in
+    /// calls. Returns its value, if there was one.
+    fn take_near<Q: AsKey<K>>(&mut self, steps: u32, hash: u32, query: Q) -> Option<V>
+        requires hashed { (hash_of : K → ℕ) × IsHashed hash_of self.old
+            × (hash ≡ hash_of (Q.stands_for query)) }
+        ensures entries { entries_of self.new
+            ≡ remove K.eq (entries_of self.old) (Q.stands_for query) }
         ensures hashed { (hash_of : K → ℕ) → IsHashed hash_of self.old → IsHashed hash_of self.new }
-        ensures value { result ≡ lookup K.eq (entries_of self.old) key.now }
+        ensures value { result ≡ lookup K.eq (entries_of self.old) (Q.stands_for query) }
     {
         if steps == 0 {
-            return self.take_far(hash, key);
+            return self.take_far(hash, query);
         }
         match self {
             Chain::End => None,
             Chain::Link(own, node) => {
-                if *own == hash && node.entry.0 == *key {
-                    self.take_first(key)
+                if *own == hash && query.is_key(&node.entry.0) {
+                    self.take_first(query)
                 } else {
-                    node.next.take_near(steps - 1, hash, key)
+                    node.next.take_near(steps - 1, hash, query)
                 }
             }
         }
     }
 
-    /// Takes the entry of a key out, if there is one. It gives back the value.
-    pub fn take(&mut self, hash: u32, key: &K) -> Option<V>
-        requires hashed { (hash_of : K → ℕ) × IsHashed hash_of self.old × (hash ≡ hash_of key.now) }
-        ensures entries { entries_of self.new ≡ remove K.eq (entries_of self.old) key.now }
+    /// Takes the entry of the key that this stands for out, if there is one. Returns its value.
+    #[inline(always)]
+    pub fn take<Q: AsKey<K>>(&mut self, hash: u32, query: Q) -> Option<V>
+        requires hashed { (hash_of : K → ℕ) × IsHashed hash_of self.old
+            × (hash ≡ hash_of (Q.stands_for query)) }
+        ensures entries { entries_of self.new
+            ≡ remove K.eq (entries_of self.old) (Q.stands_for query) }
         ensures hashed { (hash_of : K → ℕ) → IsHashed hash_of self.old → IsHashed hash_of self.new }
-        ensures value { result ≡ lookup K.eq (entries_of self.old) key.now }
+        ensures value { result ≡ lookup K.eq (entries_of self.old) (Q.stands_for query) }
     {
-        self.take_near(NEAR, hash, key)
+        self.take_near(NEAR, hash, query)
     }
 }

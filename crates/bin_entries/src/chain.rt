@@ -8,7 +8,7 @@ ghost use Rattle.bin_entries.specs.Entries.{StartsAt, lookup};
 ghost use Rattle.bin_entries.specs.Hashes.{hash_by};
 
 use crate::copies::copy_of;
-use hashkeys::{Class, HashKey, Salt};
+use hashkeys::{AsKey, Class, HashKey, Salt};
 use std::alloc::{AllocError, Allocator};
 use std::mem::replace;
 
@@ -81,6 +81,7 @@ impl<K: Drop, V: Drop, A: Allocator> Chain<K, V, A> {
     }
 
     /// Puts a chain at the end.
+    #[inline(always)]
     pub fn append(&mut self, other: Chain<K, V, A>)
         ensures entries { entries_of self.new ≡ entries_of self.old ++ entries_of other }
         ensures hashed { (hash_of : K → ℕ) → IsHashed hash_of self.old → IsHashed hash_of other →
@@ -225,6 +226,7 @@ pub fn chain_of<K: HashKey, V: Drop, A: Allocator + Clone>(
 }
 
 /// A chain of one entry.
+#[inline(always)]
 pub fn linked<K: Drop, V: Drop, A: Allocator + Clone>(
     alloc: &A,
     hash: u32,
@@ -249,12 +251,17 @@ pub fn linked<K: Drop, V: Drop, A: Allocator + Clone>(
 }
 
 impl<K: HashKey, V: Drop, A: Allocator> Chain<K, V, A> {
-    /// The entries before a key, the last one first, and those from it on.
-    pub(crate) fn parted(mut self, hash: u32, key: &K) -> (Chain<K, V, A>, Chain<K, V, A>)
-        requires hashed { (hash_of : K → ℕ) × IsHashed hash_of self × (hash ≡ hash_of key.now) }
+    /// The entries before the key that this stands for, the last one first, and those from it on.
+    pub(crate) fn parted<Q: AsKey<K>>(
+        mut self,
+        hash: u32,
+        query: Q,
+    ) -> (Chain<K, V, A>, Chain<K, V, A>)
+        requires hashed { (hash_of : K → ℕ) × IsHashed hash_of self
+            × (hash ≡ hash_of (Q.stands_for query)) }
         ensures parts { reverse (entries_of result.0) ++ entries_of result.1 ≡ entries_of self }
-        ensures absent { lookup K.eq (reverse (entries_of result.0)) key.now ≡ None }
-        ensures starts { StartsAt K.eq (entries_of result.1) key.now }
+        ensures absent { lookup K.eq (reverse (entries_of result.0)) (Q.stands_for query) ≡ None }
+        ensures starts { StartsAt K.eq (entries_of result.1) (Q.stands_for query) }
         ensures hashed { (hash_of : K → ℕ) → IsHashed hash_of self →
             IsHashed hash_of result.0 × IsHashed hash_of result.1 }
     {
@@ -263,7 +270,7 @@ impl<K: HashKey, V: Drop, A: Allocator> Chain<K, V, A> {
             match self {
                 Chain::End => return (before, Chain::End),
                 Chain::Link(own, mut node) => {
-                    if own == hash && node.entry.0 == *key {
+                    if own == hash && query.is_key(&node.entry.0) {
                         return (before, Chain::Link(own, node));
                     }
                     self = replace(&mut node.next, before);

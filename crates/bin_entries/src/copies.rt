@@ -5,6 +5,7 @@ ghost use Rattle.bin_entries.specs.Copies.{IsExact, IsNeverRefused};
 use std::alloc::{AllocError, Allocator};
 
 /// A copy of a value.
+#[inline(always)]
 pub fn copy_of<T: Clone>(value: &T) -> Result<T, AllocError>
     requires { IsExact T.is_clone }
     ensures copy { IfOk result (λ copy. copy ≡ value.now) }
@@ -14,6 +15,7 @@ pub fn copy_of<T: Clone>(value: &T) -> Result<T, AllocError>
 }
 
 /// A copy of a value, if there is one.
+#[inline(always)]
 pub fn copy_of_option<T: Clone>(value: Option<&T>) -> Result<Option<T>, AllocError>
     requires { IsExact T.is_clone }
     ensures copy { IfOk result (λ copy. copy ≡ option_copied value.entry) }

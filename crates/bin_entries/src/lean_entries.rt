@@ -4,13 +4,13 @@ ghost use Rattle.std.specs.Prelude.{option_copied, is_some, None, true, false};
 ghost use Rattle.hashkeys.specs.Classes.{is_of};
 ghost use Rattle.bin_entries.specs.Chains.{entries_of};
 ghost use Rattle.bin_entries.specs.Copies.{IsExact};
-ghost use Rattle.bin_entries.specs.Entries.{lookup, store};
+ghost use Rattle.bin_entries.specs.Entries.{lookup, remove, store};
 ghost use Rattle.bin_entries.specs.Hashes.{hash_by};
 ghost use Rattle.bin_entries.specs.Keys.{key_in};
 ghost use Rattle.bin_entries.specs.Leans.{AreOf, IsLeanChain};
 
 use crate::chain::{Chain, linked};
-use crate::given::Given;
+use crate::key_arg::KeyArg;
 use crate::walk::Walk;
 use hashkeys::{AsKey, Class, HashKey, Salt};
 use std::alloc::{AllocError, Allocator};
@@ -77,10 +77,12 @@ impl<K: HashKey, V, A: Allocator> LeanEntries<K, V, A> {
     pub fn lawful(&self)
         ensures { AreOf K.eq K.code self.now.salt self.now.class self.now.entries }
     {
+        // read for the proof alone, which so has the invariant
         let _ = &self.chain;
     }
 
     /// The value at the key that this stands for, which is of this hash.
+    #[inline(always)]
     pub fn get_as<Q: AsKey<K>>(&self, hash: u32, query: Q) -> Option<&V>
         requires hash { hash ≡ hash_by K.code self.now.salt (Q.stands_for query) }
         ensures { option_copied result ≡ lookup K.eq self.now.entries (Q.stands_for query) }
@@ -89,6 +91,7 @@ impl<K: HashKey, V, A: Allocator> LeanEntries<K, V, A> {
     }
 
     /// The value at a key of this hash.
+    #[inline(always)]
     pub fn get(&self, hash: u32, key: &K) -> Option<&V>
         requires hash { hash ≡ hash_by K.code self.now.salt key.now }
         ensures { option_copied result ≡ lookup K.eq self.now.entries key.now }
@@ -117,6 +120,20 @@ impl<K: HashKey, V: Clone + Drop, A: Allocator> LeanEntries<K, V, A> {
 }
 
 impl<K: HashKey, V: Drop, A: Allocator> LeanEntries<K, V, A> {
+    /// Takes the entry of the key that this stands for, which is of this hash, out. Returns its value,
+    /// if there was one.
+    #[inline(always)]
+    pub fn take_as<Q: AsKey<K>>(&mut self, hash: u32, query: Q) -> Option<V>
+        requires hash { hash ≡ hash_by K.code self.old.salt (Q.stands_for query) }
+        requires of_class { is_of K.code self.old.salt self.old.class (Q.stands_for query) ≡ true }
+        ensures entries { self.new.entries ≡ remove K.eq self.old.entries (Q.stands_for query) }
+        ensures taken { result ≡ lookup K.eq self.old.entries (Q.stands_for query) }
+        ensures class { self.new.class ≡ self.old.class }
+        ensures salt { self.new.salt ≡ self.old.salt }
+    {
+        self.chain.take(hash, query)
+    }
+
     /// Moves the entries, in order, into a list that has room for them.
     pub fn pour(self, list: Vec<(K, V), A>) -> Vec<(K, V), A>
         requires room { vec_len list + length self.entries ≤ vec_capacity list }
@@ -137,7 +154,7 @@ impl<K: HashKey, V: Drop, A: Allocator + Clone> LeanEntries<K, V, A> {
         &mut self,
         alloc: &A,
         hash: u32,
-        key: Given<'_, K>,
+        key: KeyArg<'_, K>,
         there: bool,
         value: Option<V>,
     ) -> Result<Option<V>, AllocError>

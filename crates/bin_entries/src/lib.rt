@@ -4,14 +4,14 @@
 mod at_key;
 mod chain;
 mod copies;
-mod given;
+mod key_arg;
 mod lean_entries;
 mod part;
 mod walk;
 
 pub use chain::{Chain, Node, chain_of, linked};
 pub use copies::{copy_of, copy_of_both, copy_of_entries, copy_of_option};
-pub use given::Given;
+pub use key_arg::KeyArg;
 pub use lean_entries::LeanEntries;
 pub use part::{is_of, part_of_entries};
 pub use walk::{Left, Walk};

@@ -3,6 +3,7 @@ use Rattle.std.specs.Prelude.{◌≡◌, ℕ, ◌≤◌, Bool, true, Option, Lis
 use Rattle.hashkeys.specs.Classes.{ClassView, is_of}
 use Rattle.hashkeys.specs.declared.hashing.Salt.{Salt}
 use Rattle.bin_history.specs.Calls.{key_of}
+use Rattle.bin_history.specs.Limits.{most_records}
 use Rattle.bin_history.specs.Plain.{run, IsLegal}
 use Rattle.bin_history.specs.Entries.{lookup, HasDistinctKeys, replay}
 use Rattle.bin_history.specs.Births.{birth, IsInOrder}
@@ -34,7 +35,7 @@ module _ {K V F : Type 0} (same_key : K → K → Bool) (code : K → ℕ) (afte
     pub records_of_class : All (λ r. is_of code b.salt b.class (key_of r.call) ≡ true) b.records
     pub of_class : All (λ e. is_of code b.salt b.class e.0 ≡ true) b.entries
     pub legal : IsLegal same_key after (lookup same_key b.base) b.records
-    pub at_most : length b.records ≤ 1024
+    pub at_most : length b.records ≤ most_records
     pub stored : StoresByForm b
     pub same_map : (k : K) → lookup same_key b.entries k ≡ run same_key (lookup same_key b.base) b.records k
     pub in_order : IsInOrder (birth same_key b.base b.records) b.entries
@@ -46,5 +47,5 @@ module _ {K V F : Type 0} (same_key : K → K → Bool) (code : K → ℕ) (afte
     pub base_of_class : All (λ e. is_of code salt class e.0 ≡ true) base
     pub records_of_class : All (λ r. is_of code salt class (key_of r.call) ≡ true) records
     pub legal : IsLegal same_key after (lookup same_key base) records
-    pub at_most : length records ≤ 1024
+    pub at_most : length records ≤ most_records
     pub replayed : entries ≡ replay same_key base records

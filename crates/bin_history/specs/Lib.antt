@@ -20,4 +20,5 @@ pub mod Copies
 pub mod Changes
 pub mod Readiness
 pub mod Sure
+pub mod Seeks
 pub mod Made

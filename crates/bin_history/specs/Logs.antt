@@ -3,6 +3,7 @@ use Rattle.std.specs.Prelude.{◌≡◌, ◌≢◌, ℕ, ◌<◌, ◌≤◌, Boo
 use Rattle.std.specs.Prelude.{◌⊎◌}
 use Rattle.bin_history.specs.Births.{births_in}
 use Rattle.bin_history.specs.Entries.{lookup, HasDistinctKeys, replay}
+use Rattle.bin_history.specs.Limits.{folded_records, most_records}
 use Rattle.bin_history.specs.Plain.{IsLegal}
 use Rattle.bin_history.specs.declared.call.Call.{Call}
 use Rattle.bin_history.specs.Records.{RecordView}
@@ -17,8 +18,8 @@ pub record LogView (K V F : Type 0) : Type 0 where
 -- there is room for one more record or, where there are 1,024, in the base for the keys that the oldest 512 of them made
 -- present
 abbrev pub CanFold : {K V F : Type 0} → LogView K V F → Type 0
-CanFold log = (length log.records ≡ 1024 → births_in (take 512 log.records) ≤ log.base_room)
-    × (length log.records ≢ 1024 → 0 < log.record_room)
+CanFold log = (length log.records ≡ most_records → births_in (take folded_records log.records) ≤ log.base_room)
+    × (length log.records ≢ most_records → 0 < log.record_room)
 
 -- the records are of calls on the base, by some rules of what a call leaves
 pub record AreCallsOn {K V F : Type 0} (same_key : K → K → Bool) (base : List (K × V)) (records : List (RecordView K V F)) :
@@ -32,4 +33,5 @@ abbrev pub IsKeptOrFolded : {K V F : Type 0} → (K → K → Bool) → List (K 
     List (RecordView K V F) → Type 0
 IsKeptOrFolded same_key base records base' records' =
     ((base' ≡ base) × (records' ≡ records))
-    ⊎ ((length records ≡ 1024) × (base' ≡ replay same_key base (take 512 records)) × (records' ≡ drop 512 records))
+    ⊎ ((length records ≡ most_records) × (base' ≡ replay same_key base (take folded_records records))
+    × (records' ≡ drop folded_records records))

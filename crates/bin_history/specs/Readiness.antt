@@ -4,6 +4,7 @@ use Rattle.hashkeys.specs.Classes.{is_of}
 use Rattle.bin_history.specs.Calls.{key_of, after, reply}
 use Rattle.bin_history.specs.Entries.{lookup, store, replay}
 use Rattle.bin_history.specs.Changes.{reply_of, entries_after, taken_from, HasIndex, Fits}
+use Rattle.bin_history.specs.Limits.{folded_records, most_records}
 use Rattle.bin_history.specs.Ops.{call_on}
 use Rattle.bin_history.specs.Lawful.{BinView}
 use Rattle.bin_history.specs.declared.call.Call.{Call}
@@ -58,7 +59,7 @@ module _ {K V F : Type 0} (same_key : K → K → Bool) (same_value : V → V �
 pub record HasMemoryFor {K V F : Type 0} (ready : ReadyView K V F) (b : BinView K V F) : Type 0 where
   pub record_room : 0 < b.record_room
   pub entry_room : Fits b.entry_room ready.change
-  pub few : length b.records < 1024
+  pub few : length b.records < most_records
 
 module _ {K V F : Type 0} (same_key : K → K → Bool) (code : K → ℕ) (same_value : V → V → Bool) (remapped : F → K →
     Option V → Option V)
@@ -87,9 +88,9 @@ pub record KeepsRecords {K V F : Type 0} (b c : BinView K V F) : Type 0 where
 
 -- the oldest 512 of 1,024 records folded into the base
 pub record FoldsRecords {K V F : Type 0} (same_key : K → K → Bool) (b c : BinView K V F) : Type 0 where
-  pub full : length b.records ≡ 1024
-  pub base : c.base ≡ replay same_key b.base (take 512 b.records)
-  pub records : c.records ≡ drop 512 b.records
+  pub full : length b.records ≡ most_records
+  pub base : c.base ≡ replay same_key b.base (take folded_records b.records)
+  pub records : c.records ≡ drop folded_records b.records
 
 abbrev pub KeepsOrFolds : {K V F : Type 0} → (K → K → Bool) → BinView K V F → BinView K V F → Type 0
 KeepsOrFolds same_key b c = KeepsRecords b c ⊎ FoldsRecords same_key b c

@@ -1,8 +1,9 @@
 -- Calls of which nothing can be refused.
-use Rattle.std.specs.Prelude.{◌≡◌, ◌<◌, Bool, true, false, Option, None, is_some, is_none, length}
+use Rattle.std.specs.Prelude.{◌≡◌, ◌<◌, Bool, true, false, Option, None, is_some, is_none, List, length}
 pub use Rattle.bin_entries.specs.Copies.{IsNeverRefused}
 use Rattle.bin_history.specs.Entries.{lookup}
 use Rattle.bin_history.specs.Lawful.{BinView}
+use Rattle.bin_history.specs.Limits.{most_records}
 use Rattle.bin_history.specs.Ops.{may_add}
 use Rattle.bin_history.specs.declared.call.Call.{Call}
 use Rattle.bin_history.specs.declared.call.Call.TheVariants.{Get, Contains, Put, PutIfAbsent, Remove, RemoveIf, Replace}
@@ -42,6 +43,21 @@ asks (op.ComputeIfPresent _) before = is_some before
 asks (op.Compute _) before = true
 asks (op.Merge _ _) before = is_some before
 
+-- whether the call copies no value and asks no function
+abbrev pub copies_none : {V F : Type 0} → Op V F → Bool
+copies_none op.Get = false
+copies_none op.Contains = true
+copies_none (op.Put _) = true
+copies_none (op.PutIfAbsent _) = false
+copies_none op.Remove = true
+copies_none (op.RemoveIf _) = true
+copies_none (op.Replace _) = true
+copies_none (op.ReplaceIf _ _) = true
+copies_none (op.ComputeIfAbsent _) = false
+copies_none (op.ComputeIfPresent _) = false
+copies_none (op.Compute _) = false
+copies_none (op.Merge _ _) = false
+
 -- nothing that the call on the key needs of this bin can be refused: no copy is, it asks no function, and there is room
 pub record IsSure {K V F : Type 0} (same_key : K → K → Bool) (key_copies : K → Type 0) (value_copies : V → Type 0)
     (b : BinView K V F) (k : K) (op : Op V F) :
@@ -49,5 +65,13 @@ pub record IsSure {K V F : Type 0} (same_key : K → K → Bool) (key_copies : K
   pub key : key_copies k
   pub values : IsNeverRefused value_copies
   pub asks_none : asks op (lookup same_key b.entries k) ≡ false
-  pub record_room : b.form ≡ Recorded → (length b.records < 1024) × (0 < b.record_room)
+  pub record_room : b.form ≡ Recorded → (length b.records < most_records) × (0 < b.record_room)
   pub entry_room : lookup same_key b.entries k ≡ None → may_add op ≡ true → 0 < b.entry_room
+
+-- a call on a key of a lean bin needs no memory, whatever a copy of the key does: no copy of a value is refused where
+-- it makes one, it asks no function, and it adds no entry
+pub record IsSpared {K V F : Type 0} (same_key : K → K → Bool) (value_copies : V → Type 0) (entries : List (K × V))
+    (k : K) (op : Op V F) : Type 0 where
+  pub values : copies_none op ≡ false → IsNeverRefused value_copies
+  pub asks_none : asks op (lookup same_key entries k) ≡ false
+  pub adds_none : lookup same_key entries k ≡ None → may_add op ≡ false

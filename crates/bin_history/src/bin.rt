@@ -10,6 +10,7 @@ ghost use Rattle.bin_history.specs.Entries.{first_in, lookup, HasDistinctKeys, r
 ghost use Rattle.bin_history.specs.Hashes.{hash_by};
 ghost use Rattle.bin_history.specs.Lawful.{IsLawful};
 ghost use Rattle.bin_history.specs.Leans.{as_bin};
+ghost use Rattle.bin_history.specs.Limits.{most_lean_clients};
 ghost use Rattle.bin_history.specs.Made.{IsMadeOn};
 ghost use Rattle.bin_history.specs.Ops.{call_on, key_in};
 ghost use Rattle.bin_history.specs.Sure.{IsSure};
@@ -19,9 +20,9 @@ use crate::call::{Remap, Reply, Value};
 use crate::form::Form;
 use crate::lean::LeanBin;
 use crate::op::Op;
+use crate::posting::Posting;
 use crate::recorded::RecordedBin;
-use crate::trace::Trace;
-use bin_entries::{Given, Walk, chain_of};
+use bin_entries::{KeyArg, Walk, chain_of};
 use hashkeys::{AsKey, Class, HashKey, Salt};
 use std::alloc::{AllocError, Allocator};
 use std::marker::Model;
@@ -199,18 +200,18 @@ impl<K: HashKey, V: Value, F: Remap<K, V>, A: Allocator + Clone> Bin<K, V, F, A>
         }
     }
 
-    /// Makes a call on a key of this hash, as the call of this client, below 64, after so many
-    /// others of it, fewer than 2^58. It answers the reply and what the books need. For want of
-    /// memory the call is dropped, and nothing is changed.
+    /// Makes a call on a key of this hash, as the call of this client, below 65,536, after so many
+    /// others of it, in a recorded bin fewer than 2^48. It returns the reply and what the books
+    /// need. Out of memory, the call is dropped, and nothing is changed.
     pub fn make_on(
         &mut self,
         alloc: &A,
         hash: u32,
-        key: Given<'_, K>,
+        key: KeyArg<'_, K>,
         op: Op<V, F>,
         client: u32,
         ordinal: u64,
-    ) -> Result<(Reply<V>, Trace<K, V, F>), AllocError>
+    ) -> Result<(Reply<V>, Posting<K, V, F>), AllocError>
     where
         K: Drop,
         V: Drop,
@@ -219,8 +220,8 @@ impl<K: HashKey, V: Value, F: Remap<K, V>, A: Allocator + Clone> Bin<K, V, F, A>
         requires values { IsExact V.is_clone }
         requires hash { hash ≡ hash_by K.code self.old.salt (key_in key) }
         requires of_class { is_of K.code self.old.salt self.old.class (key_in key) ≡ true }
-        requires client { client < 64 }
-        requires ordinal { ordinal < 2 ^ 58 }
+        requires client { client < most_lean_clients }
+        requires ordinal { self.old.form ≡ Recorded → ordinal < 2 ^ 48 }
         ensures made { IfOk result
             (λ r. IsMadeOn K.eq V.eq F.remapped F.merged client ordinal
             (call_on (key_in key.entry) op) self.old self.new r.0 r.1) }
@@ -235,7 +236,10 @@ impl<K: HashKey, V: Value, F: Remap<K, V>, A: Allocator + Clone> Bin<K, V, F, A>
     {
         match &mut self.kind {
             Kind::Lean(bin) => bin.make_on(alloc, hash, key, op, client, ordinal),
-            Kind::Recorded(bin) => bin.make_on(key, op, client, ordinal),
+            Kind::Recorded(bin) => {
+                bin.lawful();
+                bin.make_on(key, op, client, ordinal)
+            }
         }
     }
 }

@@ -8,7 +8,7 @@ ghost use Rattle.bin_history.specs.Copies.{IsExact};
 ghost use Rattle.bin_history.specs.Ops.{key_in};
 
 use crate::effect::Effect;
-use bin_entries::Given;
+use bin_entries::KeyArg;
 use hashkeys::{AsKey, HashKey};
 use std::alloc::{AllocError, Allocator};
 use std::mem::replace;
@@ -47,7 +47,6 @@ pub(crate) fn value_at<'a, K: HashKey, V>(
     requires { IsIndexOf K.eq entries.now key.now found }
     ensures { option_copied result ≡ lookup K.eq entries.now key.now }
 {
-    let _ = key;
     match found {
         Some(i) => Some(&entries[i].1),
         None => None,
@@ -85,7 +84,7 @@ impl<K: Clone + Drop, V: Drop> Change<K, V> {
     /// Returns the change by which a given key gets this value, or none. The key is copied only
     /// where it was lent and an entry is made.
     fn given(
-        key: Given<'_, K>,
+        key: KeyArg<'_, K>,
         found: Option<usize>,
         value: Option<V>,
     ) -> Result<Change<K, V>, AllocError>
@@ -104,7 +103,7 @@ impl<K: Clone + Drop, V: Drop> Change<K, V> {
 
     /// The change that a call's effect on the key makes, with the value that the call brings.
     pub(crate) fn by(
-        key: Given<'_, K>,
+        key: KeyArg<'_, K>,
         found: Option<usize>,
         effect: Effect<V>,
         value: Option<V>,

@@ -31,6 +31,7 @@ pub enum Answer<V> {
 
 impl<V> Effect<V> {
     /// The value that the effect of a call leaves.
+    #[inline(always)]
     pub(crate) fn left<'a, F>(&'a self, op: &'a Op<V, F>, before: Option<&'a V>) -> Option<&'a V>
         ensures { option_copied result ≡ left_by op.now self.now (option_copied before.entry) }
     {
@@ -58,6 +59,7 @@ impl<V: Clone> Effect<V> {
 
 impl<V: Drop> Answer<V> {
     /// The reply, by the value that the call took away.
+    #[inline(always)]
     pub(crate) fn reply(self, taken: Option<V>) -> Reply<V>
         ensures { result ≡ reply_of self taken }
     {

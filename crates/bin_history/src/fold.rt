@@ -3,6 +3,7 @@ ghost use Rattle.std.specs.Prelude.{◌≡◌, ◌+◌, ◌<◌, ◌≤◌, true
 ghost use Rattle.bin_history.specs.Births.{is_birth, births_in};
 ghost use Rattle.bin_history.specs.Calls.{key_of};
 ghost use Rattle.bin_history.specs.Entries.{lookup, store, replay};
+ghost use Rattle.bin_history.specs.Limits.{folded_records};
 ghost use Rattle.bin_history.specs.Logs.{AreCallsOn};
 
 use crate::change::{Change, find};
@@ -15,7 +16,7 @@ pub(crate) const FOLDED: usize = 512;
 
 /// How many of the oldest records made their key present. They add no more pairs to a base.
 pub(crate) fn births_in_front<K, V, F>(records: &[Record<K, V, F>]) -> usize
-    ensures { result ≡ births_in (take 512 records.now) }
+    ensures { result ≡ births_in (take folded_records records.now) }
 {
     let oldest = records.iter().take(FOLDED);
     oldest.filter(|record| record.is_birth()).count()
@@ -43,11 +44,13 @@ pub(crate) fn fold_front<K: HashKey, V: Drop, F: Drop, A: Allocator>(
     base: &mut Vec<(K, V), A>,
     records: &mut Vec<Record<K, V, F>, A>,
 )
-    requires enough { 512 ≤ vec_len records.old }
+    requires enough { folded_records ≤ vec_len records.old }
     requires calls { AreCallsOn K.eq base.old.items records.old.items }
-    requires room { vec_len base.old + births_in (take 512 records.old.items) ≤ vec_capacity base.old }
-    ensures base { base.new.items ≡ replay K.eq base.old.items (take 512 records.old.items) }
-    ensures records { records.new.items ≡ drop 512 records.old.items }
+    requires room { vec_len base.old + births_in (take folded_records records.old.items)
+        ≤ vec_capacity base.old }
+    ensures base { base.new.items
+        ≡ replay K.eq base.old.items (take folded_records records.old.items) }
+    ensures records { records.new.items ≡ drop folded_records records.old.items }
     ensures capacity { vec_capacity records.old ≤ vec_capacity records.new }
 {
     for record in records.drain(0..FOLDED) {

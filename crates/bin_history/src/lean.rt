@@ -17,8 +17,8 @@ ghost use Rattle.bin_history.specs.Part.{part_of_entries};
 use crate::call::{Remap, Reply, Value};
 use crate::lean_calls::lawful_entries;
 use crate::op::Op;
-use crate::trace::Trace;
-use bin_entries::{Chain, Given, LeanEntries, Walk};
+use crate::posting::Posting;
+use bin_entries::{Chain, KeyArg, LeanEntries, Walk};
 use hashkeys::{AsKey, Class, HashKey, Salt};
 use std::alloc::{AllocError, Allocator};
 use std::marker::Model;
@@ -141,20 +141,20 @@ impl<K: HashKey, V: Drop, A: Allocator> LeanBin<K, V, A> {
 }
 
 impl<K: HashKey, V: Value, A: Allocator + Clone> LeanBin<K, V, A> {
-    /// Makes a call on a key of this hash, as the call of this client, below 64, after so many
-    /// others of it, fewer than 2^58. It answers the reply and what the books need. For want of
-    /// memory the call is dropped, and nothing is changed.
+    /// Makes a call on a key of this hash, as the call of this client, after so many others of it.
+    /// Returns the reply and what the books need. Out of memory, the call is dropped, and nothing is
+    /// changed.
     #[cold]
     #[inline(never)]
     pub fn make_on<F: Remap<K, V>>(
         &mut self,
         alloc: &A,
         hash: u32,
-        key: Given<'_, K>,
+        key: KeyArg<'_, K>,
         op: Op<V, F>,
         client: u32,
         ordinal: u64,
-    ) -> Result<(Reply<V>, Trace<K, V, F>), AllocError>
+    ) -> Result<(Reply<V>, Posting<K, V, F>), AllocError>
         requires keys { IsExact K.is_clone }
         requires values { IsExact V.is_clone }
         requires hash { hash ≡ hash_by K.code self.old.salt (key_in key) }

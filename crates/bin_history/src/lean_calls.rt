@@ -11,19 +11,20 @@ ghost use Rattle.bin_history.specs.Leans.{as_bin};
 ghost use Rattle.bin_history.specs.Made.{IsMadeOn};
 ghost use Rattle.bin_history.specs.Ops.{call_on, key_in};
 ghost use Rattle.bin_history.specs.Readiness.{IsSeen};
-ghost use Rattle.bin_history.specs.Sure.{IsNeverRefused, IsSure, asks};
+ghost use Rattle.bin_history.specs.Sure.{IsNeverRefused, IsSpared, IsSure, asks, copies_none};
 
 use crate::call::{Remap, Reply, Value};
 use crate::effect::Effect;
 use crate::op::Op;
+use crate::posting::Posting;
 use crate::seen::Seen;
-use crate::trace::Trace;
 use crate::work::{Work, work_of};
-use bin_entries::{Given, LeanEntries};
+use bin_entries::{KeyArg, LeanEntries};
 use hashkeys::HashKey;
 use std::alloc::{AllocError, Allocator};
 
 /// What holds of a lean bin's entries. It does nothing when it runs.
+#[inline(always)]
 pub fn lawful_entries<K: HashKey, V: Eq, F: Remap<K, V>, A: Allocator>(
     entries: &LeanEntries<K, V, A>,
 )
@@ -33,7 +34,8 @@ pub fn lawful_entries<K: HashKey, V: Eq, F: Remap<K, V>, A: Allocator>(
 }
 
 /// What a call on a key with this value does, and what the books see of it.
-fn plan_on<K, V: Value, F: Remap<K, V>>(
+#[inline(always)]
+fn plan_on<K: HashKey, V: Value, F: Remap<K, V>>(
     key: &K,
     op: &Op<V, F>,
     before: Option<&V>,
@@ -43,7 +45,7 @@ fn plan_on<K, V: Value, F: Remap<K, V>>(
         (option_copied before.entry) r.0) }
     ensures seen { IfOk result (λ r. IsSeen r.1 (call_on key.now op.now) (option_copied before.entry)
         (left_by op.now r.0.effect (option_copied before.entry))) }
-    ensures succeeds { IsNeverRefused V.is_infallible →
+    ensures succeeds { (copies_none op.now ≡ false → IsNeverRefused V.is_infallible) →
         asks op.now (option_copied before.entry) ≡ false → IsOk result }
 {
     let work = work_of(key, op, before)?;
@@ -67,7 +69,7 @@ fn plan<K: HashKey, V: Value, F: Remap<K, V>, A: Allocator>(
     ensures seen { IfOk result (λ r. IsSeen r.1 (call_on key.now op.now)
         (lookup K.eq entries.now.entries key.now)
         (left_by op.now r.0.effect (lookup K.eq entries.now.entries key.now))) }
-    ensures succeeds { IsNeverRefused V.is_infallible →
+    ensures succeeds { (copies_none op.now ≡ false → IsNeverRefused V.is_infallible) →
         asks op.now (lookup K.eq entries.now.entries key.now) ≡ false → IsOk result }
 {
     plan_on(key, op, entries.get(hash, key))
@@ -80,7 +82,7 @@ fn carry_out<K: HashKey, V: Drop, F: Drop, A: Allocator + Clone>(
     entries: &mut LeanEntries<K, V, A>,
     alloc: &A,
     hash: u32,
-    key: Given<'_, K>,
+    key: KeyArg<'_, K>,
     op: Op<V, F>,
     effect: Effect<V>,
     there: bool,
@@ -107,19 +109,19 @@ fn carry_out<K: HashKey, V: Drop, F: Drop, A: Allocator + Clone>(
 }
 
 impl<V: Value, F: Drop> Op<V, F> {
-    /// Makes the call on a key of this hash where the entries lie, as the call of this client, below
-    /// 64, after so many others of it, fewer than 2^58. It answers the reply and what the books need.
-    /// For want of memory the call is dropped, and nothing is changed.
+    /// Makes the call on a key of this hash where the entries lie, as the call of this client, after so
+    /// many others of it. Returns the reply and what the books need. Out of memory, the call is
+    /// dropped, and nothing is changed.
     #[inline(always)]
     pub fn make_on<K: HashKey, A: Allocator + Clone>(
         self,
         entries: &mut LeanEntries<K, V, A>,
         alloc: &A,
         hash: u32,
-        key: Given<'_, K>,
+        key: KeyArg<'_, K>,
         client: u32,
         ordinal: u64,
-    ) -> Result<(Reply<V>, Trace<K, V, F>), AllocError>
+    ) -> Result<(Reply<V>, Posting<K, V, F>), AllocError>
     where
         F: Remap<K, V>,
         requires keys { IsExact K.is_clone }
@@ -131,6 +133,8 @@ impl<V: Value, F: Drop> Op<V, F> {
             (call_on (key_in key.entry) self) (as_bin entries.old) (as_bin entries.new) r.0 r.1) }
         ensures succeeds { IsSure K.eq K.is_infallible V.is_infallible (as_bin entries.old)
             (key_in key.entry) self → IsOk result }
+        ensures spared { IsSpared K.eq V.is_infallible entries.old.entries (key_in key.entry) self →
+            IsOk result }
         ensures refused { OnErr result (entries.new.entries ≡ entries.old.entries) }
         ensures class { entries.new.class ≡ entries.old.class }
         ensures salt { entries.new.salt ≡ entries.old.salt }
@@ -139,6 +143,6 @@ impl<V: Value, F: Drop> Op<V, F> {
         let there = seen.before.is_some();
         let Work { effect, answer } = work;
         let taken = carry_out(entries, alloc, hash, key, self, effect, there)?;
-        Ok((answer.reply(taken), Trace::seen(client, ordinal, seen)))
+        Ok((answer.reply(taken), Posting::seen(client, ordinal, seen)))
     }
 }

@@ -3,6 +3,7 @@ ghost use Rattle.std.specs.Prelude.{◌≡◌, ◌+◌, ◌<◌, ◌≤◌, ◌^
 ghost use Rattle.std.specs.Prelude.{OnOk};
 ghost use Rattle.hashkeys.specs.Classes.{is_of};
 ghost use Rattle.bin_history.specs.Copies.{IsExact};
+ghost use Rattle.bin_history.specs.Limits.{most_lean_clients, most_records};
 ghost use Rattle.bin_history.specs.Logs.{AreCallsOn, CanFold, IsKeptOrFolded};
 ghost use Rattle.bin_history.specs.Part.{part_of_entries, part_of_records};
 
@@ -73,9 +74,10 @@ impl<K: Drop, V: Drop, F: Drop, A: Allocator + Clone> Log<K, V, F, A> {
     /// Makes room for one more record or, where there are 1,024, in the base for the keys that the
     /// oldest 512 of them made present.
     pub(crate) fn reserve(&mut self) -> Result<(), AllocError>
-        requires few { length self.old.records ≤ 1024 }
+        requires few { length self.old.records ≤ most_records }
         ensures room { OnOk result (CanFold self.new) }
-        ensures succeeds { length self.old.records < 1024 → 0 < self.old.record_room → IsOk result }
+        ensures succeeds { length self.old.records < most_records → 0 < self.old.record_room →
+            IsOk result }
         ensures base { self.new.base ≡ self.old.base }
         ensures records { self.new.records ≡ self.old.records }
     {
@@ -93,11 +95,11 @@ impl<K: HashKey, V: Drop, F: Drop, A: Allocator> Log<K, V, F, A> {
     pub(crate) fn fold(&mut self)
         requires room { CanFold self.old }
         requires calls { AreCallsOn K.eq self.old.base self.old.records }
-        requires few { length self.old.records ≤ 1024 }
+        requires few { length self.old.records ≤ most_records }
         ensures kept { IsKeptOrFolded K.eq self.old.base self.old.records self.new.base
             self.new.records }
         ensures room { 0 < self.new.record_room }
-        ensures fewer { length self.new.records < 1024 }
+        ensures fewer { length self.new.records < most_records }
     {
         if self.records.len() == MOST_RECORDS {
             fold_front(&mut self.base, &mut self.records);
@@ -108,8 +110,8 @@ impl<K: HashKey, V: Drop, F: Drop, A: Allocator> Log<K, V, F, A> {
 impl<K: Drop, V: Drop, F: Drop, A: Allocator> Log<K, V, F, A> {
     /// Puts the record of a call into the room that there is for it.
     pub(crate) fn add(&mut self, client: u32, ordinal: u64, kept: Kept<K, V, F>)
-        requires client { client < 64 }
-        requires ordinal { ordinal < 2 ^ 58 }
+        requires client { client < most_lean_clients }
+        requires ordinal { ordinal < 2 ^ 48 }
         requires room { 0 < self.old.record_room }
         ensures base { self.new.base ≡ self.old.base }
         ensures records { self.new.records ≡ self.old.records ++ record {

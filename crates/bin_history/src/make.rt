@@ -2,29 +2,30 @@
 ghost use Rattle.std.specs.Prelude.{◌≡◌, ◌<◌, ◌^◌, true, IfOk, IsOk, OnErr};
 ghost use Rattle.hashkeys.specs.Classes.{is_of};
 ghost use Rattle.bin_history.specs.Copies.{IsExact};
+ghost use Rattle.bin_history.specs.Limits.{most_lean_clients};
 ghost use Rattle.bin_history.specs.Made.{IsMadeOn};
 ghost use Rattle.bin_history.specs.Ops.{call_on, key_in};
 ghost use Rattle.bin_history.specs.Sure.{IsSure};
 
 use crate::call::{Remap, Reply, Value};
 use crate::op::Op;
+use crate::posting::Posting;
 use crate::recorded::RecordedBin;
-use crate::trace::Trace;
-use bin_entries::Given;
+use bin_entries::KeyArg;
 use hashkeys::HashKey;
 use std::alloc::{AllocError, Allocator};
 
 impl<K: HashKey, V: Value, F: Remap<K, V>, A: Allocator + Clone> RecordedBin<K, V, F, A> {
-    /// Makes a call, as the call of this client, below 64, after so many others of it, fewer than
-    /// 2^58: what `prepare_on` and `apply` do, one after the other. It answers the reply and what
-    /// the books need. For want of memory the call is dropped, and nothing is changed.
+    /// Makes a call, as the call of this client, below 65,536, after so many others of it, fewer
+    /// than 2^48: what `prepare_on` and `apply` do, one after the other. It returns the reply and
+    /// what the books need. Out of memory, the call is dropped, and nothing is changed.
     pub fn make_on(
         &mut self,
-        key: Given<'_, K>,
+        key: KeyArg<'_, K>,
         op: Op<V, F>,
         client: u32,
         ordinal: u64,
-    ) -> Result<(Reply<V>, Trace<K, V, F>), AllocError>
+    ) -> Result<(Reply<V>, Posting<K, V, F>), AllocError>
     where
         K: Drop,
         V: Drop,
@@ -32,8 +33,8 @@ impl<K: HashKey, V: Value, F: Remap<K, V>, A: Allocator + Clone> RecordedBin<K, 
         requires keys { IsExact K.is_clone }
         requires values { IsExact V.is_clone }
         requires of_class { is_of K.code self.old.salt self.old.class (key_in key) ≡ true }
-        requires client { client < 64 }
-        requires ordinal { ordinal < 2 ^ 58 }
+        requires client { client < most_lean_clients }
+        requires ordinal { ordinal < 2 ^ 48 }
         ensures made { IfOk result
             (λ r. IsMadeOn K.eq V.eq F.remapped F.merged client ordinal
             (call_on (key_in key.entry) op) self.old self.new r.0 r.1) }

@@ -42,6 +42,7 @@ impl<V, F> Op<V, F> {
     }
 
     /// The value that the call may give its key, where it brings one.
+    #[inline(always)]
     pub(crate) fn value(&self) -> Option<&V>
         ensures { option_copied result ≡ value_of self.now }
     {
@@ -57,6 +58,7 @@ impl<V, F> Op<V, F> {
 
 impl<V: Drop, F: Drop> Op<V, F> {
     /// The value that `value` shows.
+    #[inline(always)]
     pub(crate) fn into_value(self) -> Option<V>
         ensures { result ≡ value_of self }
     {

@@ -15,7 +15,7 @@ use crate::effect::{Answer, Effect};
 use crate::op::Op;
 use crate::seen::Seen;
 use crate::work::work_of;
-use bin_entries::{Given, copy_of_option};
+use bin_entries::{KeyArg, copy_of_option};
 use hashkeys::HashKey;
 use std::alloc::AllocError;
 use std::marker::Model;
@@ -57,7 +57,7 @@ impl<K, V, F> Model for Ready<K, V, F> {
 /// each have their own copies.
 fn planned<K: Clone + Drop, V: Clone + Drop, F: Drop>(
     found: Option<usize>,
-    key: Given<'_, K>,
+    key: KeyArg<'_, K>,
     op: Op<V, F>,
     effect: Effect<V>,
     before: Option<&V>,
@@ -75,7 +75,7 @@ fn planned<K: Clone + Drop, V: Clone + Drop, F: Drop>(
     let after = copy_of_option(effect.left(&op, before))?;
     let before = copy_of_option(before)?;
     let key = key.into_owned()?;
-    let change = Change::by(Given::Lent(&key), found, effect, value)?;
+    let change = Change::by(KeyArg::Borrowed(&key), found, effect, value)?;
     let call = Call::on(key, op);
     Ok((
         change,
@@ -91,7 +91,7 @@ fn planned<K: Clone + Drop, V: Clone + Drop, F: Drop>(
 pub(crate) fn work_out<K: HashKey, V: Value, F: Remap<K, V>>(
     entries: &[(K, V)],
     found: Option<usize>,
-    key: Given<'_, K>,
+    key: KeyArg<'_, K>,
     op: Op<V, F>,
 ) -> Result<Ready<K, V, F>, AllocError>
     requires keys { IsExact K.is_clone }

@@ -3,6 +3,7 @@ ghost use Rattle.std.specs.Prelude.{◌≡◌, ◌<◌, ◌^◌, IfOk, option_co
 ghost use Rattle.bin_history.specs.Births.{is_birth};
 ghost use Rattle.bin_history.specs.Copies.{IsExact};
 ghost use Rattle.bin_history.specs.Deltas.{delta};
+ghost use Rattle.bin_history.specs.Limits.{most_lean_clients};
 ghost use Rattle.bin_history.specs.Records.{before_of, after_of};
 
 use crate::call::Call;
@@ -21,14 +22,14 @@ pub enum Values<V> {
 }
 
 /// Clients are numbered below this.
-const CLIENTS: u64 = 64;
+const CLIENTS: u64 = 65_536;
 
 /// A call that was made: the client's number, the call's place among the client's calls, and the
 /// value at its key just before it and just after it. Contracts see a `RecordView`. A recorded bin
 /// keeps one for each call, so the two numbers share a word, and the two values one tag.
 #[derive(Drop)]
 pub struct Record<K, V, F> {
-    /// The ordinal times 64, and the client.
+    /// The ordinal times 65,536, and the client.
     stamp: u64,
     call: Call<K, V, F>,
     values: Values<V>,
@@ -41,8 +42,8 @@ impl<K, V, F> Model for Record<K, V, F> {
     ghost Value = { RecordView K V F };
 
     ghost view = { λ r. record {
-      client = r.stamp % 64;
-      ordinal = r.stamp / 64;
+      client = r.stamp % 65536;
+      ordinal = r.stamp / 65536;
       call = r.call;
       before = before_of r.values;
       after = after_of r.values;
@@ -68,7 +69,7 @@ impl<V> Values<V> {
 }
 
 impl<K, V, F> Record<K, V, F> {
-    /// The record of a call of this client, below 64, which made so many before: fewer than 2^58.
+    /// The record of a call of this client, below 65,536, which made so many before: fewer than 2^48.
     pub fn new(
         client: u32,
         ordinal: u64,
@@ -76,8 +77,8 @@ impl<K, V, F> Record<K, V, F> {
         before: Option<V>,
         after: Option<V>,
     ) -> Record<K, V, F>
-        requires client { client < 64 }
-        requires ordinal { ordinal < 2 ^ 58 }
+        requires client { client < most_lean_clients }
+        requires ordinal { ordinal < 2 ^ 48 }
         ensures { result ≡ record {
           client = client;
           ordinal = ordinal;

@@ -5,11 +5,11 @@ use crate::call::{Call, Remap, Reply, Value};
 use crate::change::find;
 use crate::log::Log;
 use crate::op::Op;
+use crate::posting::Posting;
 use crate::ready::{Ready, work_out};
 use crate::record::Record;
 use crate::room::make_room_for;
-use crate::trace::Trace;
-use bin_entries::{Given, copy_of_entries, part_of_entries};
+use bin_entries::{KeyArg, copy_of_entries, part_of_entries};
 use hashkeys::{AsKey, Class, HashKey, Salt};
 use std::alloc::{AllocError, Allocator};
 use std::marker::Model;
@@ -170,6 +170,7 @@ impl<K: HashKey, V: Value, F: Remap<K, V>, A: Allocator + Clone> RecordedBin<K, 
         ensures replayed { self.now.entries ≡ replay K.eq self.now.base self.now.records }
         ensures form { self.now.form ≡ Recorded }
     {
+        // read for the proof alone, which so has the invariant
         let _ = &self.entries;
     }
 }
@@ -182,6 +183,7 @@ impl<K: HashKey, V: Value, F: Remap<K, V>, A: Allocator + Clone> RecordedBin<K, 
     ghost use Rattle.bin_history.specs.Copies.{IsExact};
     ghost use Rattle.bin_history.specs.Entries.{store};
     ghost use Rattle.bin_history.specs.Histories.{GoesOn};
+    ghost use Rattle.bin_history.specs.Limits.{most_lean_clients};
     ghost use Rattle.bin_history.specs.Ops.{call_on, key_in};
     ghost use Rattle.bin_history.specs.Readiness.{IsPrepared, KeepsOrFolds, record_of};
     ghost use Rattle.bin_history.specs.Sure.{IsSure, op_of};
@@ -211,7 +213,7 @@ impl<K: HashKey, V: Value, F: Remap<K, V>, A: Allocator + Clone> RecordedBin<K, 
         ensures salt { self.new.salt ≡ self.old.salt }
     {
         let (key, op) = call.into_parts();
-        let key: Given<'a, K> = Given::Owned(key);
+        let key: KeyArg<'a, K> = KeyArg::Owned(key);
         self.prepare_on(key, op)
     }
 
@@ -219,7 +221,7 @@ impl<K: HashKey, V: Value, F: Remap<K, V>, A: Allocator + Clone> RecordedBin<K, 
     /// borrowed key is copied where an entry is made of it, and for the record.
     pub fn prepare_on(
         &mut self,
-        key: Given<'_, K>,
+        key: KeyArg<'_, K>,
         op: Op<V, F>,
     ) -> Result<Ready<K, V, F>, AllocError>
         requires keys { IsExact K.is_clone }
@@ -247,18 +249,18 @@ impl<K: HashKey, V: Value, F: Remap<K, V>, A: Allocator + Clone> RecordedBin<K, 
     }
 
     /// Makes a call that was prepared on this bin, since when nothing was applied, as the call of
-    /// this client, below 64, after so many others of it, fewer than 2^58. It answers the reply and
-    /// what the books need, and keeps the record. It takes no memory: what it keeps goes into the
+    /// this client, below 65,536, after so many others of it, fewer than 2^48. It returns the reply
+    /// and what the books need, and keeps the record. It takes no memory: what it keeps goes into the
     /// room that there is.
     pub fn apply(
         &mut self,
         ready: Ready<K, V, F>,
         client: u32,
         ordinal: u64,
-    ) -> (Reply<V>, Trace<K, V, F>)
+    ) -> (Reply<V>, Posting<K, V, F>)
         requires prepared { IsPrepared K.eq K.code V.eq F.remapped F.merged ready self.old }
-        requires client { client < 64 }
-        requires ordinal { ordinal < 2 ^ 58 }
+        requires client { client < most_lean_clients }
+        requires ordinal { ordinal < 2 ^ 48 }
         ensures reply { result.0 ≡ reply V.eq ready.call ready.before ready.after }
         ensures trace { result.1 ≡ record_of client ordinal ready }
         ensures entries { self.new.entries ≡ store K.eq self.old.entries
@@ -282,7 +284,7 @@ impl<K: HashKey, V: Value, F: Remap<K, V>, A: Allocator + Clone> RecordedBin<K, 
         } = ready;
         let taken = change.carry_out(&mut self.entries);
         self.log.add(client, ordinal, kept);
-        (answer.reply(taken), Trace::seen(client, ordinal, seen))
+        (answer.reply(taken), Posting::seen(client, ordinal, seen))
     }
 }
 

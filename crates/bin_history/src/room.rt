@@ -1,5 +1,6 @@
 //! Room in lists of records and of entries.
 ghost use Rattle.std.specs.Prelude.{◌≡◌, ◌<◌, ◌≤◌, None, true, IsOk, OnOk, vec_len, vec_capacity};
+ghost use Rattle.bin_history.specs.Limits.{most_records};
 ghost use Rattle.bin_history.specs.Ops.{may_add};
 
 use crate::op::Op;
@@ -14,7 +15,7 @@ const LEAST_ROOM: usize = 4;
 pub(crate) fn make_room_in<T: Drop, A: Allocator + Clone>(
     list: &mut Vec<T, A>,
 ) -> Result<(), AllocError>
-    requires few { vec_len list.old ≤ 1024 }
+    requires few { vec_len list.old ≤ most_records }
     ensures items { list.new.items ≡ list.old.items }
     ensures len { vec_len list.new ≡ vec_len list.old }
     ensures room { OnOk result (vec_len list.new < vec_capacity list.new) }

@@ -3,7 +3,7 @@ ghost use Rattle.std.specs.Prelude.{◌≡◌, false, Some, None, cond, IfOk, Is
 ghost use Rattle.bin_history.specs.Calls.{is_value};
 ghost use Rattle.bin_history.specs.Changes.{IsWork};
 ghost use Rattle.bin_history.specs.Copies.{IsExact};
-ghost use Rattle.bin_history.specs.Sure.{IsNeverRefused, asks};
+ghost use Rattle.bin_history.specs.Sure.{IsNeverRefused, asks, copies_none};
 ghost use Rattle.bin_history.specs.declared.call.Reply.TheVariants.{Value, Truth};
 ghost use Rattle.bin_history.specs.declared.effect.Answer.TheVariants.{Known, Taken};
 ghost use Rattle.bin_history.specs.declared.effect.Effect.TheVariants.{Keep, Give, Set};
@@ -22,6 +22,7 @@ pub(crate) struct Work<V> {
 }
 
 /// Whether the value is this one.
+#[inline(always)]
 fn is_value<V: Eq>(value: Option<&V>, other: &V) -> bool
     ensures { result ≡ is_value V.eq (option_copied value.entry) other.now }
 {
@@ -33,6 +34,7 @@ fn is_value<V: Eq>(value: Option<&V>, other: &V) -> bool
 
 impl<V> Work<V> {
     /// A call that answers this reply.
+    #[inline(always)]
     fn known(effect: Effect<V>, reply: Reply<V>) -> Work<V>
         ensures { result ≡ record { effect = effect; answer = Known reply } }
     {
@@ -43,6 +45,7 @@ impl<V> Work<V> {
     }
 
     /// A call that answers the value that it takes away.
+    #[inline(always)]
     fn taking(effect: Effect<V>) -> Work<V>
         ensures { result ≡ record { effect = effect; answer = Taken } }
     {
@@ -53,6 +56,7 @@ impl<V> Work<V> {
     }
 
     /// A call that takes the key away where something is so, and answers whether it is.
+    #[inline(always)]
     fn clearing_if(so: bool) -> Work<V>
         ensures { result ≡ record { effect = cond so (Set None) Keep; answer = Known (Truth so) } }
     {
@@ -61,6 +65,7 @@ impl<V> Work<V> {
     }
 
     /// A call that gives the value that it brings where something is so, and answers whether it is.
+    #[inline(always)]
     fn giving_if(so: bool) -> Work<V>
         ensures { result ≡ record { effect = cond so Give Keep; answer = Known (Truth so) } }
     {
@@ -71,6 +76,7 @@ impl<V> Work<V> {
 
 impl<V: Clone> Work<V> {
     /// A call that keeps the value, and answers it.
+    #[inline(always)]
     fn keeping(value: Option<&V>) -> Result<Work<V>, AllocError>
         requires { IsExact V.is_clone }
         ensures work { IfOk result
@@ -85,6 +91,7 @@ impl<V: Clone> Work<V> {
     }
 
     /// A call that gives the value that it brings, and answers it.
+    #[inline(always)]
     fn giving(value: &V) -> Result<Work<V>, AllocError>
         requires { IsExact V.is_clone }
         ensures work { IfOk result
@@ -95,6 +102,7 @@ impl<V: Clone> Work<V> {
     }
 
     /// A call that sets what a function made, and answers it.
+    #[inline(always)]
     fn setting(value: Option<V>) -> Result<Work<V>, AllocError>
         requires { IsExact V.is_clone }
         ensures { IfOk result
@@ -105,6 +113,7 @@ impl<V: Clone> Work<V> {
     }
 }
 
+#[inline(always)]
 fn remapped<K, V: Clone, F: Remap<K, V>>(
     function: &F,
     key: &K,
@@ -118,6 +127,7 @@ fn remapped<K, V: Clone, F: Remap<K, V>>(
     Work::setting(function.remap(key, before)?)
 }
 
+#[inline(always)]
 fn merged<K, V: Clone, F: Remap<K, V>>(
     function: &F,
     old: &V,
@@ -132,6 +142,7 @@ fn merged<K, V: Clone, F: Remap<K, V>>(
 
 /// What the call on the key does and what it answers, by the value before it. The call's function
 /// is asked once at most.
+#[inline(always)]
 pub(crate) fn work_of<K, V: Value, F: Remap<K, V>>(
     key: &K,
     op: &Op<V, F>,
@@ -140,8 +151,8 @@ pub(crate) fn work_of<K, V: Value, F: Remap<K, V>>(
     requires { IsExact V.is_clone }
     ensures work { IfOk result
         (λ work. IsWork V.eq F.remapped F.merged key.now op.now (option_copied before.entry) work) }
-    ensures succeeds { IsNeverRefused V.is_infallible → asks op.now (option_copied before.entry)
-        ≡ false → IsOk result }
+    ensures succeeds { (copies_none op.now ≡ false → IsNeverRefused V.is_infallible) →
+        asks op.now (option_copied before.entry) ≡ false → IsOk result }
 {
     match op {
         Op::Get => Work::keeping(before),

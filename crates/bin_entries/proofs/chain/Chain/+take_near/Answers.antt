@@ -9,5 +9,5 @@ returns-else-own-hash-clause-hashed g t c hash_of h =
     let behind = c.take_near.ensures.hashed hash_of rest in
     (rw lent own.0, behind)
 
-pub returns-then-eq-clause-hashed : goal.returns-then-eq-clause-hashed
-returns-then-eq-clause-hashed g t c hash_of h = c.take_first.ensures.hashed hash_of (rw c.in-Link.is at h)
+pub returns-then-is_key-clause-hashed : goal.returns-then-is_key-clause-hashed
+returns-then-is_key-clause-hashed g t c hash_of h = c.take_first.ensures.hashed hash_of (rw c.in-Link.is at h)

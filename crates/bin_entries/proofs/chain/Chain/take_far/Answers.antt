@@ -10,7 +10,7 @@ parts g c = rw c.replace.ensures.value at c.parted-before.ensures.parts
 
 pub returns-clause-entries : goal.returns-clause-entries
 returns-clause-entries g c =
-    let key = c.args.key.now in
+    let key = g.Q.AsKey.stands_for c.args.query in
     let before = reverse (entries_of c.parted-before.result.0) in
     let rest = entries_of c.parted-before.result.1 in
     c.onto.ensures.entries ∙ ap (λ es. before ++ es) c.take_first-taken.ensures.entries
@@ -19,7 +19,7 @@ returns-clause-entries g c =
 
 pub returns-clause-value : goal.returns-clause-value
 returns-clause-value g c =
-    let key = c.args.key.now in
+    let key = g.Q.AsKey.stands_for c.args.query in
     let before = reverse (entries_of c.parted-before.result.0) in
     let rest = entries_of c.parted-before.result.1 in
     c.take_first-taken.ensures.value ∙ sym (lookup-behind g.K.PartialEq.eq before rest key c.parted-before.ensures.absent)

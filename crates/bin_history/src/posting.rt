@@ -11,13 +11,13 @@ use std::snapshot::Snapshot;
 /// What the books of a map need of a call that was made: its record, in contracts alone. At run
 /// time it tells how the call changed the number of keys.
 #[derive(Drop)]
-pub struct Trace<K, V, F> {
+pub struct Posting<K, V, F> {
     client: Snapshot<u32>,
     ordinal: Snapshot<u64>,
     seen: Seen<K, V, F>,
 }
 
-impl<K, V, F> Model for Trace<K, V, F> {
+impl<K, V, F> Model for Posting<K, V, F> {
     ghost use Rattle.bin_history.specs.Readiness.{call_seen, value_seen};
     ghost use Rattle.bin_history.specs.Records.{RecordView};
 
@@ -32,9 +32,9 @@ impl<K, V, F> Model for Trace<K, V, F> {
     } };
 }
 
-impl<K, V, F> Trace<K, V, F> {
+impl<K, V, F> Posting<K, V, F> {
     /// What the record's call leaves.
-    pub fn of(entry: &Record<K, V, F>) -> Trace<K, V, F>
+    pub fn of(entry: &Record<K, V, F>) -> Posting<K, V, F>
         ensures { result ≡ entry.now }
     {
         let seen = Seen {
@@ -42,11 +42,12 @@ impl<K, V, F> Trace<K, V, F> {
             before: value_seen(entry.before()),
             after: value_seen(entry.after()),
         };
-        Trace::seen(entry.client(), entry.ordinal(), seen)
+        Posting::seen(entry.client(), entry.ordinal(), seen)
     }
 
     /// What a call of this client leaves, which made so many before.
-    pub(crate) fn seen(client: u32, ordinal: u64, seen: Seen<K, V, F>) -> Trace<K, V, F>
+    #[inline(always)]
+    pub(crate) fn seen(client: u32, ordinal: u64, seen: Seen<K, V, F>) -> Posting<K, V, F>
         ensures { result ≡ record {
           client = client;
           ordinal = ordinal;
@@ -55,7 +56,7 @@ impl<K, V, F> Trace<K, V, F> {
           after = value_seen seen.after;
         } }
     {
-        Trace {
+        Posting {
             client: Snapshot::of(&client),
             ordinal: Snapshot::of(&ordinal),
             seen,
@@ -63,6 +64,7 @@ impl<K, V, F> Trace<K, V, F> {
     }
 
     /// How the call changed the number of keys: by 1, 0 or -1.
+    #[inline(always)]
     pub fn delta(&self) -> i64
         ensures { result ≡ delta self.now }
     {

@@ -9,33 +9,35 @@ use std::alloc::AllocError;
 /// The key of a call: handed over, or lent for the time of the call. A lent key is copied only
 /// where it has to be kept.
 #[derive(Drop)]
-pub enum Given<'a, K> {
+pub enum KeyArg<'a, K> {
     Owned(K),
-    Lent(&'a K),
+    Borrowed(&'a K),
 }
 
-impl<'a, K> Given<'a, K> {
+impl<'a, K> KeyArg<'a, K> {
     /// The key.
+    #[inline(always)]
     pub fn get(&self) -> &K
         ensures { result.now ≡ key_in self.now }
     {
         match self {
-            Given::Owned(key) => key,
-            Given::Lent(key) => key,
+            KeyArg::Owned(key) => key,
+            KeyArg::Borrowed(key) => key,
         }
     }
 }
 
-impl<'a, K: Clone> Given<'a, K> {
+impl<'a, K: Clone> KeyArg<'a, K> {
     /// The key itself where it was handed over, and else a copy.
+    #[inline(always)]
     pub fn into_owned(self) -> Result<K, AllocError>
         requires { IsExact K.is_clone }
         ensures key { IfOk result (λ key. key ≡ key_in self.entry) }
         ensures succeeds { K.is_infallible (key_in self.entry) → IsOk result }
     {
         match self {
-            Given::Owned(key) => Ok(key),
-            Given::Lent(key) => copy_of(key),
+            KeyArg::Owned(key) => Ok(key),
+            KeyArg::Borrowed(key) => copy_of(key),
         }
     }
 }
