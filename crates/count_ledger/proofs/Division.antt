@@ -28,14 +28,14 @@ neither a b false f e = refl
 neither true b true f e = e
 neither false b true f e = absurd (let x = f refl in cc)
 
-module _ {K V F : Type 0} (code : K → ℕ) (t : TermsView K V) (words : List ℕ) (calls : List (RecordView K V F))
+module _ {K V F : Type 0} (code : K → ℕ) (t : TermsView K V) (calls : List (RecordView K V F))
     (salt : Salt) (class : ClassView)
     (pairs : List (K × V)) (kept : List (RecordView K V F)) where
   abbrev whole : Book K V F
   whole = Role salt class pairs kept
 
   module _ (half : ClassView) (within : (h : ℕ) → covers half h ≡ true → covers class h ≡ true) where
-    half_sound : IsSound code t words calls whole → IsSound code t words calls (half_book code salt half pairs kept)
+    half_sound : IsSound code t calls whole → IsSound code t calls (half_book code salt half pairs kept)
     half_sound f = (
       f.0,
       ap (part_of_entries (is_of code salt half)) f.1
@@ -61,8 +61,8 @@ module _ {K V F : Type 0} (code : K → ℕ) (t : TermsView K V) (words : List �
     high : (h : ℕ) → covers (high_half class) h ≡ true → covers class h ≡ true
     high h = in_high _ _ _ (one h)
 
-    pub divided_fit : Among (IsSound code t words calls) (AreTogether code) (whole ∷ [])
-        → Among (IsSound code t words calls) (AreTogether code) (with_halves code (whole ∷ []))
+    pub divided_fit : Among (IsSound code t calls) (AreTogether code) (whole ∷ [])
+        → Among (IsSound code t calls) (AreTogether code) (with_halves code (whole ∷ []))
     divided_fit a = (half_sound (low_half class) low a.0, (apart, tt), (half_sound (high_half class) high a.0, tt, tt))
 
     pub divided_others : (u : List (Book K V F)) → Across (AreTogether code) (whole ∷ []) u →

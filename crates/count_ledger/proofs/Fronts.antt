@@ -39,11 +39,11 @@ BeginsWith-more {X} xs ys zs (more, is) (rest, its) = (
 
 module _ {K V F : Type 0} (same : K → K → Bool) (after : Call K V F → Option V → Option V) where
   -- all calls so far are a front, for each pass
-  pub IsFront-sound : (id : LedgerId) (t : TermsView K V) (words : List ℕ) (calls : List (RecordView K V F))
-      (p : PassView K V F) → IsSoundPass t words calls p.client p.made p.seen
+  pub IsFront-sound : (id : LedgerId) (t : TermsView K V) (calls : List (RecordView K V F))
+      (p : PassView K V F) → IsSoundPass t calls p.client p.made p.seen
       → IsLegal same after (lookup same (opening_of t)) calls → All (λ r. r.client < t.clients) calls
       → IsFront same after (ledger_of id t) p calls
-  IsFront-sound id t words calls p s legal clients = record {
+  IsFront-sound id t calls p s legal clients = record {
     client = s.client;
     seen = s.front;
     own = s.made_is;

@@ -5,7 +5,6 @@ use Rattle.std.proofs.Common.{arith}
 use Rattle.std.proofs.lemmas.List.Elements.{All-push}
 use Rattle.std.specs.Prelude.{Some, slice_index}
 use Rattle.std.proofs.lemmas.List.{length-set, set-get_or}
-use Rattle.std.proofs.Math.Nat.{mod-eq_of_lt}
 use mathlib.Core.Option.{some, none}
 use Rattle.atomic_table.specs.Table.{keeps, Me, step, Allows, Splits, Joins}
 use Rattle.atomic_table.proofs.Lists.{set_again}
@@ -22,13 +21,14 @@ use Rattle.count_ledger.specs.declared.books.Book.{Book}
 use Rattle.count_ledger.specs.declared.books.Book.TheVariants.{Moment, Pass, Role}
 use Rattle.count_ledger.specs.Limits.{most_calls}
 use Rattle.count_ledger.specs.Terms.{TermsView, opening_of}
-use Rattle.count_ledger.specs.Words.{word_of}
+use Rattle.count_ledger.specs.Words.{word_of, lane_of, AreCounted}
 use Rattle.count_ledger.specs.Rule.{AmongSeats, IsSound, AreTogether, Holds}
 use Rattle.count_ledger.specs.Steps.{Keeps, Tells, books_with_record, books_with_halves, with_halves, books_seeing}
 use Rattle.count_ledger.specs.Steps.{first_of, rest_of, only_view, seen_by}
 use Rattle.count_ledger.proofs.Seeing.{seen_fit, seen_others, shown_fit, shown_others}
 use Rattle.count_ledger.proofs.Holding.{AmongSeats-changed, AmongSeats-more, AmongSeats-parted, AmongSeats-joined}
-use Rattle.count_ledger.proofs.Posting.{words_after, posted_fit, posted_others}
+use Rattle.count_ledger.proofs.Posting.{posted_fit, posted_others}
+use Rattle.count_ledger.proofs.Lanes.{AreCounted-posted, AreCounted-idle}
 use Rattle.count_ledger.proofs.Division.{divided_fit, divided_others}
 
 and_turn : (a b : Bool) → (a && b) ≡ false → (b && a) ≡ false
@@ -60,7 +60,8 @@ module _ {K V F : Type 0} (code : K → ℕ) where
       calls = h.calls;
       legal = h.legal;
       clients = h.clients;
-      books = AmongSeats-parted (AreTogether code) together_turn (IsSound code t s.words h.calls) s.views id
+      counted = h.counted;
+      books = AmongSeats-parted (AreTogether code) together_turn (IsSound code t h.calls) s.views id
           (first_of v) (rest_of v) h.books
           (at ∙ ap some (first-rest v));
     }
@@ -72,11 +73,12 @@ module _ {K V F : Type 0} (code : K → ℕ) where
       calls = h.calls;
       legal = h.legal;
       clients = h.clients;
-      books = AmongSeats-more (AreTogether code) together_turn (IsSound code t s.words h.calls) (set s.views id v)
+      counted = h.counted;
+      books = AmongSeats-more (AreTogether code) together_turn (IsSound code t h.calls) (set s.views id v)
           (seen_by v)
-          (subst (λ (vs : List (List (Book K V F))). AmongSeats (IsSound code t s.words h.calls) (AreTogether code) vs)
+          (subst (λ (vs : List (List (Book K V F))). AmongSeats (IsSound code t h.calls) (AreTogether code) vs)
           (sym (set_again s.views id v at)) h.books)
-          (shown_fit code t s.words h.calls v (h.books.within id v at)) (λ i u e. shown_others code v u);
+          (shown_fit code t h.calls v (h.books.within id v at)) (λ i u e. shown_others code v u);
     }
 
     pub Joins-joined : (v : List (Book K V F)) (other : ℕ) (w : List (Book K V F)) →
@@ -86,7 +88,8 @@ module _ {K V F : Type 0} (code : K → ℕ) where
       calls = h.calls;
       legal = h.legal;
       clients = h.clients;
-      books = AmongSeats-joined (AreTogether code) together_turn (IsSound code t s.words h.calls) s.views id other v w
+      counted = h.counted;
+      books = AmongSeats-joined (AreTogether code) together_turn (IsSound code t h.calls) s.views id other v w
           h.books at ne at';
     }
 
@@ -123,11 +126,12 @@ module _ {K V F : Type 0} (code : K → ℕ) where
           calls = h.calls;
           legal = h.legal;
           clients = h.clients;
-          books = AmongSeats-changed (AreTogether code) together_turn (IsSound code t s.words h.calls)
-              (IsSound code t s.words h.calls) s.views id v
+          counted = h.counted;
+          books = AmongSeats-changed (AreTogether code) together_turn (IsSound code t h.calls)
+              (IsSound code t h.calls) s.views id v
               (books_seeing h.calls v) h.books at
-              (seen_fit code t s.words h.calls v (h.books.within id v at))
-              (λ u f a. (f, seen_others code t s.words h.calls v u a));
+              (seen_fit code t h.calls v (h.books.within id v at))
+              (λ u f a. (f, seen_others code t h.calls v u a));
         })
 
     pub Keeps-books_with_halves : (word : ℕ) (salt : Salt) (class : ClassView) (pairs : List (K × V))
@@ -149,55 +153,64 @@ module _ {K V F : Type 0} (code : K → ℕ) where
           calls = h.calls;
           legal = h.legal;
           clients = h.clients;
-          books = AmongSeats-changed (AreTogether code) together_turn (IsSound code t s.words h.calls)
-              (IsSound code t s.words h.calls) s.views id v
+          counted = h.counted;
+          books = AmongSeats-changed (AreTogether code) together_turn (IsSound code t h.calls)
+              (IsSound code t h.calls) s.views id v
               (with_halves code v) h.books at
-              (divided_fit code t s.words h.calls salt class pairs kept one apart (h.books.within id v at))
-              (λ u f a. (f, divided_others code t s.words h.calls salt class pairs kept one apart u a));
+              (divided_fit code t h.calls salt class pairs kept one apart (h.books.within id v at))
+              (λ u f a. (f, divided_others code t h.calls salt class pairs kept one apart u a));
         })
 
     pub Keeps-books_with_record : (tells : (x y : K) → Decides (same x y) (x ≡ y)) (c : ℕ)
         (made seen : List (RecordView K V F)) (salt : Salt) (class : ClassView)
         (pairs : List (K × V))
         (kept : List (RecordView K V F)) (r : RecordView K V F)
-        → r.client ≡ c → r.ordinal ≡ length made → length made < most_calls t.form →
+        (word : ℕ) (f : ℕ → ℕ)
+        → r.client ≡ c → r.ordinal ≡ length made → length made < most_calls t.form t.clients →
         is_of code salt class (key_of r.call) ≡ true
         → IsLegalStep same after (run same (lookup same pairs) kept) r
-        → Keeps code same after t id (Pass c made seen ∷ Role salt class pairs kept ∷ []) (8 * (c + 1))
-        (λ n. (n + word_of (delta r)) % 2 ^ 64) (books_with_record r)
-    Keeps-books_with_record tells c made seen salt class pairs kept r by next room on step s h at fits =
+        → ((words : List ℕ) (calls : List (RecordView K V F)) → length words ≡ 264 → AreCounted words calls →
+        AreCounted (set words word (f (slice_index words word))) (calls ++ r ∷ []))
+        → Keeps code same after t id (Pass c made seen ∷ Role salt class pairs kept ∷ []) word f (books_with_record r)
+    Keeps-books_with_record tells c made seen salt class pairs kept r word f by next room on step more s h at fits =
         let v : List (Book K V F) = Pass c made seen ∷ Role salt class pairs kept ∷ [] in
-        let ws = words_after code t s.words h.calls h.sized c made seen salt class pairs kept r by next room on in
         let fit = h.books.within id v at in
         let role = fit.2.0 in
         let low : c < t.clients = fit.0.client in
         record {
-          sized = length-set s.words (8 * (c + 1)) _ ∙ h.sized;
+          sized = length-set s.words word _ ∙ h.sized;
           calls = h.calls ++ r ∷ [];
           legal = IsLegal-posted same tells (is_of code salt class) after (opening_of t) pairs h.calls kept r role.1
               role.3 on step h.legal;
           clients = All-push (λ (x : RecordView K V F). x.client < t.clients) h.calls r h.clients (omega arith);
-          books = AmongSeats-changed (AreTogether code) together_turn (IsSound code t s.words h.calls)
-              (IsSound code t ws (h.calls ++ r ∷ [])) s.views id v
+          counted = more s.words h.calls h.sized h.counted;
+          books = AmongSeats-changed (AreTogether code) together_turn (IsSound code t h.calls)
+              (IsSound code t (h.calls ++ r ∷ [])) s.views id v
               (books_with_record r h.calls v) h.books at
-              (posted_fit code t s.words h.calls h.sized c made seen salt class pairs kept r by next room on fit)
-              (posted_others code t s.words h.calls h.sized c made seen salt class pairs kept r by next room on fit);
+              (posted_fit code t h.calls c made seen salt class pairs kept r by next room on fit)
+              (posted_others code t h.calls c made seen salt class pairs kept r by next room on fit);
         }
 
-    -- a delta of 0 leaves the word as it is
-    pub Keeps-idle : (v : List (Book K V F))
-        (change : List (RecordView K V F) → List (Book K V F) → List (Book K V F)) (word n : ℕ) → n ≡ 0 →
-        Keeps code same after t id v word (λ m. (m + n) % 2 ^ 64) change
-        → Keeps code same after t id v word (λ m. m) change
-    Keeps-idle v change word n is k s h at fits =
-        let m = slice_index s.words word in
-        let still : (m + n) % 2 ^ 64 ≡ m = rw is (mod-eq_of_lt (omega arith) ∙ omega arith) in
-        subst (λ (x : ℕ). Holds code same after t record {
-          words = set s.words word x;
-          homes = s.homes;
-          views = set s.views id (change h.calls v);
-        })
-        still (k s h at fits)
+    module _ (tells : (x y : K) → Decides (same x y) (x ≡ y)) (c : ℕ) (made seen : List (RecordView K V F))
+        (salt : Salt) (class : ClassView) (pairs : List (K × V)) (kept : List (RecordView K V F))
+        (r : RecordView K V F) (by : r.client ≡ c) (next : r.ordinal ≡ length made)
+        (room : length made < most_calls t.form t.clients) (on : is_of code salt class (key_of r.call) ≡ true)
+        (step : IsLegalStep same after (run same (lookup same pairs) kept) r) where
+      -- a post adds the delta to the word of the client's lane
+      pub Keeps-posted : Keeps code same after t id (Pass c made seen ∷ Role salt class pairs kept ∷ [])
+          (8 * (lane_of c + 1)) (λ n. (n + word_of (delta r)) % 2 ^ 64) (books_with_record r)
+      Keeps-posted = Keeps-books_with_record tells c made seen salt class pairs kept r (8 * (lane_of c + 1))
+          (λ n. (n + word_of (delta r)) % 2 ^ 64) by next room on step
+          (λ words calls sized counted. AreCounted-posted c r by words calls counted sized)
+
+      -- where the delta is 0, any word may be read
+      pub Keeps-posted_idle : (word : ℕ) → word_of (delta r) ≡ 0
+          → Keeps code same after t id (Pass c made seen ∷ Role salt class pairs kept ∷ []) word (λ n. n)
+          (books_with_record r)
+      Keeps-posted_idle word idle = Keeps-books_with_record tells c made seen salt class pairs kept r word (λ n. n) by
+          next room on step
+          (λ words calls sized counted. subst (λ (ws : List ℕ). AreCounted ws (calls ++ r ∷ []))
+          (sym (set-get_or words word 0)) (AreCounted-idle c r by words calls counted idle))
 
     -- a step that keeps the rule tells what the rule says of the seat's books
     pub Allows-told : (change : List (RecordView K V F) → List (Book K V F) → List (Book K V F)) (slots word : ℕ)
@@ -213,7 +226,7 @@ module _ {K V F : Type 0} (code : K → ℕ) where
       (
         h.calls,
         refl,
-        (s.words, refl, record { legal = h.legal; clients = h.clients; sound = h.books.within id me.0 at }),
+        (s.words, refl, record { legal = h.legal; clients = h.clients; counted = h.counted; sound = h.books.within id me.0 at }),
       ),
     )
 

@@ -27,6 +27,7 @@ use Rattle.count_ledger.specs.Rule.{Among, AmongSeats, IsSound, AreTogether, Hol
 use Rattle.count_ledger.specs.Rule.{first_books}
 use Rattle.count_ledger.specs.Tokens.{IsPass}
 use Rattle.count_ledger.proofs.Filters.{filter_none}
+use Rattle.count_ledger.proofs.Lanes.{AreCounted-opening, word_of_zero}
 use Rattle.count_ledger.proofs.Together.{Among-append}
 
 pub range_next : (i n : ℕ) → i < n → range_with_len i (n - i) ≡ i ∷ range_with_len (i + 1) (n - (i + 1))
@@ -108,25 +109,14 @@ AmongSeats-one P R v fit =
       only zero u e = subst (Among P R) (some-injective v u e) fit
       only (suc i) u e = absurd (some-ne-none u (sym e))
 
-module _ {K V : Type 0} (F : Type 0) (code : K → ℕ) (t : TermsView K V) (words : List ℕ) (zeros : (i : ℕ) →
-    slice_index words i ≡ 0)
+module _ {K V : Type 0} (F : Type 0) (code : K → ℕ) (t : TermsView K V)
     (own : AreOfTheirClasses code t.salt t.bases) where
-  first_fit : Among (IsSound {F = F} code t words []) (AreTogether code) (first_books t)
+  first_fit : Among (IsSound {F = F} code t []) (AreTogether code) (first_books t)
   first_fit =
       let n = length t.bases in
-      Among-append (IsSound {F = F} code t words []) (AreTogether code) (map new_pass_book (range_with_len 0 t.clients))
-      (map (new_role_book t) (range_with_len 0 n))
-      (Among-range new_pass_book (IsSound {F = F} code t words []) (AreTogether code) 0 t.clients
-      (λ i lt. record {
-        client = omega arith;
-        numbered = tt;
-        at_most = omega arith;
-        word = zeros (8 * (i + 1));
-        made_is = refl;
-        own = refl;
-        front = ([], refl);
-      }) (λ i j lt lt' e. omega (arith, e)))
-      (Among-range (new_role_book t) (IsSound {F = F} code t words []) (AreTogether code) 0 n
+      Among-append (IsSound {F = F} code t []) (AreTogether code) (map (new_role_book t) (range_with_len 0 n))
+      (map new_pass_book (range_with_len 0 t.clients))
+      (Among-range (new_role_book t) (IsSound {F = F} code t []) (AreTogether code) 0 n
       (λ i lt. (
         refl,
         base_is_part code t.salt t.bases own i (omega arith),
@@ -134,35 +124,42 @@ module _ {K V : Type 0} (F : Type 0) (code : K → ℕ) (t : TermsView K V) (wor
         refl,
       ))
       (λ i j lt lt' h. only_one n h i j (λ e. omega (arith, e))))
-      (Each-range new_pass_book (λ b. Each (AreTogether {F = F} code b) (map (new_role_book t) (range_with_len 0 n))) 0
-      t.clients
-      (λ c low lt. Each-range (new_role_book t) (AreTogether {F = F} code (Pass c [] [])) 0 n (λ i low' lt'. tt)))
+      (Among-range new_pass_book (IsSound {F = F} code t []) (AreTogether code) 0 t.clients
+      (λ i lt. record {
+        client = omega arith;
+        numbered = tt;
+        at_most = omega arith;
+        made_is = refl;
+        own = refl;
+        front = ([], refl);
+      }) (λ i j lt lt' e. omega (arith, e)))
+      (Each-range (new_role_book t) (λ b. Each (AreTogether {F = F} code b) (map new_pass_book
+      (range_with_len 0 t.clients))) 0 n
+      (λ i low lt. Each-range new_pass_book (AreTogether {F = F} code (new_role_book t i)) 0 t.clients
+      (λ c low' lt'. tt)))
 
-  pub Holds-first : (same : K → K → Bool) (after : Call K V F → Option V → Option V) (homes : List (Unit {0})) →
-      length words ≡ 8 * (t.clients + 1) → Holds code same after t (opening words homes (first_books t))
-  Holds-first same after homes sized = record {
+  pub Holds-first : (same : K → K → Bool) (after : Call K V F → Option V → Option V) (homes : List (Unit {0}))
+      (words : List ℕ) → ((i : ℕ) → slice_index words i ≡ 0)
+      → length words ≡ 264 → Holds code same after t (opening words homes (first_books t))
+  Holds-first same after homes words zeros sized = record {
     sized = sized;
     calls = [];
     legal = tt;
     clients = All-nil (λ (r : RecordView K V F). r.client < t.clients);
-    books = AmongSeats-one (IsSound {F = F} code t words []) (AreTogether code) (first_books t) first_fit;
+    counted = AreCounted-opening K V F words zeros;
+    books = AmongSeats-one (IsSound {F = F} code t []) (AreTogether code) (first_books t) first_fit;
   }
 
 -- a new pass
-pub IsPass-new : {K V F : Type 0} (words client : ℕ) (me : Me (Unit {0}) (List (Book K V F))) →
-    me ≡ (Pass client [] [] ∷ [], []) → 8 * (client + 1) < words
-    → client < 32 → IsPass words client 0 me
-IsPass-new words client me is lt few =
-    subst (IsPass words client 0) (sym is)
-    (record { word = lt; book = refl; own = refl; counted = refl; at_most = omega arith; few = few })
+pub IsPass-new : {K V F : Type 0} (client : ℕ) (me : Me (Unit {0}) (List (Book K V F))) →
+    me ≡ (Pass client [] [] ∷ [], []) → client < 65536 → IsPass client 0 0 me
+IsPass-new client me is few =
+    subst (IsPass client 0 0) (sym is)
+    (record { book = refl; own = refl; counted = refl; at_most = omega arith; summed = sym word_of_zero; few = few })
 
--- the words of a new ledger: the first of some zeros
-pub zeros-index : (n m i : ℕ) → slice_index (take n (replicate m 0)) i ≡ 0
-zeros-index n m i =
-    go (take n (replicate m 0))
-    (All-take (λ (x : ℕ). x ≡ 0) n (replicate m 0) (All-replicate (λ (x : ℕ). x ≡ 0) m 0 refl)) where
+-- the words of a new ledger
+pub zeros-index : (m i : ℕ) → slice_index (replicate m 0) i ≡ 0
+zeros-index m i =
+    go (replicate m 0) (All-replicate (λ (x : ℕ). x ≡ 0) m 0 refl) where
       go : (l : List ℕ) → All (λ x. x ≡ 0) l → slice_index l i ≡ 0
       go l a = ⊎_elim (λ lt. a i 0 lt) (λ past. get_or_past l i 0 past) (cases_lt i (length l))
-
-pub zeros-length : (n m : ℕ) → n ≤ m → length {A = ℕ} (take n (replicate m 0)) ≡ n
-zeros-length n m le = length-take-le {A = ℕ} n (replicate m 0) (let e = length-replicate {A = ℕ} m 0 in omega arith)

@@ -1,9 +1,8 @@
--- A post: the pass and the role get the record, and the client's word its delta.
-use Rattle.std.proofs.Common.{◌≡◌, ℕ, ◌+◌, ◌*◌, ◌%◌, ◌^◌, ◌<◌, ◌==◌, ◌&&◌, Bool, true, false, List, [], ◌∷◌, ◌++◌}
-use Rattle.std.proofs.Common.{length, set, sym, ap, ◌∙◌, arith}
-use Rattle.std.specs.Prelude.{slice_index}
+-- A post: the pass and the role get the record.
+use Rattle.std.proofs.Common.{◌≡◌, ℕ, ◌+◌, ◌<◌, ◌==◌, ◌&&◌, Bool, true, false, List, [], ◌∷◌, ◌++◌}
+use Rattle.std.proofs.Common.{length, sym, ap, ◌∙◌, arith}
 use Rattle.std.specs.List.{AllByRecursion as Each}
-use Rattle.std.proofs.lemmas.List.{get_or-set_same, get_or-set_other, length_push}
+use Rattle.std.proofs.lemmas.List.{length_push}
 use Rattle.std.proofs.lemmas.List.Elements.{All-push}
 use Rattle.std.proofs.lemmas.Bool.{eq-eqb, ne_eqb}
 use Rattle.hashkeys.specs.Classes.{ClassView, is_of, AreApart}
@@ -11,19 +10,16 @@ use Rattle.hashkeys.specs.Hashing.{hash_of}
 use Rattle.hashkeys.specs.declared.hashing.Salt.{Salt}
 use Rattle.bin_history.specs.Calls.{key_of}
 use Rattle.bin_history.specs.Clients.{by_client}
-use Rattle.bin_history.specs.Deltas.{delta, sum_of_deltas}
 use Rattle.bin_history.specs.Records.{RecordView}
 use Rattle.count_ledger.specs.declared.books.Book.{Book}
 use Rattle.count_ledger.specs.declared.books.Book.TheVariants.{Moment, Pass, Role}
 use Rattle.count_ledger.specs.Limits.{most_calls}
 use Rattle.count_ledger.specs.Terms.{TermsView}
-use Rattle.count_ledger.specs.Words.{word_of}
 use Rattle.count_ledger.specs.Books.{AreNumbered}
 use Rattle.count_ledger.specs.Rule.{Among, Across, IsSound, IsSoundPass, AreTogether}
 use Rattle.count_ledger.specs.Steps.{books_with_record}
 use Rattle.count_ledger.proofs.Filters.{filter_push_kept, filter_push_left}
 use Rattle.count_ledger.proofs.Fronts.{BeginsWith-all, BeginsWith-push}
-use Rattle.count_ledger.proofs.WordSums.{word_of-add, sum_of_deltas-push}
 
 AreNumbered-push : {K V F : Type 0} (c n : ℕ) (made : List (RecordView K V F)) (r : RecordView K V F) →
     AreNumbered c n made → r.client ≡ c
@@ -35,25 +31,20 @@ other_of : (a b : Bool) → (a && b) ≡ false → a ≡ true → b ≡ false
 other_of true b e t = e
 other_of false b e t = absurd cc
 
-module _ {K V F : Type 0} (code : K → ℕ) (t : TermsView K V) (words : List ℕ) (calls : List (RecordView K V F))
-    (sized : length words ≡ 8 * (t.clients + 1))
-    (c : ℕ) (made seen : List (RecordView K V F)) (salt : Salt) (class : ClassView) (pairs : List (K × V))
+module _ {K V F : Type 0} (code : K → ℕ) (t : TermsView K V) (calls : List (RecordView K V F)) (c : ℕ)
+    (made seen : List (RecordView K V F)) (salt : Salt) (class : ClassView) (pairs : List (K × V))
     (kept : List (RecordView K V F)) (r : RecordView K V F)
-    (by : r.client ≡ c) (next : r.ordinal ≡ length made) (room : length made < most_calls t.form)
+    (by : r.client ≡ c) (next : r.ordinal ≡ length made) (room : length made < most_calls t.form t.clients)
     (on : is_of code salt class (key_of r.call) ≡ true) where
-  abbrev pub words_after : List ℕ
-  words_after = set words (8 * (c + 1)) ((slice_index words (8 * (c + 1)) + word_of (delta r)) % 2 ^ 64)
-
   abbrev pub calls_after : List (RecordView K V F)
   calls_after = calls ++ r ∷ []
 
   abbrev before : List (Book K V F)
   before = Pass c made seen ∷ Role salt class pairs kept ∷ []
 
-  pass_sound : IsSoundPass t words calls c made seen →
-      IsSoundPass t words_after calls_after c (made ++ r ∷ []) calls_after
+  pass_sound : IsSoundPass t calls c made seen →
+      IsSoundPass t calls_after c (made ++ r ∷ []) calls_after
   pass_sound f =
-      let there : 8 * (c + 1) < length words = (let low = f.client in omega arith) in
       let long = length_push made r in
       let all : by_client c calls_after ≡ made ++ r ∷ [] =
       filter_push_kept (λ x. x.client == c) calls r (eq-eqb _ _ by)
@@ -62,17 +53,13 @@ module _ {K V F : Type 0} (code : K → ℕ) (t : TermsView K V) (words : List �
         client = f.client;
         numbered = AreNumbered-push c 0 made r f.numbered by (omega arith);
         at_most = omega arith;
-        word = get_or-set_same words (8 * (c + 1)) _ 0 there
-            ∙ ap (λ (n : ℕ). (n + word_of (delta r)) % 2 ^ 64) f.word
-            ∙ sym (word_of-add (sum_of_deltas made) (delta r))
-            ∙ ap word_of (sym (sum_of_deltas-push made r));
         made_is = all;
         own = all;
         front = BeginsWith-all calls_after;
       }
 
-  role_sound : c < t.clients → IsSound code t words calls (Role salt class pairs kept)
-      → IsSound code t words_after calls_after (Role salt class pairs (kept ++ r ∷ []))
+  role_sound : c < t.clients → IsSound code t calls (Role salt class pairs kept)
+      → IsSound code t calls_after (Role salt class pairs (kept ++ r ∷ []))
   role_sound low f = (
     f.0,
     f.1,
@@ -81,8 +68,8 @@ module _ {K V F : Type 0} (code : K → ℕ) (t : TermsView K V) (words : List �
         ∙ ap (λ (l : List (RecordView K V F)). l ++ r ∷ []) f.3,
   )
 
-  pub posted_fit : Among (IsSound code t words calls) (AreTogether code) before
-      → Among (IsSound code t words_after calls_after) (AreTogether code) (books_with_record r calls before)
+  pub posted_fit : Among (IsSound code t calls) (AreTogether code) before
+      → Among (IsSound code t calls_after) (AreTogether code) (books_with_record r calls before)
   posted_fit a = (
     pass_sound a.0,
     (tt, tt),
@@ -98,12 +85,11 @@ module _ {K V F : Type 0} (code : K → ℕ) (t : TermsView K V) (words : List �
   -- key of another class
   other_sound : salt ≡ t.salt → (b : Book K V F) → AreTogether code (Pass c made seen) b →
       AreTogether code (Role salt class pairs kept) b
-      → IsSound code t words calls b → IsSound code t words_after calls_after b
+      → IsSound code t calls b → IsSound code t calls_after b
   other_sound own (Pass d m n) ne e f = record {
     client = f.client;
     numbered = f.numbered;
     at_most = f.at_most;
-    word = get_or-set_other words (8 * (c + 1)) (8 * (d + 1)) _ 0 (λ e. ne (omega arith)) ∙ f.word;
     made_is = filter_push_left (λ x. x.client == d) calls r (ne_eqb _ _ (λ q. ne (sym by ∙ q))) ∙ f.made_is;
     own = f.own;
     front = BeginsWith-push calls n r f.front;
@@ -124,10 +110,10 @@ module _ {K V F : Type 0} (code : K → ℕ) (t : TermsView K V) (words : List �
   role_beside (Role s k o l) apart = apart
   role_beside (Moment n) e = tt
 
-  others_fit : salt ≡ t.salt → (u : List (Book K V F)) → Among (IsSound code t words calls) (AreTogether code) u →
+  others_fit : salt ≡ t.salt → (u : List (Book K V F)) → Among (IsSound code t calls) (AreTogether code) u →
       Each (AreTogether code (Pass c made seen)) u
       → Each (AreTogether code (Role salt class pairs kept)) u
-      → Among (IsSound code t words_after calls_after) (AreTogether code) u
+      → Among (IsSound code t calls_after) (AreTogether code) u
       × Across (AreTogether code) (books_with_record r calls before) u
   others_fit own [] a p q = (tt, (tt, (tt, tt)))
   others_fit own (b ∷ bs) a p q =
@@ -136,8 +122,8 @@ module _ {K V F : Type 0} (code : K → ℕ) (t : TermsView K V) (words : List �
         ((pass_beside b p.0, rest.1.0), ((role_beside b q.0, rest.1.1.0), tt)),
       )
 
-  pub posted_others : Among (IsSound code t words calls) (AreTogether code) before → (u : List (Book K V F))
-      → Among (IsSound code t words calls) (AreTogether code) u → Across (AreTogether code) before u
-      → Among (IsSound code t words_after calls_after) (AreTogether code) u
+  pub posted_others : Among (IsSound code t calls) (AreTogether code) before → (u : List (Book K V F))
+      → Among (IsSound code t calls) (AreTogether code) u → Across (AreTogether code) before u
+      → Among (IsSound code t calls_after) (AreTogether code) u
       × Across (AreTogether code) (books_with_record r calls before) u
   posted_others f u a x = others_fit f.2.0.0 u a x.0 x.1.0

@@ -10,13 +10,12 @@ use Rattle.count_ledger.specs.Steps.{seeing, books_seeing, seen_by}
 use Rattle.count_ledger.proofs.Fronts.{BeginsWith-all}
 use Rattle.count_ledger.proofs.Together.{Each-weaker}
 
-module _ {K V F : Type 0} (code : K → ℕ) (t : TermsView K V) (words : List ℕ) (calls : List (RecordView K V F)) where
-  seeing_sound : (b : Book K V F) → IsSound code t words calls b → IsSound code t words calls (seeing calls b)
+module _ {K V F : Type 0} (code : K → ℕ) (t : TermsView K V) (calls : List (RecordView K V F)) where
+  seeing_sound : (b : Book K V F) → IsSound code t calls b → IsSound code t calls (seeing calls b)
   seeing_sound (Pass c made seen) f = record {
     client = f.client;
     numbered = f.numbered;
     at_most = f.at_most;
-    word = f.word;
     made_is = f.made_is;
     own = f.made_is;
     front = BeginsWith-all calls;
@@ -47,8 +46,8 @@ module _ {K V F : Type 0} (code : K → ℕ) (t : TermsView K V) (words : List �
   seen_each b [] e = tt
   seen_each b (x ∷ xs) e = (seeing_right (seeing calls b) x (seeing_left b x e.0), seen_each b xs e.1)
 
-  pub seen_fit : (v : List (Book K V F)) → Among (IsSound code t words calls) (AreTogether code) v
-      → Among (IsSound code t words calls) (AreTogether code) (books_seeing calls v)
+  pub seen_fit : (v : List (Book K V F)) → Among (IsSound code t calls) (AreTogether code) v
+      → Among (IsSound code t calls) (AreTogether code) (books_seeing calls v)
   seen_fit [] a = tt
   seen_fit (b ∷ bs) a = (seeing_sound b a.0, seen_each b bs a.1, seen_fit bs a.2)
 
@@ -60,8 +59,8 @@ module _ {K V F : Type 0} (code : K → ℕ) (t : TermsView K V) (words : List �
     seen_others bs u a.1,
   )
 
-  pub shown_fit : (v : List (Book K V F)) → Among (IsSound code t words calls) (AreTogether code) v
-      → Among (IsSound code t words calls) (AreTogether code) (seen_by v)
+  pub shown_fit : (v : List (Book K V F)) → Among (IsSound code t calls) (AreTogether code) v
+      → Among (IsSound code t calls) (AreTogether code) (seen_by v)
   shown_fit [] a = tt
   shown_fit (Pass c made seen ∷ bs) a = (a.0.front, tt, tt)
   shown_fit (Role salt class pairs kept ∷ bs) a = tt

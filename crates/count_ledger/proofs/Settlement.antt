@@ -1,6 +1,6 @@
 -- What the rule says of all books together.
 use Rattle.std.proofs.Common.{◌≡◌, ◌≢◌, ℕ, ◌<◌, ◌≤◌, ◌==◌, ◌&&◌, Bool, true, false, cond, List, [], ◌∷◌, ◌++◌, length}
-use Rattle.std.proofs.Common.{map, ap, subst, ◌∙◌, arith, All}
+use Rattle.std.proofs.Common.{map, refl, ap, subst, ◌∙◌, arith, All, Option, Some, None}
 use Rattle.std.specs.List.{AllByRecursion as Each}
 use Rattle.std.proofs.lemmas.Bool.Decides.{nat_tests}
 use Rattle.std.proofs.lemmas.List.Elements.{All-from_recursion, All-weaker, filter_passes}
@@ -9,13 +9,14 @@ use Rattle.bin_history.specs.Calls.{key_of}
 use Rattle.bin_history.specs.Clients.{by_client}
 use Rattle.bin_history.specs.Part.{part_of_records}
 use Rattle.bin_history.specs.Records.{RecordView}
+use Rattle.count_ledger.specs.declared.books.Book.{Book}
 use Rattle.count_ledger.specs.Terms.{TermsView}
-use Rattle.count_ledger.specs.Views.{LedgerId, PassView, RoleView}
+use Rattle.count_ledger.specs.Views.{LedgerId, MomentView, PassView, RoleView}
 use Rattle.count_ledger.specs.Books.{BooksAgree, IsPassOf, IsRoleOf, classes_of_roles}
 use Rattle.count_ledger.specs.Fronts.{BeginsWith}
 use Rattle.count_ledger.specs.Rule.{Among, IsSound, AreTogether, ledger_of}
-use Rattle.count_ledger.specs.Settled.{AreReconciled}
-use Rattle.count_ledger.specs.Tokens.{pass_book, role_book, AreWide}
+use Rattle.count_ledger.specs.Settled.{AreReconciled, IsOrder, seen_at}
+use Rattle.count_ledger.specs.Tokens.{moment_books, pass_book, role_book, AreWide}
 use Rattle.count_ledger.proofs.Filters.{eqb_turn, length_is_sum}
 use Rattle.count_ledger.proofs.Together.{Among-left, Among-right}
 use Rattle.count_ledger.proofs.Tallies.{upto, upto-same, upto-one, hit_once}
@@ -60,12 +61,12 @@ one_client : (c n : ℕ) → c < n → upto (λ k. cond (c == k) 1 0) n ≡ 1
 one_client c n lt = upto-same (λ k. cond (c == k) 1 0) (λ k. cond (k == c) 1 0) n
     (λ k l. ap (λ (b : Bool). cond b 1 0) (eqb_turn c k)) ∙ upto-one c n lt
 
-module _ {K V F : Type 0} (code : K → ℕ) (id : LedgerId) (t : TermsView K V) (words : List ℕ)
+module _ {K V F : Type 0} (code : K → ℕ) (id : LedgerId) (t : TermsView K V)
     (calls : List (RecordView K V F)) where
-  pub IsPassOf-sound : (p : PassView K V F) → IsSound code t words calls (pass_book p) → IsPassOf (ledger_of id t) p
+  pub IsPassOf-sound : (p : PassView K V F) → IsSound code t calls (pass_book p) → IsPassOf (ledger_of id t) p
   IsPassOf-sound p s = record { client = s.client; numbered = s.numbered; at_most = s.at_most; own = s.own }
 
-  pub IsRoleOf-sound : (r : RoleView K V F) → IsSound code t words calls (role_book r) →
+  pub IsRoleOf-sound : (r : RoleView K V F) → IsSound code t calls (role_book r) →
       IsRoleOf code (ledger_of id t) r
   IsRoleOf-sound r s = record {
     salt = s.0;
@@ -75,22 +76,45 @@ module _ {K V F : Type 0} (code : K → ℕ) (id : LedgerId) (t : TermsView K V)
         (filter_passes (λ (x : RecordView K V F). is_of code r.salt r.class (key_of x.call)) calls);
   }
 
-  pub AreReconciled-settled : (ps : List (PassView K V F)) (rs : List (RoleView K V F)) → t.clients ≤ length ps →
-      AreWide (classes_of_roles rs) → All (λ x. x.client < t.clients) calls
-      → Among (IsSound code t words calls) (AreTogether code) (map role_book rs ++ map pass_book ps) →
-      AreReconciled code (ledger_of id t) ps rs
-  AreReconciled-settled ps rs enough wide clients a =
-      let P = IsSound code t words calls in
+  -- a moment whose book is beside others shows a front
+  pub seen_first : (moment : Option (MomentView K V F)) (books : List (Book K V F))
+      → Among (IsSound code t calls) (AreTogether code) (moment_books moment ++ books) → BeginsWith calls (seen_at moment)
+  seen_first None books a = (calls, refl)
+  seen_first (Some m) books a = a.0
+
+  pub IsOrder-settled : (ps : List (PassView K V F)) (rs : List (RoleView K V F))
+      → All (λ x. x.client < t.clients) calls
+      → Among (IsSound code t calls) (AreTogether code) (map role_book rs ++ map pass_book ps) →
+      IsOrder code (ledger_of id t) ps rs calls
+  IsOrder-settled ps rs clients a =
+      let P = IsSound code t calls in
       let R = AreTogether code in
       let passes = Among-of_map pass_book P R ps (Among-right P R (map role_book rs) (map pass_book ps) a) in
       let roles = Among-of_map role_book P R rs (Among-left P R (map role_book rs) (map pass_book ps) a) in
-      let made = All-from_recursion (λ p. by_client p.client calls ≡ p.made) ps
-      (Each-from_among (λ p. P (pass_book p)) (λ p q. R (pass_book p) (pass_book q))
-      (λ p. by_client p.client calls ≡ p.made) (λ p s. s.made_is) ps passes) in
-      let kept = All-from_recursion (λ r. part_of_records (is_of code r.salt r.class) calls ≡ r.kept) rs
-      (Each-from_among (λ r. P (role_book r))
-      (λ r s. R (role_book r) (role_book s)) (λ r. part_of_records (is_of code r.salt r.class) calls ≡ r.kept)
-      (λ r s. s.3) rs roles) in
+      record {
+        clients = clients;
+        made = All-from_recursion (λ p. by_client p.client calls ≡ p.made) ps
+            (Each-from_among (λ p. P (pass_book p)) (λ p q. R (pass_book p) (pass_book q))
+            (λ p. by_client p.client calls ≡ p.made) (λ p s. s.made_is) ps passes);
+        seen = All-from_recursion (λ p. BeginsWith calls p.seen) ps
+            (Each-from_among (λ p. P (pass_book p)) (λ p q. R (pass_book p) (pass_book q))
+            (λ p. BeginsWith calls p.seen) (λ p s. s.front) ps passes);
+        kept = All-from_recursion (λ r. part_of_records (is_of code r.salt r.class) calls ≡ r.kept) rs
+            (Each-from_among (λ r. P (role_book r))
+            (λ r s. R (role_book r) (role_book s)) (λ r. part_of_records (is_of code r.salt r.class) calls ≡ r.kept)
+            (λ r s. s.3) rs roles);
+      }
+
+  pub AreReconciled-settled : (ps : List (PassView K V F)) (rs : List (RoleView K V F)) → t.clients ≤ length ps →
+      AreWide (classes_of_roles rs) → All (λ x. x.client < t.clients) calls
+      → Among (IsSound code t calls) (AreTogether code) (map role_book rs ++ map pass_book ps) →
+      AreReconciled code (ledger_of id t) ps rs
+  AreReconciled-settled ps rs enough wide clients a =
+      let P = IsSound code t calls in
+      let R = AreTogether code in
+      let passes = Among-of_map pass_book P R ps (Among-right P R (map role_book rs) (map pass_book ps) a) in
+      let roles = Among-of_map role_book P R rs (Among-left P R (map role_book rs) (map pass_book ps) a) in
+      let order = IsOrder-settled ps rs clients a in
       let apart = Among-weaker (λ p. P (pass_book p)) (λ p q. R (pass_book p) (pass_book q)) (λ p q. (k : ℕ) →
       ((p.client == k) && (q.client == k)) ≡ false)
       (λ p q ne k. two_clients p.client q.client k ne) ps passes in
@@ -111,17 +135,7 @@ module _ {K V F : Type 0} (code : K → ℕ) (id : LedgerId) (t : TermsView K V)
         agree = All-weaker (λ r. part_of_records (is_of code r.salt r.class) calls ≡ r.kept)
             (λ r. All (λ p. BooksAgree code p r) ps)
             (λ r kept_is. All-weaker (λ p. by_client p.client calls ≡ p.made) (λ p. BooksAgree code p r)
-            (λ p made_is. agree_by (is_of code r.salt r.class) p.client calls p.made r.kept made_is kept_is) ps made) rs
-            kept;
-        order = (
-          calls,
-          record {
-            clients = clients;
-            made = made;
-            seen = All-from_recursion (λ p. BeginsWith calls p.seen) ps
-                (Each-from_among (λ p. P (pass_book p)) (λ p q. R (pass_book p) (pass_book q))
-                (λ p. BeginsWith calls p.seen) (λ p s. s.front) ps passes);
-            kept = kept;
-          },
-        );
+            (λ p made_is. agree_by (is_of code r.salt r.class) p.client calls p.made r.kept made_is kept_is) ps order.made) rs
+            order.kept;
+        order = (calls, order);
       }

@@ -1,6 +1,7 @@
 -- Sums of deltas, and sums of words modulo 2^64.
-use Rattle.std.proofs.Common.{◌≡◌, ℕ, suc, ◌+◌, ◌-◌, ◌*◌, ◌%◌, ◌^◌, ◌<◌, ◌≤◌, ℤ, pos, negsuc, ◌+ℤ◌, ◌≤ℤ◌}
-use Rattle.std.proofs.Common.{neg_ℤ, Option}
+use Rattle.std.proofs.Common.{◌≡◌, ℕ, suc, ◌+◌, ◌-◌, ◌*◌, ◌/◌, ◌%◌}
+use Rattle.std.proofs.Common.{◌^◌, ◌<◌, ◌≤◌, ℤ, pos, negsuc, ◌+ℤ◌, ◌≤ℤ◌}
+use Rattle.std.proofs.Common.{neg_ℤ, Option, subst, mul_comm, div-mul-le_self, suc-mul, le_trans, mul-le-mul_right}
 use Rattle.std.proofs.Common.{Some, None, List, [], ◌∷◌, ◌++◌}
 use Rattle.std.proofs.Common.{length, get_or, take, refl, sym, ap, ◌∙◌, arith, All}
 use Rattle.std.specs.Prelude.{unsigned_abs, FitsSigned}
@@ -78,9 +79,13 @@ pub total_of_more : {X : Type 0} (f : X → ℤ) (xs : List X) (i : ℕ) (d : X)
     → total_of f (take (i + 1) xs) ≡ total_of f (take i xs) +ℤ f (get_or xs i d)
 total_of_more f xs i d l = ap (total_of f) (take_more xs i d l) ∙ total_of-push f (take i xs) (get_or xs i d)
 
-pub most_calls-le : (form : Form) → most_calls form ≤ 144115188075855872
-most_calls-le Recorded = omega arith
-most_calls-le Lean = omega arith
+-- the calls of all clients together are no more than 2^62
+pub most_calls-all : (form : Form) (clients : ℕ) → clients ≤ 65536 →
+    clients * most_calls form clients ≤ 4611686018427387904
+most_calls-all Recorded clients few = omega arith
+most_calls-all Lean clients few =
+    let most = 4611686018427387904 / clients in
+    subst (λ (n : ℕ). n ≤ 4611686018427387904) (mul_comm most clients) (div-mul-le_self 4611686018427387904 clients)
 
 change_bounds : {V : Type 0} (before after : Option V) → (negsuc 0 ≤ℤ change_of_count before after)
     × (change_of_count before after ≤ℤ pos 1)
@@ -97,14 +102,39 @@ sum_of_deltas_bounds (r ∷ rs) =
     let ih = sum_of_deltas_bounds rs in
     (omega (arith, ints, d.0, ih.0), omega (arith, ints, d.1, ih.1))
 
-pub total_made_bounds : {K V F : Type 0} (ledger : LedgerView K V) (passes : List (PassView K V F)) →
-    All (IsPassOf ledger) passes
-    → (neg_ℤ (pos (144115188075855872 * length passes)) ≤ℤ total_made passes)
-    × (total_made passes ≤ℤ pos (144115188075855872 * length passes))
-total_made_bounds ledger [] a = (omega (arith, ints), omega (arith, ints))
-total_made_bounds ledger (p ∷ ps) a =
+more_low : (a b : ℤ) (k m n l : ℕ) → n ≡ k + m → l ≤ m → neg_ℤ (pos l) ≤ℤ a → neg_ℤ (pos k) ≤ℤ b →
+    neg_ℤ (pos n) ≤ℤ (a +ℤ b)
+more_low a b k m n l e le x y = omega (arith, ints)
+
+more_high : (a b : ℤ) (k m n l : ℕ) → n ≡ k + m → l ≤ m → a ≤ℤ pos l → b ≤ℤ pos k → (a +ℤ b) ≤ℤ pos n
+more_high a b k m n l e le x y = omega (arith, ints)
+
+-- by how much the calls of some clients can have changed the number of keys
+pub total_made_bounds : {K V F : Type 0} (ledger : LedgerView K V) (passes : List (PassView K V F)) (n : ℕ) →
+    All (IsPassOf ledger) passes → n ≡ length passes * most_calls ledger.form ledger.clients
+    → (neg_ℤ (pos n) ≤ℤ total_made passes) × (total_made passes ≤ℤ pos n)
+total_made_bounds ledger [] n a e = (omega (arith, ints), omega (arith, ints))
+total_made_bounds ledger (p ∷ ps) n a e =
+    let m = most_calls ledger.form ledger.clients in
+    let k = length ps * m in
     let one = sum_of_deltas_bounds p.made in
-    let ih = total_made_bounds ledger ps (All-tail (IsPassOf ledger) p ps a) in
+    let ih = total_made_bounds ledger ps k (All-tail (IsPassOf ledger) p ps a) refl in
     let few = (All-head (IsPassOf ledger) p ps a).at_most in
-    let most = most_calls-le ledger.form in
-    (omega (arith, ints, one.0, ih.0), omega (arith, ints, one.1, ih.1))
+    let is : n ≡ k + m = e ∙ suc-mul (length ps) m in (
+      more_low (sum_of_deltas p.made) (total_made ps) k m n (length p.made) is few one.0 ih.0,
+      more_high (sum_of_deltas p.made) (total_made ps) k m n (length p.made) is few one.1 ih.1,
+    )
+
+-- of all clients
+pub total_made_all : {K V F : Type 0} (ledger : LedgerView K V) (passes : List (PassView K V F)) →
+    All (IsPassOf ledger) passes → ledger.clients ≤ 65536 → length passes ≤ ledger.clients
+    → (neg_ℤ (pos 4611686018427387904) ≤ℤ total_made passes) × (total_made passes ≤ℤ pos 4611686018427387904)
+total_made_all ledger passes a few all =
+    let m = most_calls ledger.form ledger.clients in
+    let b = total_made_bounds ledger passes (length passes * m) a refl in
+    let le : length passes * m ≤ 4611686018427387904 =
+    le_trans (mul-le-mul_right m all) (most_calls-all ledger.form ledger.clients few) in
+    within (total_made passes) (length passes * m) le b.0 b.1 where
+      within : (z : ℤ) (n : ℕ) → n ≤ 4611686018427387904 → neg_ℤ (pos n) ≤ℤ z → z ≤ℤ pos n
+          → (neg_ℤ (pos 4611686018427387904) ≤ℤ z) × (z ≤ℤ pos 4611686018427387904)
+      within z n le x y = (omega (arith, ints), omega (arith, ints))

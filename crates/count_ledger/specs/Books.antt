@@ -27,7 +27,7 @@ module _ {K V F : Type 0} where
   pub record IsPassOf (ledger : LedgerView K V) (p : PassView K V F) : Type 0 where
     pub client : p.client < ledger.clients
     pub numbered : AreNumbered p.client 0 p.made
-    pub at_most : length p.made ≤ most_calls ledger.form
+    pub at_most : length p.made ≤ most_calls ledger.form ledger.clients
     pub own : by_client p.client p.seen ≡ p.made
 
   -- what a ledger's rule says of a role by itself: its opening pairs are those of its class, and it kept calls on keys

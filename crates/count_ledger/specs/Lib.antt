@@ -11,4 +11,4 @@ pub mod Agreement
 pub mod Rule
 pub mod Steps
 pub mod Tokens
-pub mod Lying
+pub mod RoleBooks

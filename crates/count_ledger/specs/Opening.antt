@@ -1,10 +1,10 @@
 -- A new ledger: its passes made nothing, its roles keep nothing.
-use Rattle.std.specs.Prelude.{◌≡◌, ℕ, ◌<◌, true, List, [], length, map, slice_index_or, All}
+use Rattle.std.specs.Prelude.{◌≡◌, ℕ, ◌-◌, ◌<◌, true, List, [], length, map, slice_index_or, All}
 use Rattle.std.specs.List.{range_with_len}
 use Rattle.std.specs.declared.vec.Vec.{Vec}
 use Rattle.hashkeys.specs.Classes.{ClassView, is_of}
 use Rattle.hashkeys.specs.declared.hashing.Salt.{Salt}
-use Rattle.count_ledger.specs.Views.{LedgerId, PassView, RoleView}
+use Rattle.count_ledger.specs.Views.{LedgerId, PassView, RoleView, RosterView}
 
 -- a vector of vectors as a list of lists
 abbrev pub lists_of : {X Y Z : Type 0} → Vec (Vec X Y) Z → List (List X)
@@ -30,6 +30,10 @@ new_pass id client = record { ledger = id; client = client; made = []; seen = []
 -- a pass for each of so many clients
 abbrev pub new_passes : {K V F : Type 0} → LedgerId → ℕ → List (PassView K V F)
 new_passes id clients = map (new_pass id) (range_with_len 0 clients)
+
+-- the passes that a roster has yet
+abbrev pub left_in : {K V F : Type 0} → RosterView → List (PassView K V F)
+left_in roster = map (new_pass roster.ledger) (range_with_len roster.next (roster.clients - roster.next))
 
 -- a role that keeps nothing, over the base at an index
 abbrev pub new_role : {K V F : Type 0} → LedgerId → Salt → List (List (K × V)) → ℕ → RoleView K V F

@@ -1,13 +1,12 @@
--- The rule of a ledger's table: there is one order of all calls; the books agree, and each client's word is the sum of
--- its deltas.
-use Rattle.std.specs.Prelude.{◌≡◌, ◌≢◌, ℕ, ◌+◌, ◌*◌, ◌<◌, ◌≤◌, Bool, Option, List, [], ◌∷◌, ◌++◌, length, map}
-use Rattle.std.specs.Prelude.{slice_index, All}
+-- The rule of a ledger's table: there is one order of all calls; the books agree, and each lane's word is the sum of
+-- the deltas of its clients' calls.
+use Rattle.std.specs.Prelude.{◌≡◌, ◌≢◌, ℕ, ◌<◌, ◌≤◌, Bool, Option, List, [], ◌∷◌, ◌++◌, length, map}
+use Rattle.std.specs.Prelude.{All}
 use Rattle.std.specs.List.{AllByRecursion, range_with_len}
 use mathlib.Core.Option.{some}
 use lib.ListN.{get_elem?}
 use Rattle.atomic_table.specs.Table.{State}
 use Rattle.hashkeys.specs.Classes.{AreApart, is_of}
-use Rattle.bin_history.specs.Deltas.{sum_of_deltas}
 use Rattle.bin_history.specs.Clients.{by_client}
 use Rattle.bin_history.specs.Entries.{lookup}
 use Rattle.bin_history.specs.Part.{part_of_entries, part_of_records}
@@ -17,10 +16,10 @@ use Rattle.bin_history.specs.Records.{RecordView}
 use Rattle.count_ledger.specs.declared.books.Book.{Book}
 use Rattle.count_ledger.specs.declared.books.Book.TheVariants.{Moment, Pass, Role}
 use Rattle.bin_history.specs.declared.form.Form.{Form}
-use Rattle.count_ledger.specs.Limits.{most_calls}
+use Rattle.count_ledger.specs.Limits.{all_words, most_calls, most_clients}
 use Rattle.count_ledger.specs.Terms.{TermsView, opening_of}
 use Rattle.count_ledger.specs.Views.{LedgerId, LedgerView}
-use Rattle.count_ledger.specs.Words.{word_of}
+use Rattle.count_ledger.specs.Words.{AreCounted}
 use Rattle.count_ledger.specs.Books.{AreNumbered}
 use Rattle.count_ledger.specs.Fronts.{BeginsWith}
 use Rattle.count_ledger.specs.Opening.{class_at, base_at}
@@ -42,23 +41,22 @@ pub record AmongSeats {A : Type 0} (P : A → Type 0) (R : A → A → Type 0) (
 
 module _ {K V F : Type 0} where
   -- of a pass's book: it made those by its client, and has seen a front
-  pub record IsSoundPass (t : TermsView K V) (words : List ℕ) (calls : List (RecordView K V F)) (c : ℕ)
-      (made seen : List (RecordView K V F)) : Type 0 where
+  pub record IsSoundPass (t : TermsView K V) (calls : List (RecordView K V F)) (c : ℕ) (made
+      seen : List (RecordView K V F)) : Type 0 where
     pub client : c < t.clients
     pub numbered : AreNumbered c 0 made
-    pub at_most : length made ≤ most_calls t.form
-    pub word : slice_index words (8 * (c + 1)) ≡ word_of (sum_of_deltas made)
+    pub at_most : length made ≤ most_calls t.form t.clients
     pub made_is : by_client c calls ≡ made
     pub own : by_client c seen ≡ made
     pub front : BeginsWith calls seen
 
   module _ (code : K → ℕ) where
-    -- of one book, where the count words are these and all calls were made in this order: a
+    -- of one book, where all calls were made in this order: a
     -- pass made those by its client, a role kept those on keys of its class, and pass and moment have seen a front
-    abbrev pub IsSound : TermsView K V → List ℕ → List (RecordView K V F) → Book K V F → Type 0
-    IsSound t words calls (Pass c made seen) = IsSoundPass t words calls c made seen
-    IsSound t words calls (Moment seen) = BeginsWith calls seen
-    IsSound t words calls (Role salt class pairs kept) =
+    abbrev pub IsSound : TermsView K V → List (RecordView K V F) → Book K V F → Type 0
+    IsSound t calls (Pass c made seen) = IsSoundPass t calls c made seen
+    IsSound t calls (Moment seen) = BeginsWith calls seen
+    IsSound t calls (Role salt class pairs kept) =
         (salt ≡ t.salt) × (pairs ≡ part_of_entries (is_of code salt class) (opening_of t))
         × All (λ r. r.client < t.clients) kept × (part_of_records (is_of code salt class) calls ≡ kept)
 
@@ -72,11 +70,12 @@ module _ {K V F : Type 0} where
       -- the rule, over the words and what each seat knows: the calls in the one order in which they were posted, legal
       -- for a map of one thread on the opening map
       pub record Holds (t : TermsView K V) (s : State (Unit {0}) (List (Book K V F))) : Type 0 where
-        pub sized : length s.words ≡ 8 * (t.clients + 1)
+        pub sized : length s.words ≡ all_words
         pub calls : List (RecordView K V F)
         pub legal : IsLegal same_key after (lookup same_key (opening_of t)) calls
         pub clients : All (λ r. r.client < t.clients) calls
-        pub books : AmongSeats (IsSound t s.words calls) AreTogether s.views
+        pub counted : AreCounted s.words calls
+        pub books : AmongSeats (IsSound t calls) AreTogether s.views
 
   -- the books of a new ledger
   abbrev pub new_pass_book : ℕ → Book K V F
@@ -86,17 +85,18 @@ module _ {K V F : Type 0} where
   new_role_book t i = Role t.salt (class_at t.bases i) (base_at t.bases i) []
 
   abbrev pub first_books : TermsView K V → List (Book K V F)
-  first_books t = map new_pass_book (range_with_len 0 t.clients) ++ map (new_role_book t)
-      (range_with_len 0 (length t.bases))
+  first_books t = map (new_role_book t) (range_with_len 0 (length t.bases))
+      ++ map new_pass_book (range_with_len 0 t.clients)
 
 -- a ledger, by its table's identity and what it was told
 abbrev pub ledger_of : {K V : Type 0} → LedgerId → TermsView K V → LedgerView K V
 ledger_of id t = record { id = id; form = t.form; salt = t.salt; clients = t.clients; opening = opening_of t }
 
 -- what each ledger keeps
-pub record IsLedger {K V : Type 0} (id : LedgerId) (t : TermsView K V) (form : Form) (clients : ℕ) : Type 0 where
+pub record IsLedger {K V : Type 0} (id : LedgerId) (t : TermsView K V) (form : Form) (clients most : ℕ) : Type 0 where
   pub form_is : t.form ≡ form
-  pub words : id.words ≡ 8 * (clients + 1)
+  pub words : id.words ≡ all_words
   pub clients_are : t.clients ≡ clients
   pub some : 0 < clients
-  pub at_most : clients ≤ 32
+  pub at_most : clients ≤ most_clients form
+  pub most_is : most ≡ most_calls form clients

@@ -1,5 +1,5 @@
 -- How the steps of a ledger change what a seat knows, and what they tell.
-use Rattle.std.specs.Prelude.{◌≡◌, ℕ, ◌<◌, Bool, Option, Some, None, List, [], ◌∷◌, ◌++◌, map, slice_index, slice_set}
+use Rattle.std.specs.Prelude.{◌≡◌, ℕ, ◌<◌, ◌^◌, Bool, Option, Some, None, List, [], ◌∷◌, ◌++◌, map, slice_index, slice_set}
 use Rattle.std.specs.Prelude.{All}
 use mathlib.Core.Option.{some}
 use lib.ListN.{get_elem?}
@@ -15,6 +15,7 @@ use Rattle.count_ledger.specs.declared.books.Book.{Book}
 use Rattle.count_ledger.specs.declared.books.Book.TheVariants.{Moment, Pass, Role}
 use Rattle.count_ledger.specs.Terms.{TermsView, opening_of}
 use Rattle.count_ledger.specs.Rule.{Among, Holds, IsSound, AreTogether}
+use Rattle.count_ledger.specs.Words.{AreCounted}
 
 -- the first of a list, alone, and the others
 abbrev pub first_of : {A : Type 0} → List A → List A
@@ -75,7 +76,8 @@ module _ {K V F : Type 0} where
           (books : List (Book K V F)) : Type 0 where
         pub legal : IsLegal same_key after (lookup same_key (opening_of t)) calls
         pub clients : All (λ r. r.client < t.clients) calls
-        pub sound : Among (IsSound code t words calls) (AreTogether code) books
+        pub counted : AreCounted words calls
+        pub sound : Among (IsSound code t calls) (AreTogether code) books
 
       -- a word was found among some words, and the books are as the rule says
       abbrev pub IsRead : Option (TermsView K V) → ℕ → ℕ → List (RecordView K V F) → List (Book K V F) → Type 0
@@ -96,7 +98,7 @@ module _ {K V F : Type 0} where
           → (List (RecordView K V F) → List (Book K V F) → List (Book K V F)) → Type 0
       Keeps t id books word f change = (s : State (Unit {0}) (List (Book K V F)))
           → (h : Holds code same_key after t s) → get_elem? s.views id ≡ some books
-          → slice_index s.words word < 18446744073709551616
+          → slice_index s.words word < 2 ^ 64
           → Holds code same_key after t record {
             words = slice_set s.words word (f (slice_index s.words word));
             homes = s.homes;

@@ -1,16 +1,19 @@
 -- What passes and roles keep in their seats.
-use Rattle.std.specs.Prelude.{◌≡◌, ℕ, ◌+◌, ◌*◌, ◌/◌, ◌<◌, ◌≤◌, List, [], ◌∷◌, length, sum_by, All}
+use Rattle.std.specs.Prelude.{◌≡◌, ℕ, ◌-◌, ◌/◌, ◌<◌, ◌≤◌, Option, Some, None, List, [], ◌∷◌, length, map, sum_by, All}
+use Rattle.std.specs.List.{range_with_len}
 use Rattle.atomic_table.specs.Table.{Me}
 use Rattle.hashkeys.specs.Classes.{ClassView, IsClass}
 use Rattle.hashkeys.specs.Limits.{most_bins}
 use Rattle.hashkeys.specs.declared.hashing.Salt.{Salt}
 use Rattle.bin_history.specs.Clients.{by_client}
-use Rattle.bin_history.specs.Limits.{most_calls}
+use Rattle.bin_history.specs.Deltas.{sum_of_deltas}
 use Rattle.bin_history.specs.Records.{RecordView}
-use Rattle.bin_history.specs.declared.form.Form.TheVariants.{Lean}
-use Rattle.count_ledger.specs.Views.{PassView, RoleView}
+use Rattle.count_ledger.specs.Limits.{most_lean_calls, most_lean_clients}
+use Rattle.count_ledger.specs.Views.{MomentView, PassView, RoleView}
 use Rattle.count_ledger.specs.declared.books.Book.{Book}
 use Rattle.count_ledger.specs.declared.books.Book.TheVariants.{Moment, Pass, Role}
+use Rattle.count_ledger.specs.Rule.{new_pass_book}
+use Rattle.count_ledger.specs.Words.{word_of}
 
 module _ {K V F : Type 0} where
   -- what the first book says was made
@@ -41,14 +44,20 @@ module _ {K V F : Type 0} where
   kept_of_role ((Role salt class opening kept ∷ _) ∷ _) = kept
   kept_of_role _ = []
 
-  -- a seat with the book of a client, who has a word and made so many calls
-  pub record IsPass (words client calls : ℕ) (me : Me (Unit {0}) (List (Book K V F))) : Type 0 where
-    pub word : 8 * (client + 1) < words
+  -- a seat with the book of a client, who made so many calls, whose deltas have this sum
+  pub record IsPass (client calls sum : ℕ) (me : Me (Unit {0}) (List (Book K V F))) : Type 0 where
     pub book : me ≡ (Pass client (made_of_pass me.0) (seen_of_pass me.0) ∷ [], [])
     pub own : by_client client (seen_of_pass me.0) ≡ made_of_pass me.0
     pub counted : calls ≡ length (made_of_pass me.0)
-    pub at_most : calls ≤ most_calls Lean
-    pub few : client < 32
+    pub at_most : calls ≤ most_lean_calls
+    pub summed : sum ≡ word_of (sum_of_deltas (made_of_pass me.0))
+    pub few : client < most_lean_clients
+
+  -- a badge with the books of the clients from a number on, who made nothing
+  pub record IsRoster (next clients : ℕ) (views : List (List (Book K V F))) : Type 0 where
+    pub among : next ≤ clients
+    pub few : clients ≤ most_lean_clients
+    pub books : views ≡ map new_pass_book (range_with_len next (clients - next)) ∷ []
 
   -- a badge with the book of a role of this class
   abbrev pub IsRole : ClassView → List (List (Book K V F)) → Type 0
@@ -64,6 +73,11 @@ module _ {K V F : Type 0} where
 
   abbrev pub role_book : RoleView K V F → Book K V F
   role_book r = Role r.salt r.class r.opening r.kept
+
+  -- the book of a moment, if there is one
+  abbrev pub moment_books : Option (MomentView K V F) → List (Book K V F)
+  moment_books None = []
+  moment_books (Some m) = Moment m.seen ∷ []
 
 -- disjoint classes of these sizes cover every hash: of 65,536 side by side they have as many together
 pub record AreWide (classes : List ClassView) : Type 0 where

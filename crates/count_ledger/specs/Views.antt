@@ -29,6 +29,12 @@ pub record MomentView (K V F : Type 0) : Type 0 where
   pub ledger : LedgerId
   pub seen : List (RecordView K V F)
 
+-- the passes that nobody has taken yet: those of the clients from a number on
+pub record RosterView : Type 0 where
+  pub ledger : LedgerId
+  pub next : ℕ
+  pub clients : ℕ
+
 -- a role: its class, the opening pairs of that class, and the records of calls on its keys that were kept since
 pub record RoleView (K V F : Type 0) : Type 0 where
   pub ledger : LedgerId

@@ -54,7 +54,7 @@ impl<K, V, A: Allocator> Model for Terms<K, V, A> {
 
 /// All calls stand in one list, in the order of their posts, and are legal for a map of one thread;
 /// each pass made those by its client, each role kept those on keys of its class, each pass and
-/// moment has seen a front; and each client's word is the sum of its deltas.
+/// moment has seen a front; and each lane's word is the sum of the deltas of its clients' calls.
 pub(crate) struct LedgerRule;
 
 impl<K: HashKey, V: Eq, F: Remap<K, V>, A: Allocator> TableRule<(), View<K, V, F>, Terms<K, V, A>>
@@ -67,6 +67,6 @@ impl<K: HashKey, V: Eq, F: Remap<K, V>, A: Allocator> TableRule<(), View<K, V, F
     ghost first = { first_books };
 }
 
-/// The table, as its users share it. Word 0 is only read: joining a pass and a role loads it;
-/// client c counts in word 8(c + 1).
+/// The table, as its users share it. Word 0 is only read; client c counts in lane c % 32, which has
+/// word 8(lane + 1).
 pub(crate) type Books<K, V, F, A> = Shared<(), View<K, V, F>, Terms<K, V, A>, LedgerRule>;

@@ -15,7 +15,7 @@ pub struct RoleBook<K, V, F> {
 impl<K, V, F> Model for RoleBook<K, V, F> {
     ghost use Rattle.std.specs.Prelude.{Option};
     ghost use Rattle.count_ledger.specs.Views.{RoleView};
-    ghost use Rattle.count_ledger.specs.Lying.{role_in};
+    ghost use Rattle.count_ledger.specs.RoleBooks.{role_in};
 
     ghost Value = { Option (RoleView K V F) };
 

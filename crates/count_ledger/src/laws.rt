@@ -18,6 +18,7 @@ ghost use Rattle.bin_history.specs.Records.{RecordView};
 ghost use Rattle.count_ledger.specs.Agreement.{BinAgrees, part_of_role};
 ghost use Rattle.count_ledger.specs.Books.{IsPassOf};
 ghost use Rattle.count_ledger.specs.Fronts.{BeginsWith, IsFront, IsHistory, IsHistoryOn};
+ghost use Rattle.count_ledger.specs.Limits.{most_lean_calls, most_lean_clients};
 ghost use Rattle.count_ledger.specs.Settled.{AreReconciled};
 ghost use Rattle.count_ledger.specs.Views.{LedgerView, PassView, RoleView};
 ghost use Rattle.count_ledger.specs.Words.{word_of, total_of, total_made, total_kept};
@@ -118,13 +119,14 @@ pub fn totals_of_all<K: HashKey, V, F>()
 {}
 
 /// Words of sums add modulo 2^64, and a signed number of 64 bits can be read back from its word.
-/// What at most 32 clients made changes the number of keys by at most 2^62.
+/// What all clients made changes the number of keys by at most 2^62.
 pub fn words_of_sums<K: HashKey, V, F>()
     ensures add { (a b : ℤ) → word_of (a +ℤ b) ≡ (word_of a + word_of b) % 2 ^ 64 }
     ensures natural { (n : ℕ) → n < 2 ^ 64 → word_of (pos n) ≡ n }
     ensures signed { (z : ℤ) → FitsSigned w64 z → cast_signed w64 (word_of z) ≡ z }
     ensures bounds { (ledger : LedgerView K V) (passes : List (PassView K V F))
-        → All (IsPassOf ledger) passes → length passes ≤ 32
-        → (neg_ℤ (pos 4611686018427387904) ≤ℤ total_made passes)
-        × (total_made passes ≤ℤ pos 4611686018427387904) }
+        → All (IsPassOf ledger) passes → ledger.clients ≤ most_lean_clients
+        → length passes ≤ ledger.clients
+        → (neg_ℤ (pos most_lean_calls) ≤ℤ total_made passes)
+        × (total_made passes ≤ℤ pos most_lean_calls) }
 {}

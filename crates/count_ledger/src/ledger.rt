@@ -11,15 +11,15 @@ ghost use Rattle.bin_history.specs.Records.{RecordView};
 ghost use Rattle.count_ledger.specs.Agreement.{part_of_role};
 ghost use Rattle.count_ledger.specs.Books.{BooksAgree, IsPassOf, IsRoleOf};
 ghost use Rattle.count_ledger.specs.Fronts.{BeginsWith, HasSeen, IsPosted};
-ghost use Rattle.count_ledger.specs.Limits.{most_calls};
-ghost use Rattle.count_ledger.specs.Words.{word_of};
+ghost use Rattle.count_ledger.specs.Limits.{most_calls, most_clients};
+ghost use Rattle.count_ledger.specs.Words.{lane_of, word_of};
 
 use crate::books::{LedgerRule, Terms, View};
 use crate::moment::Moment;
 use crate::seats::{add_delta, join, look, part, show};
 use crate::tokens::{BinRole, Pass};
 use atomic_table::{Badge, Table};
-use bin_history::{Form, MOST_CALLS, MOST_LEAN_CALLS, Record, Remap, Trace};
+use bin_history::{Form, Posting, Record, Remap};
 use hashkeys::HashKey;
 use std::alloc::Allocator;
 use std::marker::{Brand, Model};
@@ -28,25 +28,42 @@ use std::mem;
 /// How many words fill a cache line.
 pub(crate) const WORDS_PER_LINE: usize = 8;
 
-/// Client c counts in word 8(c + 1), on a cache line of its own. Word 0 is only read: joining a
-/// pass and a role loads it, and so does parting them.
-pub(crate) fn word_at(client: u32) -> usize
-    ensures { result ≡ 8 * (client + 1) }
+/// Clients count in so many lanes: client c in lane c % 32.
+pub(crate) const LANES: u32 = 32;
+
+/// How many words a ledger has: a line that is only read, and one for each lane.
+pub(crate) const WORDS: usize = WORDS_PER_LINE * (LANES as usize + 1);
+
+/// Returns the word of a lane: word 8(lane + 1), on a cache line of its own. Word 0 is only read:
+/// joining a pass and a role loads it, and so do parting them and the post of a call whose delta is
+/// 0.
+pub(crate) fn word_of_lane(lane: u32) -> usize
+    ensures { result ≡ 8 * (lane + 1) }
 {
-    WORDS_PER_LINE * (client as usize + 1)
+    WORDS_PER_LINE * (lane as usize + 1)
+}
+
+/// Returns the word that the client counts in, with the others of its lane.
+#[inline(always)]
+pub(crate) fn word_at(client: u32) -> usize
+    ensures { result ≡ 8 * (lane_of client + 1) }
+{
+    word_of_lane(client % LANES)
 }
 
 /// The books of one map: a pass for each client, a role for each class of keys, and a count word
-/// for each client. Its rule holds between any two atomic steps: there is one list of all calls, in
-/// the order of their posts, which is legal for a map of one thread, of which each pass made just
-/// those by its client, each role kept just those on keys of its class, and each pass and moment
-/// has seen a front; no two roles have a hash in common; and each client's word is the sum of the
-/// deltas of its calls. No call but `new` takes memory, and none waits.
+/// for each of 32 lanes of clients. Its rule holds between any two atomic steps: there is one list
+/// of all calls, in the order of their posts, which is legal for a map of one thread, of which each
+/// pass made just those by its client, each role kept just those on keys of its class, and each pass
+/// and moment has seen a front; no two roles have a hash in common; and each lane's word is the sum
+/// of the deltas of its clients' calls. No call but `new` and `with_roster` takes memory, and none
+/// waits.
 #[derive(Drop)]
 pub struct Ledger<K: HashKey, V: Eq, F: Remap<K, V>, A: Allocator> {
     pub(crate) table: Table<(), View<K, V, F>, Terms<K, V, A>, LedgerRule, A>,
     pub(crate) form: Form,
     pub(crate) clients: u32,
+    pub(crate) most: u64,
 }
 
 impl<K: HashKey, V: Eq, F: Remap<K, V>, A: Allocator> Model for Ledger<K, V, F, A> {
@@ -57,34 +74,35 @@ impl<K: HashKey, V: Eq, F: Remap<K, V>, A: Allocator> Model for Ledger<K, V, F, 
 
     ghost view = { λ l. ledger_of l.table.shared.table_id l.table.shared.key };
 
-    ghost invariant = { λ l. IsLedger l.table.shared.table_id l.table.shared.key l.form l.clients };
+    ghost invariant = { λ l. IsLedger l.table.shared.table_id l.table.shared.key l.form l.clients l.most };
 }
 
 impl<K: HashKey, V: Eq, F: Remap<K, V>, A: Allocator> Ledger<K, V, F, A> {
-    /// The number of clients: 1 to 32.
+    /// Returns the number of clients, with and without a pass: 1 to 32, or where bins are lean to
+    /// 65,536.
     pub fn clients(&self) -> u32
         ensures value { result ≡ self.now.clients }
         ensures some { 0 < result }
-        ensures at_most { result ≤ 32 }
+        ensures at_most { result ≤ most_clients self.now.form }
     {
         self.clients
     }
 
     /// The form of the bins whose books these are.
+    #[inline(always)]
     pub fn form(&self) -> Form
         ensures { result ≡ self.now.form }
     {
         self.form
     }
 
-    /// How many calls a pass makes at most, by the form: 1,000,000 or 2^57.
+    /// Returns how many calls a pass makes at most: 1,000,000, or where bins are lean 2^62 divided by
+    /// the number of clients.
+    #[inline(always)]
     pub fn most_calls(&self) -> u64
-        ensures { result ≡ most_calls self.now.form }
+        ensures { result ≡ most_calls self.now.form self.now.clients }
     {
-        match self.form {
-            Form::Recorded => MOST_CALLS,
-            Form::Lean => MOST_LEAN_CALLS,
-        }
+        self.most
     }
 
     /// Posts a call by its record; `post_trace` does by its trace.
@@ -96,7 +114,7 @@ impl<K: HashKey, V: Eq, F: Remap<K, V>, A: Allocator> Ledger<K, V, F, A> {
     )
         requires pass { pass.old.ledger ≡ self.now.id }
         requires role { role.old.ledger ≡ self.now.id }
-        requires room { length pass.old.made < most_calls self.now.form }
+        requires room { length pass.old.made < most_calls self.now.form self.now.clients }
         requires client { entry.now.client ≡ pass.old.client }
         requires ordinal { entry.now.ordinal ≡ length pass.old.made }
         requires class { is_of K.code role.old.salt role.old.class (key_of entry.now.call) ≡ true }
@@ -110,23 +128,24 @@ impl<K: HashKey, V: Eq, F: Remap<K, V>, A: Allocator> Ledger<K, V, F, A> {
         ensures of_pass { IsPassOf self.now pass.old }
         ensures of_role { IsRoleOf K.code self.now role.old }
     {
-        self.post_trace(pass, role, &Trace::of(entry));
+        self.post_trace(pass, role, &Posting::of(entry));
     }
 
     /// Adds the record of a call to what the pass made and to what the role keeps, and its delta to
-    /// the client's word, by one atomic step, which only reads the word where the delta is 0. It
-    /// tells what `meet` tells of the books just before that. The call is to be one on the map that
-    /// the role's records leave; it is then one on the map that all calls before it leave, which
-    /// the pass has seen.
+    /// the word of the client's lane, by one atomic step, which where the delta is 0 loads a word that
+    /// nobody writes. It tells what `meet` tells of the books just before that. The call is to be one
+    /// on the map that the role's records leave; it is then one on the map that all calls before it
+    /// leave, which the pass has seen.
+    #[inline(always)]
     pub fn post_trace(
         &self,
         pass: &mut Pass<K, V, F>,
         role: &mut BinRole<K, V, F>,
-        entry: &Trace<K, V, F>,
+        entry: &Posting<K, V, F>,
     )
         requires pass { pass.old.ledger ≡ self.now.id }
         requires role { role.old.ledger ≡ self.now.id }
-        requires room { length pass.old.made < most_calls self.now.form }
+        requires room { length pass.old.made < most_calls self.now.form self.now.clients }
         requires client { entry.now.client ≡ pass.old.client }
         requires ordinal { entry.now.ordinal ≡ length pass.old.made }
         requires class { is_of K.code role.old.salt role.old.class (key_of entry.now.call) ≡ true }
@@ -143,9 +162,10 @@ impl<K: HashKey, V: Eq, F: Remap<K, V>, A: Allocator> Ledger<K, V, F, A> {
         let shared = &self.table.shared;
         join(shared, &mut pass.seat, &mut role.badge);
         let word = word_at(pass.client);
-        add_delta::<K, V, F, A, Brand>(shared, &mut pass.seat, word, entry);
+        let delta = add_delta::<K, V, F, A, Brand>(shared, &mut pass.seat, word, entry);
         part(shared, &mut pass.seat, &mut role.badge);
         pass.made += 1;
+        pass.balance = pass.balance.wrapping_add(delta);
     }
 
     /// The pass has then seen all calls so far. It tells that of these the role has kept, in order,
@@ -168,15 +188,17 @@ impl<K: HashKey, V: Eq, F: Remap<K, V>, A: Allocator> Ledger<K, V, F, A> {
         part(shared, &mut pass.seat, &mut role.badge);
     }
 
-    /// The sum of the deltas of what this pass made, as a 64-bit two's complement number.
+    /// Returns the sum of the deltas of what this pass made, as a 64-bit two's complement number, and
+    /// tells what the rule says of the pass.
+    #[inline(always)]
     pub fn share(&self, pass: &mut Pass<K, V, F>) -> u64
         requires { pass.old.ledger ≡ self.now.id }
         ensures sum { result ≡ word_of (sum_of_deltas pass.old.made) }
         ensures of_pass { IsPassOf self.now pass.old }
         ensures same { pass.new ≡ pass.old }
     {
-        let word = word_at(pass.client);
-        look::<K, V, F, A, Brand>(&self.table.shared, &mut pass.seat, word)
+        look::<K, V, F, A, Brand>(&self.table.shared, &mut pass.seat, 0);
+        pass.balance
     }
 
     /// What the pass has seen, to be handed to other clients. The pass stays as it is.

@@ -11,13 +11,14 @@ ghost use Rattle.bin_history.specs.Records.{RecordView};
 use crate::books::{Books, View};
 use crate::steps::{KeepFirst, KeepSeen, Tells, Together, Told};
 use atomic_table::{Badge, Seat};
-use bin_history::{Remap, Trace};
+use bin_history::{Posting, Remap};
 use hashkeys::HashKey;
 use std::alloc::Allocator;
 use std::mem;
 
 /// Reads a word, and tells what the rule says of the seat's books. They may change with it, by the
 /// calls so far.
+#[inline(always)]
 pub(crate) fn look<K: HashKey, V: Eq, F: Remap<K, V>, A: Allocator, T: Told<K, V, F>>(
     shared: &Books<K, V, F, A>,
     seat: &mut Seat<(), View<K, V, F>>,
@@ -38,14 +39,16 @@ pub(crate) fn look<K: HashKey, V: Eq, F: Remap<K, V>, A: Allocator, T: Told<K, V
     shared.load::<Tells<T>>(seat, word)
 }
 
-/// Adds the delta of a call to a word, which is only read where the delta is 0, while the seat's
-/// books get its record, and tells what the rule said of them before.
+/// Adds the delta of a call to a word, or loads word 0 where the delta is 0, while the seat's books
+/// get its record, and tells what the rule said of them before. It returns the delta, as a 64-bit
+/// two's complement number.
+#[inline(always)]
 pub(crate) fn add_delta<K: HashKey, V: Eq, F: Remap<K, V>, A: Allocator, T: Told<K, V, F>>(
     shared: &Books<K, V, F, A>,
     seat: &mut Seat<(), View<K, V, F>>,
     word: usize,
-    entry: &Trace<K, V, F>,
-)
+    entry: &Posting<K, V, F>,
+) -> u64
     requires terms { T.terms ≡ Some shared.now.key }
     requires change { T.change ≡ books_with_record entry.now }
     requires seat { seat.old.table_id ≡ shared.now.table_id }
@@ -53,21 +56,27 @@ pub(crate) fn add_delta<K: HashKey, V: Eq, F: Remap<K, V>, A: Allocator, T: Told
     requires rule { Keeps K.code K.eq (after V.eq F.remapped F.merged) shared.now.key seat.old.id
         seat.old.me.0 word (λ n. (n + word_of (delta entry.now)) % 2 ^ 64)
         (books_with_record entry.now) }
+    requires idle { word_of (delta entry.now) ≡ 0 → Keeps K.code K.eq
+        (after V.eq F.remapped F.merged) shared.now.key seat.old.id seat.old.me.0 0 (λ n. n)
+        (books_with_record entry.now) }
+    ensures delta { result ≡ word_of (delta entry.now) }
     ensures seat { seat.new.table_id ≡ seat.old.table_id }
     ensures told { (words : List ℕ) × (calls : List (RecordView K V F))
         × (seat.new.me ≡ (books_with_record entry.now calls seat.old.me.0, seat.old.me.1))
         × IsTold K.code K.eq (after V.eq F.remapped F.merged) shared.now.key words calls
         seat.old.me.0 }
 {
-    let delta = entry.delta();
+    let delta = entry.delta().cast_unsigned();
     if delta == 0 {
-        look::<K, V, F, A, T>(shared, seat, word);
+        look::<K, V, F, A, T>(shared, seat, 0);
     } else {
-        shared.fetch_add::<Tells<T>>(seat, word, delta.cast_unsigned());
+        shared.fetch_add::<Tells<T>>(seat, word, delta);
     }
+    delta
 }
 
 /// Puts the badge's books behind the seat's, and leaves the badge blank.
+#[inline(always)]
 pub(crate) fn join<K: HashKey, V: Eq, F: Remap<K, V>, A: Allocator>(
     shared: &Books<K, V, F, A>,
     seat: &mut Seat<(), View<K, V, F>>,
@@ -85,6 +94,7 @@ pub(crate) fn join<K: HashKey, V: Eq, F: Remap<K, V>, A: Allocator>(
 }
 
 /// Leaves the seat its first book, and gives the others to the badge.
+#[inline(always)]
 pub(crate) fn part<K: HashKey, V: Eq, F: Remap<K, V>, A: Allocator>(
     shared: &Books<K, V, F, A>,
     seat: &mut Seat<(), View<K, V, F>>,

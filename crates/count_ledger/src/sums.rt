@@ -3,24 +3,25 @@ ghost use Rattle.std.specs.Prelude.{◌≡◌, length, All};
 ghost use Rattle.count_ledger.specs.Books.{IsPassOf};
 ghost use Rattle.count_ledger.specs.Words.{word_of, total_made};
 
-use crate::ledger::{Ledger, word_at};
+use crate::ledger::{LANES, Ledger, word_of_lane};
 use crate::tokens::Pass;
 use bin_history::Remap;
 use hashkeys::HashKey;
 use std::alloc::Allocator;
 
 impl<K: HashKey, V: Eq, F: Remap<K, V>, A: Allocator> Ledger<K, V, F, A> {
-    /// The clients' words from client 0 upward, added modulo 2^64. While other threads post, it is
-    /// the sum at no one moment, so nothing is promised of it.
+    /// Returns the sum of the words of the lanes, of as many as there are clients and 32 at most, from
+    /// lane 0 upward, modulo 2^64. While other threads post, it is the sum at no one moment, so nothing
+    /// is promised of it.
     pub fn sum(&self) -> u64 {
         let mut total: u64 = 0;
-        for client in 0..self.clients {
-            total = total.wrapping_add(self.table.shared.peek(word_at(client)));
+        for lane in 0..self.clients.min(LANES) {
+            total = total.wrapping_add(self.table.shared.peek(word_of_lane(lane)));
         }
         total
     }
 
-    /// The sum of all deltas, as a 64-bit two's complement number. It takes the passes of all
+    /// Returns the sum of all deltas, as a 64-bit two's complement number. It takes the passes of all
     /// clients.
     pub fn sum_all(&self, passes: &mut [Pass<K, V, F>]) -> u64
         requires own { All (λ p. p.ledger ≡ self.now.id) passes.old }

@@ -1,6 +1,8 @@
 //! Passes and roles.
 ghost use Rattle.std.specs.Prelude.{◌≡◌, ◌<◌, ◌≤◌, [], ◌∷◌, length};
 ghost use Rattle.bin_history.specs.Clients.{by_client};
+ghost use Rattle.bin_history.specs.Deltas.{sum_of_deltas};
+ghost use Rattle.count_ledger.specs.Words.{word_of};
 
 use crate::books::View;
 use atomic_table::{Badge, Seat};
@@ -13,13 +15,17 @@ use std::marker::Model;
 pub struct Pass<K, V, F> {
     pub(crate) client: u32,
     pub(crate) made: u64,
+    /// The sum of the deltas of the calls made.
+    pub(crate) balance: u64,
     pub(crate) seat: Seat<(), View<K, V, F>>,
     /// Keeps the passes of two clients off one another's cache lines.
     pub(crate) apart: Apart,
 }
 
 /// Two cache lines, less what a pass has before them.
-pub(crate) type Apart = [u64; 14];
+pub(crate) type Apart = [u64; 13];
+
+pub(crate) const APART: Apart = [0; 13];
 
 impl<K, V, F> Model for Pass<K, V, F> {
     ghost use Rattle.count_ledger.specs.Views.{PassView};
@@ -35,7 +41,7 @@ impl<K, V, F> Model for Pass<K, V, F> {
       seen = seen_of_pass p.seat.me.0;
     } };
 
-    ghost invariant = { λ p. IsPass p.seat.table_id.words p.client p.made p.seat.me };
+    ghost invariant = { λ p. IsPass p.client p.made p.balance p.seat.me };
 }
 
 /// The right to keep the records of one class of keys, and what was kept. It cannot be copied, and
@@ -65,28 +71,42 @@ impl<K, V, F> Model for BinRole<K, V, F> {
 }
 
 impl<K, V, F> Pass<K, V, F> {
+    ghost use Rattle.count_ledger.specs.Limits.{most_lean_calls, most_lean_clients};
     ghost use Rattle.count_ledger.specs.Tokens.{pass_book};
 
-    /// The client's number: 0 to 31.
+    /// Returns the client's number: 0 to 31, or in a lean map to 65,535.
+    #[inline(always)]
     pub fn client(&self) -> u32
         ensures value { result ≡ self.now.client }
-        ensures few { result < 32 }
+        ensures few { result < most_lean_clients }
     {
         self.client
     }
 
-    /// How many calls the client made: at most 1,000,000 in a recorded map, and 2^57 in a lean one.
+    /// Returns how many calls the client made: at most 1,000,000, or in a lean map 2^62 divided by
+    /// the number of clients.
+    #[inline(always)]
     pub fn made(&self) -> u64
         ensures value { result ≡ length self.now.made }
-        ensures at_most { result ≤ 144115188075855872 }
+        ensures at_most { result ≤ most_lean_calls }
     {
         self.made
+    }
+
+    /// Returns the sum of the deltas of what the client made, as a 64-bit two's complement number. The
+    /// pass keeps it, so this is no atomic step.
+    #[inline(always)]
+    pub fn balance(&self) -> u64
+        ensures { result ≡ word_of (sum_of_deltas self.now.made) }
+    {
+        self.balance
     }
 
     /// Of its client's calls a pass has seen just those that it made. It does nothing when it runs.
     pub fn lawful(&self)
         ensures { by_client self.now.client self.now.seen ≡ self.now.made }
     {
+        // read for the proof alone, which so has the invariant
         let _ = &self.seat;
     }
 
@@ -102,6 +122,7 @@ impl<K, V, F> Pass<K, V, F> {
         let Pass {
             client: _,
             made: _,
+            balance: _,
             seat,
             apart: _,
         } = self;

@@ -1,6 +1,4 @@
-use Rattle.std.proofs.Common.{arith}
-use Rattle.std.proofs.lemmas.Int.{ints}
-use Rattle.count_ledger.proofs.WordSums.{word_of-add, word_of_natural, cast_signed-word_of, total_made_bounds}
+use Rattle.count_ledger.proofs.WordSums.{word_of-add, word_of_natural, cast_signed-word_of, total_made_all}
 use Rattle.count_ledger.proofs.laws.words_of_sums.Goals as goal
 
 pub returns-clause-add : goal.returns-clause-add
@@ -13,5 +11,4 @@ pub returns-clause-signed : goal.returns-clause-signed
 returns-clause-signed g c = cast_signed-word_of
 
 pub returns-clause-bounds : goal.returns-clause-bounds
-returns-clause-bounds g c = λ ledger passes a few. let b = total_made_bounds ledger passes a in
-    (omega (arith, ints, b.0), omega (arith, ints, b.1))
+returns-clause-bounds g c = total_made_all

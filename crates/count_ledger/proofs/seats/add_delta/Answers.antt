@@ -1,16 +1,15 @@
-use Rattle.std.proofs.Common.{◌≡◌, ◌+◌, ◌%◌, ◌^◌, ◌∙◌, ℕ, sym, ap}
-use Rattle.std.specs.Int.{cast_signed, cast_unsigned, w64}
+use Rattle.std.proofs.Common.{◌≡◌, ◌+◌, ◌%◌, ◌^◌, ◌∙◌, ℕ, sym}
 use Rattle.bin_history.specs.Deltas.{delta}
 use Rattle.count_ledger.specs.Steps.{books_with_record}
 use Rattle.count_ledger.specs.Words.{word_of}
-use Rattle.count_ledger.proofs.Keeping.{Allows-told, Keeps-idle}
+use Rattle.count_ledger.proofs.Keeping.{Allows-told}
 use Rattle.count_ledger.proofs.WordSums.{word_of-delta}
 use Rattle.count_ledger.proofs.seats.add_delta.Goals as goal
 
 pub fetch_add-requires : goal.fetch_add-requires
 fetch_add-requires g c =
-    let amount : c.cast_unsigned.result ≡ word_of (delta c.args.entry.now) =
-    rw c.delta-delta.ensures at c.cast_unsigned.ensures
+    let amount : c.cast_unsigned-delta.result ≡ word_of (delta c.args.entry.now) =
+    rw c.delta.ensures at c.cast_unsigned-delta.ensures
     ∙ word_of-delta c.args.entry.now in (
       c.requires.seat,
       c.requires.word,
@@ -22,8 +21,7 @@ fetch_add-requires g c =
 
 pub look-requires-clause-rule : goal.look-requires-clause-rule
 look-requires-clause-rule g c =
-    let r = c.args.entry.now in
-    let none : cast_unsigned w64 (delta r) ≡ 0 = rw c.delta-delta.ensures at c.if-delta-eq0.true in
-    rw c.requires.change
-    (Keeps-idle g.K.HashKey.code g.K.PartialEq.eq _ c.args.shared.now.key _ _ (books_with_record r) c.args.word (word_of (delta r))
-    (sym (word_of-delta r) ∙ ap (λ (n : ℕ). cast_unsigned w64 (cast_signed w64 n)) none) c.requires.rule)
+    let amount : c.cast_unsigned-delta.result ≡ word_of (delta c.args.entry.now) =
+    rw c.delta.ensures at c.cast_unsigned-delta.ensures
+    ∙ word_of-delta c.args.entry.now in
+    rw c.requires.change (c.requires.idle (sym amount ∙ c.if-delta-eq0.true))

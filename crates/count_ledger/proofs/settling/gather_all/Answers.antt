@@ -15,6 +15,6 @@ returns g c =
     c.into_seat.ensures.book c.into_badge-all.ensures.2 c.gather_passes.ensures.view c.gather_roles.ensures.view
     c.into_seat-seat.ensures.2 in
     let told = c.look.ensures.told.4 in
-    AreReconciled-settled g.K.HashKey.code c.args.shared.now.table_id c.args.shared.now.key c.look.ensures.told.0
+    AreReconciled-settled g.K.HashKey.code c.args.shared.now.table_id c.args.shared.now.key
     c.look.ensures.told.1 c.args.passes.items
     c.args.roles.items c.requires.enough c.requires.wide told.clients (rw all at told.sound)

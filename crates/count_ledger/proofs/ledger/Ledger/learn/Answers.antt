@@ -13,4 +13,4 @@ returns-clause-of_pass g c =
     c.join.ensures.books) at c.look.ensures.told.4.sound in
     rw (← c.self.view_is, ← c.pass.view_is)
     (IsPassOf-sound g.K.HashKey.code c.self.inside.table.shared.table_id c.self.inside.table.shared.key
-    c.look.ensures.told.0 c.look.ensures.told.1 _ books.0)
+    c.look.ensures.told.1 _ books.0)

@@ -28,7 +28,7 @@ returns-clause-of_pass g c =
     c.join.ensures.books) at c.look.ensures.told.4.sound in
     rw (← c.self.view_is, ← c.pass.view_is)
     (IsPassOf-sound g.K.HashKey.code c.self.inside.table.shared.table_id c.self.inside.table.shared.key
-    c.look.ensures.told.0 c.look.ensures.told.1 _ books.0)
+    c.look.ensures.told.1 _ books.0)
 
 pub returns-clause-of_role : goal.returns-clause-of_role
 returns-clause-of_role g c =
@@ -38,4 +38,4 @@ returns-clause-of_role g c =
     c.join.ensures.books) at c.look.ensures.told.4.sound in
     rw (← c.self.view_is, ← c.role.view_is)
     (IsRoleOf-sound g.K.HashKey.code c.self.inside.table.shared.table_id c.self.inside.table.shared.key
-    c.look.ensures.told.0 c.look.ensures.told.1 _ books.2.0)
+    c.look.ensures.told.1 _ books.2.0)

@@ -1,0 +1,46 @@
+use Rattle.std.proofs.Common.{◌≡◌, ◌<◌, ◌∙◌, ap, sym, subst, length, All, arith}
+use Rattle.std.proofs.lemmas.List.{take_all}
+use Rattle.bin_history.specs.Calls.{after}
+use Rattle.count_ledger.specs.Fronts.{BeginsWith, HasSeen}
+use Rattle.count_ledger.specs.Views.{MomentView, PassView}
+use Rattle.count_ledger.proofs.Learning.{next_low, next_is, rest_more, zipped_more, learned_more}
+use Rattle.count_ledger.proofs.ledger.Ledger.learn_each.Goals as goal
+
+pub learn-requires-clause-pass : goal.learn-requires-clause-pass
+learn-requires-clause-pass g c =
+    let olds = c.args.passes.now in
+    let now = c.loop-i.passes in
+    let i = c.loop-i.i in
+    let d = c.index-passes-i.result in
+    let low : i < length now = (let l = c.loop-i-test.true in let e = c.loop-i.auto.passes in omega arith) in
+    let rest = c.loop-i.invariant.rest in
+    ap (λ (p : PassView _ _ _). p.ledger) (next_is olds now i d low rest)
+    ∙ c.requires.own i d (next_low olds now i d low rest)
+
+pub loop-i-preserved : goal.loop-i-preserved
+loop-i-preserved g c =
+    let olds = c.args.passes.now in
+    let now = c.loop-i.passes in
+    let i = c.loop-i.i in
+    let d = c.index-passes-i.result in
+    let q = c.learn.new.pass in
+    let low : i < length now = (let l = c.loop-i-test.true in let e = c.loop-i.auto.passes in omega arith) in
+    let inv = c.loop-i.invariant in
+    let Seen : PassView _ _ _ → PassView _ _ _ → Type 0 =
+    HasSeen g.K.PartialEq.eq (after g.V.PartialEq.eq g.F.Remap.remapped g.F.Remap.merged) c.args.self.now in
+    record {
+      moment = c.learn.ensures.same ∙ inv.moment;
+      learned = learned_more olds now i d q low inv.rest c.args.moment.now.seen
+          (subst (λ (m : MomentView _ _ _). BeginsWith q.seen m.seen) inv.moment c.learn.ensures.learned) inv.learned;
+      seen = zipped_more olds now i d low inv.rest Seen q inv.seen
+          (subst (λ (p : PassView _ _ _). Seen p q) (next_is olds now i d low inv.rest)
+          c.learn.ensures.seen);
+      rest = rest_more olds now i d low inv.rest q;
+    }
+
+pub returns-clause-learned : goal.returns-clause-learned
+returns-clause-learned g c =
+    let now = c.loop-i.passes in
+    let i = c.loop-i.i in
+    let all = (let l = c.loop-i-test.false in let e = c.loop-i.auto.passes in take_all i now (omega arith)) in
+    subst (All (λ (p : PassView _ _ _). BeginsWith p.seen c.args.moment.now.seen)) all c.loop-i.invariant.learned
