@@ -13,9 +13,9 @@ use Rattle.std.proofs.lemmas.Nat.{and_mask}
 use Rattle.boxcar.specs.Slot.{Named}
 use Rattle.hashkeys.specs.Classes.{IsTableSize, covers}
 use Rattle.generations.specs.Generations.{IsTable, IsSlotOf}
-use Rattle.places.proofs.Sizes.{size_pos}
-use Rattle.places.specs.Views.{HomeView, place_of}
-use Rattle.places.specs.declared.tag.PlaceTag.{PlaceTag}
+use Rattle.bin_layout.proofs.Sizes.{size_pos}
+use Rattle.bin_layout.specs.Views.{HomeView, place_of}
+use Rattle.bin_layout.specs.declared.tag.PlaceTag.{PlaceTag}
 
 -- the map's place at an index of its table of n places
 abbrev pub tag_at : HomeView → ℕ → ℕ → PlaceTag

@@ -5,9 +5,9 @@ use Rattle.hashkeys.specs.Classes.{IsTableSize}
 use Rattle.hashkeys.specs.declared.hashing.Salt.{Salt}
 use Rattle.bin_history.specs.declared.form.Form.{Form}
 use Rattle.count_ledger.specs.Views.{LedgerId}
-use Rattle.places.specs.Names.{home_named}
-use Rattle.places.specs.Views.{HomeView, place_of}
-use Rattle.places.specs.declared.tag.PlaceTag.{PlaceTag}
+use Rattle.bin_layout.specs.Names.{home_named}
+use Rattle.bin_layout.specs.Views.{HomeView, place_of}
+use Rattle.bin_layout.specs.declared.tag.PlaceTag.{PlaceTag}
 
 abbrev pub generations_view : LedgerId → Form → Salt → List PlaceTag → HomeView
 generations_view ledger form salt opening = record { ledger = ledger; form = form; salt = salt; n = length opening }
@@ -31,10 +31,14 @@ pub record IsSlotOf (home : HomeView) (exponent : ℕ) (slot : Named) : Type 0 w
   pub of_map : home_named slot.tag ≡ home
   pub of_size : size_named slot.tag ≡ 2 ^ exponent
 
+-- how many sizes a table can have: 1, 2, 4 and so on to 2^26 places
+abbrev pub all_sizes : ℕ
+all_sizes = 27
+
 -- a slot for each size of a table
 pub record AreSlots (home : HomeView) (slots : List Named) : Type 0 where
-  pub count : length slots ≡ 27
-  pub by_exponent : (e : ℕ) (d : Named) → e < 27 → IsSlotOf home e (slice_index_or slots e d)
+  pub count : length slots ≡ all_sizes
+  pub by_exponent : (e : ℕ) (d : Named) → e < all_sizes → IsSlotOf home e (slice_index_or slots e d)
 
 -- what a map keeps
 pub record IsGenerations (ledger : LedgerId) (form : Form) (salt : Salt) (opening : List PlaceTag)

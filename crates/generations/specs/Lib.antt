@@ -1,4 +1,3 @@
 pub mod States
 pub mod Shown
 pub mod Generations
-pub mod NotLeft

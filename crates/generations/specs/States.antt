@@ -1,8 +1,8 @@
 -- What the lock of a place keeps.
 use Rattle.std.specs.Prelude.{Bool, Option}
 use Rattle.bin_history.specs.declared.call.Call.{Call}
-use Rattle.places.specs.Places.{AreAt}
-use Rattle.places.specs.declared.tag.PlaceTag.{PlaceTag}
+use Rattle.bin_layout.specs.Places.{AreAt}
+use Rattle.bin_layout.specs.declared.tag.PlaceTag.{PlaceTag}
 use Rattle.generations.specs.declared.state.State.{State}
 use Rattle.generations.specs.declared.state.State.TheVariants.{Live, Away}
 

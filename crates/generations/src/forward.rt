@@ -5,10 +5,10 @@ ghost use Rattle.bin_history.specs.Copies.{IsExact};
 
 use crate::generations::Generations;
 use bin_history::{Remap, Value};
+use bin_layout::{Moved, Refused};
 use count_ledger::Ledger;
 use crossbeam_utils::Backoff;
 use hashkeys::{Class, HashKey};
-use places::{Moved, Refused};
 use std::alloc::{AllocError, Allocator};
 use std::sync::Wait;
 

@@ -2,17 +2,19 @@
 ghost use Rattle.std.specs.Prelude.{◌≡◌, ℕ, ◌<◌, ◌≤◌, ◌^◌, true, IfSome, IfOk, length};
 ghost use Rattle.hashkeys.specs.Classes.{covers, low_half, high_half, IsTableSize};
 ghost use Rattle.hashkeys.specs.Limits.{most_bins};
+ghost use Rattle.bin_history.specs.Limits.{most_recorded_bins};
+ghost use Rattle.bin_history.specs.declared.form.Form.TheVariants.{Recorded};
 ghost use Rattle.generations.specs.Generations.{IsTable};
-ghost use Rattle.places.specs.Views.{HomeView, IsPlaceOf, place_of};
+ghost use Rattle.bin_layout.specs.Views.{HomeView, IsPlaceOf, place_of};
 
 use crate::place::{Place, leave_new};
 use crate::state::State;
 use crate::tables::{Places, SIZES, Slots, no_tables};
 use bin_history::{Form, Remap, Value};
+use bin_layout::{PlaceTag, Refused};
 use count_ledger::LedgerName;
 use counted_slot::Claim;
 use hashkeys::{Class, HashKey, Salt};
-use places::{PlaceTag, Refused};
 use std::alloc::{AllocError, Allocator};
 use std::marker::Model;
 use std::sync::atomic::AtomicU64;
@@ -32,7 +34,7 @@ pub struct Generations<K: HashKey, V: Value, F: Remap<K, V>, A: Allocator> {
 }
 
 impl<K: HashKey, V: Value, F: Remap<K, V>, A: Allocator> Model for Generations<K, V, F, A> {
-    ghost use Rattle.places.specs.Views.{HomeView};
+    ghost use Rattle.bin_layout.specs.Views.{HomeView};
 
     ghost Value = { HomeView };
 
@@ -78,7 +80,8 @@ impl<K: HashKey, V: Value, F: Remap<K, V>, A: Allocator> Generations<K, V, F, A>
         self.salt
     }
 
-    pub(crate) fn allocator(&self) -> &A {
+    /// The allocator of the map's memory.
+    pub fn allocator(&self) -> &A {
         self.opening.allocator()
     }
 
@@ -232,8 +235,9 @@ impl<K: HashKey, V: Value, F: Remap<K, V>, A: Allocator + Clone> Generations<K, 
         }
     }
 
-    /// Makes the table of this many places, a power of two from 1 to 2^26, if there is none yet:
-    /// so many bins the map can then be moved to. It waits for nobody.
+    /// Makes the table of this many places, if there is none yet: so many bins the map can then be
+    /// moved to. It is a power of two from 1 to 2^26, or to 65,536 if the map keeps records. It waits
+    /// for nobody.
     ///
     /// # Errors
     ///
@@ -241,6 +245,7 @@ impl<K: HashKey, V: Value, F: Remap<K, V>, A: Allocator + Clone> Generations<K, 
     /// then.
     pub fn try_widen(&self, size: u32) -> Result<(), Refused>
         requires size { IsTableSize size }
+        requires few { self.now.form ≡ Recorded → size ≤ most_recorded_bins }
         requires least { self.now.n ≤ size }
     {
         self.table_made(size)?;

@@ -5,18 +5,18 @@ ghost use Rattle.hashkeys.specs.Limits.{most_bins};
 ghost use Rattle.bin_history.specs.Calls.{after};
 ghost use Rattle.bin_history.specs.Copies.{IsExact};
 ghost use Rattle.bin_history.specs.Lawful.{IsLawful};
-ghost use Rattle.places.specs.Places.{AreAt};
-ghost use Rattle.places.specs.Views.{IsPlaceOf};
+ghost use Rattle.bin_layout.specs.Places.{AreAt};
+ghost use Rattle.bin_layout.specs.Views.{IsPlaceOf};
 
 use crate::generations::Generations;
 use crate::place::{AWAY, Place, fill, leave_new};
 use crate::state::State;
 use bin_history::{Bin, Remap, Value};
+use bin_layout::Refused;
 use count_ledger::{BinRole, Ledger};
 use counted_slot::{Claim, PRESENT};
 use crossbeam_utils::Backoff;
 use hashkeys::HashKey;
-use places::Refused;
 use std::alloc::Allocator;
 use std::sync::Wait;
 

@@ -6,7 +6,7 @@
 //!
 //! Whoever gets the lock of a place finds a lawful bin of the place's class, and a role
 //! of this map's ledger that agrees with it. No call but `new`, `try_widen`, `try_halve`,
-//! `try_forward`, `forward` and `into_leaves` takes memory. Calls that may wait for another thread
+//! `try_forward`, `forward` and `room_for_leaves` takes memory. Calls that may wait for another thread
 //! take a `Wait`; those that begin with `try_` are refused in place of waiting.
 #![tactic(auto)]
 
@@ -22,6 +22,5 @@ mod tables;
 
 pub use generations::Generations;
 pub use hold::{Held, Taken};
-pub use leaves::NotLeft;
 pub use place::Place;
 pub use shown::Shown;

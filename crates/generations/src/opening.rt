@@ -12,9 +12,9 @@ use crate::generations::Generations;
 use crate::place::Place;
 use crate::state::State;
 use bin_history::{Bin, Form, Remap, Value};
+use bin_layout::PlaceTag;
 use count_ledger::{BinRole, LedgerName};
 use hashkeys::{Class, HashKey, Salt};
-use places::PlaceTag;
 use std::alloc::{AllocError, Allocator};
 
 /// The place of a bin of these pairs, with its role.

@@ -2,15 +2,15 @@
 ghost use Rattle.std.specs.Prelude.{◌≡◌, ◌<◌, ◌%◌, IfSome};
 ghost use Rattle.bin_history.specs.Calls.{after};
 ghost use Rattle.counted_slot.specs.Counting.{IsTurn};
-ghost use Rattle.places.specs.Places.{AreAt};
+ghost use Rattle.bin_layout.specs.Places.{AreAt};
 ghost use Rattle.generations.specs.States.{FitsPlace};
 
 use crate::state::State;
 use bin_history::{Bin, Remap, Value};
+use bin_layout::PlaceTag;
 use count_ledger::BinRole;
 use counted_slot::{Claim, Counted, FREE, MARKED, MOST_READERS, ONE_READER, PRESENT, TAKEN};
 use hashkeys::HashKey;
-use places::PlaceTag;
 use std::alloc::Allocator;
 use std::marker::Model;
 
@@ -31,7 +31,7 @@ pub struct Place<K: HashKey, V: Value, F: Remap<K, V>, A: Allocator> {
 }
 
 impl<K: HashKey, V: Value, F: Remap<K, V>, A: Allocator> Model for Place<K, V, F, A> {
-    ghost use Rattle.places.specs.declared.tag.PlaceTag.{PlaceTag};
+    ghost use Rattle.bin_layout.specs.declared.tag.PlaceTag.{PlaceTag};
 
     ghost Value = { PlaceTag };
 

@@ -3,9 +3,9 @@ ghost use Rattle.std.specs.Prelude.{◌≡◌, ◌≤◌, true, IfSome, IsSomeAn
 ghost use Rattle.hashkeys.specs.Classes.{covers};
 ghost use Rattle.bin_history.specs.Calls.{after};
 ghost use Rattle.bin_history.specs.Lawful.{IsLawful};
-ghost use Rattle.places.specs.BinsWithRoles.{IsBinWithRole};
-ghost use Rattle.places.specs.Places.{AreAt};
-ghost use Rattle.places.specs.Views.{IsPlaceOf};
+ghost use Rattle.bin_layout.specs.BinsWithRoles.{IsBinWithRole};
+ghost use Rattle.bin_layout.specs.Places.{AreAt};
+ghost use Rattle.bin_layout.specs.Views.{IsPlaceOf};
 
 use crate::generations::Generations;
 use crate::place::Place;
@@ -50,7 +50,6 @@ impl<'a, K: HashKey, V: Value, F: Remap<K, V>, A: Allocator + Clone> Shown<'a, K
         ensures lawful { IfSome result
             (λ s. IsSomeAnd s (λ p. IsLawful K.eq K.code (after V.eq F.remapped F.merged) p.0)) }
     {
-        let _ = place;
         let live = match claim.get() {
             State::Live(_, bin) => {
                 bin.lawful();

@@ -1,9 +1,9 @@
 //! What lies under the lock of a place, and the fact that the lock keeps of it.
 use bin_history::{Bin, Remap, Value};
+use bin_layout::PlaceTag;
 use count_ledger::BinRole;
 use counted_slot::Fits;
 use hashkeys::HashKey;
-use places::PlaceTag;
 use std::alloc::Allocator;
 
 /// A bin with its role, or neither: they were not put there yet, are held, were halved, or were

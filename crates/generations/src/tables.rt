@@ -2,7 +2,7 @@
 //! index is for the class of that index among n.
 ghost use Rattle.std.specs.Prelude.{◌≡◌, ◌^◌, IfOk};
 ghost use Rattle.generations.specs.Generations.{AreSlots, size_named};
-ghost use Rattle.places.specs.Names.{home_named};
+ghost use Rattle.bin_layout.specs.Names.{home_named};
 
 use crate::place::Place;
 use bin_history::{Form, Remap, Value};
@@ -25,7 +25,7 @@ pub struct OfSize;
 impl<K: HashKey, V: Value, F: Remap<K, V>, A: Allocator> SlotRule<Vec<Place<K, V, F, A>, A>>
     for OfSize {
     ghost use Rattle.generations.specs.Generations.{IsTable, size_named};
-    ghost use Rattle.places.specs.Names.{home_named};
+    ghost use Rattle.bin_layout.specs.Names.{home_named};
 
     ghost holds = { λ tag places. IsTable (home_named tag) (size_named tag) places.items };
 }
@@ -46,7 +46,7 @@ struct OfSlotName;
 
 impl Names<SlotName> for OfSlotName {
     ghost use Rattle.std.specs.Prelude.{◌∷◌};
-    ghost use Rattle.places.specs.Names.{form_number};
+    ghost use Rattle.bin_layout.specs.Names.{form_number};
 
     ghost numbers = { λ m. m.exponent ∷ m.n ∷ form_number m.form ∷ m.salt.0 ∷ m.ledger.numbers };
 }

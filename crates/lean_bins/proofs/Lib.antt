@@ -1,4 +1,4 @@
-pub mod Spots
+pub mod SlotRefs
 pub mod Halves
 pub mod Opened
 pub mod Shared

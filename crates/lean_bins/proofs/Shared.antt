@@ -23,14 +23,14 @@ use Rattle.bin_entries.proofs.Shared.{entries_send}
 use Rattle.bin_history.specs.declared.call.Remap as Remap
 use Rattle.bin_history.specs.declared.call.Value as Value
 use Rattle.count_ledger.specs.contracts.books_by.RoleBook as Book
-use Rattle.bin_table.specs.contracts.rows.Rows as Rows
-use Rattle.lean_bins.specs.contracts.lying.Lying as Lying
-use Rattle.lean_bins.specs.contracts.lying.PartTag as PartTag
-use Rattle.lean_bins.specs.contracts.lying.LyingFits.TheImpl.{ghosts, no_dict}
-use Rattle.lean_bins.specs.contracts.parts.OfPart as OfPart
-use Rattle.lean_bins.specs.contracts.parts.OfTable as OfTable
-use Rattle.lean_bins.specs.contracts.parts.OfPartSlotRuleRowsLying.TheImpl as of_part
-use Rattle.lean_bins.specs.contracts.parts.OfTableSlotRuleVecOnceSlotRowsLyingOfPart.TheImpl as of_table
+use Rattle.lock_table.specs.contracts.locked_slots.LockedSlots as LockedSlots
+use Rattle.lean_bins.specs.contracts.slot.BinSlot as BinSlot
+use Rattle.lean_bins.specs.contracts.slot.SegmentTag as SegmentTag
+use Rattle.lean_bins.specs.contracts.slot.BinSlotFits.TheImpl.{ghosts, no_dict}
+use Rattle.lean_bins.specs.contracts.segments.OfSegment as OfSegment
+use Rattle.lean_bins.specs.contracts.segments.OfTable as OfTable
+use Rattle.lean_bins.specs.contracts.segments.OfSegmentSlotRuleLockedSlotsBinSlot.TheImpl as of_segment
+use Rattle.lean_bins.specs.contracts.segments.OfTableSlotRuleVecOnceSlotLockedSlotsBinSlotOfSegment.TheImpl as of_table
 use Rattle.lean_bins.specs.contracts.bins.LeanBins as Bins
 use Rattle.lean_bins.specs.contracts.bins.LeanBins.TheInside as Inside
 
@@ -54,44 +54,44 @@ module _ (K V F A : RattleType) (hash : HashKey.Ghosts K.Denot) (key_eq : Eq.Gho
   book_send : IsSend (Book.the_row K V F)
   book_send = search (sendable, the_badge.the_send) depth 30
 
-  lying_send : IsSend (Lying.the_row K V F A hash key_same key_clone alloc)
-  lying_send = declared_send (Lying.the_type K V F A hash key_same key_clone alloc) (
+  bin_slot_send : IsSend (BinSlot.the_row K V F A hash key_same key_clone alloc)
+  bin_slot_send = declared_send (BinSlot.the_type K V F A hash key_same key_clone alloc) (
     entries_send K V A hash key_same key_clone alloc sk sv sa frees,
     (book_send, tt),
   )
 
-  -- a part of a table
+  -- a segment of a table
   abbrev rows_field : Field
-  rows_field = Rows.the_field (Lying.the_row K V F A hash key_same key_clone alloc) A PartTag.the_row
+  rows_field = LockedSlots.the_field (BinSlot.the_row K V F A hash key_same key_clone alloc) A SegmentTag.the_row
       (ghosts K V F A hash no_dict key_eq no_dict key_same no_dict key_clone no_dict value no_dict value_clone no_dict value_eq no_dict
       value_same no_dict remap no_dict function_clone no_dict alloc no_dict no_dict no_dict no_dict no_dict) alloc
 
   abbrev rows : RattleType
-  rows = Rows.the_row (Lying.the_row K V F A hash key_same key_clone alloc) A PartTag.the_row
+  rows = LockedSlots.the_row (BinSlot.the_row K V F A hash key_same key_clone alloc) A SegmentTag.the_row
       (ghosts K V F A hash no_dict key_eq no_dict key_same no_dict key_clone no_dict value no_dict value_clone no_dict value_eq no_dict
       value_same no_dict remap no_dict function_clone no_dict alloc no_dict no_dict no_dict no_dict no_dict) alloc
 
-  abbrev part_rule : SlotRule.Ghosts OfPart.the_row.Denot rows.Denot
-  part_rule = of_part.ghosts K V F A hash of_part.no_dict key_eq of_part.no_dict key_same of_part.no_dict key_clone
-      of_part.no_dict value of_part.no_dict value_clone of_part.no_dict value_eq of_part.no_dict value_same of_part.no_dict remap
-      of_part.no_dict function_clone of_part.no_dict alloc of_part.no_dict of_part.no_dict of_part.no_dict
-      of_part.no_dict of_part.no_dict
+  abbrev segment_rule : SlotRule.Ghosts OfSegment.the_row.Denot rows.Denot
+  segment_rule = of_segment.ghosts K V F A hash of_segment.no_dict key_eq of_segment.no_dict key_same of_segment.no_dict key_clone
+      of_segment.no_dict value of_segment.no_dict value_clone of_segment.no_dict value_eq of_segment.no_dict value_same of_segment.no_dict remap
+      of_segment.no_dict function_clone of_segment.no_dict alloc of_segment.no_dict of_segment.no_dict of_segment.no_dict
+      of_segment.no_dict of_segment.no_dict
 
-  -- the slots of the parts of a table
-  abbrev parts : RattleType
-  parts = Vec.the_row (Slot.the_row rows OfPart.the_row part_rule) A alloc
+  -- the slots of the segments of a table
+  abbrev segments : RattleType
+  segments = Vec.the_row (Slot.the_row rows OfSegment.the_row segment_rule) A alloc
 
-  abbrev table_rule : SlotRule.Ghosts OfTable.the_row.Denot parts.Denot
+  abbrev table_rule : SlotRule.Ghosts OfTable.the_row.Denot segments.Denot
   table_rule = of_table.ghosts K V F A hash of_table.no_dict key_eq of_table.no_dict key_same of_table.no_dict key_clone
       of_table.no_dict value of_table.no_dict value_clone of_table.no_dict value_eq of_table.no_dict value_same of_table.no_dict remap
       of_table.no_dict function_clone of_table.no_dict alloc of_table.no_dict of_table.no_dict of_table.no_dict
       of_table.no_dict of_table.no_dict
 
   bare_send : IsSend rows_field.row
-  bare_send = search (sendable, crosses, the_words.the_send, the_lease.the_send, lying_send) depth 30
+  bare_send = search (sendable, crosses, the_words.the_send, the_lease.the_send, bin_slot_send) depth 30
 
   bare_sync : IsSync rows_field.row
-  bare_sync = search (sendable, crosses, the_words.the_sync, the_lease.the_sync, lying_send) depth 30
+  bare_sync = search (sendable, crosses, the_words.the_sync, the_lease.the_sync, bin_slot_send) depth 30
 
   rows_send : IsSend rows
   rows_send = as_row_send rows_field bare_send
@@ -99,11 +99,11 @@ module _ (K V F A : RattleType) (hash : HashKey.Ghosts K.Denot) (key_eq : Eq.Gho
   rows_sync : IsSync rows
   rows_sync = as_row_sync rows_field bare_sync
 
-  parts_send : IsSend parts
-  parts_send = slots_send A alloc rows OfPart.the_row part_rule sa frees rows_send
+  segments_send : IsSend segments
+  segments_send = slots_send A alloc rows OfSegment.the_row segment_rule sa frees rows_send
 
-  parts_sync : IsSync parts
-  parts_sync = slots_sync A alloc rows OfPart.the_row part_rule ya rows_send rows_sync
+  segments_sync : IsSync segments
+  segments_sync = slots_sync A alloc rows OfSegment.the_row segment_rule ya rows_send rows_sync
 
   fields_send : AllSend
       (shape (Inside.the_type K V F A hash key_eq key_same key_clone value value_clone value_eq value_same remap
@@ -111,7 +111,7 @@ module _ (K V F A : RattleType) (hash : HashKey.Ghosts K.Denot) (key_eq : Eq.Gho
   fields_send = (
     bare_send,
     (
-      slots_send A alloc parts OfTable.the_row table_rule sa frees parts_send,
+      slots_send A alloc segments OfTable.the_row table_rule sa frees segments_send,
       (
         search (sendable, atomic.the_send) depth 20,
         (search sendable depth 20, (search sendable depth 20, (search (sendable, tag.the_send) depth 20, tt))),
@@ -125,7 +125,7 @@ module _ (K V F A : RattleType) (hash : HashKey.Ghosts K.Denot) (key_eq : Eq.Gho
   fields_sync = (
     bare_sync,
     (
-      slots_sync A alloc parts OfTable.the_row table_rule ya parts_send parts_sync,
+      slots_sync A alloc segments OfTable.the_row table_rule ya segments_send segments_sync,
       (
         search (sendable, atomic.the_sync) depth 20,
         (search sendable depth 20, (search sendable depth 20, (search (sendable, tag.the_sync) depth 20, tt))),

@@ -1,5 +1,4 @@
-pub mod Parts
-pub mod Lying
+pub mod Segments
+pub mod BinSlot
 pub mod Homes
 pub mod Holding
-pub mod NotLeft

@@ -1,21 +1,22 @@
 //! All bins of a map, and the way from a hash to its bin.
 ghost use Rattle.std.specs.Prelude.{◌≡◌, ◌+◌, ◌*◌, ◌^◌, ◌<◌, ◌≤◌, min, IfSome, IfOk};
 ghost use Rattle.hashkeys.specs.Classes.{IsTableSize};
-ghost use Rattle.hashkeys.specs.Limits.{most_bins};
+ghost use Rattle.hashkeys.specs.Limits.{most_bins, most_exponent};
 ghost use Rattle.bin_history.specs.declared.form.Form.TheVariants.{Lean};
-ghost use Rattle.places.specs.Names.{home_named};
-ghost use Rattle.lean_bins.specs.Parts.{IsPart, AreParts, first_named};
-ghost use Rattle.lean_bins.specs.Homes.{IsSpotOf};
+ghost use Rattle.bin_layout.specs.Names.{home_named};
+ghost use Rattle.lean_bins.specs.Segments.{IsSegment, AreSegments, first_named, segment_places};
+ghost use Rattle.lean_bins.specs.Homes.{IsIndexOf, IsSlotRefOf};
 
-use crate::lying::{Lying, PartTag};
-use crate::parts::{PART, Parts, Tables};
+use crate::hold::index_among;
+use crate::segments::{SEGMENT, Segments, Tables};
+use crate::slot::{BinSlot, SegmentTag};
 use bin_history::{Remap, Value};
-use bin_table::{Glance, Rows, Terms};
+use bin_layout::Refused;
 use boxcar::slot::OnceSlot;
 use boxcar::tag::{Names, Tag};
 use count_ledger::LedgerName;
 use hashkeys::{Class, HashKey, Salt};
-use places::Refused;
+use lock_table::{Glance, LockedSlots, Terms};
 use std::alloc::{AllocError, Allocator};
 use std::marker::Model;
 use std::sync::atomic::AtomicU64;
@@ -24,9 +25,18 @@ use std::sync::atomic::Ordering::SeqCst;
 /// The exponent of the most bins.
 pub(crate) const MOST_EXPONENT: u32 = 26;
 
-/// How many words apart the places of a table lie, by the table's first index: the first 256 have a
-/// cache line each.
-pub(crate) fn stride_from(first: u32) -> usize
+/// How many words apart the places of a map's opening table lie, by its number of bins: up to 1,024
+/// places have a cache line each.
+pub(crate) fn stride_of_opening(n: u32) -> usize
+    ensures some { 0 < result }
+    ensures few { result ≤ 8 }
+{
+    if n <= 1024 { 8 } else { 1 }
+}
+
+/// How many words apart the places of a segment of a later table lie, by its first index: those below
+/// 256 have a cache line each.
+fn stride_from(first: u32) -> usize
     ensures some { 0 < result }
     ensures few { result ≤ 8 }
 {
@@ -37,7 +47,7 @@ pub(crate) fn stride_from(first: u32) -> usize
 /// see the map's ledger, its form, its salt and the number of its opening bins.
 #[derive(Drop)]
 pub struct LeanBins<K: HashKey, V: Value, F: Remap<K, V>, A: Allocator> {
-    pub(crate) opening: Rows<Lying<K, V, F, A>, A>,
+    pub(crate) opening: LockedSlots<BinSlot<K, V, F, A>, A>,
     pub(crate) tables: Tables<K, V, F, A>,
     /// The exponent of the widest table that bins are moved to. It saves time and no more.
     pub(crate) widest: AtomicU64,
@@ -48,7 +58,7 @@ pub struct LeanBins<K: HashKey, V: Value, F: Remap<K, V>, A: Allocator> {
 
 impl<K: HashKey, V: Value, F: Remap<K, V>, A: Allocator> Model for LeanBins<K, V, F, A> {
     ghost use Rattle.bin_history.specs.declared.form.Form.TheVariants.{Lean};
-    ghost use Rattle.places.specs.Views.{HomeView};
+    ghost use Rattle.bin_layout.specs.Views.{HomeView};
     ghost use Rattle.lean_bins.specs.Homes.{IsHome};
 
     ghost Value = { HomeView };
@@ -59,10 +69,10 @@ impl<K: HashKey, V: Value, F: Remap<K, V>, A: Allocator> Model for LeanBins<K, V
         g.opening.table.shared.key.tag g.opening.table.shared.table_id.slots g.tables.items };
 }
 
-/// Where the place of an index lies: in a part, so far from its first place.
+/// Where the place of an index lies: in a segment, so far from its first place.
 #[derive(Drop)]
-pub(crate) struct Spot<'a, K: HashKey, V: Value, F: Remap<K, V>, A: Allocator> {
-    pub(crate) rows: &'a Rows<Lying<K, V, F, A>, A>,
+pub(crate) struct SlotRef<'a, K: HashKey, V: Value, F: Remap<K, V>, A: Allocator> {
+    pub(crate) rows: &'a LockedSlots<BinSlot<K, V, F, A>, A>,
     pub(crate) at: usize,
 }
 
@@ -76,83 +86,89 @@ impl<K: HashKey, V: Value, F: Remap<K, V>, A: Allocator> LeanBins<K, V, F, A> {
     }
 
     /// The salt of the map's hashes.
+    #[inline(always)]
     pub fn salt(&self) -> Salt
         ensures { result ≡ self.now.salt }
     {
         self.salt
     }
 
-    /// The slots of a table's parts, once there are any.
+    /// The slots of a table's segments, once there are any.
     #[inline(always)]
-    fn table(&self, exponent: u32) -> Option<&Parts<K, V, F, A>>
-        ensures { IfSome result (λ t. AreParts self.now (2 ^ exponent) t.now.items) }
+    fn table(&self, exponent: u32) -> Option<&Segments<K, V, F, A>>
+        requires { exponent < most_exponent }
+        ensures { IfSome result (λ t. AreSegments self.now (2 ^ exponent) t.now.items) }
     {
-        self.tables.get(exponent as usize)?.get()
+        self.tables[exponent as usize].get()
     }
 
-    /// A part of a table, where it was made.
+    /// A segment of a table, where it was made.
     #[inline(always)]
-    fn part(&self, exponent: u32, number: u32) -> Option<&Rows<Lying<K, V, F, A>, A>>
+    fn segment(&self, exponent: u32, number: u32) -> Option<&LockedSlots<BinSlot<K, V, F, A>, A>>
+        requires table { exponent < most_exponent }
+        requires within { number * segment_places < 2 ^ exponent }
         ensures { IfSome result
-            (λ r. IsPart self.now (2 ^ exponent + number * 4096)
-            (min (2 ^ exponent + number * 4096) 4096)
+            (λ r. IsSegment self.now (2 ^ exponent + number * segment_places)
+            (min (2 ^ exponent + number * segment_places) segment_places)
             r.now.table.shared.key.tag r.now.table.shared.table_id.slots) }
     {
-        self.table(exponent)?.get(number as usize)?.get()
+        self.table(exponent)?[number as usize].get()
     }
 
-    /// The place of an index, where its part was made.
+    /// The place of an index, where its segment was made.
     #[inline(always)]
-    pub(crate) fn spot(&self, index: u32) -> Option<Spot<'_, K, V, F, A>>
+    pub(crate) fn slot_ref(&self, index: u32) -> Option<SlotRef<'_, K, V, F, A>>
+        requires { index < most_bins }
         ensures { IfSome result
-            (λ s. IsSpotOf self.now index s.rows.now.table.shared.key.tag
+            (λ s. IsSlotRefOf self.now index s.rows.now.table.shared.key.tag
             s.rows.now.table.shared.table_id.slots s.at) }
     {
         if index < self.n {
-            return Some(Spot {
+            return Some(SlotRef {
                 rows: &self.opening,
                 at: index as usize,
             });
         }
         let exponent = index.ilog2();
         let at = index - (1u32 << exponent);
-        let rows = self.part(exponent, at / PART)?;
-        Some(Spot {
+        let rows = self.segment(exponent, at / SEGMENT)?;
+        Some(SlotRef {
             rows,
-            at: (at % PART) as usize,
+            at: (at % SEGMENT) as usize,
         })
     }
 
     /// The exponent of the widest table that bins are moved to.
     #[inline(always)]
     pub(crate) fn widest(&self) -> u32
-        ensures { result ≤ 26 }
+        ensures { result ≤ most_exponent }
     {
         self.widest.load(SeqCst).min(26) as u32
     }
 
-    /// The place of the hash in the widest table where something stands or is held, and else its
+    /// The place of the hash in the widest table where something stands or is locked, and else its
     /// opening place; its index; and what was seen there.
-    pub(crate) fn find(&self, hash: u32) -> (u32, Spot<'_, K, V, F, A>, Glance)
-        ensures { IsSpotOf self.now result.0 result.1.rows.now.table.shared.key.tag
+    pub(crate) fn find(&self, hash: u32) -> (u32, SlotRef<'_, K, V, F, A>, Glance)
+        ensures slot_ref { IsSlotRefOf self.now result.0 result.1.rows.now.table.shared.key.tag
             result.1.rows.now.table.shared.table_id.slots result.1.at }
+        ensures of_hash { IsIndexOf hash result.0 }
     {
-        let mut index = hash & ((1u32 << self.widest()) - 1);
+        let mut index = index_among(hash, self.widest());
         while index >= self.n {
-            if let Some(spot) = self.spot(index) {
-                match spot.rows.glance(spot.at) {
+            if let Some(slot_ref) = self.slot_ref(index) {
+                match slot_ref.rows.glance(slot_ref.at) {
                     Glance::Absent => {}
-                    seen => return (index, spot, seen),
+                    seen => return (index, slot_ref, seen),
                 }
             }
             index -= 1u32 << index.ilog2();
         }
-        let spot = Spot {
+        let slot_ref = SlotRef {
             rows: &self.opening,
             at: index as usize,
         };
-        let seen = spot.rows.glance(spot.at);
-        (index, spot, seen)
+        let seen = slot_ref.rows.glance(slot_ref.at);
+        (index, slot_ref, seen)
     }
 }
 
@@ -169,12 +185,12 @@ struct OfSlotName;
 impl Names<SlotName> for OfSlotName {
     ghost use Rattle.std.specs.Prelude.{◌∷◌};
     ghost use Rattle.bin_history.specs.declared.form.Form.TheVariants.{Lean};
-    ghost use Rattle.places.specs.Names.{form_number};
+    ghost use Rattle.bin_layout.specs.Names.{form_number};
 
     ghost numbers = { λ m. m.first ∷ m.n ∷ form_number Lean ∷ m.salt.0 ∷ m.ledger.numbers };
 }
 
-/// The tag of a slot of a map's parts or tables, from an index on.
+/// The tag of a slot of a map's segments or tables, from an index on.
 pub(crate) fn tag_of(first: u32, n: u32, salt: Salt, ledger: &LedgerName) -> Tag
     ensures map { home_named result.numbers ≡ record { ledger = ledger.now; form = Lean; salt = salt; n = n } }
     ensures from { first_named result.numbers ≡ first }
@@ -197,98 +213,101 @@ pub(crate) fn tag_of(first: u32, n: u32, salt: Salt, ledger: &LedgerName) -> Tag
 }
 
 impl<K: HashKey, V: Value, F: Remap<K, V>, A: Allocator + Clone> LeanBins<K, V, F, A> {
-    pub(crate) fn allocator(&self) -> &A {
+    /// The allocator of the map's memory.
+    pub fn allocator(&self) -> &A {
         self.tables.allocator()
     }
 
-    /// The slots of the parts of a table. No part is in them yet.
-    fn new_parts(&self, exponent: u32) -> Result<Parts<K, V, F, A>, AllocError>
-        requires { exponent < 26 }
-        ensures { IfOk result (λ t. AreParts self.now (2 ^ exponent) t.items) }
+    /// The slots of the segments of a table. No segment is in them yet.
+    fn new_segments(&self, exponent: u32) -> Result<Segments<K, V, F, A>, AllocError>
+        requires { exponent < most_exponent }
+        ensures { IfOk result (λ t. AreSegments self.now (2 ^ exponent) t.items) }
     {
         let first = 1u32 << exponent;
-        let count = first.div_ceil(PART);
-        let mut parts = Vec::with_capacity(self.allocator().clone()?, count as usize)?;
+        let count = first.div_ceil(SEGMENT);
+        let mut segments = Vec::with_capacity(self.allocator().clone()?, count as usize)?;
         for number in 0..count {
-            let tag = tag_of(first + number * PART, self.n, self.salt, &self.ledger);
-            parts.push_reserved(OnceSlot::new(&tag));
+            let tag = tag_of(first + number * SEGMENT, self.n, self.salt, &self.ledger);
+            segments.push_reserved(OnceSlot::new(&tag));
         }
-        Ok(parts)
+        Ok(segments)
     }
 
-    /// A part of a table, with nothing in its places.
-    fn new_part(&self, exponent: u32, number: u32) -> Result<Rows<Lying<K, V, F, A>, A>, AllocError>
-        requires { (exponent < 26) × (number < 16384) }
+    /// A segment of a table, with nothing in its places.
+    fn new_segment(
+        &self,
+        exponent: u32,
+        number: u32,
+    ) -> Result<LockedSlots<BinSlot<K, V, F, A>, A>, AllocError>
+        requires table { exponent < most_exponent }
+        requires within { number * segment_places < 2 ^ exponent }
         ensures { IfOk result
-            (λ r. IsPart self.now (2 ^ exponent + number * 4096)
-            (min (2 ^ exponent + number * 4096) 4096)
+            (λ r. IsSegment self.now (2 ^ exponent + number * segment_places)
+            (min (2 ^ exponent + number * segment_places) segment_places)
             r.table.shared.key.tag r.table.shared.table_id.slots) }
     {
-        let first = (1u32 << exponent) + number * PART;
-        let count = first.min(PART);
+        let first = (1u32 << exponent) + number * SEGMENT;
+        let count = first.min(SEGMENT);
         let mut blanks = Vec::with_capacity(self.allocator().clone()?, count as usize)?;
         for _blank in 0..count {
-            blanks.push_reserved(Lying::nothing(self.salt, Class::new(1, 0)));
+            blanks.push_reserved(BinSlot::nothing(self.salt, Class::new(1, 0)));
         }
-        let tag = PartTag {
+        let tag = SegmentTag {
             first,
             n: self.n,
             salt: self.salt,
             ledger: self.ledger.again(),
         };
         let stride = stride_from(first);
-        Rows::absent(self.allocator(), Terms { tag, stride }, blanks)
+        LockedSlots::absent(self.allocator(), Terms { tag, stride }, blanks)
     }
 
-    /// Makes the slots of a table's parts, if there are none yet.
+    /// Makes the slots of a table's segments, if there are none yet.
     pub(crate) fn keep_parts(&self, exponent: u32) -> Result<(), AllocError>
-        requires { exponent < 26 }
+        requires { exponent < most_exponent }
     {
         if self.table(exponent).is_none() {
-            let parts = self.new_parts(exponent)?;
-            if let Some(slot) = self.tables.get(exponent as usize) {
-                drop(slot.set_written(parts));
-                self.widest.fetch_max(u64::from(exponent) + 1, SeqCst);
-            }
+            let segments = self.new_segments(exponent)?;
+            drop(self.tables[exponent as usize].set_written(segments));
+            self.widest.fetch_max(u64::from(exponent) + 1, SeqCst);
         }
         Ok(())
     }
 
-    /// Makes a part, if there is none yet.
-    fn keep_part(&self, exponent: u32, number: u32) -> Result<(), AllocError>
-        requires { (exponent < 26) × (number < 16384) }
+    /// Makes a segment, if there is none yet.
+    fn keep_segment(&self, exponent: u32, number: u32) -> Result<(), AllocError>
+        requires table { exponent < most_exponent }
+        requires within { number * segment_places < 2 ^ exponent }
     {
-        if self.part(exponent, number).is_none() {
-            let rows = self.new_part(exponent, number)?;
-            if let Some(parts) = self.table(exponent) {
-                if let Some(slot) = parts.get(number as usize) {
-                    drop(slot.set_written(rows));
-                }
+        if self.segment(exponent, number).is_none() {
+            let rows = self.new_segment(exponent, number)?;
+            if let Some(segments) = self.table(exponent) {
+                drop(segments[number as usize].set_written(rows));
             }
         }
         Ok(())
     }
 
-    /// The place of an index. Its part is made where there is none yet. Errors: `NoMemory`, and
-    /// `Busy` where another thread is at work on the part.
-    pub(crate) fn try_spot_for(&self, index: u32) -> Result<Spot<'_, K, V, F, A>, Refused>
+    /// The place of an index. Its segment is made where there is none yet. Errors: `NoMemory`, and
+    /// `Busy` where another thread is at work on the segment.
+    pub(crate) fn try_slot_ref_for(&self, index: u32) -> Result<SlotRef<'_, K, V, F, A>, Refused>
         requires { index < most_bins }
         ensures { IfOk result
-            (λ s. IsSpotOf self.now index s.rows.now.table.shared.key.tag
+            (λ s. IsSlotRefOf self.now index s.rows.now.table.shared.key.tag
             s.rows.now.table.shared.table_id.slots s.at) }
     {
-        if let Some(spot) = self.spot(index) {
-            return Ok(spot);
+        if let Some(slot_ref) = self.slot_ref(index) {
+            return Ok(slot_ref);
         }
         if index >= self.n {
             let exponent = index.ilog2();
             self.keep_parts(exponent)?;
-            self.keep_part(exponent, (index - (1u32 << exponent)) / PART)?;
+            self.keep_segment(exponent, (index - (1u32 << exponent)) / SEGMENT)?;
         }
-        self.spot(index).ok_or(Refused::Busy)
+        self.slot_ref(index).ok_or(Refused::Busy)
     }
 
-    /// Makes the slots of the parts of the table of this many bins, a power of two from 1 to 2^26,
+    /// Makes the slots of the segments of the table of this many bins, a power of two from 1 to 2^26,
     /// if there are none yet: so many bins the map can then be moved to. A table needs no other
     /// memory until its bins come. It waits for nobody.
     ///

@@ -3,20 +3,20 @@ ghost use Rattle.std.specs.Prelude.{◌≡◌, ◌<◌, ◌≤◌, IfErr};
 ghost use Rattle.hashkeys.specs.Limits.{most_bins};
 ghost use Rattle.bin_history.specs.Calls.{after};
 ghost use Rattle.bin_history.specs.Copies.{IsExact};
-ghost use Rattle.places.specs.Places.{AreAt};
-ghost use Rattle.places.specs.Views.{place_of};
+ghost use Rattle.bin_layout.specs.Places.{AreAt};
+ghost use Rattle.bin_layout.specs.Views.{place_of};
 
 use crate::bins::LeanBins;
-use crate::hold::{Held, Taken, give_back};
+use crate::hold::{BinGuard, Held, give_back};
 use bin_history::{Remap, Value};
+use bin_layout::{Moved, Refused};
 use count_ledger::Ledger;
 use hashkeys::{Class, HashKey};
-use places::{Moved, Refused};
 use std::alloc::Allocator;
 
 impl<'a, K: HashKey, V: Value, F: Remap<K, V>, A: Allocator + Clone> Held<'a, K, V, F, A> {
     /// Puts the low half of the bin in its place and the high half in the place so much further,
-    /// each with its part of the role. It waits for nobody, and takes memory for the part of the
+    /// each with its share of the role. It waits for nobody, and takes memory for the share of the
     /// other place alone, where that is not made yet.
     ///
     /// # Errors
@@ -43,15 +43,15 @@ impl<'a, K: HashKey, V: Value, F: Remap<K, V>, A: Allocator + Clone> Held<'a, K,
         let home: &'a LeanBins<K, V, F, A> = self.place.home;
         let class = self.bin.class();
         let index = class.index() + class.n();
-        let spot = match home.try_spot_for(index) {
-            Ok(spot) => spot,
+        let slot_ref = match home.try_slot_ref_for(index) {
+            Ok(slot_ref) => slot_ref,
             Err(refused) => return Err((self, refused)),
         };
-        let Some(other) = spot.rows.try_begin(spot.at) else {
+        let Some(other) = slot_ref.rows.try_begin(slot_ref.at) else {
             return Err((self, Refused::Busy));
         };
         let Held { bin, role, place } = self;
-        let Taken {
+        let BinGuard {
             inner,
             class: _,
             exponent,

@@ -1,31 +1,32 @@
 //! Bins that are held, by value or where they lie.
 ghost use Rattle.std.specs.Prelude.{◌≡◌, ◌+◌, ◌<◌, ◌≤◌, ◌^◌, ◌%◌, true, IfSome, IsSomeAnd};
 ghost use Rattle.hashkeys.specs.Classes.{covers};
+ghost use Rattle.hashkeys.specs.Limits.{most_exponent};
 ghost use Rattle.bin_history.specs.Calls.{after};
 ghost use Rattle.bin_history.specs.Lawful.{IsLawful};
-ghost use Rattle.bin_table.specs.Taken.{taken};
-ghost use Rattle.places.specs.Places.{AreAt};
-ghost use Rattle.places.specs.Views.{IsPlaceOf, place_of};
+ghost use Rattle.lock_table.specs.Taken.{taken};
+ghost use Rattle.bin_layout.specs.Places.{AreAt};
+ghost use Rattle.bin_layout.specs.Views.{IsPlaceOf, place_of};
 ghost use Rattle.lean_bins.specs.Holding.{IsTakenFrom};
-ghost use Rattle.lean_bins.specs.Homes.{IsSpotOf};
-ghost use Rattle.lean_bins.specs.Lying.{LiesAt};
-ghost use Rattle.lean_bins.specs.Parts.{class_at, home_of};
+ghost use Rattle.lean_bins.specs.Homes.{IsSlotRefOf};
+ghost use Rattle.lean_bins.specs.BinSlot.{IsInSlot};
+ghost use Rattle.lean_bins.specs.Segments.{class_at, home_of};
 
-use crate::bins::{LeanBins, MOST_EXPONENT, Spot};
-use crate::lying::Lying;
+use crate::bins::{LeanBins, MOST_EXPONENT, SlotRef};
+use crate::slot::BinSlot;
 use bin_history::{Bin, Remap, Value};
-use bin_table::Glance;
 use count_ledger::BinRole;
 use crossbeam_utils::Backoff;
 use hashkeys::{Class, HashKey};
+use lock_table::Glance;
 use std::alloc::Allocator;
 use std::sync::Wait;
 
 /// A place that is held. A bin and its role lie there, or were taken out and are put back there.
 /// Nobody else has either until it is released.
-pub struct Taken<'a, K: HashKey, V: Value, F: Remap<K, V>, A: Allocator> {
+pub struct BinGuard<'a, K: HashKey, V: Value, F: Remap<K, V>, A: Allocator> {
     /// What lies there is lent by its `value`.
-    pub inner: bin_table::Held<'a, Lying<K, V, F, A>, A>,
+    pub inner: lock_table::Held<'a, BinSlot<K, V, F, A>, A>,
     /// The class of the bin's keys.
     pub class: Class,
     pub(crate) exponent: u32,
@@ -38,13 +39,13 @@ pub struct Taken<'a, K: HashKey, V: Value, F: Remap<K, V>, A: Allocator> {
 pub struct Held<'a, K: HashKey, V: Value, F: Remap<K, V>, A: Allocator> {
     pub bin: Bin<K, V, F, A>,
     pub role: BinRole<K, V, F>,
-    pub place: Taken<'a, K, V, F, A>,
+    pub place: BinGuard<'a, K, V, F, A>,
 }
 
 /// The index of the hash among 2 to the exponent.
 #[inline(always)]
 pub(crate) fn index_among(hash: u32, exponent: u32) -> u32
-    requires { exponent ≤ 26 }
+    requires { exponent ≤ most_exponent }
     ensures value { result ≡ hash % 2 ^ exponent }
     ensures below { result < 2 ^ exponent }
 {
@@ -56,24 +57,24 @@ impl<K: HashKey, V: Value, F: Remap<K, V>, A: Allocator + Clone> LeanBins<K, V, 
     #[inline(always)]
     fn try_at<'a>(
         &'a self,
-        spot: Spot<'a, K, V, F, A>,
+        slot_ref: SlotRef<'a, K, V, F, A>,
         exponent: u32,
         index: u32,
-    ) -> Option<Taken<'a, K, V, F, A>>
-        requires spot { IsSpotOf self.now index spot.rows.now.table.shared.key.tag
-            spot.rows.now.table.shared.table_id.slots spot.at }
-        requires few { exponent ≤ 26 }
+    ) -> Option<BinGuard<'a, K, V, F, A>>
+        requires slot_ref { IsSlotRefOf self.now index slot_ref.rows.now.table.shared.key.tag
+            slot_ref.rows.now.table.shared.table_id.slots slot_ref.at }
+        requires few { exponent ≤ most_exponent }
         requires class { index < 2 ^ exponent }
         ensures class { IfSome result (λ t. t.class ≡ class_at index exponent) }
         ensures lies { IfSome result (λ t. IsSomeAnd (taken t.inner.seat.me.1)
-            (LiesAt K.eq (after V.eq F.remapped F.merged) (place_of t.home.now t.class))) }
+            (IsInSlot K.eq (after V.eq F.remapped F.merged) (place_of t.home.now t.class))) }
         ensures of_map { IfSome result (λ t. IsPlaceOf self.now (place_of t.home.now t.class)) }
         ensures home { IfSome result (λ t. t.home.now ≡ self.now) }
     {
-        let Spot { rows, at } = spot;
+        let SlotRef { rows, at } = slot_ref;
         let inner = rows.try_hold(at, exponent)?;
         let class = Class::new(1u32 << exponent, index);
-        Some(Taken {
+        Some(BinGuard {
             inner,
             class,
             exponent,
@@ -83,42 +84,60 @@ impl<K: HashKey, V: Value, F: Remap<K, V>, A: Allocator + Clone> LeanBins<K, V, 
 
     /// One try for the bin of the hash at the place where it most often is.
     #[inline(always)]
-    fn try_widest(&self, hash: u32) -> Option<Taken<'_, K, V, F, A>>
+    fn try_widest(&self, hash: u32) -> Option<BinGuard<'_, K, V, F, A>>
         ensures lies { IfSome result (λ t. IsSomeAnd (taken t.inner.seat.me.1)
-            (LiesAt K.eq (after V.eq F.remapped F.merged) (place_of t.home.now t.class))) }
+            (IsInSlot K.eq (after V.eq F.remapped F.merged) (place_of t.home.now t.class))) }
         ensures covers { IfSome result (λ t. covers t.class hash ≡ true) }
         ensures of_map { IfSome result (λ t. IsPlaceOf self.now (place_of t.home.now t.class)) }
         ensures home { IfSome result (λ t. t.home.now ≡ self.now) }
     {
         let exponent = self.widest();
         let index = index_among(hash, exponent);
-        self.try_at(self.spot(index)?, exponent, index)
+        self.try_at(self.slot_ref(index)?, exponent, index)
     }
 
-    /// Holds the bin of the hash where it lies, or none where another thread has it just then. It
-    /// waits for nobody.
-    pub fn try_hold_in_place(&self, hash: u32) -> Option<Taken<'_, K, V, F, A>>
+    /// Locks the bin of the hash where it lies, or returns none where another thread has it just
+    /// then. It waits for nobody. It first tries the place where the bin most often is.
+    #[inline(always)]
+    pub fn try_hold_in_place(&self, hash: u32) -> Option<BinGuard<'_, K, V, F, A>>
         ensures lies { IfSome result (λ t. IsSomeAnd (taken t.inner.seat.me.1)
-            (LiesAt K.eq (after V.eq F.remapped F.merged) (place_of t.home.now t.class))) }
+            (IsInSlot K.eq (after V.eq F.remapped F.merged) (place_of t.home.now t.class))) }
         ensures covers { IfSome result (λ t. covers t.class hash ≡ true) }
         ensures of_map { IfSome result (λ t. IsPlaceOf self.now (place_of t.home.now t.class)) }
         ensures home { IfSome result (λ t. t.home.now ≡ self.now) }
     {
-        let (index, spot, seen) = self.find(hash);
+        match self.try_widest(hash) {
+            Some(taken) => Some(taken),
+            None => self.try_hold_found(hash),
+        }
+    }
+
+    /// Locks the bin of the hash at the place where it is found, or returns none where another thread
+    /// has it just then. It waits for nobody. It is not inlined.
+    #[cold]
+    #[inline(never)]
+    pub fn try_hold_found(&self, hash: u32) -> Option<BinGuard<'_, K, V, F, A>>
+        ensures lies { IfSome result (λ t. IsSomeAnd (taken t.inner.seat.me.1)
+            (IsInSlot K.eq (after V.eq F.remapped F.merged) (place_of t.home.now t.class))) }
+        ensures covers { IfSome result (λ t. covers t.class hash ≡ true) }
+        ensures of_map { IfSome result (λ t. IsPlaceOf self.now (place_of t.home.now t.class)) }
+        ensures home { IfSome result (λ t. t.home.now ≡ self.now) }
+    {
+        let (index, slot_ref, seen) = self.find(hash);
         let Glance::Present(exponent) = seen else {
             return None;
         };
         if exponent > MOST_EXPONENT || index_among(hash, exponent) != index {
             return None;
         }
-        self.try_at(spot, exponent, index)
+        self.try_at(slot_ref, exponent, index)
     }
 
     /// Waits for the bin of the hash, and holds it where it lies.
     #[inline(always)]
-    pub fn hold_in_place<R: Wait>(&self, rt: &R, hash: u32) -> Taken<'_, K, V, F, A>
+    pub fn hold_in_place<R: Wait>(&self, rt: &R, hash: u32) -> BinGuard<'_, K, V, F, A>
         ensures lies { IsSomeAnd (taken result.inner.seat.me.1)
-            (LiesAt K.eq (after V.eq F.remapped F.merged) (place_of result.home.now result.class)) }
+            (IsInSlot K.eq (after V.eq F.remapped F.merged) (place_of result.home.now result.class)) }
         ensures covers { covers result.class hash ≡ true }
         ensures of_map { IsPlaceOf self.now (place_of result.home.now result.class) }
         ensures home { result.home.now ≡ self.now }
@@ -132,16 +151,16 @@ impl<K: HashKey, V: Value, F: Remap<K, V>, A: Allocator + Clone> LeanBins<K, V, 
     /// Waits for the bin of the hash where it is found, and holds it there. It is not inlined.
     #[cold]
     #[inline(never)]
-    pub fn hold_found<R: Wait>(&self, rt: &R, hash: u32) -> Taken<'_, K, V, F, A>
+    pub fn hold_found<R: Wait>(&self, rt: &R, hash: u32) -> BinGuard<'_, K, V, F, A>
         ensures lies { IsSomeAnd (taken result.inner.seat.me.1)
-            (LiesAt K.eq (after V.eq F.remapped F.merged) (place_of result.home.now result.class)) }
+            (IsInSlot K.eq (after V.eq F.remapped F.merged) (place_of result.home.now result.class)) }
         ensures covers { covers result.class hash ≡ true }
         ensures of_map { IsPlaceOf self.now (place_of result.home.now result.class) }
         ensures home { result.home.now ≡ self.now }
     {
         let backoff = Backoff::new();
         for _ in rt.forever() {
-            if let Some(taken) = self.try_hold_in_place(hash) {
+            if let Some(taken) = self.try_hold_found(hash) {
                 return taken;
             }
             backoff.snooze();
@@ -161,7 +180,7 @@ impl<K: HashKey, V: Value, F: Remap<K, V>, A: Allocator + Clone> LeanBins<K, V, 
             (λ h. IsPlaceOf self.now (place_of h.place.home.now h.place.class)) }
         ensures home { IfSome result (λ h. h.place.home.now ≡ self.now) }
     {
-        let taken = self.try_hold_in_place(hash)?;
+        let taken = self.try_hold_found(hash)?;
         Some(taken.take_out())
     }
 
@@ -180,31 +199,31 @@ impl<K: HashKey, V: Value, F: Remap<K, V>, A: Allocator + Clone> LeanBins<K, V, 
     }
 }
 
-impl<'a, K: HashKey, V: Value, F: Remap<K, V>, A: Allocator + Clone> Taken<'a, K, V, F, A> {
+impl<'a, K: HashKey, V: Value, F: Remap<K, V>, A: Allocator + Clone> BinGuard<'a, K, V, F, A> {
     /// Takes the bin and its role out of their place.
     fn take_out(self) -> Held<'a, K, V, F, A>
         requires { IsSomeAnd (taken self.inner.seat.me.1)
-            (LiesAt K.eq (after V.eq F.remapped F.merged) (place_of self.home.now self.class)) }
+            (IsInSlot K.eq (after V.eq F.remapped F.merged) (place_of self.home.now self.class)) }
         ensures at { AreAt K.eq (after V.eq F.remapped F.merged)
             (place_of result.place.home.now result.place.class) result.bin result.role }
         ensures lawful { IsLawful K.eq K.code (after V.eq F.remapped F.merged) result.bin }
         ensures class { result.place.class ≡ self.entry.class }
         ensures home { result.place.home.now ≡ self.entry.home.now }
     {
-        let Taken {
+        let BinGuard {
             mut inner,
             class,
             exponent,
             home,
         } = self;
         let salt = home.salt();
-        let lying = inner.replace(Lying::nothing(salt, class));
-        let (bin, role) = lying.into_bin(salt, class);
+        let bin_slot = inner.replace(BinSlot::nothing(salt, class));
+        let (bin, role) = bin_slot.into_bin(salt, class);
         bin.lawful();
         Held {
             bin,
             role,
-            place: Taken {
+            place: BinGuard {
                 inner,
                 class,
                 exponent,
@@ -218,9 +237,9 @@ impl<'a, K: HashKey, V: Value, F: Remap<K, V>, A: Allocator + Clone> Taken<'a, K
     #[inline(always)]
     pub fn release(self)
         requires { IsSomeAnd (taken self.inner.seat.me.1)
-            (LiesAt K.eq (after V.eq F.remapped F.merged) (place_of self.home.now self.class)) }
+            (IsInSlot K.eq (after V.eq F.remapped F.merged) (place_of self.home.now self.class)) }
     {
-        let Taken {
+        let BinGuard {
             inner,
             class: _,
             exponent,
@@ -233,7 +252,7 @@ impl<'a, K: HashKey, V: Value, F: Remap<K, V>, A: Allocator + Clone> Taken<'a, K
 /// Puts a bin and its role at a place that is held, as one of 2 to the exponent.
 #[inline(always)]
 pub(crate) fn give_back<K: HashKey, V: Value, F: Remap<K, V>, A: Allocator + Clone>(
-    inner: bin_table::Held<'_, Lying<K, V, F, A>, A>,
+    inner: lock_table::Held<'_, BinSlot<K, V, F, A>, A>,
     exponent: u32,
     bin: Bin<K, V, F, A>,
     role: BinRole<K, V, F>,
@@ -244,18 +263,18 @@ pub(crate) fn give_back<K: HashKey, V: Value, F: Remap<K, V>, A: Allocator + Clo
     requires least { inner.rows.now.table.shared.key.tag.n ≤ 2 ^ exponent }
 {
     let mut held = inner;
-    drop(held.replace(Lying::of(bin, role)));
+    drop(held.replace(BinSlot::of(bin, role)));
     held.release(exponent);
 }
 
-impl<'a, K: HashKey, V: Value, F: Remap<K, V>, A: Allocator + Clone> Taken<'a, K, V, F, A> {
+impl<'a, K: HashKey, V: Value, F: Remap<K, V>, A: Allocator + Clone> BinGuard<'a, K, V, F, A> {
     /// Puts the bin and its role, which were taken out, back to their place. It waits for nobody.
     #[inline(always)]
     pub fn put_back(self, bin: Bin<K, V, F, A>, role: BinRole<K, V, F>)
         requires { AreAt K.eq (after V.eq F.remapped F.merged) (place_of self.home.now self.class)
             bin role }
     {
-        let Taken {
+        let BinGuard {
             inner,
             class: _,
             exponent,
@@ -266,13 +285,13 @@ impl<'a, K: HashKey, V: Value, F: Remap<K, V>, A: Allocator + Clone> Taken<'a, K
 
     /// Leaves nothing at the place, for good.
     pub(crate) fn leave(self) {
-        let Taken {
+        let BinGuard {
             inner,
             class,
             exponent: _,
             home,
         } = self;
-        drop(inner.take(Lying::nothing(home.salt(), class)));
+        drop(inner.take(BinSlot::nothing(home.salt(), class)));
     }
 }
 

@@ -1,29 +1,19 @@
 //! The bins of a map that nobody else has, taken out in walk order.
-ghost use Rattle.std.specs.Prelude.{◌≡◌, ◌≤◌, true, IsTrue, IfSome, IfOk, [], IfErr};
+ghost use Rattle.std.specs.Prelude.{◌≡◌, ◌≤◌, true, IsTrue, IfSome, []};
 ghost use Rattle.hashkeys.specs.Classes.{covers};
 ghost use Rattle.bin_history.specs.Calls.{after};
 ghost use Rattle.count_ledger.specs.Books.{classes_of_roles};
-ghost use Rattle.places.specs.BinsWithRoles.{IsBinWithRole, AreBinsWithRoles, classes_of_bins};
-ghost use Rattle.places.specs.Walks.{IsWalk};
-ghost use Rattle.lean_bins.specs.NotLeft.{IfKept};
+ghost use Rattle.bin_layout.specs.BinsWithRoles.{IsBinWithRole, AreBinsWithRoles, classes_of_bins};
+ghost use Rattle.bin_layout.specs.Walks.{IsWalk};
 
 use crate::bins::{LeanBins, MOST_EXPONENT};
 use crate::hold::Held;
 use bin_history::{Bin, Remap, Value};
-use bin_table::Glance;
+use bin_layout::{Room, next_in_walk};
 use count_ledger::BinRole;
 use hashkeys::{Class, HashKey, MOST_BINS};
-use places::next_in_walk;
+use lock_table::Glance;
 use std::alloc::{AllocError, Allocator};
-
-/// Why the bins of a map could not be taken out.
-#[derive(Drop)]
-pub enum NotLeft<K: HashKey, V: Value, F: Remap<K, V>, A: Allocator> {
-    /// For want of memory. Here is the map as it was.
-    NoMemory(LeanBins<K, V, F, A>),
-    /// A bin was missing, or there were more than were counted.
-    BinMissing,
-}
 
 impl<K: HashKey, V: Value, F: Remap<K, V>, A: Allocator + Clone> LeanBins<K, V, F, A> {
     /// The class of the bin of a hash, where one seems to stand.
@@ -102,40 +92,38 @@ impl<K: HashKey, V: Value, F: Remap<K, V>, A: Allocator + Clone> LeanBins<K, V, 
         false
     }
 
-    /// Takes out the bins in walk order and, place by place, their roles. For want of memory the
-    /// map comes back as it was.
-    pub fn into_leaves(
-        self,
-    ) -> Result<(Vec<Bin<K, V, F, A>, A>, Vec<BinRole<K, V, F>, A>), NotLeft<K, V, F, A>>
-        ensures walk { IfOk result (λ p. IsWalk self.n (classes_of_bins p.0.items)) }
-        ensures with_roles { IfOk result
-            (λ p. AreBinsWithRoles K.eq K.code (after V.eq F.remapped F.merged) self
-            p.0.items p.1.items) }
-        ensures classes { IfOk result
-            (λ p. classes_of_roles p.1.items ≡ classes_of_bins p.0.items) }
-        ensures refused { IfErr result (λ e. IfKept e (λ g. g ≡ self)) }
-    {
-        let count = self.count_bins() as usize;
-        let Ok((mut bins, mut roles)) = self.room_for(count) else {
-            return Err(NotLeft::NoMemory(self));
-        };
-        if self.take_all(&mut bins, &mut roles) {
-            Ok((bins, roles))
-        } else {
-            Err(NotLeft::BinMissing)
-        }
+    /// Room for the bins and their roles. None of them is taken out.
+    ///
+    /// # Errors
+    ///
+    /// `AllocError` when out of memory.
+    pub fn room_for_leaves(&self) -> Result<Room<K, V, F, A>, AllocError> {
+        Room::new(self.allocator(), self.count_bins())
     }
 
-    /// Lists with room for so many bins and their roles.
-    fn room_for(
-        &self,
-        count: usize,
-    ) -> Result<(Vec<Bin<K, V, F, A>, A>, Vec<BinRole<K, V, F>, A>), AllocError>
-        ensures bins { IfOk result (λ p. p.0.items ≡ []) }
-        ensures roles { IfOk result (λ p. p.1.items ≡ []) }
+    /// Takes out the bins in walk order and, place by place, their roles, into the room that
+    /// `room_for_leaves` made. It waits for nobody and takes no memory. It returns none, and the bins
+    /// are gone, where one is missing, or there are more of them than the room was made for: where
+    /// the map was in use meanwhile.
+    pub fn into_leaves(
+        self,
+        room: Room<K, V, F, A>,
+    ) -> Option<(Vec<Bin<K, V, F, A>, A>, Vec<BinRole<K, V, F>, A>)>
+        ensures walk { IfSome result (λ p. IsWalk self.n (classes_of_bins p.0.items)) }
+        ensures with_roles { IfSome result
+            (λ p. AreBinsWithRoles K.eq K.code (after V.eq F.remapped F.merged) self
+            p.0.items p.1.items) }
+        ensures classes { IfSome result
+            (λ p. classes_of_roles p.1.items ≡ classes_of_bins p.0.items) }
     {
-        let bins = Vec::with_capacity(self.allocator().clone()?, count)?;
-        let roles = Vec::with_capacity(self.allocator().clone()?, count)?;
-        Ok((bins, roles))
+        let Room {
+            mut bins,
+            mut roles,
+        } = room;
+        if self.take_all(&mut bins, &mut roles) {
+            Some((bins, roles))
+        } else {
+            None
+        }
     }
 }

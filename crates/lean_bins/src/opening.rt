@@ -7,17 +7,17 @@ ghost use Rattle.bin_history.specs.Entries.{HasDistinctKeys};
 ghost use Rattle.bin_history.specs.declared.form.Form.TheVariants.{Lean};
 ghost use Rattle.count_ledger.specs.Opening.{AreOfTheirClasses, lists_of, new_roles};
 ghost use Rattle.count_ledger.specs.Views.{LedgerId};
-ghost use Rattle.lean_bins.specs.Lying.{AreOpening, LiesFor};
-ghost use Rattle.lean_bins.specs.Parts.{AreTables};
+ghost use Rattle.lean_bins.specs.BinSlot.{AreOpening, IsInSlotFor};
+ghost use Rattle.lean_bins.specs.Segments.{AreTables};
 
-use crate::bins::{LeanBins, stride_from, tag_of};
-use crate::lying::{Lying, PartTag};
-use crate::parts::Tables;
+use crate::bins::{LeanBins, stride_of_opening, tag_of};
+use crate::segments::Tables;
+use crate::slot::{BinSlot, SegmentTag};
 use bin_history::{Bin, Form, Remap, Value};
-use bin_table::{Rows, Terms};
 use boxcar::slot::OnceSlot;
 use count_ledger::{BinRole, LedgerName};
 use hashkeys::{Class, HashKey, Salt};
+use lock_table::{LockedSlots, Terms};
 use std::alloc::{AllocError, Allocator};
 use std::sync::atomic::AtomicU64;
 
@@ -28,18 +28,18 @@ fn opening_bin<K: HashKey, V: Value, F: Remap<K, V>, A: Allocator + Clone>(
     class: Class,
     base: Vec<(K, V), A>,
     role: BinRole<K, V, F>,
-) -> Result<Lying<K, V, F, A>, AllocError>
+) -> Result<BinSlot<K, V, F, A>, AllocError>
     requires keys { IsExact K.is_clone }
     requires values { IsExact V.is_clone }
     requires distinct { HasDistinctKeys K.eq base.items }
     requires of_class { All (λ e. is_of K.code salt class e.0 ≡ true) base.items }
     requires role { role
         ≡ record { ledger = role.ledger; salt = salt; class = class; opening = base.items; kept = [] } }
-    ensures { IfOk result (LiesFor K.eq (after V.eq F.remapped F.merged)
+    ensures { IfOk result (IsInSlotFor K.eq (after V.eq F.remapped F.merged)
         (record { ledger = role.ledger; form = Lean; salt = salt; n = class.n }) class) }
 {
     let bin = Bin::new(alloc, Form::Lean, salt, class, base)?;
-    Ok(Lying::of(bin, role))
+    Ok(BinSlot::of(bin, role))
 }
 
 /// The opening bins, each made of the base and the role at its place.
@@ -49,7 +49,7 @@ fn opening_bins<K: HashKey, V: Value, F: Remap<K, V>, A: Allocator + Clone>(
     n: u32,
     bases: Vec<Vec<(K, V), A>, A>,
     roles: Vec<BinRole<K, V, F>, A>,
-) -> Result<Vec<Lying<K, V, F, A>, A>, AllocError>
+) -> Result<Vec<BinSlot<K, V, F, A>, A>, AllocError>
     requires keys { IsExact K.is_clone }
     requires values { IsExact V.is_clone }
     requires size { IsTableSize n }
@@ -105,23 +105,23 @@ impl<K: HashKey, V: Value, F: Remap<K, V>, A: Allocator + Clone> LeanBins<K, V, 
         salt: Salt,
         n: u32,
         ledger: LedgerName,
-        lying: Vec<Lying<K, V, F, A>, A>,
+        bin_slot: Vec<BinSlot<K, V, F, A>, A>,
     ) -> Result<LeanBins<K, V, F, A>, AllocError>
         requires size { IsTableSize n }
-        requires count { length lying.items ≡ n }
+        requires count { length bin_slot.items ≡ n }
         requires opening { AreOpening K.eq (after V.eq F.remapped F.merged)
-            (record { ledger = ledger; form = Lean; salt = salt; n = n }) lying.items }
+            (record { ledger = ledger; form = Lean; salt = salt; n = n }) bin_slot.items }
         ensures { IfOk result (λ g. g ≡ record { ledger = ledger; form = Lean; salt = salt; n = n }) }
     {
-        let tag = PartTag {
+        let tag = SegmentTag {
             first: 0,
             n,
             salt,
             ledger: ledger.again(),
         };
         let exponent = n.ilog2();
-        let stride = stride_from(n);
-        let opening = Rows::present(&alloc, Terms { tag, stride }, exponent, lying)?;
+        let stride = stride_of_opening(n);
+        let opening = LockedSlots::present(&alloc, Terms { tag, stride }, exponent, bin_slot)?;
         let tables = no_tables(alloc, n, salt, &ledger)?;
         Ok(LeanBins {
             opening,
@@ -157,7 +157,7 @@ impl<K: HashKey, V: Value, F: Remap<K, V>, A: Allocator + Clone> LeanBins<K, V, 
             roles.items ≡ new_roles ledger salt (lists_of bases) → g.ledger ≡ ledger) }
     {
         let ledger = LedgerName::of(&roles[0]);
-        let lying = opening_bins(&alloc, salt, n, bases, roles)?;
-        LeanBins::with_opening(alloc, salt, n, ledger, lying)
+        let bin_slot = opening_bins(&alloc, salt, n, bases, roles)?;
+        LeanBins::with_opening(alloc, salt, n, ledger, bin_slot)
     }
 }

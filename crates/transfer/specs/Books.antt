@@ -4,6 +4,7 @@ use Rattle.std.specs.Prelude.{length}
 use Rattle.std.specs.Prelude.{slice_index, sum_by, All, Any}
 use Rattle.std.specs.List.{range_with_len}
 use Rattle.atomic_table.specs.Table.{State}
+use Rattle.transfer.specs.Limits.{all_movers, spare_movers, stride_bins}
 use Rattle.transfer.specs.declared.range.Range.{Range}
 use Rattle.transfer.specs.declared.book.Book.{Book}
 use Rattle.transfer.specs.Ranges.{ranges, width, HasBin}
@@ -35,14 +36,14 @@ pub record IsBook (n claimed : ℕ) (b : Book) : Type 0 where
   -- it finished what it claimed, nothing twice
   pub finished : IsSubmultisetOf b.finished b.claimed
   -- it got none where all bins are claimed
-  pub got_none : b.got_none ≡ true → n ≤ 16 * claimed
+  pub got_none : b.got_none ≡ true → n ≤ stride_bins * claimed
 
 -- the rule of a move of n bins
 pub record IsMove (n claim_word finish_word : ℕ) (books : List Book) : Type 0 where
   -- the movers are numbered from 0 to 63
-  pub numbered : IsSharedOut numbers books (range_with_len 0 64)
+  pub numbered : IsSharedOut numbers books (range_with_len 0 all_movers)
   -- each claim moved the claim word by 16 bins
-  pub moved : claim_word ≡ 16 * claims books
+  pub moved : claim_word ≡ stride_bins * claims books
   -- as many ranges as there were claims are claimed, each by one mover, once
   pub claimed : IsSharedOut (λ b. b.claimed) books (ranges n (claims books))
   -- the finish word counts the bins of the finished ranges
@@ -70,7 +71,7 @@ new_book n number spare = record {
 
 -- the opener's, with 63 movers to deal
 abbrev pub first_book : ℕ → Book
-first_book n = new_book n 0 (range_with_len 1 63)
+first_book n = new_book n 0 (range_with_len 1 spare_movers)
 
 abbrev pub next_number : List ℕ → ℕ
 next_number [] = 0

@@ -1,3 +1,4 @@
+pub mod Limits
 pub mod Ranges
 pub mod Books
 pub mod Steps

@@ -1,6 +1,7 @@
 -- What a claim and a finish tell their mover.
 use Rattle.std.specs.Prelude.{◌≡◌, ℕ, ◌+◌, ◌%◌, ◌<◌, ◌≤◌, ◌==◌, true, nat_lt, if◌then◌else◌, List, [], ◌∷◌, ◌++◌}
 use Rattle.std.specs.Prelude.{length, All, Contains}
+use Rattle.transfer.specs.Limits.{stride_bins}
 use Rattle.transfer.specs.declared.range.Range.{Range}
 use Rattle.transfer.specs.declared.book.Book.{Book}
 use Rattle.transfer.specs.Ranges.{range_from, width}
@@ -22,7 +23,7 @@ IsAmong n b Such = (claim_word : ℕ) × (finish_word : ℕ) × (books : List Bo
 
 pub record Claims (b : Book) (found : ℕ) (after : Book) : Type 0 where
   pub book : after ≡ with_claim found b
-  pub aligned : found % 16 ≡ 0
+  pub aligned : found % stride_bins ≡ 0
   pub few : found < b.bins → length b.claimed < b.bins
   pub claimed : All (λ r. r.hi ≤ found) b.claimed
   pub finished : All (λ r. r.hi ≤ found) b.finished

@@ -1,6 +1,7 @@
 -- What callers see of a move and of its movers.
 use Rattle.std.specs.Prelude.{◌≡◌, ℕ, ◌<◌, ◌≤◌, Bool, true, false, List, [], Contains}
 pub use Rattle.atomic_table.specs.Seated.{TableId}
+use Rattle.transfer.specs.Limits.{all_movers, most_bins, spare_movers}
 use Rattle.transfer.specs.declared.range.Range.{Range}
 use Rattle.transfer.specs.declared.range.Finish.{Finish}
 use Rattle.transfer.specs.declared.range.Finish.TheVariants.{More, Last}
@@ -60,15 +61,15 @@ new_mover s number = record {
 
 -- a spare mover of the move: it did nothing yet
 pub record IsSpare (s : StridesView) (m : MoverView) : Type 0 where
-  pub number : (0 < m.number) × (m.number < 64)
+  pub number : (0 < m.number) × (m.number < all_movers)
   pub new : m ≡ new_mover s m.number
 
 -- what a move is made of: a table of two words that was told the number of bins, and 63 places
 pub record IsMadeOf (s : StridesView) (key places : ℕ) : Type 0 where
   pub words : s.identity.words ≡ 2
   pub told : key ≡ s.bins
-  pub few : s.bins ≤ 67108864
-  pub spare : places ≡ 63
+  pub few : s.bins ≤ most_bins
+  pub spare : places ≡ spare_movers
 
 -- the mover claimed the range and did not finish it
 pub record IsUnfinished (m : MoverView) (r : Range) : Type 0 where

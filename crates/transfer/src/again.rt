@@ -2,6 +2,7 @@
 ghost use Rattle.std.specs.Prelude.{◌≡◌, ◌≤◌, ◌<◌, ◌∷◌, [], ◌++◌, true, false, All, IfOk, IfSome, IfNone};
 ghost use Rattle.std.specs.Prelude.{IsNone, MatchOption, OnSome, length};
 ghost use Rattle.transfer.specs.Books.{AllClaimed, AllFinished};
+ghost use Rattle.transfer.specs.Limits.{all_movers, most_bins};
 ghost use Rattle.transfer.specs.Ranges.{IsRangeOf};
 ghost use Rattle.transfer.specs.Views.{is_last, IsUnfinished, Knows};
 ghost use Rattle.transfer.specs.declared.range.Finish.TheVariants.{Last};
@@ -93,8 +94,8 @@ impl<A: Allocator + Clone> SharedStrides<A> {
     ///
     /// For want of memory.
     pub fn new(alloc: A, bins: usize, clients: usize) -> Result<SharedStrides<A>, AllocError>
-        requires bins { (0 < bins) × (bins ≤ 67108864) }
-        requires clients { (0 < clients) × (clients ≤ 64) }
+        requires bins { (0 < bins) × (bins ≤ most_bins) }
+        requires clients { (0 < clients) × (clients ≤ all_movers) }
         ensures { IfOk result (λ s. s.bins ≡ bins) }
     {
         let mut places = Vec::with_capacity(alloc.clone()?, clients)?;

@@ -2,6 +2,7 @@
 ghost use Rattle.std.specs.Prelude.{◌≡◌, ◌≤◌, ◌<◌, [], ◌∷◌, ◌++◌, true, false, All, Contains, IfOk};
 ghost use Rattle.std.specs.Prelude.{IfSome, IfNone, IsNone, MatchOption, OnSome, length};
 ghost use Rattle.transfer.specs.Books.{AllClaimed, AllFinished};
+ghost use Rattle.transfer.specs.Limits.{most_bins};
 ghost use Rattle.transfer.specs.Ranges.{IsRangeOf};
 ghost use Rattle.transfer.specs.Steps.{Finishes};
 ghost use Rattle.transfer.specs.Views.{new_mover, is_last, IsSpare, IsUnfinished, Knows};
@@ -72,7 +73,7 @@ fn take(place: &Place) -> Option<Mover>
 fn finish_range<P: OfRange>(words: &Words, seat: &mut Seat<(), Book>, range: Range) -> u64
     requires picked { P.range ≡ range }
     requires table { (seat.old.table_id ≡ words.now.table_id) × (words.now.table_id.words ≡ 2) }
-    requires few { words.now.key ≤ 67108864 }
+    requires few { words.now.key ≤ most_bins }
     requires claimed { Contains seat.old.me.0.claimed range }
     requires unfinished { ¬ Contains seat.old.me.0.finished range }
     ensures table { seat.new.table_id ≡ seat.old.table_id }
@@ -85,7 +86,7 @@ impl<A: Allocator + Clone> Strides<A> {
     /// The strides of a move of 1 to 2^26 bins, and its opener's mover. The spare movers wait in
     /// their places.
     pub fn new(alloc: A, bins: usize) -> Result<(Strides<A>, Mover), AllocError>
-        requires { (0 < bins) × (bins ≤ 67108864) }
+        requires { (0 < bins) × (bins ≤ most_bins) }
         ensures { IfOk result (λ r. (r.0.bins ≡ bins) × (r.1 ≡ new_mover r.0 0)) }
     {
         let mut spare = Vec::with_capacity(alloc.clone()?, MOVERS - 1)?;

@@ -6,7 +6,7 @@ use Rattle.std.proofs.lemmas.List.Elements.{All-get_or}
 use Rattle.std.proofs.lemmas.List.FromFn.{map-range_with_len_more}
 use Rattle.bin_history.specs.Entries.{HasDistinctKeys}
 use Rattle.count_ledger.specs.Opening.{lists_of, new_role}
-use Rattle.places.proofs.Openings.{first_of_range, first_of_rest, base_of_class, role_of_base, length-new_roles}
+use Rattle.bin_layout.proofs.Openings.{first_of_range, first_of_rest, base_of_class, role_of_base, length-new_roles}
 use Rattle.generations.proofs.Indexes.{tag_at, IsTable-all}
 use Rattle.generations.proofs.opening.opening_places.Goals as goal
 

@@ -1,8 +1,8 @@
 use Rattle.std.proofs.Common.{◌≡◌, ℕ, ◌<◌, length, get_or, ap, subst, sym, ◌∙◌, ◌+◌, arith}
 use Rattle.boxcar.specs.Slot.{Named}
-use Rattle.places.specs.Names.{home_named}
+use Rattle.bin_layout.specs.Names.{home_named}
 use Rattle.generations.specs.Generations.{IsSlotOf, size_named}
-use Rattle.places.specs.Views.{HomeView}
+use Rattle.bin_layout.specs.Views.{HomeView}
 use Rattle.generations.proofs.Indexes.{slots_push}
 use Rattle.generations.proofs.tables.no_tables.Goals as goal
 

@@ -1,8 +1,8 @@
 use Rattle.std.proofs.Common.{ap, ◌∙◌}
 use Rattle.count_ledger.specs.Names.{id_of}
-use Rattle.places.specs.Names.{home_named}
+use Rattle.bin_layout.specs.Names.{home_named}
 use Rattle.generations.specs.Generations.{size_named}
-use Rattle.places.proofs.Openings.{form_numbered-number}
+use Rattle.bin_layout.proofs.Openings.{form_numbered-number}
 use Rattle.generations.proofs.tables.tag_of.Goals as goal
 
 pub returns-clause-map : goal.returns-clause-map

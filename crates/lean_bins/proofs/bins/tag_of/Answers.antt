@@ -1,7 +1,7 @@
 use Rattle.std.proofs.Common.{ap, ◌∙◌}
-use Rattle.lean_bins.specs.Parts.{first_named}
+use Rattle.lean_bins.specs.Segments.{first_named}
 use Rattle.count_ledger.specs.Names.{id_of}
-use Rattle.places.specs.Names.{home_named}
+use Rattle.bin_layout.specs.Names.{home_named}
 use Rattle.bin_history.specs.declared.form.Form.TheVariants.{Lean}
 use Rattle.lean_bins.proofs.bins.tag_of.Goals as goal
 

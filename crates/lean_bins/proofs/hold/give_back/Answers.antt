@@ -1,7 +1,7 @@
 use Rattle.std.proofs.Common.{◌+◌, ap, arith}
 use Rattle.bin_history.specs.Calls.{after}
-use Rattle.places.specs.Views.{place_of}
-use Rattle.lean_bins.specs.Parts.{class_at, home_of}
+use Rattle.bin_layout.specs.Views.{place_of}
+use Rattle.lean_bins.specs.Segments.{class_at, home_of}
 use Rattle.lean_bins.proofs.Halves.{lies, word_fits}
 use Rattle.lean_bins.proofs.hold.give_back.Goals as goal
 

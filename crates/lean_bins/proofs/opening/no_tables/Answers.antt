@@ -2,10 +2,10 @@ use Rattle.std.proofs.Common.{◌≡◌, ◌<◌, ℕ, ◌*◌, ◌%◌, ◌^◌
 use Rattle.std.proofs.Math.Nat.{mod-eq_of_lt}
 use Rattle.std.proofs.lemmas.Nat.{pow_below}
 use Rattle.bin_history.specs.declared.form.Form.TheVariants.{Lean}
-use Rattle.places.specs.Names.{home_named}
-use Rattle.places.specs.Views.{HomeView}
-use Rattle.lean_bins.specs.Parts.{IsSlotFrom, first_named}
-use Rattle.lean_bins.proofs.Spots.{tables_push}
+use Rattle.bin_layout.specs.Names.{home_named}
+use Rattle.bin_layout.specs.Views.{HomeView}
+use Rattle.lean_bins.specs.Segments.{IsSlotFrom, first_named}
+use Rattle.lean_bins.proofs.SlotRefs.{tables_push}
 use Rattle.lean_bins.proofs.opening.no_tables.Goals as goal
 
 pub loop-exponent-preserved : goal.loop-exponent-preserved

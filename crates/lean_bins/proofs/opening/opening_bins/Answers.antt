@@ -5,10 +5,10 @@ use Rattle.std.proofs.lemmas.List.{length-map}
 use Rattle.std.proofs.lemmas.List.Elements.{All-get_or}
 use Rattle.bin_history.specs.Entries.{HasDistinctKeys}
 use Rattle.count_ledger.specs.Opening.{lists_of, new_role}
-use Rattle.places.proofs.Openings.{first_of_range, first_of_rest, base_of_class, role_of_base, length-new_roles}
+use Rattle.bin_layout.proofs.Openings.{first_of_range, first_of_rest, base_of_class, role_of_base, length-new_roles}
 use Rattle.bin_history.specs.Calls.{after}
 use Rattle.bin_history.specs.declared.form.Form.TheVariants.{Lean}
-use Rattle.places.specs.Views.{HomeView}
+use Rattle.bin_layout.specs.Views.{HomeView}
 use Rattle.lean_bins.proofs.Opened.{opening_none, opening_more, lies_at}
 use Rattle.lean_bins.proofs.opening.opening_bins.Goals as goal
 

@@ -5,7 +5,7 @@ use Rattle.count_ledger.specs.Opening.{lists_of, new_role, new_roles}
 use Rattle.count_ledger.specs.Views.{LedgerId}
 use Rattle.bin_history.specs.Calls.{after}
 use Rattle.bin_history.specs.declared.form.Form.TheVariants.{Lean}
-use Rattle.lean_bins.specs.Lying.{AreOpening}
+use Rattle.lean_bins.specs.BinSlot.{AreOpening}
 use Rattle.lean_bins.proofs.opening.opening_bins.Given as goal
 
 abbrev pub invariant-loop-index : goal.invariant-loop-index

@@ -1,6 +1,6 @@
 use Rattle.std.proofs.Common.{◌-◌, ◌^◌, length, subst}
 use Rattle.generations.specs.Generations.{IsTable}
-use Rattle.places.specs.Views.{HomeView}
+use Rattle.bin_layout.specs.Views.{HomeView}
 use Rattle.generations.proofs.generations.Generations.find.Goals as goal
 
 pub returns-then-is_begun-clause-of_map : goal.returns-then-is_begun-clause-of_map

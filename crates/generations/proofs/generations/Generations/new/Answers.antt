@@ -2,8 +2,8 @@ use Rattle.std.proofs.Common.{◌≡◌, ℕ, ◌<◌, length, ap, subst, sym, �
 use Rattle.std.proofs.lemmas.Nat.{pow_pos}
 use Rattle.count_ledger.specs.Views.{LedgerId}
 use Rattle.generations.specs.Generations.{IsTable}
-use Rattle.places.specs.Views.{HomeView}
-use Rattle.places.proofs.Openings.{length-new_roles, first_ledger, if_ok_then}
+use Rattle.bin_layout.specs.Views.{HomeView}
+use Rattle.bin_layout.proofs.Openings.{length-new_roles, first_ledger, if_ok_then}
 use Rattle.generations.proofs.generations.Generations.new.Goals as goal
 
 pub index-requires : goal.index-requires

@@ -2,7 +2,7 @@ use Rattle.std.proofs.Common.{◌≡◌, ℕ, ◌++◌, [], ◌∷◌, map, ap, 
 use Rattle.std.specs.List.{range_with_len}
 use Rattle.std.proofs.lemmas.List.FromFn.{map-range_with_len_more}
 use Rattle.hashkeys.specs.Classes.{ClassView}
-use Rattle.places.specs.Views.{place_of}
+use Rattle.bin_layout.specs.Views.{place_of}
 use Rattle.generations.proofs.Indexes.{tag_at, IsTable-all}
 use Rattle.generations.proofs.generations.Generations.new_table.Goals as goal
 

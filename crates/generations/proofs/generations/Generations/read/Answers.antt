@@ -1,7 +1,7 @@
 use Rattle.std.proofs.Common.{◌≡◌, ◌≤◌, true}
 use Rattle.hashkeys.specs.Classes.{ClassView, covers}
 use Rattle.bin_history.specs.Calls.{after}
-use Rattle.places.proofs.Places.{AreAt-class}
+use Rattle.bin_layout.proofs.Places.{AreAt-class}
 use Rattle.generations.proofs.generations.Generations.read.Goals as goal
 
 pub returns-in-Some-of-clause-covers : goal.returns-in-Some-of-clause-covers

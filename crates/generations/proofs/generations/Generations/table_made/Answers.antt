@@ -1,6 +1,6 @@
 use Rattle.std.proofs.Common.{◌≡◌, ◌^◌, ℕ, subst, sym}
 use Rattle.generations.specs.Generations.{IsTable}
-use Rattle.places.proofs.Sizes.{exponent_is, size_pos}
+use Rattle.bin_layout.proofs.Sizes.{exponent_is, size_pos}
 use Rattle.generations.proofs.generations.Generations.table_made.Goals as goal
 
 pub ilog2-exponent-requires : goal.ilog2-exponent-requires

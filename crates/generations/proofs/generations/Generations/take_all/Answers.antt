@@ -1,10 +1,10 @@
 use Rattle.std.proofs.Common.{◌≡◌, ◌≤◌, ap, subst, sym, ◌∙◌, true, arith}
 use Rattle.hashkeys.specs.Classes.{ClassView, IsTableSize, covers}
 use Rattle.bin_history.specs.Calls.{after}
-use Rattle.places.specs.BinsWithRoles.{classes_of_bins}
-use Rattle.places.specs.Walks.{IsWalk}
-use Rattle.places.proofs.Lists.{AreBinsWithRoles-more, AreBinsWithRoles-none, IsWalkTo-none, IsWalkTo-more}
-use Rattle.places.proofs.Lists.{IsWalk-all}
+use Rattle.bin_layout.specs.BinsWithRoles.{classes_of_bins}
+use Rattle.bin_layout.specs.Walks.{IsWalk}
+use Rattle.bin_layout.proofs.Lists.{AreBinsWithRoles-more, AreBinsWithRoles-none, IsWalkTo-none, IsWalkTo-more}
+use Rattle.bin_layout.proofs.Lists.{IsWalk-all}
 use Rattle.generations.proofs.generations.Generations.take_all.Goals as goal
 
 pub loop-roles-init : goal.loop-roles-init

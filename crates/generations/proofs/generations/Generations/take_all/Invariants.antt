@@ -1,7 +1,7 @@
 use Rattle.std.proofs.Common.{◌-◌, vec_len, vec_capacity}
 use Rattle.bin_history.specs.Calls.{after}
-use Rattle.places.specs.BinsWithRoles.{AreBinsWithRoles, classes_of_bins}
-use Rattle.places.specs.Walks.{IsWalkTo}
+use Rattle.bin_layout.specs.BinsWithRoles.{AreBinsWithRoles, classes_of_bins}
+use Rattle.bin_layout.specs.Walks.{IsWalkTo}
 use Rattle.generations.proofs.generations.Generations.take_all.Given as goal
 
 abbrev pub invariant-loop-roles : goal.invariant-loop-roles

@@ -2,8 +2,8 @@ use Rattle.std.proofs.Common.{subst, sym}
 use Rattle.bin_history.specs.Calls.{after}
 use Rattle.bin_history.specs.Lawful.{BinView}
 use Rattle.count_ledger.specs.Views.{RoleView}
-use Rattle.places.specs.BinsWithRoles.{IsBinWithRole}
-use Rattle.places.proofs.Places.{IsBinWithRole-at}
+use Rattle.bin_layout.specs.BinsWithRoles.{IsBinWithRole}
+use Rattle.bin_layout.proofs.Places.{IsBinWithRole-at}
 use Rattle.generations.proofs.generations.Generations.take_bin.Goals as goal
 
 pub returns-clause-with_role : goal.returns-clause-with_role

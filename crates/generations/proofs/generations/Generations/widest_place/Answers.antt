@@ -1,6 +1,6 @@
 use Rattle.std.proofs.Common.{◌^◌, length, subst}
 use Rattle.generations.specs.Generations.{IsTable}
-use Rattle.places.specs.Views.{HomeView}
+use Rattle.bin_layout.specs.Views.{HomeView}
 use Rattle.generations.proofs.generations.Generations.widest_place.Goals as goal
 
 pub returns-in-Some-clause-of_map : goal.returns-in-Some-clause-of_map

@@ -1,5 +1,5 @@
 use Rattle.std.proofs.Common.{◌≡◌, ℕ, length, subst, arith}
-use Rattle.places.proofs.Sizes.{size_few}
+use Rattle.bin_layout.proofs.Sizes.{size_few}
 use Rattle.generations.specs.Generations.{AreSlots}
 use Rattle.generations.proofs.generations.Generations.with_opening.Goals as goal
 

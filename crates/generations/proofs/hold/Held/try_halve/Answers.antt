@@ -2,8 +2,8 @@ use Rattle.std.proofs.Common.{ap, ◌∙◌}
 use Rattle.hashkeys.specs.Classes.{ClassView, low_half, high_half}
 use Rattle.bin_history.specs.Calls.{after}
 use Rattle.bin_history.proofs.Keys.{key_tells}
-use Rattle.places.specs.Views.{place_of}
-use Rattle.places.proofs.Places.{AreAt-half}
+use Rattle.bin_layout.specs.Views.{place_of}
+use Rattle.bin_layout.proofs.Places.{AreAt-half}
 use Rattle.generations.proofs.hold.Held.try_halve.Goals as goal
 
 pub fill-requires-clause-at : goal.fill-requires-clause-at

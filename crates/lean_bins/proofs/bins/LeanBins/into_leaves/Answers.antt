@@ -1,5 +1,5 @@
 use Rattle.bin_history.specs.Calls.{after}
-use Rattle.places.proofs.Lists.{classes_of_bins_and_roles}
+use Rattle.bin_layout.proofs.Lists.{classes_of_bins_and_roles}
 use Rattle.lean_bins.proofs.bins.LeanBins.into_leaves.Goals as goal
 
 pub returns-then-take_all-clause-walk : goal.returns-then-take_all-clause-walk

@@ -3,9 +3,9 @@ use Rattle.std.proofs.lemmas.Nat.{pow_pos}
 use Rattle.count_ledger.specs.Views.{LedgerId}
 use Rattle.bin_history.specs.Calls.{after}
 use Rattle.bin_history.specs.declared.form.Form.TheVariants.{Lean}
-use Rattle.lean_bins.specs.Lying.{AreOpening}
-use Rattle.places.specs.Views.{HomeView}
-use Rattle.places.proofs.Openings.{length-new_roles, first_ledger, if_ok_then}
+use Rattle.lean_bins.specs.BinSlot.{AreOpening}
+use Rattle.bin_layout.specs.Views.{HomeView}
+use Rattle.bin_layout.proofs.Openings.{length-new_roles, first_ledger, if_ok_then}
 use Rattle.lean_bins.proofs.bins.LeanBins.new.Goals as goal
 
 pub index-requires : goal.index-requires
@@ -29,7 +29,7 @@ with_opening-requires-clause-opening g c =
     let name : c.of-ledger.result ≡ id = c.of-ledger.ensures
     ∙ first_ledger id c.args.salt c.args.bases c.args.roles.items c.index.result.now made some c.index.ensures in
     subst (λ (x : LedgerId). AreOpening g.K.PartialEq.eq (after g.V.PartialEq.eq g.F.Remap.remapped g.F.Remap.merged)
-    (record { ledger = x; form = Lean; salt = c.args.salt; n = c.args.n }) c.in_ok-lying.lying.items) (sym name) (c.in_ok-lying.ensures.places id made)
+    (record { ledger = x; form = Lean; salt = c.args.salt; n = c.args.n }) c.in_ok-bin_slot.bin_slot.items) (sym name) (c.in_ok-bin_slot.ensures.places id made)
 
 pub returns-clause-ledger : goal.returns-clause-ledger
 returns-clause-ledger g c = if_ok_then c.with_opening.result

@@ -1,8 +1,8 @@
 use Rattle.std.proofs.Common.{ap, arith}
 use Rattle.hashkeys.specs.Classes.{ClassView}
 use Rattle.bin_history.specs.Calls.{after}
-use Rattle.places.proofs.Places.{IsBinWithRole-at}
-use Rattle.places.specs.Views.{place_of}
+use Rattle.bin_layout.proofs.Places.{IsBinWithRole-at}
+use Rattle.bin_layout.specs.Views.{place_of}
 use Rattle.lean_bins.proofs.bins.LeanBins.take_bin.Goals as goal
 
 pub returns-clause-least : goal.returns-clause-least

@@ -1,8 +1,8 @@
 use Rattle.std.proofs.Common.{◌≡◌, refl, ◌∙◌}
 use Rattle.bin_history.specs.Calls.{after}
-use Rattle.lean_bins.specs.Parts.{class_at}
+use Rattle.lean_bins.specs.Segments.{class_at}
 use Rattle.lean_bins.proofs.Halves.{fits_taken, lies_there, least_there}
-use Rattle.lean_bins.proofs.Spots.{shifted}
+use Rattle.lean_bins.proofs.SlotRefs.{shifted}
 use Rattle.lean_bins.proofs.bins.LeanBins.try_at.Goals as goal
 
 pub returns-clause-class : goal.returns-clause-class
@@ -19,8 +19,8 @@ returns-clause-lies g c =
     let class_is : class ≡ class_at c.args.index c.args.exponent = c.new-class.ensures
     ∙ (λ i. record { n = shifted c.args.exponent c.requires.few i; index = c.args.index }) in
     lies_there same after_is l home class
-    (fits_taken same after_is l c.args.spot.rows.now.table.shared.key.tag c.args.spot.at c.args.index c.args.exponent
-    home class c.in_ok-inner.ensures.fits c.requires.spot.of_map c.requires.spot.index_is class_is)
+    (fits_taken same after_is l c.args.slot_ref.rows.now.table.shared.key.tag c.args.slot_ref.at c.args.index c.args.exponent
+    home class c.in_ok-inner.ensures.fits c.requires.slot_ref.of_map c.requires.slot_ref.index_is class_is)
 
 pub returns-clause-of_map : goal.returns-clause-of_map
 returns-clause-of_map g c =
@@ -36,7 +36,7 @@ returns-clause-of_map g c =
       salt = refl;
       ledger = refl;
       least = least_there same after_is l home class
-          (fits_taken same after_is l c.args.spot.rows.now.table.shared.key.tag c.args.spot.at c.args.index
-          c.args.exponent home class c.in_ok-inner.ensures.fits c.requires.spot.of_map c.requires.spot.index_is
+          (fits_taken same after_is l c.args.slot_ref.rows.now.table.shared.key.tag c.args.slot_ref.at c.args.index
+          c.args.exponent home class c.in_ok-inner.ensures.fits c.requires.slot_ref.of_map c.requires.slot_ref.index_is
           class_is);
     }

@@ -1,6 +1,6 @@
 use Rattle.std.proofs.Common.{◌≡◌, true, sym, subst, ◌∙◌}
 use Rattle.hashkeys.specs.Classes.{ClassView, covers}
-use Rattle.places.specs.Views.{IsPlaceOf, place_of}
+use Rattle.bin_layout.specs.Views.{IsPlaceOf, place_of}
 use Rattle.lean_bins.proofs.bins.LeanBins.try_hold.Goals as goal
 
 pub returns-clause-covers : goal.returns-clause-covers

@@ -1,6 +1,6 @@
 use Rattle.std.proofs.Common.{◌-◌, arith}
-use Rattle.places.proofs.Sizes.{size_few}
-use Rattle.lean_bins.proofs.Spots.{exponent_few}
+use Rattle.bin_layout.proofs.Sizes.{size_few}
+use Rattle.lean_bins.proofs.SlotRefs.{exponent_few}
 use Rattle.lean_bins.proofs.bins.LeanBins.try_widen.Goals as goal
 
 pub keep_parts-requires : goal.keep_parts-requires

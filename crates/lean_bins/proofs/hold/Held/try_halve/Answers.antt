@@ -2,11 +2,11 @@ use Rattle.std.proofs.Common.{◌≡◌, ℕ, ◌+◌, ◌^◌, ◌<◌, ap, sym
 use Rattle.hashkeys.specs.Classes.{ClassView, low_half, high_half}
 use Rattle.bin_history.specs.Calls.{after}
 use Rattle.bin_history.proofs.Keys.{key_tells}
-use Rattle.places.proofs.Places.{AreAt-half}
-use Rattle.places.specs.Views.{HomeView, place_of}
-use Rattle.lean_bins.specs.Parts.{home_of}
+use Rattle.bin_layout.proofs.Places.{AreAt-half}
+use Rattle.bin_layout.specs.Views.{HomeView, place_of}
+use Rattle.lean_bins.specs.Segments.{home_of}
 use Rattle.lean_bins.proofs.Halves.{low_is, high_is, half_place, wider, half_index}
-use Rattle.lean_bins.proofs.Spots.{exponent_few}
+use Rattle.lean_bins.proofs.SlotRefs.{exponent_few}
 use Rattle.lean_bins.proofs.hold.Held.try_halve.Goals as goal
 
 few : (e n : ℕ) → n ≡ 2 ^ e → n < 67108864 → e < 26
@@ -15,8 +15,8 @@ few e n is lt = exponent_few e n (omega arith) lt
 size : (b p : ClassView) (e : ℕ) → b ≡ p → p.n ≡ 2 ^ e → b.n ≡ 2 ^ e
 size b p e is at = ap (λ (c : ClassView). c.n) is ∙ at
 
-pub try_spot_for-requires : goal.try_spot_for-requires
-try_spot_for-requires g c =
+pub try_slot_ref_for-requires : goal.try_slot_ref_for-requires
+try_slot_ref_for-requires g c =
     let own : c.class-class.result ≡ c.args.self.bin.class = c.class-class.ensures in
     let below = half_index c.class-class.result c.n.ensures.class
     (omega (arith, c.requires.size, ap (λ (k : ClassView). k.n) own)) in
@@ -53,18 +53,18 @@ give_back-requires-clause-at g c =
     let bin = c.args.self.bin in
     let wide : bin.class.n ≡ 2 ^ place.exponent =
     size bin.class place.class place.exponent c.requires.at.class place.from.size_is in
-    let spot = c.in-Ok.ensures in
+    let slot_ref = c.in-Ok.ensures in
     let tag = c.in-Some.other.rows.now.table.shared.key.tag in
     let at = c.in-Some.other.at in
     let of : home_of tag ≡ home =
-    ap (λ now. home_of now.table.shared.key.tag) c.in-Some.ensures.rows ∙ spot.of_map in
+    ap (λ now. home_of now.table.shared.key.tag) c.in-Some.ensures.rows ∙ slot_ref.of_map in
     let own : c.class-class.result ≡ bin.class = c.class-class.ensures in
     let index : bin.class.index + bin.class.n ≡ tag.first + at =
     omega (
       arith,
       ap (λ now. now.table.shared.key.tag.first) c.in-Some.ensures.rows,
       c.in-Some.ensures.at,
-      spot.index_is,
+      slot_ref.index_is,
       c.index.ensures,
       c.n.ensures.value,
       ap (λ (k : ClassView). k.index) own,

@@ -1,0 +1,3 @@
+pub mod Homes
+pub mod Places
+pub mod Glances

@@ -1,4 +1,0 @@
-pub mod Homes
-pub mod Places
-pub mod NotLeft
-pub mod Glances

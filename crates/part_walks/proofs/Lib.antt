@@ -1,0 +1,4 @@
+mod FromBehind
+mod JoinedParts
+mod Parting
+mod Taking
