@@ -1,8 +1,7 @@
 -- What a clear takes away, and what its visits show at the end.
 use Rattle.std.proofs.Common.{◌≡◌, ℕ, ◌<◌, ◌≤◌, Bool, true, false, Decides, cond, Option, Some, None, List, []}
 use Rattle.std.proofs.Common.{◌∷◌, ◌++◌, length, All}
-use Rattle.std.proofs.Common.{refl, sym, ap, subst, ◌∙◌, arith, Result, Err, IsErrOf}
-use Rattle.std.specs.Result.{IsErrAnd}
+use Rattle.std.proofs.Common.{refl, sym, ap, subst, ◌∙◌, arith}
 use Rattle.std.proofs.lemmas.List.{append_assoc, append-nil}
 use Rattle.std.proofs.lemmas.Option.{none-some, same_Some}
 use Rattle.std.proofs.lemmas.List.Elements.{All-nil, All-cons, All-head, All-append, All-weaker}
@@ -34,7 +33,7 @@ module _ {K V F : Type 0} (same : K → K → Bool) (tells : (x y : K) → Decid
   removed_here : (e : K × V) (es : List (K × V)) → remove same (e ∷ es) e.0 ≡ es
   removed_here e es = ap (λ b. cond b es (e ∷ remove same es e.0)) ((tells e.0 e.0).1 refl)
 
-  found_here : (e : K × V) (es : List (K × V)) → lookup same (e ∷ es) e.0 ≡ Some e.1
+  pub found_here : (e : K × V) (es : List (K × V)) → lookup same (e ∷ es) e.0 ≡ Some e.1
   found_here e es = ap (λ b. cond b (Some e.1) (lookup same es e.0)) ((tells e.0 e.0).1 refl)
 
   pub first_of : (P : K × V → Type 0) (entries : List (K × V)) (first : K × V) → Some first ≡ first_in entries →
@@ -77,13 +76,13 @@ module _ {K V F : Type 0} (same : K → K → Bool) (tells : (x y : K) → Decid
       ((r ∷ [], All-cons R r [] removal (All-nil R), All-cons C r [] its_class (All-nil C), has), omega arith)
 
 module _ {K V F : Type 0} where
-  made_none : (old new : PassView K V F) → new ≡ old → HasMade [] old new
+  pub made_none : (old new : PassView K V F) → new ≡ old → HasMade [] old new
   made_none old new is = subst (λ (p : PassView K V F). HasMade [] old p) (sym is) (record {
     seen = BeginsWith-all old.seen;
     pass = ap (λ (l : List (RecordView K V F)). record old { made = l }) (sym (append-nil old.made));
   })
 
-  made_more : (rs ss : List (RecordView K V F)) (old mid new : PassView K V F) → HasMade rs old mid →
+  pub made_more : (rs ss : List (RecordView K V F)) (old mid new : PassView K V F) → HasMade rs old mid →
       HasMade ss mid new → HasMade (rs ++ ss) old new
   made_more rs ss old mid new a b = record {
     seen = BeginsWith-more new.seen mid.seen old.seen b.seen a.seen;
@@ -156,12 +155,6 @@ first_alone c d ds hash once its = go (covers c hash) refl where
       let there : ◌≡◌ {A = ℕ} (cond (covers d hash) 1 0) 1 = ap (λ (b : Bool). cond b 1 0) its in
       absurd (omega arith))
   go false is = is
-
--- what a `?` passes on is the error that it met
-pub passed_on : {S T E : Type 0} (r : Result S E) (e f : E) → IsErrAnd r (λ y. y ≡ e) → IsErrOf r f →
-    IsErrOf {T = T} (Err e) f
-passed_on {S} {T} {E} r e f same is = let its : f ≡ e = subst (λ (x : Result S E). IsErrAnd x (λ y. y ≡ e)) is same in
-    ap (λ (x : E). Err x) (sym its)
 
 module _ {K V F : Type 0} (same : K → K → Bool) (after : Call K V F → Option V → Option V) (ledger : LedgerView K V)
   where

@@ -19,11 +19,13 @@ use Rattle.count_ledger.proofs.Agreements.{BinAgrees-count}
 use Rattle.count_ledger.proofs.Filters.{eqb_turn, length_is_sum}
 use Rattle.count_ledger.proofs.Tallies.{upto, upto-none, upto-same, upto-more, upto-one, upto-count}
 use Rattle.count_ledger.proofs.Totals.{count-settled}
-use Rattle.count_ledger.proofs.WordSums.{total_made_bounds, word_of-add, word_of_natural}
-use Rattle.places.specs.BinsWithRoles.{AreBinsWithRoles, classes_of_bins}
-use Rattle.places.specs.Views.{HomeView}
-use Rattle.places.specs.Walks.{IsWalk}
-use Rattle.chm.specs.Closing.{IsNotClosed}
+use Rattle.count_ledger.proofs.WordSums.{total_made_all, word_of-add, word_of_natural}
+use Rattle.bin_layout.specs.BinsWithRoles.{AreBinsWithRoles, classes_of_bins}
+use Rattle.bin_layout.specs.Views.{HomeView}
+use Rattle.bin_layout.specs.Walks.{IsWalk}
+use Rattle.chm.specs.Closing.{IsNotClosedFor, passes_with}
+use Rattle.chm.specs.declared.closed.close.Rest.{Rest}
+use Rattle.chm.proofs.Passes.{total_made-left}
 use Rattle.chm.specs.Headline.{QuietView, entries_of, IsQuiet}
 use Rattle.chm.specs.Views.{MapView, bins_of}
 use Rattle.chm.specs.declared.fault.Fault.TheVariants.{NoMemory, PassMissing, BinMissing}
@@ -116,13 +118,13 @@ module _ {K V F : Type 0} (code : K → ℕ) (ledger : LedgerView K V) (passes :
       ∙ upto_ones n
 
   -- the word of what all clients changed, added to the number of opening pairs, is the number of pairs that there are
-  pub word_of_count : (opened word count : ℕ) → ledger.clients ≤ 32 → opened ≡ length ledger.opening →
+  pub word_of_count : (opened word count : ℕ) → ledger.clients ≤ 65536 → opened ≡ length ledger.opening →
       opened ≤ 4294967295 → word ≡ word_of (total_made passes)
       → total_of (λ r. pos (length r.opening) +ℤ sum_of_deltas r.kept) roles ≡ pos count →
       (opened + word) % 2 ^ 64 ≡ count
   word_of_count opened word count few_clients opened_is few word_is counted =
       let many = as_many_passes in
-      let bounds = total_made_bounds ledger passes all.each_pass in
+      let bounds = total_made_all ledger passes all.each_pass few_clients (omega (arith, many)) in
       let sum : pos opened +ℤ total_made passes ≡ pos count = ap (λ (n : ℕ). pos n +ℤ total_made passes) opened_is
       ∙ count-settled code ledger passes roles all
       ∙ counted in
@@ -131,10 +133,17 @@ module _ {K V F : Type 0} (code : K → ℕ) (ledger : LedgerView K V) (passes :
       ∙ sym (word_of-add (pos opened) (total_made passes)) ∙ ap word_of sum
       ∙ word_of_natural count low
 
+module _ {K V F : Type 0} where
+  -- what was made by passes that were taken was made by all
+  pub total_made-with : (rest : Option (Rest K V F)) (passes : List (PassView K V F)) →
+      total_made (passes_with rest passes) ≡ total_made passes
+  total_made-with None passes = refl
+  total_made-with (Some rest) passes = total_made-left passes rest.roster
+
 -- the refusals of a close
-module _ {K V F : Type 0} (map : MapView K V) (passes : List (PassView K V F)) where
-  pub NotClosed-missing : length passes < map.ledger.clients →
-      IsNotClosed map passes (record { fault = PassMissing; map = Some map; passes = passes })
+module _ {K V F : Type 0} (taken : ℕ) (map : MapView K V) (passes : List (PassView K V F)) where
+  pub NotClosed-missing : length passes < taken →
+      IsNotClosedFor taken map passes (record { fault = PassMissing; map = Some map; passes = passes })
   NotClosed-missing few =
       record {
         passes_are = refl;
@@ -144,18 +153,18 @@ module _ {K V F : Type 0} (map : MapView K V) (passes : List (PassView K V F)) w
             inr (inl refl);
       }
 
-  pub NotClosed-memory : map.ledger.clients ≤ length passes → (same : MapView K V) → same ≡ map
-      → IsNotClosed map passes (record { fault = NoMemory; map = Some same; passes = passes })
-  NotClosed-memory all same is =
+  pub NotClosed-memory : taken ≤ length passes →
+      IsNotClosedFor taken map passes (record { fault = NoMemory; map = Some map; passes = passes })
+  NotClosed-memory all =
       record {
         passes_are = refl;
         missing = ((λ e. absurd cc), (λ few. absurd (omega arith)));
-        kept = inr ((λ e. absurd cc), ap (λ (m : MapView K V). Some m) is);
+        kept = inr ((λ e. absurd cc), refl);
         faults = inl refl;
       }
 
-  pub NotClosed-bins : map.ledger.clients ≤ length passes →
-      IsNotClosed map passes (record { fault = BinMissing; map = None; passes = passes })
+  pub NotClosed-bins : taken ≤ length passes →
+      IsNotClosedFor taken map passes (record { fault = BinMissing; map = None; passes = passes })
   NotClosed-bins all =
       record {
         passes_are = refl;

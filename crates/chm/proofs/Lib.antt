@@ -1,5 +1,6 @@
 pub mod Meeting
-pub mod Lying
+pub mod InPlace
+pub mod Sure
 pub mod Counting
 pub mod Sizes
 pub mod Empty
@@ -16,3 +17,8 @@ pub mod Shared
 pub mod Searching
 pub mod Passes
 pub mod Limits
+pub mod Updating
+pub mod Cursors
+pub mod Retaining
+pub mod Stepping
+pub mod PartVisits

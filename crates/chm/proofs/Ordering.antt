@@ -22,7 +22,7 @@ use Rattle.count_ledger.specs.Fronts.{BeginsWith}
 use Rattle.count_ledger.specs.Views.{PassView, RoleView}
 use Rattle.count_ledger.proofs.Filters.{filter_within, filter_turn}
 use Rattle.count_ledger.proofs.Fronts.{BeginsWith-more}
-use Rattle.places.specs.Views.{HomeView}
+use Rattle.bin_layout.specs.Views.{HomeView}
 use Rattle.chm.specs.Headline.{QuietView, IsQuiet, entries_of, IsOneOrder, IsHistoryOfKey, IsToldInOrder}
 use Rattle.chm.specs.Views.{bins_of}
 use Rattle.count_ledger.specs.Settled.{IsOrder}

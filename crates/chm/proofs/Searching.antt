@@ -11,9 +11,9 @@ use Rattle.std.proofs.lemmas.List.Sums.{sum_by-cons}
 use Rattle.std.proofs.lemmas.Nat.{pow-add, pow_pos}
 use Rattle.hashkeys.specs.Classes.{ClassView, IsTableSize, covers, covering}
 use Rattle.bin_history.specs.Lawful.{BinView}
-use Rattle.places.specs.BinsWithRoles.{classes_of_bins}
-use Rattle.places.specs.Walks.{Precedes, Before, AreInOrder, HasPassed, IsWalk}
-use Rattle.places.proofs.Walks.{at_least, doubled, not_before}
+use Rattle.bin_layout.specs.BinsWithRoles.{classes_of_bins}
+use Rattle.bin_layout.specs.Walks.{Precedes, Before, AreInOrder, HasPassed, IsWalk}
+use Rattle.bin_layout.proofs.Walks.{at_least, doubled, not_before}
 
 -- the remainder by a class's size, of the class's first hash
 pub covers-own : (c : ClassView) → c.index < c.n → covers c c.index ≡ true

@@ -1,42 +1,52 @@
 -- Clients in their seats, their passes and what they answered.
-use Rattle.std.proofs.Common.{◌≡◌, ℕ, ◌<◌, List, [], ◌∷◌, ◌++◌, Option, Some, None, IsSome, IsSomeAnd, All, length, map}
-use Rattle.std.proofs.Common.{take, ◌==◌, true, slice_index_or, refl, sym, ap, subst, ◌∙◌, arith, append_assoc}
-use Rattle.std.specs.List.{remove}
-use Rattle.std.proofs.Math.Seq.{take-append_seam}
-use Rattle.std.proofs.lemmas.Bool.Decides.{nat_tests}
-use Rattle.std.proofs.lemmas.List.{append-nil, get_or-map, length-map}
-use Rattle.std.proofs.lemmas.List.Elements.{All-head, All-tail}
+use Rattle.std.proofs.Common.{◌≡◌, ℕ, ◌+◌, ◌<◌, List, [], ◌∷◌, ◌++◌, Option, Some, None, IsSome, IsSomeAnd, All, length, map}
+use Rattle.std.proofs.Common.{take, reverse, slice_index_or, refl, sym, ap, subst, ◌∙◌, arith, append_assoc}
+use Rattle.std.proofs.Math.Seq.{get_or-append_seam, take-append_seam}
+use Rattle.std.proofs.lemmas.List.{get_or-map, get_or_append_left, length-append, length-map, map-append, reverse-append}
 use Rattle.count_ledger.specs.Views.{LedgerId, PassView}
-use Rattle.chm.specs.Shares.{HasEnded, HaveWorked}
+use Rattle.chm.specs.Shares.{AreSameClients, HasEnded, HaveWorked}
 use Rattle.chm.specs.declared.share.Seat.{Seat}
 
--- the first of a list leaves it
-pub first-removed : {X : Type 0} (xs ys : List X) (x : X) → 0 < length xs → x ≡ slice_index_or xs 0 x →
-    ys ≡ remove xs 0 → x ∷ ys ≡ xs
-first-removed [] ys x some is rest = absurd (omega arith)
-first-removed {X} (z ∷ zs) ys x some is rest = λ i. is i ∷ rest i
+-- the images of a list that was turned round
+pub map-reverse : {X Y : Type 0} (f : X → Y) (xs : List X) → map f (reverse xs) ≡ reverse (map f xs)
+map-reverse f [] = refl
+map-reverse {X} {Y} f (x ∷ xs) =
+    ap (map f) (reverse-append (x ∷ []) xs)
+    ∙ map-append f (reverse xs) (x ∷ [])
+    ∙ ap (λ (ys : List Y). ys ++ f x ∷ []) (map-reverse f xs)
+    ∙ sym (reverse-append (f x ∷ []) (map f xs))
 
--- what was so of all is so of those after the first
-pub first-was : {X : Type 0} (P : X → Type 0) (xs ys : List X) (x : X) → x ∷ ys ≡ xs → All P xs → P x × All P ys
-first-was {X} P xs ys x is all =
-    let both : All P (x ∷ ys) = subst (λ (zs : List X). All P zs) (sym is) all in
-    (All-head P x ys both, All-tail P x ys both)
-
--- what the first of some has, taken to what those before it had
-pub taken : {X Y : Type 0} (f : X → Y) (got more all : List Y) (x : X) (rest xs : List X) → more ≡ got ++ f x ∷ []
-    → x ∷ rest ≡ xs → got ++ map f xs ≡ all → more ++ map f rest ≡ all
-taken {X} {Y} f got more all x rest xs pushed first is =
-    ap (λ (ys : List Y). ys ++ map f rest) pushed
-    ∙ append_assoc got (f x ∷ []) (map f rest)
-    ∙ ap (λ (zs : List X). got ++ map f zs) first
+-- the last of some goes behind those that left them before, which are read backward
+pub moved : {Y : Type 0} (left got all : List Y) (y : Y) → (left ++ y ∷ []) ++ reverse got ≡ all →
+    left ++ reverse (got ++ y ∷ []) ≡ all
+moved {Y} left got all y is =
+    ap (λ (ys : List Y). left ++ ys) (reverse-append got (y ∷ []))
+    ∙ sym (append_assoc left (y ∷ []) (reverse got))
     ∙ is
 
--- all were taken where none is left
-pub nothing-left : {X Y : Type 0} (f : List X → List Y) (xs : List X) (ys zs : List Y) (n : ℕ) → f [] ≡ []
-    → (n == 0) ≡ true → length xs ≡ n → ys ++ f xs ≡ zs → ys ≡ zs
-nothing-left {X} {Y} f [] ys zs n empty none long is =
-    sym (append-nil ys) ∙ ap (λ (r : List Y). ys ++ r) (sym empty) ∙ is
-nothing-left f (x ∷ xs) ys zs n empty none long is = absurd (grind (arith, nat_tests))
+-- the same of the images of some, the last of which leaves them
+pub popped : {X Y : Type 0} (f : X → Y) (all left : List X) (x : X) (got more whole : List Y) (y : Y) →
+    all ≡ left ++ x ∷ [] → more ≡ got ++ y ∷ [] → y ≡ f x → map f all ++ reverse got ≡ whole →
+    map f left ++ reverse more ≡ whole
+popped {X} {Y} f all left x got more whole y split pushed is was =
+    ap (λ (ys : List Y). map f left ++ reverse ys) (pushed ∙ ap (λ (z : Y). got ++ z ∷ []) is)
+    ∙ moved (map f left) got whole (f x)
+    (ap (λ (ys : List Y). ys ++ reverse got) (sym (map-append f left (x ∷ [])) ∙ ap (map f) (sym split)) ∙ was)
+
+-- what is so of all is so of those before the last, and of the last
+pub all-front : {X : Type 0} (P : X → Type 0) (all left : List X) (x : X) → all ≡ left ++ x ∷ [] → All P all → All P left
+all-front {X} P all left x split so = λ i d low.
+    subst P (ap (λ (xs : List X). slice_index_or xs i d) split ∙ get_or_append_left left (x ∷ []) d i low)
+    (so i d (let n : length all ≡ length left + 1 = ap length split ∙ length-append left (x ∷ []) in omega arith))
+
+pub all-last : {X : Type 0} (P : X → Type 0) (all left : List X) (x : X) → all ≡ left ++ x ∷ [] → All P all → P x
+all-last {X} P all left x split so =
+    subst P (ap (λ (xs : List X). slice_index_or xs (length left) x) split ∙ get_or-append_seam left x [] x)
+    (so (length left) x (let n : length all ≡ length left + 1 = ap length split ∙ length-append left (x ∷ []) in omega arith))
+
+pub none-left : {X : Type 0} (xs : List X) → length xs ≡ 0 → xs ≡ []
+none-left [] is = refl
+none-left (x ∷ xs) is = absurd (omega arith)
 
 pub never-none : {T : Type 0} (o : Option T) → IsSome o → o ≡ None → ⊥
 never-none None some is = absurd cc
@@ -97,6 +107,13 @@ module _ {K V F T : Type 0} (does : PassView K V F → PassView K V F → T → 
         ∙ (ended i (seat_of p) less).ledger
         ∙ ap (λ (q : PassView K V F). q.ledger) (before-at i (seat_of p) less)
         ∙ own i p many
+
+    pub clients-after : AreSameClients old (map pass_of after)
+    clients-after = λ i p lt.
+        let less : i < length before = let n = as_many in omega arith in
+        ap (λ (q : PassView K V F). q.client) (after-at i p lt)
+        ∙ (ended i (seat_of p) less).client
+        ∙ ap (λ (q : PassView K V F). q.client) (before-at i (seat_of p) less)
 
     pub have-worked : (answers : List T) → map Some answers ≡ map answer_of after →
         HaveWorked does old (map pass_of after) answers

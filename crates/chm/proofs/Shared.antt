@@ -16,25 +16,25 @@ use Rattle.bin_history.specs.declared.call.Remap as Remap
 use Rattle.bin_history.specs.declared.call.Value as Value
 use Rattle.count_ledger.specs.contracts.ledger.Ledger as Ledger
 use Rattle.count_ledger.specs.contracts.ledger.Ledger.TheInside as LedgerInside
-use Rattle.homes.proofs.Shared as homes
+use Rattle.bin_store.proofs.Shared as bin_store
 use Rattle.transfer.proofs.Shared as transfer
 use Rattle.chm.specs.contracts.map.Map as Map
 use Rattle.chm.specs.contracts.map.Map.TheInside as MapInside
-use Rattle.chm.specs.contracts.turns.Turns as Turns
-use Rattle.chm.specs.contracts.turns.Turns.TheInside as TurnsInside
+use Rattle.chm.specs.contracts.resize.move_strides.MoveStrides as MoveStrides
+use Rattle.chm.specs.contracts.resize.move_strides.MoveStrides.TheInside as MoveStridesInside
 
 -- the strides of a move, of either form
 module _ (A : RattleType) (g : Allocator.Ghosts A.Denot) (s : IsSend A) (y : IsSync A) (f : Frees g g.dealloc_token) where
-  turns_fields_send : AllSend (shape (TurnsInside.the_type A g)).fields
+  turns_fields_send : AllSend (shape (MoveStridesInside.the_type A g)).fields
   turns_fields_send = (search (sendable, transfer.strides_send, transfer.shared_send) depth 20, tt)
 
-  turns_fields_sync : AllSync (shape (TurnsInside.the_type A g)).fields
+  turns_fields_sync : AllSync (shape (MoveStridesInside.the_type A g)).fields
   turns_fields_sync = (search (sendable, transfer.strides_sync, transfer.shared_sync) depth 20, tt)
 
-  pub turns_send : IsSend (Turns.the_row A g)
+  pub turns_send : IsSend (MoveStrides.the_row A g)
   turns_send = search (sendable, turns_fields_send) depth 20
 
-  pub turns_sync : IsSync (Turns.the_row A g)
+  pub turns_sync : IsSync (MoveStrides.the_row A g)
   turns_sync = search (sendable, turns_fields_sync) depth 20
 
 module _ (K V F A : RattleType) (hash : HashKey.Ghosts K.Denot) (key_eq : Eq.Ghosts K.Denot)
@@ -49,7 +49,7 @@ module _ (K V F A : RattleType) (hash : HashKey.Ghosts K.Denot) (key_eq : Eq.Gho
   ledger_fields : AllSync (shape (LedgerInside.the_type K V F A hash key_eq key_same key_clone value_eq value_same remap function_clone alloc)).fields
   ledger_fields = (
     search (sendable, the_words.the_sync, the_lease.the_sync) depth 20,
-    (search sendable depth 20, (search sendable depth 20, tt)),
+    (search sendable depth 20, (search sendable depth 20, (search sendable depth 20, tt))),
   )
 
   ledger_sync : IsSync (Ledger.the_row K V F A hash key_eq key_same key_clone value_eq value_same remap function_clone alloc)
@@ -61,7 +61,7 @@ module _ (K V F A : RattleType) (hash : HashKey.Ghosts K.Denot) (key_eq : Eq.Gho
   fields = (
     ledger_sync,
     (
-      homes.map_sync K V F A hash key_eq key_same key_clone value value_clone value_eq value_same remap function_clone
+      bin_store.map_sync K V F A hash key_eq key_same key_clone value value_clone value_eq value_same remap function_clone
           alloc sk sv sf sa yk yv yf ya frees,
       (
         search (sendable, crosses, ruled.the_sync, once.the_sync, turns_send, turns_sync) depth 30,

@@ -17,10 +17,10 @@ use Rattle.bin_history.proofs.Parts.{replay-part}
 use Rattle.count_ledger.specs.Fronts.{IsFront, HasSeen, HasSeenMore}
 use Rattle.count_ledger.specs.Views.{LedgerView, PassView}
 use Rattle.count_ledger.proofs.Fronts.{BeginsWith-all, BeginsWith-more}
-use Rattle.places.specs.BinsWithRoles.{IsBinWithRole}
-use Rattle.places.specs.Views.{HomeView}
+use Rattle.bin_layout.specs.BinsWithRoles.{IsBinWithRole}
+use Rattle.bin_layout.specs.Views.{HomeView}
 use Rattle.chm.specs.Views.{MapView, bins_of}
-use Rattle.homes.specs.Glances.{IsGlanced}
+use Rattle.bin_store.specs.Glances.{IsGlanced}
 use Rattle.chm.specs.Visits.{VisitView, classes_of_visits, shown_by, AreVisited, AreVisits, IsVisit, IsOwn, IsShown}
 use Rattle.chm.proofs.Homes.{OwnsItsKeys, distinct_all}
 

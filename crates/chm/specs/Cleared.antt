@@ -11,7 +11,7 @@ use Rattle.bin_history.specs.declared.call.Call.TheVariants.{Remove}
 use Rattle.bin_history.specs.Records.{RecordView}
 use Rattle.count_ledger.specs.Fronts.{BeginsWith, IsFront}
 use Rattle.count_ledger.specs.Views.{LedgerView, PassView}
-use Rattle.places.specs.Walks.{IsWalk}
+use Rattle.bin_layout.specs.Walks.{IsWalk}
 use Rattle.chm.specs.Views.{opening_in}
 use Rattle.chm.specs.Visits.{VisitView, IsVisit}
 

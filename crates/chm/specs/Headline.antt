@@ -27,8 +27,8 @@ use Rattle.count_ledger.specs.Fronts.{BeginsWith, IsFront}
 use Rattle.count_ledger.specs.Limits.{most_calls}
 use Rattle.count_ledger.specs.Settled.{AreReconciled, IsOrder}
 use Rattle.count_ledger.specs.Views.{LedgerView, PassView, RoleView}
-use Rattle.places.specs.BinsWithRoles.{AreBinsWithRoles, classes_of_bins}
-use Rattle.places.specs.Walks.{IsWalk}
+use Rattle.bin_layout.specs.BinsWithRoles.{AreBinsWithRoles, classes_of_bins}
+use Rattle.bin_layout.specs.Walks.{IsWalk}
 use Rattle.chm.specs.Refusals.{IsOfCall}
 use Rattle.chm.specs.Views.{bins_of}
 use Rattle.chm.specs.declared.fault.Fault.{Fault}
@@ -71,7 +71,7 @@ module _ {K V F : Type 0} (same_key : K → K → Bool) (same_value : V → V �
     pub called : IfOk result (λ answer. IsCalled same_key same_value remapped merged ledger call old new
         (reply answer))
     pub refused : OnErr result (new ≡ old)
-    pub full : IsErrOf result PassFull ↔ (most_calls ledger.form ≤ length old.made)
+    pub full : IsErrOf result PassFull ↔ (most_calls ledger.form ledger.clients ≤ length old.made)
     pub faults : IfErr result IsOfCall
 
   -- the same where the answer is the reply
@@ -88,8 +88,8 @@ pub record AreExact {K V F : Type 0} (key : K → K → Type 0) (value : V → V
 
 -- == A closed map ==
 
--- its books, how many bins it opened with, its bins in walk order and, place by place, their roles, and the passes that
--- it was closed with
+-- its books, how many bins it opened with, its bins in walk order and, place by place, their roles, and the passes of
+-- all its clients
 pub record QuietView (K V F : Type 0) : Type 0 where
   pub ledger : LedgerView K V
   pub n : ℕ
@@ -116,7 +116,7 @@ module _ {K V F : Type 0} (same_key : K → K → Bool) (code : K → ℕ) (afte
 
 module _ {K V F : Type 0} (same_key : K → K → Bool) (code : K → ℕ) (after : Call K V F → Option V → Option V) where
   -- an order, by the books, in which the calls are those of a one-thread map on the opening map, and leave the closed
-  -- one
+  -- one; it begins with what each pass has seen
   pub record IsOneOrder (q : QuietView K V F) (calls : List (RecordView K V F)) : Type 0 where
     pub books : IsOrder code q.ledger q.passes q.roles calls
     pub legal : IsLegal same_key after (lookup same_key q.ledger.opening) calls

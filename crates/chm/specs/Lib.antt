@@ -1,3 +1,4 @@
+pub mod Limits
 pub mod Views
 pub mod Headline
 pub mod Histories
@@ -10,4 +11,10 @@ pub mod Closing
 pub mod Cleared
 pub mod Reopened
 pub mod Shares
-pub mod Turns
+pub mod MoveStrides
+pub mod Growing
+pub mod Sure
+pub mod Updates
+pub mod Cursors
+pub mod Retained
+pub mod Numbered

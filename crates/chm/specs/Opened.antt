@@ -22,10 +22,10 @@ pub record IsNew {K V F : Type 0} (f : Form) (s : Salt) (capacity n : ℕ) (map 
   pub passes : all ≡ new_passes map.ledger.id n
   pub own : All (λ p. p.ledger ≡ map.ledger.id) all
 
--- a map is opened for 1 to 32 clients alone, and where it has room for what it is opened with.
--- Which of both was not so is told, room first; else it is refused for want of memory alone
-pub record IsLimited {T : Type 0} (HasRoom : Type 0) (clients : ℕ) (result : Result T Fault) : Type 0 where
-  pub ok : IsOk result → HasRoom × AreClients clients
+-- a map is opened for 1 to so many clients alone, and where it has room for what it is opened with.
+-- Which of both was not so is told, room first; else the making fails out of memory alone
+pub record IsLimited {T : Type 0} (HasRoom : Type 0) (most clients : ℕ) (result : Result T Fault) : Type 0 where
+  pub ok : IsOk result → HasRoom × AreClients most clients
   pub capacity : IsErrOf result BadCapacity ↔ (¬ HasRoom)
-  pub some : IsErrOf result BadClients ↔ (HasRoom × (¬ AreClients clients))
+  pub some : IsErrOf result BadClients ↔ (HasRoom × (¬ AreClients most clients))
   pub faults : IfErr result IsMaking

@@ -1,9 +1,11 @@
 -- A map, as contracts see it.
 use Rattle.std.specs.Prelude.{◌≡◌, ℕ, ◌≤◌, List, length}
 use Rattle.hashkeys.specs.Classes.{ClassView, is_of}
+use Rattle.bin_history.specs.Limits.{most_lean_clients}
 use Rattle.bin_history.specs.Part.{part_of_entries}
 use Rattle.count_ledger.specs.Views.{LedgerView}
-use Rattle.places.specs.Views.{HomeView}
+use Rattle.bin_layout.specs.Views.{HomeView}
+use Rattle.chm.specs.Limits.{most_pairs}
 
 -- its books, and the number of bins that it opened with
 pub record MapView (K V : Type 0) : Type 0 where
@@ -20,8 +22,8 @@ pub record IsMap {K V : Type 0} (ledger : LedgerView K V) (bins : HomeView) (ope
   pub form : bins.form ≡ ledger.form
   pub salt : bins.salt ≡ ledger.salt
   pub opened_is : opened ≡ length ledger.opening
-  pub few : opened ≤ 4294967295
-  pub clients : ledger.clients ≤ 32
+  pub few : opened ≤ most_pairs
+  pub clients : ledger.clients ≤ most_lean_clients
 
 -- the map's bins, as its layer of bins names them
 abbrev pub bins_of : {K V : Type 0} → MapView K V → HomeView

@@ -8,8 +8,8 @@ use Rattle.bin_history.specs.declared.call.Call.{Call}
 use Rattle.bin_history.specs.Records.{RecordView}
 use Rattle.count_ledger.specs.Fronts.{HasSeen}
 use Rattle.count_ledger.specs.Views.{LedgerView, PassView, RoleView}
-use Rattle.places.specs.BinsWithRoles.{IsBinWithRole}
-use Rattle.places.specs.Walks.{IsWalk}
+use Rattle.bin_layout.specs.BinsWithRoles.{IsBinWithRole}
+use Rattle.bin_layout.specs.Walks.{IsWalk}
 use Rattle.chm.specs.Views.{MapView, opening_in, bins_of}
 
 -- a visit: the class of a bin, and its entries

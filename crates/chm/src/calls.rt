@@ -1,25 +1,46 @@
 //! The twelve calls.
-ghost use Rattle.std.specs.Prelude.{◌≡◌, IfSome, IfNone};
+//!
+//! Each locks the bin of its key, and no other; where that is locked, it spins, then yields. Its cost
+//! grows with the keys of that bin alone. In a lean map it allocates for a new key and for what copies
+//! of values take. In a recorded map it also copies the key and the values before and after for its
+//! record.
+//!
+//! # Errors
+//!
+//! `Fault::NoMemory` if it is out of memory, and `Fault::PassFull` after the last call that a pass may
+//! make: 1,000,000 in a recorded map, 2^62 divided by the clients in a lean one. A call that fails
+//! changes nothing.
+ghost use Rattle.std.specs.Prelude.{◌≡◌, ◌≤◌, length, IfSome, IfNone, IsSome};
 ghost use Rattle.bin_history.specs.Ops.{call_on, key_in};
+ghost use Rattle.bin_history.specs.Sure.{IsNeverRefused, op_of};
 ghost use Rattle.bin_history.specs.declared.call.Call.TheVariants.{Get, Contains, Put, PutIfAbsent};
 ghost use Rattle.bin_history.specs.declared.call.Call.TheVariants.{Remove, RemoveIf, Replace};
 ghost use Rattle.bin_history.specs.declared.call.Call.TheVariants.{ReplaceIf, ComputeIfAbsent};
 ghost use Rattle.bin_history.specs.declared.call.Call.TheVariants.{ComputeIfPresent, Compute};
 ghost use Rattle.bin_history.specs.declared.call.Call.TheVariants.{Merge};
+ghost use Rattle.bin_history.specs.declared.form.Form.TheVariants.{Lean};
+ghost use Rattle.count_ledger.specs.Limits.{most_calls};
 ghost use Rattle.chm.specs.Headline.{AreExact, IsAnswered};
+ghost use Rattle.chm.specs.Sure.{IsMadeOrFull, IsSureOf};
+
+mod balance;
+mod held;
+mod making;
+mod seek;
+pub(crate) mod update;
+mod view;
 
 use crate::fault::Fault;
 use crate::map::Map;
-use bin_history::{Call, Given, Op, Remap, Reply, Value};
+use bin_history::{Call, KeyArg, Op, Remap, Reply, Value};
 use count_ledger::Pass;
 use hashkeys::HashKey;
 use std::alloc::{AllocError, Allocator};
 use std::sync::Wait;
 
 impl<K: HashKey, V: Value, F: Remap<K, V>, A: Allocator + Clone> Map<K, V, F, A> {
-    /// Makes a call, whichever of the twelve it is. It posts the call, and then does the call's
-    /// part for the table. The pass is full after 1,000,000 calls in a recorded map, and after 2^57
-    /// in a lean one.
+    /// Makes one of the twelve calls, and returns its reply. It waits for the key's bin. Then it does
+    /// the call's part of a move of the table.
     ///
     ///     map.call(rt, pass, Call::Put(1, 5))?;
     ///     map.call(rt, pass, Call::Get(1))? == Reply::Value(Some(5))
@@ -31,14 +52,16 @@ impl<K: HashKey, V: Value, F: Remap<K, V>, A: Allocator + Clone> Map<K, V, F, A>
     ) -> Result<Reply<V>, Fault>
         requires exact { AreExact K.is_clone V.is_clone F.is_clone }
         requires pass { pass.old.ledger ≡ self.now.ledger.id }
-        ensures { IsAnswered K.eq V.eq F.remapped F.merged self.now.ledger call pass.old
+        ensures answered { IsAnswered K.eq V.eq F.remapped F.merged self.now.ledger call pass.old
             pass.new result }
+        ensures sure { IsSureOf V.is_infallible self.now.ledger.form (op_of call) result }
     {
         let (key, op) = call.into_parts();
         self.call_owned(rt, pass, key, op)
     }
 
     /// Makes a call whose key is handed over beside it.
+    #[inline(always)]
     fn call_owned<'a, R: Wait>(
         &'a self,
         rt: &R,
@@ -48,46 +71,51 @@ impl<K: HashKey, V: Value, F: Remap<K, V>, A: Allocator + Clone> Map<K, V, F, A>
     ) -> Result<Reply<V>, Fault>
         requires exact { AreExact K.is_clone V.is_clone F.is_clone }
         requires pass { pass.old.ledger ≡ self.now.ledger.id }
-        ensures { IsAnswered K.eq V.eq F.remapped F.merged self.now.ledger (call_on key op)
+        ensures answered { IsAnswered K.eq V.eq F.remapped F.merged self.now.ledger (call_on key op)
             pass.old pass.new result }
+        ensures sure { IsSureOf V.is_infallible self.now.ledger.form op result }
     {
-        let key: Given<'a, K> = Given::Owned(key);
+        let key: KeyArg<'a, K> = KeyArg::Owned(key);
         self.call_on(rt, pass, key, op)
     }
 
-    /// Makes a call whose key is given beside it, owned or borrowed. A borrowed key is copied where
-    /// an entry is made of it, and for the record in a recorded map. It waits for the key's bin.
+    /// Makes a call on a key that is given beside it, owned or borrowed, and returns its reply. It
+    /// waits for the key's bin. It copies a borrowed key where it makes an entry of it, and for the
+    /// record in a recorded map.
     ///
-    ///     map.call_on(rt, pass, Given::Owned(1), Op::Put(5))?;
-    ///     map.call_on(rt, pass, Given::Lent(&1), Op::Get)? == Reply::Value(Some(5))
+    ///     map.call_on(rt, pass, KeyArg::Owned(1), Op::Put(5))?;
+    ///     map.call_on(rt, pass, KeyArg::Borrowed(&1), Op::Get)? == Reply::Value(Some(5))
+    #[inline(always)]
     pub fn call_on<R: Wait>(
         &self,
         rt: &R,
         pass: &mut Pass<K, V, F>,
-        key: Given<'_, K>,
+        key: KeyArg<'_, K>,
         op: Op<V, F>,
     ) -> Result<Reply<V>, Fault>
         requires exact { AreExact K.is_clone V.is_clone F.is_clone }
         requires pass { pass.old.ledger ≡ self.now.ledger.id }
-        ensures { IsAnswered K.eq V.eq F.remapped F.merged self.now.ledger
+        ensures answered { IsAnswered K.eq V.eq F.remapped F.merged self.now.ledger
             (call_on (key_in key.entry) op) pass.old pass.new result }
+        ensures sure { IsSureOf V.is_infallible self.now.ledger.form op result }
     {
         if pass.made() >= self.ledger.most_calls() {
             return Err(Fault::PassFull);
         }
-        let (reply, landed) = self.make(rt, pass, key, op)?;
-        self.after_call(&landed);
+        let (reply, effect) = self.make(rt, pass, key, op)?;
+        self.after_call(&effect);
         Ok(reply)
     }
 
-    /// Tries to make a call as `call_on` does, and waits for nobody. There is no answer where the
-    /// key's bin is held just then: the call was not made, and the pass is as it was.
+    /// Makes a call as `call_on` does, unless the key's bin is locked just then: then it returns
+    /// none, makes no call, and leaves the pass as it was. It waits for nobody.
     ///
-    ///     map.try_call(pass, Given::Owned(1), Op::Put(5)) == Some(Ok(Reply::Value(None)))
+    ///     map.try_call(pass, KeyArg::Owned(1), Op::Put(5)) == Some(Ok(Reply::Value(None)))
+    #[inline(always)]
     pub fn try_call(
         &self,
         pass: &mut Pass<K, V, F>,
-        key: Given<'_, K>,
+        key: KeyArg<'_, K>,
         op: Op<V, F>,
     ) -> Option<Result<Reply<V>, Fault>>
         requires exact { AreExact K.is_clone V.is_clone F.is_clone }
@@ -95,39 +123,45 @@ impl<K: HashKey, V: Value, F: Remap<K, V>, A: Allocator + Clone> Map<K, V, F, A>
         ensures answered { IfSome result
             (IsAnswered K.eq V.eq F.remapped F.merged self.now.ledger
             (call_on (key_in key.entry) op) pass.old pass.new) }
+        ensures sure { IfSome result (IsSureOf V.is_infallible self.now.ledger.form op) }
+        ensures full { most_calls self.now.ledger.form self.now.ledger.clients ≤ length pass.old.made →
+            IsSome result }
         ensures busy { IfNone result (pass.new ≡ pass.old) }
     {
         if pass.made() >= self.ledger.most_calls() {
             return Some(Err(Fault::PassFull));
         }
         match self.try_make(pass, key, op)? {
-            Ok((reply, landed)) => {
-                self.after_call(&landed);
+            Ok((reply, effect)) => {
+                self.after_call(&effect);
                 Some(Ok(reply))
             }
             Err(AllocError) => Some(Err(Fault::NoMemory)),
         }
     }
 
-    /// The value at the key.
+    /// Returns a clone of the value at the key.
     ///
     ///     map.put(rt, pass, 1, 5)?;
     ///     map.get(rt, pass, 1)? == Reply::Value(Some(5))
     ///     map.get(rt, pass, 2)? == Reply::Value(None)
+    #[inline(always)]
     pub fn get<R: Wait>(&self, rt: &R, pass: &mut Pass<K, V, F>, key: K) -> Result<Reply<V>, Fault>
         requires exact { AreExact K.is_clone V.is_clone F.is_clone }
         requires pass { pass.old.ledger ≡ self.now.ledger.id }
-        ensures { IsAnswered K.eq V.eq F.remapped F.merged self.now.ledger
+        ensures answered { IsAnswered K.eq V.eq F.remapped F.merged self.now.ledger
             (Get key) pass.old pass.new result }
+        ensures sure { self.now.ledger.form ≡ Lean → IsNeverRefused V.is_infallible → IsMadeOrFull result }
     {
         self.call_owned(rt, pass, key, Op::Get)
     }
 
-    /// Whether the key has a value.
+    /// Returns whether the key has a value.
     ///
     ///     map.put(rt, pass, 1, 5)?;
     ///     map.contains_key(rt, pass, 1)? == Reply::Truth(true)
     ///     map.contains_key(rt, pass, 2)? == Reply::Truth(false)
+    #[inline(always)]
     pub fn contains_key<R: Wait>(
         &self,
         rt: &R,
@@ -136,17 +170,19 @@ impl<K: HashKey, V: Value, F: Remap<K, V>, A: Allocator + Clone> Map<K, V, F, A>
     ) -> Result<Reply<V>, Fault>
         requires exact { AreExact K.is_clone V.is_clone F.is_clone }
         requires pass { pass.old.ledger ≡ self.now.ledger.id }
-        ensures { IsAnswered K.eq V.eq F.remapped F.merged self.now.ledger
+        ensures answered { IsAnswered K.eq V.eq F.remapped F.merged self.now.ledger
             (Contains key) pass.old pass.new result }
+        ensures sure { self.now.ledger.form ≡ Lean → IsMadeOrFull result }
     {
         self.call_owned(rt, pass, key, Op::Contains)
     }
 
-    /// Gives the key this value. It replies the value before.
+    /// Sets the value at the key. Returns the value before.
     ///
     ///     map.put(rt, pass, 1, 5)? == Reply::Value(None)
     ///     map.put(rt, pass, 1, 6)? == Reply::Value(Some(5))
     ///     map.get(rt, pass, 1)? == Reply::Value(Some(6))
+    #[inline(always)]
     pub fn put<R: Wait>(
         &self,
         rt: &R,
@@ -162,11 +198,12 @@ impl<K: HashKey, V: Value, F: Remap<K, V>, A: Allocator + Clone> Map<K, V, F, A>
         self.call_owned(rt, pass, key, Op::Put(value))
     }
 
-    /// Gives the key this value where it has none. It replies the value before.
+    /// Sets the value at the key where it has none. Returns the value before.
     ///
     ///     map.put_if_absent(rt, pass, 1, 5)? == Reply::Value(None)
     ///     map.put_if_absent(rt, pass, 1, 6)? == Reply::Value(Some(5))
     ///     map.get(rt, pass, 1)? == Reply::Value(Some(5))
+    #[inline(always)]
     pub fn put_if_absent<R: Wait>(
         &self,
         rt: &R,
@@ -182,11 +219,12 @@ impl<K: HashKey, V: Value, F: Remap<K, V>, A: Allocator + Clone> Map<K, V, F, A>
         self.call_owned(rt, pass, key, Op::PutIfAbsent(value))
     }
 
-    /// Takes the key away. It replies the value before.
+    /// Removes the key. Returns the value before.
     ///
     ///     map.put(rt, pass, 1, 5)?;
     ///     map.remove(rt, pass, 1)? == Reply::Value(Some(5))
     ///     map.remove(rt, pass, 1)? == Reply::Value(None)
+    #[inline(always)]
     pub fn remove<R: Wait>(
         &self,
         rt: &R,
@@ -195,17 +233,19 @@ impl<K: HashKey, V: Value, F: Remap<K, V>, A: Allocator + Clone> Map<K, V, F, A>
     ) -> Result<Reply<V>, Fault>
         requires exact { AreExact K.is_clone V.is_clone F.is_clone }
         requires pass { pass.old.ledger ≡ self.now.ledger.id }
-        ensures { IsAnswered K.eq V.eq F.remapped F.merged self.now.ledger
+        ensures answered { IsAnswered K.eq V.eq F.remapped F.merged self.now.ledger
             (Remove key) pass.old pass.new result }
+        ensures sure { self.now.ledger.form ≡ Lean → IsMadeOrFull result }
     {
         self.call_owned(rt, pass, key, Op::Remove)
     }
 
-    /// Takes the key away where it has this value. It replies whether it had.
+    /// Removes the key where it has this value. Returns whether it had.
     ///
     ///     map.put(rt, pass, 1, 5)?;
     ///     map.remove_if(rt, pass, 1, 6)? == Reply::Truth(false)
     ///     map.remove_if(rt, pass, 1, 5)? == Reply::Truth(true)
+    #[inline(always)]
     pub fn remove_if<R: Wait>(
         &self,
         rt: &R,
@@ -215,17 +255,19 @@ impl<K: HashKey, V: Value, F: Remap<K, V>, A: Allocator + Clone> Map<K, V, F, A>
     ) -> Result<Reply<V>, Fault>
         requires exact { AreExact K.is_clone V.is_clone F.is_clone }
         requires pass { pass.old.ledger ≡ self.now.ledger.id }
-        ensures { IsAnswered K.eq V.eq F.remapped F.merged self.now.ledger
+        ensures answered { IsAnswered K.eq V.eq F.remapped F.merged self.now.ledger
             (RemoveIf key value) pass.old pass.new result }
+        ensures sure { self.now.ledger.form ≡ Lean → IsMadeOrFull result }
     {
         self.call_owned(rt, pass, key, Op::RemoveIf(value))
     }
 
-    /// Gives the key this value where it has one. It replies the value before.
+    /// Sets the value at the key where it has one. Returns the value before.
     ///
     ///     map.replace(rt, pass, 1, 6)? == Reply::Value(None)
     ///     map.put(rt, pass, 1, 5)?;
     ///     map.replace(rt, pass, 1, 6)? == Reply::Value(Some(5))
+    #[inline(always)]
     pub fn replace<R: Wait>(
         &self,
         rt: &R,
@@ -235,17 +277,19 @@ impl<K: HashKey, V: Value, F: Remap<K, V>, A: Allocator + Clone> Map<K, V, F, A>
     ) -> Result<Reply<V>, Fault>
         requires exact { AreExact K.is_clone V.is_clone F.is_clone }
         requires pass { pass.old.ledger ≡ self.now.ledger.id }
-        ensures { IsAnswered K.eq V.eq F.remapped F.merged self.now.ledger
+        ensures answered { IsAnswered K.eq V.eq F.remapped F.merged self.now.ledger
             (Replace key value) pass.old pass.new result }
+        ensures sure { self.now.ledger.form ≡ Lean → IsMadeOrFull result }
     {
         self.call_owned(rt, pass, key, Op::Replace(value))
     }
 
-    /// Gives the key the new value where it has the old one. It replies whether it had.
+    /// Sets the new value at the key where it has the old one. Returns whether it had.
     ///
     ///     map.put(rt, pass, 1, 5)?;
     ///     map.replace_if(rt, pass, 1, 5, 6)? == Reply::Truth(true)
     ///     map.get(rt, pass, 1)? == Reply::Value(Some(6))
+    #[inline(always)]
     pub fn replace_if<R: Wait>(
         &self,
         rt: &R,
@@ -256,17 +300,19 @@ impl<K: HashKey, V: Value, F: Remap<K, V>, A: Allocator + Clone> Map<K, V, F, A>
     ) -> Result<Reply<V>, Fault>
         requires exact { AreExact K.is_clone V.is_clone F.is_clone }
         requires pass { pass.old.ledger ≡ self.now.ledger.id }
-        ensures { IsAnswered K.eq V.eq F.remapped F.merged self.now.ledger
+        ensures answered { IsAnswered K.eq V.eq F.remapped F.merged self.now.ledger
             (ReplaceIf key old new) pass.old pass.new result }
+        ensures sure { self.now.ledger.form ≡ Lean → IsMadeOrFull result }
     {
         self.call_owned(rt, pass, key, Op::ReplaceIf(old, new))
     }
 
-    /// Gives a key without a value what the function makes of none. It replies the value after.
-    /// Nothing but the key's bin is held while the function runs.
+    /// Sets the value that the function makes at a key without one. Returns the value after. Only
+    /// the key's bin is locked while the function runs.
     ///
     ///     map.compute_if_absent(rt, pass, 1, Plus(5))? == Reply::Value(Some(5))
     ///     map.compute_if_absent(rt, pass, 1, Plus(2))? == Reply::Value(Some(5))
+    #[inline(always)]
     pub fn compute_if_absent<R: Wait>(
         &self,
         rt: &R,
@@ -282,12 +328,13 @@ impl<K: HashKey, V: Value, F: Remap<K, V>, A: Allocator + Clone> Map<K, V, F, A>
         self.call_owned(rt, pass, key, Op::ComputeIfAbsent(function))
     }
 
-    /// Gives a key with a value what the function makes of it. It replies the value after. Nothing
-    /// but the key's bin is held while the function runs.
+    /// Sets what the function makes of the value at a key with one. Returns the value after. Only
+    /// the key's bin is locked while the function runs.
     ///
     ///     map.compute_if_present(rt, pass, 1, Plus(2))? == Reply::Value(None)
     ///     map.put(rt, pass, 1, 5)?;
     ///     map.compute_if_present(rt, pass, 1, Plus(2))? == Reply::Value(Some(7))
+    #[inline(always)]
     pub fn compute_if_present<R: Wait>(
         &self,
         rt: &R,
@@ -303,11 +350,12 @@ impl<K: HashKey, V: Value, F: Remap<K, V>, A: Allocator + Clone> Map<K, V, F, A>
         self.call_owned(rt, pass, key, Op::ComputeIfPresent(function))
     }
 
-    /// Gives the key what the function makes of its value, or of none. It replies the value after.
-    /// Nothing but the key's bin is held while the function runs.
+    /// Sets what the function makes of the value at the key, or of none. Returns the value after.
+    /// Only the key's bin is locked while the function runs.
     ///
     ///     map.compute(rt, pass, 1, Plus(5))? == Reply::Value(Some(5))
     ///     map.compute(rt, pass, 1, Plus(2))? == Reply::Value(Some(7))
+    #[inline(always)]
     pub fn compute<R: Wait>(
         &self,
         rt: &R,
@@ -323,11 +371,12 @@ impl<K: HashKey, V: Value, F: Remap<K, V>, A: Allocator + Clone> Map<K, V, F, A>
         self.call_owned(rt, pass, key, Op::Compute(function))
     }
 
-    /// Gives a key without a value this one, and a key with a value what the function makes of
-    /// both. It replies the value after. Nothing but the key's bin is held while the function runs.
+    /// Sets this value at a key without one, and at a key with one what the function makes of both.
+    /// Returns the value after. Only the key's bin is locked while the function runs.
     ///
     ///     map.merge(rt, pass, 1, 5, Plus(0))? == Reply::Value(Some(5))
     ///     map.merge(rt, pass, 1, 2, Plus(0))? == Reply::Value(Some(7))
+    #[inline(always)]
     pub fn merge<R: Wait>(
         &self,
         rt: &R,

@@ -1,6 +1,6 @@
 //! What maps show of themselves: their form and a few numbers, and none of their keys.
+use crate::closed::quiet::Quiet;
 use crate::map::Map;
-use crate::quiet::Quiet;
 use bin_history::{Remap, Value};
 use hashkeys::HashKey;
 use std::alloc::Allocator;

@@ -1,29 +1,35 @@
-//! What calls of a map are refused with.
+//! What calls of a map fail with.
 ghost use Rattle.std.specs.Prelude.{◌≡◌};
 ghost use Rattle.chm.specs.declared.fault.Fault.TheVariants.{NoMemory};
 
 use std::alloc::{AllocError, AllocFailed};
 use thiserror::Error;
 
-/// Why a call of a map was refused. Where two could be told, those on arguments and passes come
-/// before want of memory.
+/// Why a call of a map failed. If several are true, a fault of an argument or of a pass comes before
+/// `NoMemory`.
 #[derive(Clone, Copy, Debug, PartialEq, Eq, Error)]
 pub enum Fault {
-    /// A growth, a copy or a making was refused.
+    /// The allocator had no memory, or a key or a value could not be copied.
     #[error("no memory")]
     NoMemory,
     /// The asked table is of 0 bins, or of more than its form may open with: 4,096 of a recorded
     /// map, 2^26 of a lean one; or a map of more than 4,294,967,295 entries was to be opened again.
-    #[error("the capacity is 0 or too great")]
+    #[error("the capacity must be 1 to 2^26, of a recorded map 1 to 4096; of fewer than 2^32 entries")]
     BadCapacity,
-    /// There are 0 or more than 32 clients.
-    #[error("the clients are not 1 to 32")]
+    /// There are 0 clients, or more than the map's form may have: 32 of a recorded map, 65,536 of a
+    /// lean one.
+    #[error("the number of clients must be 1 to 65536, of a recorded map 1 to 32")]
     BadClients,
-    /// The pass has made all calls that it can: 1,000,000 in a recorded map, 2^57 in a lean one.
-    #[error("the pass is full")]
+    /// The pass has made all calls that it can: 1,000,000 in a recorded map, in a lean one its share
+    /// of 2^62.
+    #[error("the pass has made all its calls: 2^62 / clients, of a recorded map 1000000")]
     PassFull,
-    /// A map was to be closed with fewer passes than it has clients.
-    #[error("a pass is missing")]
+    /// No client is free: all are out, or other threads were taking and bringing clients all the
+    /// time. One that comes back is free again.
+    #[error("no client is free")]
+    NoClient,
+    /// A map was to be closed while a client was still out: with fewer passes than were taken.
+    #[error("a client is still out")]
     PassMissing,
     /// Some bins of the map were not found when it was closed.
     #[error("bins missing")]

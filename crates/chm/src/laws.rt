@@ -3,7 +3,7 @@ ghost use Rattle.std.specs.Prelude.{ℕ, [], List, All};
 ghost use Rattle.hashkeys.specs.Classes.{ClassView};
 ghost use Rattle.bin_history.specs.Calls.{after};
 ghost use Rattle.count_ledger.specs.Views.{LedgerView, PassView};
-ghost use Rattle.places.specs.Walks.{IsWalk};
+ghost use Rattle.bin_layout.specs.Walks.{IsWalk};
 ghost use Rattle.chm.specs.ByClass.{AreOfHistory};
 ghost use Rattle.chm.specs.Cleared.{AreCleared};
 ghost use Rattle.chm.specs.Visits.{AreVisited, VisitView};

@@ -1,7 +1,7 @@
 //! Threads that share a map.
 ghost use Rattle.std.specs.Prelude.{◌≡◌, ◌<◌, ◌≤◌, ℕ, [], length, map, All, IfOk, OnErr, Some};
 ghost use Rattle.std.specs.Prelude.{IsSome, vec_len, vec_capacity, slice_index_or};
-ghost use Rattle.chm.specs.Shares.{HasEnded, HaveWorked};
+ghost use Rattle.chm.specs.Shares.{AreSameClients, HasEnded, HaveWorked};
 
 use crate::map::Map;
 use bin_history::{MOST_CLIENTS, Remap, Value};
@@ -15,13 +15,13 @@ use std::thread::Threads;
 /// What each of the clients that share a map does, in a thread of its own, by calls with the pass
 /// that it is lent.
 pub trait Sharing<K: HashKey, V: Value, F: Remap<K, V>, A: Allocator> {
-    ghost use Rattle.count_ledger.specs.Views.{LedgerId, PassView};
+    ghost use Rattle.count_ledger.specs.Views.{LedgerView, PassView};
 
     /// What each client answers.
     type Out: Drop;
 
-    // The ledgers with whose passes the work can be done.
-    ghost fits: { Self → LedgerId → Type 0 } = { λ _ _. Unit {0} };
+    // The ledgers of the maps with which the work can be done.
+    ghost fits: { Self → LedgerView K V → Type 0 } = { λ _ _. Unit {0} };
 
     // What the work may leave of a pass, and answer.
     ghost does: { Self → PassView K V F → PassView K V F → Self.Out → Type 0 } = { λ _ _ _ _.
@@ -30,8 +30,9 @@ pub trait Sharing<K: HashKey, V: Value, F: Remap<K, V>, A: Allocator> {
     /// The work of the client whose pass it is: `pass.client()` is its number.
     fn work<R: Wait>(&self, rt: &R, map: &Map<K, V, F, A>, pass: &mut Pass<K, V, F>) -> Self::Out
         requires pass { pass.old.ledger ≡ map.now.ledger.id }
-        requires fits { fits self.now map.now.ledger.id }
+        requires fits { fits self.now map.now.ledger }
         ensures ledger { pass.new.ledger ≡ pass.old.ledger }
+        ensures client { pass.new.client ≡ pass.old.client }
         ensures done { does self.now pass.old pass.new result };
 }
 
@@ -70,12 +71,10 @@ fn seat_all<K, V, F, T, A: Allocator>(
     ensures spent { passes.new.items ≡ [] }
     ensures capacity { vec_capacity passes.new ≡ vec_capacity passes.old }
 {
-    while !passes.is_empty() {
-        seats.push_reserved(Seat {
-            pass: passes.remove(0),
-            answer: None,
-        });
+    while let Some(pass) = passes.pop() {
+        seats.push_reserved(Seat { pass, answer: None });
     }
+    seats.reverse();
 }
 
 /// All clients work at the same time.
@@ -90,14 +89,14 @@ fn work_all<
 where
     W::Out: Send,
     requires own { All (λ s. s.pass.ledger ≡ map.now.ledger.id) seats.old }
-    requires fits { W.fits work.now map.now.ledger.id }
+    requires fits { W.fits work.now map.now.ledger }
     ensures len { length seats.new ≡ length seats.old }
     ensures ended { (i : ℕ) (d : _) → i < length seats.old →
         HasEnded (W.does work.now) (slice_index_or seats.old i d) (slice_index_or seats.new i d) }
 {
     let lend = |_number: usize, seat: &mut Seat<K, V, F, W::Out>|
         requires own { seat.now.pass.ledger ≡ map.now.ledger.id }
-        requires fits { W.fits work.now map.now.ledger.id }
+        requires fits { W.fits work.now map.now.ledger }
         ensures { HasEnded (W.does work.entry.now) seat.entry.now seat.exit.now }
     { seat.answer = Some(work.work(rt, map, &mut seat.pass)) };
     thread::for_each_mut(rt, seats, MOST_CLIENTS as usize, &lend);
@@ -116,14 +115,15 @@ fn gather<K, V, F, T, A: Allocator>(
     ensures passes { passes.new.items ≡ map (λ s. s.pass) seats.items }
     ensures answers { map Some answers.new.items ≡ map (λ s. s.answer) seats.items }
 {
-    while !seats.is_empty() {
-        let Seat { pass, answer } = seats.remove(0);
+    while let Some(Seat { pass, answer }) = seats.pop() {
         passes.push_reserved(pass);
         match answer {
             Some(answer) => answers.push_reserved(answer),
             None => unreachable!(),
         }
     }
+    passes.reverse();
+    answers.reverse();
     seats.destroy_empty();
 }
 
@@ -131,8 +131,9 @@ impl<K: HashKey, V: Value, F: Remap<K, V>, A: Allocator + Clone> Map<K, V, F, A>
     /// Lends each pass to a thread of its own, in which the work makes calls of the map, all at the
     /// same time; where a thread cannot be started its client works in a thread that there is,
     /// after others, so no client may wait for another. All have ended when this returns, and the
-    /// passes are back, each of the map still and as the work left it. It answers what the clients
-    /// answered, in the order of the passes.
+    /// passes are back in their order, each of the map still and as the work left it. It returns
+    /// what the clients returned, in the order of the passes. Its cost beside the work is linear in
+    /// the number of passes.
     ///
     /// Where each of four clients adds 1 at 1, as `map.merge(rt, pass, 1, 1, Plus(0))` does, and
     /// answers its number:
@@ -156,14 +157,15 @@ impl<K: HashKey, V: Value, F: Remap<K, V>, A: Allocator + Clone> Map<K, V, F, A>
         A: Send + Sync,
         W::Out: Send,
         requires own { All (λ p. p.ledger ≡ self.now.ledger.id) passes.old.items }
-        requires fits { W.fits work.now self.now.ledger.id }
+        requires fits { W.fits work.now self.now.ledger }
         ensures own { All (λ p. p.ledger ≡ self.now.ledger.id) passes.new.items }
         ensures len { length passes.new.items ≡ length passes.old.items }
+        ensures clients { AreSameClients passes.old.items passes.new.items }
         ensures done { IfOk result (λ answers. HaveWorked (W.does work.now) passes.old.items
             passes.new.items answers.items) }
         ensures refused { OnErr result (passes.new.items ≡ passes.old.items) }
     {
-        let (mut seats, mut answers) = room_for(self.growth.allocator(), passes.len())?;
+        let (mut seats, mut answers) = room_for(self.resizer.allocator(), passes.len())?;
         seat_all(passes, &mut seats);
         work_all(rt, self, work, &mut seats);
         gather(seats, passes, &mut answers);

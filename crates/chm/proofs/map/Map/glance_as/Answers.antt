@@ -19,4 +19,4 @@ returns-clause-shown g c =
     let hashed = c.hash_of_as-hash.ensures.hash ∙ (λ i. hash_of (c.salt.ensures i) (g.K.HashKey.code (g.Q.AsKey.stands_for c.args.query))) in
     IsShown-glanced g.K.PartialEq.eq g.K.HashKey.code (after g.V.PartialEq.eq g.F.Remap.remapped g.F.Remap.merged)
     c.args.self.now c.self.inside.bins (g.Q.AsKey.stands_for c.args.query) c.in_ok-glance_as.field-0 c.hash_of_as-hash.result
-    home hashed c.in_ok-glance_as.ensures
+    home hashed c.in_ok-glance_as.ensures.glanced

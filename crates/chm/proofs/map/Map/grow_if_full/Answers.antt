@@ -1,5 +1,6 @@
-use Rattle.places.proofs.Sizes.{size_few}
+use Rattle.std.proofs.Common.{ℕ, ◌≤◌, ◌^◌, sym, subst}
+use lib.Pow.{pow_mono}
 use Rattle.chm.proofs.map.Map.grow_if_full.Goals as goal
 
-pub threshold-requires : goal.threshold-requires
-threshold-requires g c = size_few c.n-n.result (c.args.table.exponent, c.requires.table, c.n-n.ensures)
+pub is_full-requires : goal.is_full-requires
+is_full-requires g c = subst (λ (n : ℕ). n ≤ 2 ^ 26) (sym c.n.ensures) (pow_mono c.requires.table)

@@ -3,7 +3,7 @@ use Rattle.std.specs.Int.{int_max}
 use Rattle.std.proofs.lemmas.Int.{ints}
 use Rattle.count_ledger.specs.Views.{LedgerView}
 use Rattle.count_ledger.specs.Words.{total_made}
-use Rattle.count_ledger.proofs.WordSums.{total_made_bounds}
+use Rattle.count_ledger.proofs.WordSums.{total_made_all}
 use Rattle.chm.specs.Views.{MapView}
 use Rattle.chm.proofs.Counting.{count_word}
 use Rattle.chm.proofs.map.Map.mapping_count_all.Goals as goal
@@ -17,10 +17,11 @@ returns-clause-count g c =
     ap (λ (l : LedgerView _ _). l.clients) own in
     let few = c.self.invariant.clients in
     let all = c.requires.all in
-    let bounds = total_made_bounds c.self.inside.ledger c.args.passes.now c.sum_all.ensures.of_passes in
+    let bounds = total_made_all c.self.inside.ledger c.args.passes.now c.sum_all.ensures.of_passes few
+    (omega (arith, clients, all)) in
     let word = count_word c.self.inside.opened c.sum_all.result (total_made c.args.passes.now) c.self.invariant.few
     c.sum_all.ensures.sum
-    (omega (arith, ints, bounds.0, clients, few, all)) (omega (arith, ints, bounds.1, clients, few, all))
+    bounds.0 bounds.1
     in
     c.count_of.ensures.value ∙ ap (int_max (pos 0))
     (word ∙ ap (λ (n : ℕ). pos n +ℤ total_made c.args.passes.now) opened)

@@ -1,12 +1,17 @@
 use Rattle.std.proofs.Common.{◌∙◌, List, ap, sym, length, arith}
+use Rattle.chm.proofs.Limits.{most_clients_le}
 use Rattle.chm.proofs.map.Map.open.Goals as goal
 
 pub invariant_of-map : goal.invariant_of-map
 invariant_of-map g c = record {
-  id = c.in-Ok.ensures.ledger c.in_ok-ledger.ledger.id c.in_ok-ledger.ensures.roles;
-  form = c.in-Ok.ensures.form ∙ sym c.in_ok-ledger.ensures.form;
-  salt = c.in-Ok.ensures.salt ∙ sym c.in_ok-ledger.ensures.salt;
+  id = c.in_ok-bins.ensures.ledger c.in_ok-ledger.ledger.id c.in_ok-ledger.ensures.roles;
+  form = c.in_ok-bins.ensures.form ∙ sym c.in_ok-ledger.ensures.form;
+  salt = c.in_ok-bins.ensures.salt ∙ sym c.in_ok-ledger.ensures.salt;
   opened_is = c.requires.opened ∙ ap (λ (l : List _). length l) (sym c.in_ok-ledger.ensures.opening);
   few = c.requires.few;
-  clients = let e = c.in_ok-ledger.ensures.clients in let (some, most) = c.requires.clients in omega arith;
+  clients =
+      let e = c.in_ok-ledger.ensures.clients in
+      let (some, most) = c.requires.clients in
+      let few = most_clients_le c.args.form in
+      omega arith;
 }

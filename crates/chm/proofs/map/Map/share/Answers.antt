@@ -1,8 +1,8 @@
 use Rattle.std.proofs.Common.{◌≡◌, List, All, IsSome, map, drop, length, sym, ap, subst, ◌∙◌}
 use Rattle.count_ledger.specs.Views.{PassView}
-use Rattle.chm.specs.Shares.{HaveWorked}
+use Rattle.chm.specs.Shares.{AreSameClients, HaveWorked}
 use Rattle.chm.specs.declared.share.Seat.{Seat}
-use Rattle.chm.proofs.Seats.{own-before, own-after, all-answered, have-worked, restored}
+use Rattle.chm.proofs.Seats.{own-before, own-after, all-answered, clients-after, have-worked, restored}
 use Rattle.chm.proofs.map.Map.share.Goals as goal
 
 pub work_all-requires-clause-own : goal.work_all-requires-clause-own
@@ -48,3 +48,16 @@ returns-clause-done g c =
     before (ap (map (λ s. s.pass)) c.deref_mut.ensures.value ∙ c.seat_all.ensures.seated)
     after c.work_all.ensures.len c.work_all.ensures.ended c.gather.new.answers.items
     (c.gather.ensures.answers ∙ ap (map (λ s. s.answer)) whole))
+
+pub returns-clause-clients : goal.returns-clause-clients
+returns-clause-clients g c =
+    let before : List (Seat g.row.K.Denot g.row.V.Denot g.row.F.Denot g.row.W-Out.Denot) = c.deref_mut.result.now in
+    let after : List (Seat g.row.K.Denot g.row.V.Denot g.row.F.Denot g.row.W-Out.Denot) = c.work_all.new.seats in
+    let whole = restored after (drop (length after) c.seat_all.new.seats.items) c.seat_all.new.seats.len
+    (c.work_all.ensures.len ∙ c.deref_mut.ensures.len) in
+    subst (λ (ps : List (PassView g.row.K.Denot g.row.V.Denot g.row.F.Denot)).
+    AreSameClients c.args.passes.now.items ps)
+    (sym (c.gather.ensures.passes ∙ ap (map (λ s. s.pass)) whole))
+    (clients-after (g.W.Sharing.does c.args.work.now) c.args.self.now.ledger.id c.args.passes.now.items
+    before (ap (map (λ s. s.pass)) c.deref_mut.ensures.value ∙ c.seat_all.ensures.seated)
+    after c.work_all.ensures.len c.work_all.ensures.ended)

@@ -2,7 +2,8 @@ use Rattle.std.proofs.Common.{List, length, flat_map, ap, sym, subst, ◌∙◌}
 use Rattle.hashkeys.specs.Classes.{IsTableSize}
 use Rattle.chm.specs.Sizes.{IsSizeFor}
 use Rattle.chm.proofs.Empty.{flat_map-empty, length-empty, distinct-empty}
-use Rattle.chm.proofs.Passes.{new_passes-ledger}
+use Rattle.count_ledger.specs.Opening.{left_in}
+use Rattle.chm.proofs.Passes.{new_passes-ledger, new_roster}
 use Rattle.chm.proofs.map.Map.with_form.Goals as goal
 
 pub open-requires-clause-size : goal.open-requires-clause-size
@@ -21,6 +22,7 @@ open-requires-clause-opened g c = sym
 
 pub returns-clause-new : goal.returns-clause-new
 returns-clause-new g c =
+    let passes = ap left_in c.in_ok-open.ensures.roster ∙ new_roster c.in_ok-open.field-0.0.ledger.id c.args.clients in
     record {
       form = c.in_ok-open.ensures.form;
       salt = c.in_ok-open.ensures.salt;
@@ -30,6 +32,6 @@ returns-clause-new g c =
       size = subst (IsSizeFor c.args.capacity)
           (sym (c.in_ok-open.ensures.n ∙ length-empty c.in_ok-bases.bases.items c.size_for.result
           c.in_ok-bases.ensures)) c.size_for.ensures;
-      passes = c.in_ok-open.ensures.passes;
-      own = new_passes-ledger _ _ _ c.in_ok-open.ensures.passes;
+      passes = passes;
+      own = new_passes-ledger _ _ _ passes;
     }

@@ -1,0 +1,45 @@
+-- A visit of a part of a bin.
+use Rattle.std.proofs.Common.{◌≡◌, ℕ, Bool, true, false, cond, Decides, List, [], ◌∷◌, filter, refl, sym, ap, ◌∙◌}
+use Rattle.std.proofs.lemmas.Bool.{false≢true}
+use Rattle.std.proofs.lemmas.List.Elements.{filter_passes}
+use Rattle.hashkeys.specs.Classes.{ClassView, covers, is_of}
+use Rattle.hashkeys.specs.Hashing.{hash_of}
+use Rattle.bin_history.specs.Entries.{HasDistinctKeys, replay}
+use Rattle.bin_history.specs.Part.{part_of_entries}
+use Rattle.bin_history.specs.Records.{RecordView}
+use Rattle.bin_history.proofs.Parts.{HasDistinctKeys-part}
+use Rattle.count_ledger.specs.Views.{LedgerView}
+use Rattle.chm.specs.Visits.{IsVisit}
+
+module _ {X : Type 0} (p q : X → Bool) (narrow : (x : X) → p x ≡ true → q x ≡ true) where
+  within-at : (x : X) (xs : List X) → filter p (filter q xs) ≡ filter p xs → (a b : Bool) → p x ≡ a → q x ≡ b →
+      filter p (cond b (x ∷ filter q xs) (filter q xs)) ≡ cond a (x ∷ filter p xs) (filter p xs)
+  within-at x xs rest true true e f =
+      ap (λ (c : Bool). cond c (x ∷ filter p (filter q xs)) (filter p (filter q xs))) e
+      ∙ ap (λ (ys : List X). x ∷ ys) rest
+  within-at x xs rest true false e f = absurd (false≢true (sym f ∙ narrow x e))
+  within-at x xs rest false true e f =
+      ap (λ (c : Bool). cond c (x ∷ filter p (filter q xs)) (filter p (filter q xs))) e ∙ rest
+  within-at x xs rest false false e f = rest
+
+  -- what a test keeps of all, it keeps of what a wider one keeps
+  filter-within : (xs : List X) → filter p (filter q xs) ≡ filter p xs
+  filter-within [] = refl
+  filter-within (x ∷ xs) = within-at x xs (filter-within xs) (p x) (q x) refl refl
+
+module _ {K V F : Type 0} (same : K → K → Bool) (tells : (x y : K) → Decides (same x y) (x ≡ y)) (code : K → ℕ)
+    (ledger : LedgerView K V) (front : List (RecordView K V F)) where
+  pub IsVisit-part : (whole class : ClassView) (entries : List (K × V)) → HasDistinctKeys same entries →
+      entries ≡ part_of_entries (is_of code ledger.salt whole) (replay same ledger.opening front) →
+      ((hash : ℕ) → covers class hash ≡ true → covers whole hash ≡ true) →
+      IsVisit same code ledger front
+      (record { class = class; entries = part_of_entries (is_of code ledger.salt class) entries })
+  IsVisit-part whole class entries distinct is narrow =
+      let p : K × V → Bool = λ e. is_of code ledger.salt class e.0 in
+      let q : K × V → Bool = λ e. is_of code ledger.salt whole e.0 in
+      record {
+        distinct = HasDistinctKeys-part same tells (is_of code ledger.salt class) entries distinct;
+        of_class = filter_passes p entries;
+        entries = ap (λ (es : List (K × V)). filter p es) is
+            ∙ filter-within p q (λ e of. narrow (hash_of ledger.salt (code e.0)) of) (replay same ledger.opening front);
+      }

@@ -1,0 +1,30 @@
+-- Calls that a lean bin makes in the memory that it has.
+use Rattle.std.proofs.Common.{◌≡◌, Bool, List, Result, Ok, Err, refl, ◌∙◌}
+use Rattle.std.specs.Result.{IsErrAnd}
+use Rattle.bin_history.specs.Sure.{IsSpared}
+use Rattle.bin_history.specs.declared.op.Op.{Op}
+use Rattle.bin_history.specs.declared.op.Op.TheVariants as op
+use Rattle.chm.specs.Sure.{IsMadeOrFull, NeedsNoMemory}
+use Rattle.chm.specs.declared.fault.Fault.{Fault}
+use Rattle.chm.specs.declared.fault.Fault.TheVariants.{PassFull}
+
+-- what is passed on is that the pass is full
+pub IsMadeOrFull-of : {T : Type 0} (r : Result T Fault) (e : Fault) → IsErrAnd r (λ y. y ≡ e) → e ≡ PassFull →
+    IsMadeOrFull r
+IsMadeOrFull-of (Ok _) e is full = tt
+IsMadeOrFull-of (Err f) e is full = is ∙ full
+
+module _ {K V F : Type 0} (same : K → K → Bool) (copies : V → Type 0) (entries : List (K × V)) (k : K) where
+  pub IsSpared-of : (o : Op V F) → NeedsNoMemory copies o → IsSpared same copies entries k o
+  IsSpared-of op.Get never = record { values = λ _. never; asks_none = refl; adds_none = λ _. refl }
+  IsSpared-of op.Contains n = record { values = λ is. absurd cc; asks_none = refl; adds_none = λ _. refl }
+  IsSpared-of (op.Put _) n = absurd n
+  IsSpared-of (op.PutIfAbsent _) n = absurd n
+  IsSpared-of op.Remove n = record { values = λ is. absurd cc; asks_none = refl; adds_none = λ _. refl }
+  IsSpared-of (op.RemoveIf _) n = record { values = λ is. absurd cc; asks_none = refl; adds_none = λ _. refl }
+  IsSpared-of (op.Replace _) n = record { values = λ is. absurd cc; asks_none = refl; adds_none = λ _. refl }
+  IsSpared-of (op.ReplaceIf _ _) n = record { values = λ is. absurd cc; asks_none = refl; adds_none = λ _. refl }
+  IsSpared-of (op.ComputeIfAbsent _) n = absurd n
+  IsSpared-of (op.ComputeIfPresent _) n = absurd n
+  IsSpared-of (op.Compute _) n = absurd n
+  IsSpared-of (op.Merge _ _) n = absurd n

@@ -1,0 +1,37 @@
+use Rattle.std.proofs.Common.{◌≡◌, ◌++◌, List, sym, ap, subst}
+use Rattle.hashkeys.specs.Classes.{is_of}
+use Rattle.hashkeys.specs.declared.hashing.Salt.{Salt}
+use Rattle.bin_history.specs.Calls.{after}
+use Rattle.bin_history.specs.Part.{part_of_entries}
+use Rattle.bin_history.proofs.Keys.{key_tells}
+use Rattle.count_ledger.specs.Views.{RoleView}
+use Rattle.bin_store.specs.Places.{tag_of}
+use Rattle.bin_layout.specs.Places.{AreAt}
+use Rattle.chm.specs.Visits.{VisitView}
+use Rattle.chm.proofs.PartVisits.{IsVisit-part}
+use Rattle.chm.proofs.map.Map.part_held.Goals as goal
+
+pub release-requires : goal.release-requires
+release-requires g c =
+    let At : RoleView _ _ _ → Type 0 = λ r. AreAt g.K.PartialEq.eq
+    (after g.V.PartialEq.eq g.F.Remap.remapped g.F.Remap.merged) (tag_of c.args.held.place) c.args.held.bin r in
+    subst At (sym c.meet_under.ensures.same_role) c.requires.at
+
+pub returns-clause-shown : goal.returns-clause-shown
+returns-clause-shown g c =
+    let code = g.K.HashKey.code in
+    let bin = c.args.held.bin in
+    let ledger = c.args.self.now.ledger in
+    let class = c.class_in-class.result in
+    let v : VisitView _ _ = record { class = class; entries = part_of_entries (is_of code ledger.salt class) bin.entries } in (
+      v,
+      c.meet_under.ensures.seen,
+      IsVisit-part g.K.PartialEq.eq (key_tells g.met.K.Eq.laws g.met.K.HashKey.equal_is_same) code ledger
+          c.meet_under.new.pass.seen bin.class class bin.entries c.lawful.ensures.lawful.distinct
+          c.meet_under.ensures.met.entries
+          (λ hash of. rw c.class.ensures at (c.class_in-class.ensures.within hash of)),
+      λ es reached. subst (λ (s : Salt). g.T.Taker.reached c.args.taker.now
+          (es ++ part_of_entries (is_of code s class) bin.entries) c.show_part-more.result) c.requires.salt
+          (c.show_part-more.ensures es reached),
+      λ classes walked. c.go_past.ensures.walked classes walked,
+    )

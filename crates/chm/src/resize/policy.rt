@@ -1,0 +1,84 @@
+//! What differs by the form of a map: for how many bins it is opened, how wide its table grows, when,
+//! and which calls help.
+ghost use Rattle.std.specs.Prelude.{◌≡◌, ◌≤◌, true, false, ◌↔◌};
+ghost use Rattle.hashkeys.specs.Limits.{most_bins};
+ghost use Rattle.chm.specs.Refusals.{most_capacity};
+ghost use Rattle.chm.specs.Growing.{IsDue, helps};
+ghost use Rattle.chm.specs.Sizes.{IsWideEnough, most_bins_of, threshold};
+
+use bin_history::Form;
+
+/// A table of a recorded map has no more bins than this.
+pub const MOST_RECORDED_BINS: u32 = 65_536;
+
+/// A table of lean bins is wide from this many on.
+const WIDE: u32 = 1024;
+
+/// A table of fewer lean bins than this is narrow.
+const NARROW: u32 = 256;
+
+/// How many bins a table of the form has at most.
+pub(crate) fn most_bins(form: Form) -> u32
+    ensures { result ≡ most_bins_of form }
+{
+    match form {
+        Form::Recorded => MOST_RECORDED_BINS,
+        Form::Lean => hashkeys::MOST_BINS,
+    }
+}
+
+/// For how many bins a map of the form is opened at most.
+pub(crate) fn most_capacity(form: Form) -> usize
+    ensures value { result ≡ most_capacity form }
+    ensures few { result ≤ most_bins }
+{
+    match form {
+        Form::Recorded => 4096,
+        Form::Lean => hashkeys::MOST_BINS as usize,
+    }
+}
+
+/// From how many keys on a table of `n` bins of the form is too small. In a recorded map: three keys to
+/// four bins. In a lean one: a key to four bins while it is narrow, so that few keys share a bin, and
+/// then three keys to two bins.
+pub(crate) fn threshold(form: Form, n: u32) -> u32
+    requires { n ≤ most_bins }
+    ensures { result ≡ threshold form n }
+{
+    match form {
+        Form::Recorded => n - n / 4,
+        Form::Lean if n < NARROW => n.div_ceil(4),
+        Form::Lean => n + n / 2,
+    }
+}
+
+/// Whether a table of `n` bins of the form is too small for so many keys, and the form has a wider one.
+pub(crate) fn is_full(form: Form, n: u32, count: u64) -> bool
+    requires { n ≤ most_bins }
+    ensures { result ≡ false ↔ IsWideEnough form count n }
+{
+    n < most_bins(form) && count >= u64::from(threshold(form, n))
+}
+
+/// Whether a call helps a move that is open: in a recorded map one that met a bin that was moved, in
+/// a lean one each.
+pub(crate) fn helps(form: Form, met_moved: bool) -> bool
+    ensures { result ≡ helps form met_moved }
+{
+    match form {
+        Form::Recorded => met_moved,
+        Form::Lean => true,
+    }
+}
+
+/// Whether a call that made its key present looks whether the table of `n` bins is full, where its
+/// client has this balance. To count all keys is to look at all count words, so in a wide table of
+/// lean bins each client does it once for 16 keys that it adds.
+pub(crate) fn is_due(form: Form, n: u32, balance: u64) -> bool
+    ensures { result ≡ true ↔ IsDue form n balance }
+{
+    match form {
+        Form::Recorded => true,
+        Form::Lean => n < WIDE || balance % 16 == 0,
+    }
+}

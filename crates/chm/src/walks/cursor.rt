@@ -1,0 +1,321 @@
+//! A walk that goes a bucket at a time, in the memory of one bucket or in none. The pass's client may
+//! make calls between two buckets, and may stop early.
+ghost use Rattle.std.specs.Prelude.{◌≡◌, ◌++◌, [], ◌∷◌, List};
+ghost use Rattle.std.specs.List.{FoldsTo};
+ghost use Rattle.chm.specs.Cursors.{IsUsedAt};
+
+use crate::fault::Fault;
+use crate::map::Map;
+use crate::walks::visit::Visit;
+use bin_history::{Bin, Remap, Value};
+use bin_layout::{next_in_walk, walk_laws};
+use bin_store::Held;
+use count_ledger::Pass;
+use hashkeys::{Class, HashKey};
+use std::alloc::{AllocError, Allocator};
+use std::marker::Model;
+use std::sync::Wait;
+
+/// Where a walk has come to. It is of no map, but of all maps that opened with as many buckets.
+#[derive(Drop)]
+pub struct Cursor {
+    pub(crate) n: u32,
+    pub(crate) next: Option<Class>,
+}
+
+impl Model for Cursor {
+    ghost use Rattle.std.specs.Prelude.{◌≤◌, IfSome};
+    ghost use Rattle.hashkeys.specs.Classes.{IsClass, IsTableSize};
+    ghost use Rattle.chm.specs.Cursors.{CursorView};
+
+    ghost Value = { CursorView };
+
+    ghost view = { λ c. record { n = c.n; next = c.next } };
+
+    ghost invariant = { λ c. IsTableSize c.n × IfSome c.next (λ k. c.n ≤ k.n) };
+}
+
+impl Cursor {
+    ghost use Rattle.std.specs.Prelude.{IsSomeAnd, is_none};
+    ghost use Rattle.hashkeys.specs.Classes.{ClassView};
+    ghost use Rattle.chm.specs.Cursors.{HasPassed};
+    ghost use Rattle.chm.specs.Visits.{IsFirstOf};
+
+    /// Returns whether the walk has come to its end.
+    pub fn is_at_end(&self) -> bool
+        ensures { result ≡ is_none self.now.next }
+    {
+        self.next.is_none()
+    }
+
+    /// Goes past a bucket, which is the first of the class that was next.
+    pub(crate) fn go_past(&mut self, class: Class)
+        requires first { IsSomeAnd self.old.next (λ next. IsFirstOf next class) }
+        ensures n { self.new.n ≡ self.old.n }
+        ensures passed { (classes : List ClassView) → HasPassed self.old classes →
+            HasPassed self.new (classes ++ class ∷ []) }
+    {
+        walk_laws();
+        self.next = next_in_walk(self.n, class);
+    }
+}
+
+impl<K: HashKey, V: Value, F: Remap<K, V>, A: Allocator + Clone> Map<K, V, F, A> {
+    ghost use Rattle.std.specs.Prelude.{◌≡◌, ◌++◌, [], ◌∷◌, List, Some, None, true, false, IfOk, IfSome, IfNone};
+    ghost use Rattle.std.specs.Prelude.{IfErr, IsOk, IsSomeAnd, OnErr};
+    ghost use Rattle.std.specs.List.{FoldsTo};
+    ghost use Rattle.bin_history.specs.Calls.{after};
+    ghost use Rattle.bin_history.specs.Copies.{IsExact};
+    ghost use Rattle.count_ledger.specs.Fronts.{HasSeen, HasSeenMore};
+    ghost use Rattle.count_ledger.specs.Views.{PassView};
+    ghost use Rattle.bin_store.specs.Places.{tag_of};
+    ghost use Rattle.bin_layout.specs.Places.{AreAt};
+    ghost use Rattle.chm.specs.Cursors.{AreShown, HasCome, IsUsedAt, list_of};
+    ghost use Rattle.chm.specs.Visits.{IsFirstOf, IsVisit, VisitView};
+
+    /// Returns a cursor at the beginning of a walk.
+    ///
+    ///     let mut cursor = map.cursor();
+    pub fn cursor(&self) -> Cursor
+        ensures n { result.n ≡ self.now.n }
+        ensures first { result.next ≡ Some (record { n = self.now.n; index = 0 }) }
+        ensures begun { (none : List (VisitView K V)) → none ≡ [] → HasCome result none }
+    {
+        walk_laws();
+        let n = self.bins.n();
+        Cursor {
+            n,
+            next: Some(Class::new(n, 0)),
+        }
+    }
+
+    /// Returns the next bucket of a walk, by copies of its entries in order, as all calls before had
+    /// left it, which the pass has then seen; none at the end of the walk. What the steps of a walk
+    /// return stands in walk order, no key comes twice, and at the end every key has come. Calls of
+    /// others, and of the pass's own client, may be made between two steps, and a program may stop
+    /// before the end.
+    ///
+    /// It waits for the bucket, and takes memory for the copies of its entries alone.
+    ///
+    ///     let mut cursor = map.cursor();
+    ///     for _ in rt.forever() {
+    ///         let Some(visit) = map.visit_next(rt, pass, &mut cursor)? else {
+    ///             break;
+    ///         };
+    ///         shown = shown || visit.entries.as_slice() == [(1, 5)].as_slice();
+    ///     }
+    ///
+    /// # Errors
+    ///
+    /// `NoMemory`. The cursor is as it was: the same bucket is next.
+    pub fn visit_next<R: Wait>(
+        &self,
+        rt: &R,
+        pass: &mut Pass<K, V, F>,
+        cursor: &mut Cursor,
+    ) -> Result<Option<Visit<K, V, A>>, Fault>
+        requires keys { IsExact K.is_clone }
+        requires values { IsExact V.is_clone }
+        requires pass { pass.old.ledger ≡ self.now.ledger.id }
+        requires cursor { cursor.old.n ≡ self.now.n }
+        ensures visit { IfOk result (λ v. IfSome v (λ v.
+            HasSeen K.eq (after V.eq F.remapped F.merged) self.now.ledger pass.old pass.new
+            × IsVisit K.eq K.code self.now.ledger pass.new.seen v)) }
+        ensures come { (shown : List (VisitView K V)) → HasCome cursor.old shown →
+            IfOk result (λ v. HasCome cursor.new (shown ++ list_of v)) }
+        ensures shown { (start : PassView K V F) (shown : List (VisitView K V)) →
+            AreShown K.eq K.code (after V.eq F.remapped F.merged) self.now.ledger start shown
+            pass.old → IfOk result (λ v. AreShown K.eq K.code (after V.eq F.remapped F.merged)
+            self.now.ledger start (shown ++ list_of v) pass.new) }
+        ensures end { IfOk result (λ v. IfNone v ((cursor.old.next ≡ None) × (pass.new ≡ pass.old))) }
+        ensures seen { HasSeenMore pass.old pass.new }
+        ensures n { cursor.new.n ≡ cursor.old.n }
+        ensures same { OnErr result (cursor.new ≡ cursor.old) }
+        ensures ended { cursor.old.next ≡ None → IsOk result }
+        ensures faults { IfErr result (λ fault. fault ≡ Fault.NoMemory) }
+    {
+        match cursor.next {
+            Some(next) => {
+                let held = self.hold_first(rt, next);
+                Ok(Some(self.visit_held(held, pass, cursor)?))
+            }
+            None => Ok(None),
+        }
+    }
+
+    /// Tries to do what `visit_next` does, and waits for nobody. Returns none where the next bucket
+    /// is locked just then: the pass and the cursor are as they were.
+    ///
+    ///     let mut cursor = map.cursor();
+    ///     map.try_visit_next(pass, &mut cursor).is_some()
+    ///
+    /// # Errors
+    ///
+    /// `NoMemory`. The cursor is as it was.
+    pub fn try_visit_next(
+        &self,
+        pass: &mut Pass<K, V, F>,
+        cursor: &mut Cursor,
+    ) -> Option<Result<Option<Visit<K, V, A>>, Fault>>
+        requires keys { IsExact K.is_clone }
+        requires values { IsExact V.is_clone }
+        requires pass { pass.old.ledger ≡ self.now.ledger.id }
+        requires cursor { cursor.old.n ≡ self.now.n }
+        ensures visit { IfSome result (λ tried. IfOk tried (λ v. IfSome v (λ v.
+            HasSeen K.eq (after V.eq F.remapped F.merged) self.now.ledger pass.old pass.new
+            × IsVisit K.eq K.code self.now.ledger pass.new.seen v))) }
+        ensures come { (shown : List (VisitView K V)) → HasCome cursor.old shown →
+            IfSome result (λ tried. IfOk tried (λ v. HasCome cursor.new (shown ++ list_of v))) }
+        ensures shown { (start : PassView K V F) (shown : List (VisitView K V)) →
+            AreShown K.eq K.code (after V.eq F.remapped F.merged) self.now.ledger start shown
+            pass.old → IfSome result (λ tried. IfOk tried
+            (λ v. AreShown K.eq K.code (after V.eq F.remapped F.merged) self.now.ledger start
+            (shown ++ list_of v) pass.new)) }
+        ensures end { IfSome result (λ tried. IfOk tried
+            (λ v. IfNone v ((cursor.old.next ≡ None) × (pass.new ≡ pass.old)))) }
+        ensures seen { HasSeenMore pass.old pass.new }
+        ensures n { cursor.new.n ≡ cursor.old.n }
+        ensures same { IfSome result (λ tried. OnErr tried (cursor.new ≡ cursor.old)) }
+        ensures ended { cursor.old.next ≡ None → IsSomeAnd result IsOk }
+        ensures faults { IfSome result (λ tried. IfErr tried (λ fault. fault ≡ Fault.NoMemory)) }
+        ensures busy { IfNone result ((pass.new ≡ pass.old) × (cursor.new ≡ cursor.old)) }
+    {
+        let Some(next) = cursor.next else {
+            return Some(Ok(None));
+        };
+        let held = self.try_hold_first(next)?;
+        match self.visit_held(held, pass, cursor) {
+            Ok(visit) => Some(Ok(Some(visit))),
+            Err(AllocError) => Some(Err(Fault::NoMemory)),
+        }
+    }
+
+    /// Copies the entries of the next bucket, which is locked, goes past it and unlocks it.
+    pub(crate) fn visit_held(
+        &self,
+        mut held: Held<'_, K, V, F, A>,
+        pass: &mut Pass<K, V, F>,
+        cursor: &mut Cursor,
+    ) -> Result<Visit<K, V, A>, AllocError>
+        requires keys { IsExact K.is_clone }
+        requires values { IsExact V.is_clone }
+        requires pass { pass.old.ledger ≡ self.now.ledger.id }
+        requires first { IsSomeAnd cursor.old.next (λ next. IsFirstOf next held.bin.class) }
+        requires at { AreAt K.eq (after V.eq F.remapped F.merged) (tag_of held.place) held.bin
+            held.role }
+        requires ledger { held.role.ledger ≡ self.now.ledger.id }
+        requires salt { held.bin.salt ≡ self.now.ledger.salt }
+        ensures seen { HasSeen K.eq (after V.eq F.remapped F.merged) self.now.ledger pass.old
+            pass.new }
+        ensures visit { IfOk result (IsVisit K.eq K.code self.now.ledger pass.new.seen) }
+        ensures class { IfOk result (λ v. v.class ≡ held.entry.bin.class) }
+        ensures come { (shown : List (VisitView K V)) → HasCome cursor.old shown →
+            IfOk result (λ v. HasCome cursor.new (shown ++ v ∷ [])) }
+        ensures n { cursor.new.n ≡ cursor.old.n }
+        ensures same { OnErr result (cursor.new ≡ cursor.old) }
+    {
+        let lent = &mut held;
+        let bin = &lent.bin;
+        bin.lawful();
+        let class = bin.class();
+        let copies = bin.copy_entries(self.resizer.allocator());
+        self.meet_under(pass, bin, &mut lent.role);
+        held.release();
+        let entries = copies?;
+        cursor.go_past(class);
+        Ok(Visit { class, entries })
+    }
+
+    /// Gives the function each entry of the next bucket of a walk, in order, where it lies, as all
+    /// calls before had left the bucket, which the pass has then seen. Returns whether there was a
+    /// bucket left, empty ones among them: false is the end of the walk. Nothing is copied, posted or
+    /// allocated, so nothing can fail. In all else it is a step of a walk as `visit_next` is.
+    ///
+    /// It waits for the bucket, which is locked while the function runs: a function that takes long
+    /// keeps other clients out of the bucket, and one that calls the map, by whatever pass, deadlocks
+    /// where its key is of the same bucket.
+    ///
+    ///     let mut cursor = map.cursor();
+    ///     let mut most = 0;
+    ///     let mut look = |_key: &u64, value: &u64| most = most.max(*value);
+    ///     let some = map.show_next(rt, pass, &mut cursor, &mut look);
+    ///     some && most <= 5
+    pub fn show_next<R: Wait, G: FnMut(&K, &V)>(
+        &self,
+        rt: &R,
+        pass: &mut Pass<K, V, F>,
+        cursor: &mut Cursor,
+        f: &mut G,
+    ) -> bool
+        requires callable { G.IsAlwaysCallable f.old }
+        requires pass { pass.old.ledger ≡ self.now.ledger.id }
+        requires cursor { cursor.old.n ≡ self.now.n }
+        ensures shown { result ≡ true → (v : VisitView K V)
+            × HasSeen K.eq (after V.eq F.remapped F.merged) self.now.ledger pass.old pass.new
+            × IsVisit K.eq K.code self.now.ledger pass.new.seen v
+            × FoldsTo (IsUsedAt G.step) f.old v.entries f.new
+            × ((shown : List (VisitView K V)) → HasCome cursor.old shown →
+            HasCome cursor.new (shown ++ v ∷ [])) }
+        ensures end { result ≡ false → (cursor.old.next ≡ None) × (pass.new ≡ pass.old)
+            × (f.new ≡ f.old) × (cursor.new ≡ cursor.old) }
+        ensures callable { G.IsAlwaysCallable f.new }
+        ensures n { cursor.new.n ≡ cursor.old.n }
+    {
+        let Some(next) = cursor.next else {
+            return false;
+        };
+        let held = self.hold_first(rt, next);
+        self.show_held(held, pass, cursor, f);
+        true
+    }
+
+    /// Gives the function each entry of the next bucket, which is locked, goes past it and unlocks
+    /// it.
+    fn show_held<G: FnMut(&K, &V)>(
+        &self,
+        mut held: Held<'_, K, V, F, A>,
+        pass: &mut Pass<K, V, F>,
+        cursor: &mut Cursor,
+        f: &mut G,
+    )
+        requires callable { G.IsAlwaysCallable f.old }
+        requires pass { pass.old.ledger ≡ self.now.ledger.id }
+        requires first { IsSomeAnd cursor.old.next (λ next. IsFirstOf next held.bin.class) }
+        requires at { AreAt K.eq (after V.eq F.remapped F.merged) (tag_of held.place) held.bin
+            held.role }
+        requires ledger { held.role.ledger ≡ self.now.ledger.id }
+        requires salt { held.bin.salt ≡ self.now.ledger.salt }
+        ensures shown { (v : VisitView K V)
+            × HasSeen K.eq (after V.eq F.remapped F.merged) self.now.ledger pass.old pass.new
+            × IsVisit K.eq K.code self.now.ledger pass.new.seen v
+            × FoldsTo (IsUsedAt G.step) f.old v.entries f.new
+            × ((shown : List (VisitView K V)) → HasCome cursor.old shown →
+            HasCome cursor.new (shown ++ v ∷ [])) }
+        ensures callable { G.IsAlwaysCallable f.new }
+        ensures n { cursor.new.n ≡ cursor.old.n }
+    {
+        let lent = &mut held;
+        let bin = &lent.bin;
+        bin.lawful();
+        let class = bin.class();
+        use_at_each(bin, f);
+        self.meet_under(pass, bin, &mut lent.role);
+        held.release();
+        cursor.go_past(class);
+    }
+}
+
+/// Gives the function each entry of a bucket, in order.
+fn use_at_each<K: HashKey, V: Value, F: Remap<K, V>, A: Allocator + Clone, G: FnMut(&K, &V)>(
+    bin: &Bin<K, V, F, A>,
+    f: &mut G,
+)
+    requires { G.IsAlwaysCallable f.old }
+    ensures used { FoldsTo (IsUsedAt G.step) f.old bin.now.entries f.new }
+    ensures callable { G.IsAlwaysCallable f.new }
+{
+    let mut left = bin.walk();
+    while let Some(entry) = left.next() {
+        f(&entry.0, &entry.1);
+    }
+}

@@ -1,0 +1,115 @@
+//! A walk whose cursor is a number, which a program may keep, send and forget.
+ghost use Rattle.std.specs.Prelude.{◌≡◌};
+ghost use Rattle.chm.specs.Numbered.{number_of};
+
+use crate::fault::Fault;
+use crate::map::Map;
+use crate::walks::cursor::Cursor;
+use crate::walks::visit::Visit;
+use bin_history::{Remap, Value};
+use bin_layout::walk_laws;
+use count_ledger::Pass;
+use hashkeys::{HashKey, MOST_BINS};
+use std::alloc::{AllocError, Allocator};
+
+/// The number of the end of a walk. A walk begins at 0.
+pub const END_OF_WALK: u64 = 18_446_744_073_709_551_615;
+
+/// What a step of a walk by numbers returns: the bucket, or none at the end, and the number that the
+/// walk goes on at.
+pub type Step<K, V, A> = (Option<Visit<K, V, A>>, u64);
+
+impl Cursor {
+    /// The number of the place: the first hash of the class that is next, or that of the end.
+    pub(crate) fn number(&self) -> u64
+        ensures { result ≡ number_of self.now.next }
+    {
+        match self.next {
+            Some(class) => u64::from(class.index()),
+            None => END_OF_WALK,
+        }
+    }
+}
+
+impl<K: HashKey, V: Value, F: Remap<K, V>, A: Allocator + Clone> Map<K, V, F, A> {
+    ghost use Rattle.std.specs.Prelude.{◌≡◌, ◌≤◌, ◌++◌, [], ◌∷◌, List, None, true, IfOk, IfErr, IfSome, IfNone, IsOkAnd};
+    ghost use Rattle.std.specs.Prelude.{IsSomeAnd, OnErr};
+    ghost use Rattle.hashkeys.specs.Classes.{covers};
+    ghost use Rattle.hashkeys.specs.Limits.{most_bins};
+    ghost use Rattle.bin_history.specs.Calls.{after};
+    ghost use Rattle.bin_history.specs.Copies.{IsExact};
+    ghost use Rattle.count_ledger.specs.Fronts.{HasSeen, HasSeenMore};
+    ghost use Rattle.chm.specs.Numbered.{HasComeAt, HasComeBefore, IsEnd};
+    ghost use Rattle.chm.specs.Visits.{IsVisit, VisitView};
+
+    /// Tries to return copies of the entries of the bucket that has the hash of this number, in order,
+    /// as all calls before had left it, which the pass has then seen; and the number that a walk
+    /// goes on at behind it. Returns none where the bucket is locked just then: the pass is as it
+    /// was. From 2^26 on a number is the end of a walk: there is no bucket then.
+    ///
+    /// A walk begins at 0. Where it goes from step to step by these numbers alone, each bucket
+    /// begins at its number, what the steps return stands in walk order, no key comes twice, and
+    /// at the end every key has come. The number is of no map: where another map, or a number of
+    /// another origin, names a hash within a bucket, the whole bucket is shown.
+    ///
+    /// It waits for nobody, and takes memory for the copies of the entries alone.
+    ///
+    /// # Errors
+    ///
+    /// `NoMemory`.
+    pub fn try_visit_at(
+        &self,
+        pass: &mut Pass<K, V, F>,
+        number: u64,
+    ) -> Option<Result<Step<K, V, A>, Fault>>
+        requires keys { IsExact K.is_clone }
+        requires values { IsExact V.is_clone }
+        requires pass { pass.old.ledger ≡ self.now.ledger.id }
+        ensures visit { IfSome result (λ tried. IfOk tried (λ step. IfSome step.0 (λ v.
+            (covers v.class number ≡ true)
+            × HasSeen K.eq (after V.eq F.remapped F.merged) self.now.ledger pass.old pass.new
+            × IsVisit K.eq K.code self.now.ledger pass.new.seen v))) }
+        ensures come { (shown : List (VisitView K V)) → HasComeAt self.now.n number shown →
+            IfSome result (λ tried. IfOk tried (λ step. IfSome step.0 (λ v.
+            v.class.index ≡ number → HasComeAt self.now.n step.1 (shown ++ v ∷ [])))) }
+        ensures behind { (shown : List (VisitView K V)) →
+            IfSome result (λ tried. IfOk tried (λ step. IfSome step.0 (λ v.
+            HasComeBefore self.now.n v.class shown →
+            HasComeAt self.now.n step.1 (shown ++ v ∷ [])))) }
+        ensures end { IfSome result (λ tried. IfOk tried (λ step. IfNone step.0
+            (IsEnd number step.1 × (pass.new ≡ pass.old)))) }
+        ensures ended { most_bins ≤ number →
+            IsSomeAnd result (λ tried. IsOkAnd tried (λ step. step.0 ≡ None)) }
+        ensures seen { HasSeenMore pass.old pass.new }
+        ensures faults { IfSome result (λ tried. IfErr tried (λ fault. fault ≡ Fault.NoMemory)) }
+        ensures busy { IfNone result (pass.new ≡ pass.old) }
+    {
+        if number >= u64::from(MOST_BINS) {
+            return Some(Ok((None, END_OF_WALK)));
+        }
+        let held = self.bins.try_hold(number as u32)?;
+        let class = held.bin.class();
+        let n = self.bins.n();
+        if class.n() < n {
+            held.release();
+            return None;
+        }
+        let mut cursor = Cursor {
+            n,
+            next: Some(class),
+        };
+        match self.visit_held(held, pass, &mut cursor) {
+            Ok(visit) => Some(Ok((Some(visit), cursor.number()))),
+            Err(AllocError) => Some(Err(Fault::NoMemory)),
+        }
+    }
+
+    /// A walk by numbers begins at 0. It does nothing when it runs.
+    pub fn walk_begins(&self)
+        ensures { (none : List (VisitView K V)) → none ≡ [] → HasComeAt self.now.n 0 none }
+    {
+        walk_laws();
+        // called for the proof alone, which so has how many bins there are
+        let _ = self.bins.n();
+    }
+}
