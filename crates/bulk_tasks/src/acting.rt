@@ -94,12 +94,19 @@ impl<
     }
 }
 
-/// Does the action with each entry. The answers come in walk order, one an entry. Where it is
-/// refused memory, what was done is done, and nothing is answered. It waits for its workers.
+/// Does the action with each entry, and returns the results in walk order, one an entry. Where
+/// memory runs out, what was done is done, and no result is returned. It takes time linear
+/// in the entries, shared by the plan's workers, for which it waits. It locks nothing of the map.
+/// It allocates the list of the results.
 ///
-/// Where `a` has the value 1, and `b` 2, and the action answers the value:
+/// Where `a` has the value 1, and `b` 2, and the action returns the value:
 ///
 ///     for_each(rt, alloc, quiet, &Plan::new(0, 4), &Values)?.as_slice() == [1, 2].as_slice()
+///
+/// # Errors
+///
+/// `BadWorkers` where the plan has not 1 to 16 workers; `NoMemory` where the action or the list of the
+/// results is out of memory.
 pub fn for_each<
     K: HashKey + Send + Sync,
     V: Value + Send + Sync,

@@ -4,9 +4,9 @@ ghost use Rattle.steal_pool.specs.Limits.{most_batch};
 ghost use Rattle.bulk_tasks.specs.Batches.{batch_of};
 ghost use Rattle.bulk_tasks.specs.Plans.{AreWorkers};
 
-/// The batch of a bulk operation over so many entries: 0 leaves all to one task. The threshold is
-/// the least number of entries worth a task of their own; `u64::MAX` asks for one task, and 0 for
-/// as many as keep all workers busy.
+/// Returns the batch of a bulk operation over so many entries: 0 leaves all to one task. The
+/// threshold is the least number of entries worth a task of their own; `u64::MAX` asks for one
+/// task, and 0 for as many as keep all workers busy.
 pub fn batch(count: u64, threshold: u64, workers: usize) -> usize
     requires { AreWorkers workers }
     ensures batch { result ≡ batch_of count threshold workers }

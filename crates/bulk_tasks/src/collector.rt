@@ -78,6 +78,7 @@ impl<K: HashKey, V: Value, F: Remap<K, V>, A: Allocator + Clone, C: Collector<K,
                 part: self.collector.append(whole.part, next.part),
             };
         }
+        // read here, so that the loop's invariant can name it
         let _ = hi;
         whole.part
     }

@@ -1,15 +1,14 @@
-//! What a bulk operation is refused with.
+//! What a bulk operation fails with.
 ghost use Rattle.std.specs.Prelude.{◌≡◌};
 ghost use Rattle.bulk_tasks.specs.declared.fault.BulkFault.TheVariants.{NoMemory};
 
 use std::alloc::AllocError;
 use thiserror::Error;
 
-/// Why a bulk operation was refused. A bad number of workers is told before want of memory.
+/// Why a bulk operation failed. A bad number of workers is reported before out of memory.
 #[derive(Clone, Copy, Debug, PartialEq, Eq, Error)]
 pub enum BulkFault {
-    /// The reducer, the probe or the action was refused memory, or the list of an action's answers
-    /// was.
+    /// The reducer, the probe, the action, or the list of an action's results is out of memory.
     #[error("no memory")]
     NoMemory,
     /// There are 0 or more than 16 workers.

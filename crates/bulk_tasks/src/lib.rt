@@ -1,6 +1,6 @@
 //! Bulk operations on a closed map: `reduce`, `reduce_based`, `search` and `for_each`. Each halves
-//! the range of the map's bins into tasks, which the workers of a pool share, and answers what one
-//! thread answers that goes over the entries in walk order, whoever did which task.
+//! the range of the map's bins into tasks, which the workers of a pool share, and returns what one
+//! thread returns that goes over the entries in walk order, whoever did which task.
 #![tactic(auto)]
 
 mod acting;

@@ -46,7 +46,7 @@ impl<
     G: Gate + Sync,
     Rt: Threads + Wait + Sync,
 > Bulk<'a, K, V, F, A, B, G, Rt> {
-    /// The operations on this map by this plan. They take memory of this allocator.
+    /// Returns the operations on this map by this plan. They allocate with this allocator.
     pub fn new(
         rt: &'a Rt,
         alloc: B,
@@ -64,11 +64,11 @@ impl<
         }
     }
 
-    /// The value of all entries by the reducer, as the function `reduce` gives it.
+    /// Returns the value of all entries by the reducer, as the function `reduce` does.
     ///
     /// # Errors
     ///
-    /// `BadWorkers`: the plan has not 1 to 16 workers. `NoMemory`: the reducer was refused memory.
+    /// `BadWorkers`: the plan has not 1 to 16 workers. `NoMemory`: the reducer is out of memory.
     pub fn reduce<R: Reducer<K, V> + Sync>(&self, reducer: &R) -> Result<Option<R::A>, BulkFault>
     where
         R::A: Send,
@@ -92,11 +92,11 @@ impl<
         )?)
     }
 
-    /// The value of all entries by the reducer, as the function `reduce_based` gives it.
+    /// Returns the value of all entries by the reducer, as the function `reduce_based` does.
     ///
     /// # Errors
     ///
-    /// `BadWorkers`: the plan has not 1 to 16 workers. `NoMemory`: the reducer was refused memory.
+    /// `BadWorkers`: the plan has not 1 to 16 workers. `NoMemory`: the reducer is out of memory.
     pub fn reduce_based<R: BasedReducer<K, V> + Sync>(&self, reducer: &R) -> Result<R::A, BulkFault>
     where
         R::A: Send,
@@ -116,11 +116,11 @@ impl<
         Ok(join_onto(reducer, basis, folded)?)
     }
 
-    /// Something that the probe finds in some entry, as the function `search` gives it.
+    /// Returns something that the probe finds in some entry, as the function `search` does.
     ///
     /// # Errors
     ///
-    /// `BadWorkers`: the plan has not 1 to 16 workers. `NoMemory`: the probe was refused memory, and
+    /// `BadWorkers`: the plan has not 1 to 16 workers. `NoMemory`: the probe is out of memory, and
     /// nothing was found.
     pub fn search<P: Probe<K, V> + Sync>(&self, probe: &P) -> Result<Option<P::U>, BulkFault>
     where
@@ -145,12 +145,12 @@ impl<
         }
     }
 
-    /// What the action answers for each entry, as the function `for_each` gives it.
+    /// Returns what the action returns for each entry, as the function `for_each` does.
     ///
     /// # Errors
     ///
-    /// `BadWorkers`: the plan has not 1 to 16 workers. `NoMemory`: the action was refused memory, or
-    /// the list of its answers was. What was done is done.
+    /// `BadWorkers`: the plan has not 1 to 16 workers. `NoMemory`: the action or the list
+    /// of its results is out of memory. What was done is done.
     pub fn for_each<X: Action<K, V> + Sync>(&self, action: &X) -> Result<Vec<X::R, B>, BulkFault>
     where
         X::R: Send,

@@ -16,7 +16,7 @@ pub struct Plan<'a, G> {
 }
 
 impl Plan<'static, OpenGate> {
-    /// A plan with a gate that holds nothing back.
+    /// Returns a plan with a gate that holds nothing back.
     pub fn new(threshold: u64, workers: usize) -> Plan<'static, OpenGate>
         ensures threshold { result.threshold ≡ threshold }
         ensures workers { result.workers ≡ workers }

@@ -114,6 +114,7 @@ impl<K: HashKey, V: Value, F: Remap<K, V>, A: Allocator + Clone, R: Reducer<K, V
 pub(crate) fn any_order<K, V, R: Reducer<K, V>>(reducer: &R)
     ensures { FoldsInAnyOrder (R.lifted reducer.now) (R.joined reducer.now) }
 {
+    // read for the proof alone, which so has the reducer's laws
     let _ = reducer;
 }
 
@@ -136,13 +137,18 @@ pub(crate) fn join_onto<K, V, R: Reducer<K, V>>(
     }
 }
 
-/// The value of all entries by the reducer: what lifting each and joining from left to right in
-/// walk order gives; none of no entries. With a reducer that never refuses it is refused a bad
-/// number of workers alone. It waits for its workers.
+/// Returns the value of all entries by the reducer: what lifting each and joining from left to
+/// right in walk order gives, and none of no entries. With a reducer that never fails it fails for
+/// a bad number of workers alone. It takes time linear in the entries, shared by the plan's
+/// workers, for which it waits. It locks nothing of the map.
 ///
 /// Where `a` has the value 1, and `b` 2:
 ///
 ///     reduce(rt, alloc, quiet, &Plan::new(0, 4), &Greatest)? == Some(2)
+///
+/// # Errors
+///
+/// `BadWorkers` where the plan has not 1 to 16 workers; `NoMemory` where the reducer is out of memory.
 pub fn reduce<
     K: HashKey + Send + Sync,
     V: Value + Send + Sync,
@@ -172,12 +178,17 @@ where
     Bulk::new(rt, alloc, quiet, plan).reduce(reducer)
 }
 
-/// The value of all entries by the reducer, as `reduce` gives it, from the reducer's basis on. It
-/// waits for its workers.
+/// Returns the value of all entries by the reducer, as `reduce` does, from the reducer's basis on.
+/// It takes time linear in the entries, shared by the plan's workers, for which it waits. It locks
+/// nothing of the map.
 ///
 /// Where `a` has the value 1, and `b` 2:
 ///
 ///     reduce_based(rt, alloc, quiet, &Plan::new(0, 4), &Sum)? == 3
+///
+/// # Errors
+///
+/// `BadWorkers` where the plan has not 1 to 16 workers; `NoMemory` where the reducer is out of memory.
 pub fn reduce_based<
     K: HashKey + Send + Sync,
     V: Value + Send + Sync,

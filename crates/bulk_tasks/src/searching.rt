@@ -154,13 +154,19 @@ pub(crate) fn search_alone<
     }
 }
 
-/// Something that the probe finds in some entry, or none where it finds nothing in any. Once
-/// something is found other entries may be left out. With a probe that never refuses it is refused
-/// a bad number of workers alone. It waits for its workers.
+/// Returns something that the probe finds in some entry, or none where it finds nothing in any.
+/// Once something is found, other entries may be left out. With a probe that never fails it fails
+/// for a bad number of workers alone. It takes time linear in the entries, shared by the plan's
+/// workers, for which it waits. It locks nothing of the map.
 ///
 /// Where `a` has the value 1, and `b` 2, and the probe finds a value above its number:
 ///
 ///     search(rt, alloc, quiet, &Plan::new(0, 4), &Above(1))? == Some(2)
+///
+/// # Errors
+///
+/// `BadWorkers` where the plan has not 1 to 16 workers; `NoMemory` where the probe is out of memory,
+/// and nothing was found.
 pub fn search<
     K: HashKey + Send + Sync,
     V: Value + Send + Sync,

@@ -44,7 +44,6 @@ pub(crate) fn count_up<B: Relation, W: Cut>(
     ensures table { seat.new.table_id ≡ seat.old.table_id }
     ensures told { (found : ℕ) × Forks W.mid seat.old.me found seat.new.me }
 {
-    let _ = mid;
     words.fetch_add::<ForkStep<W>>(seat, 2 * node, 1);
 }
 

@@ -12,3 +12,4 @@ pub mod Sorted
 pub mod Determined
 pub mod Said
 pub mod Written
+mod Limits

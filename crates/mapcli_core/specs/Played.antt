@@ -6,7 +6,7 @@ use Rattle.std.specs.declared.vec.Vec.{Vec}
 use Rattle.bin_history.specs.Records.{RecordView}
 use Rattle.bin_history.specs.declared.call.Reply.{Reply}
 use Rattle.chm.specs.Headline.{QuietView, entries_of}
-use Rattle.bin_history.specs.Limits.{most_calls}
+use Rattle.bin_history.specs.Limits.{most_recorded_calls}
 use Rattle.bin_history.specs.declared.form.Form.TheVariants.{Recorded}
 use Rattle.chm.specs.declared.fault.Fault.{Fault}
 use Rattle.chm.specs.declared.fault.Fault.TheVariants.{NoMemory}
@@ -31,7 +31,7 @@ HasMade calls replies made = (map call_and_reply made ≡ zip calls replies) × 
 
 -- no block has more calls than a recorded map's pass can make
 abbrev pub AreShort : {X Y : Type 0} → Vec (Vec ScriptCall X) Y → Type 0
-AreShort blocks = All (λ b. length b ≤ most_calls Recorded) (lists_of blocks)
+AreShort blocks = All (λ b. length b ≤ most_recorded_calls) (lists_of blocks)
 
 -- a client has replies, or was refused for want of memory
 abbrev pub IsAnswerOfClient : {A : Type 0} → Result (Vec (Reply ℤ) A) Fault → Type 0

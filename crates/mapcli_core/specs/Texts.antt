@@ -8,13 +8,14 @@ use Rattle.std.specs.Fmt.{signed_decimal}
 use Rattle.std.specs.Cmp.Lexicographic.{slice_cmp}
 use Rattle.bin_history.specs.declared.call.Reply.{Reply}
 use Rattle.bin_history.specs.declared.call.Reply.TheVariants.{Value, Truth}
+use Rattle.script.specs.Lines.{line_feed}
 use Rattle.script.specs.declared.script.Query.{Query}
 use Rattle.script.specs.declared.script.Query.TheVariants.{Count, ReduceSum, ReduceMax, SearchAbove, List as Listing}
 use Rattle.mapcli_core.specs.Outcomes.{Outcome}
 
 -- a line of the output
 abbrev pub output_line : List ℕ → List ℕ
-output_line l = l ++ 10 ∷ []
+output_line l = l ++ line_feed ∷ []
 
 abbrev pub option_text : Option ℤ → List ℕ
 option_text None = codes "none"

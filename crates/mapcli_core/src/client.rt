@@ -1,6 +1,6 @@
 //! The clients of a script: each makes the calls of its block, with its pass.
 ghost use Rattle.std.specs.Prelude.{◌≡◌, ◌≤◌, [], length, IfOk, IfErr};
-ghost use Rattle.bin_history.specs.Limits.{most_calls};
+ghost use Rattle.bin_history.specs.Limits.{most_calls, most_recorded_calls};
 ghost use Rattle.bin_history.specs.declared.form.Form.TheVariants.{Recorded};
 ghost use Rattle.chm.specs.declared.fault.Fault.TheVariants.{NoMemory};
 ghost use Rattle.mapcli_core.specs.Played.{AreShort, HasMade};
@@ -60,7 +60,9 @@ fn make_calls<R: Wait, G: ClientGate, A: Allocator + Clone>(
 ) -> Result<Vec<Reply<i64>, A>, Fault>
     requires pass { pass.old.ledger ≡ map.now.ledger.id }
     requires fresh { pass.old.made ≡ [] }
-    requires short { length calls.now.items ≤ most_calls Recorded }
+    requires short { length calls.now.items ≤ most_recorded_calls }
+    requires limit { most_recorded_calls
+        ≤ most_calls map.now.ledger.form map.now.ledger.clients }
     ensures ledger { pass.new.ledger ≡ pass.old.ledger }
     ensures client { pass.new.client ≡ pass.old.client }
     ensures made { IfOk result
@@ -87,9 +89,13 @@ pub(crate) struct Blocks<'a, G, A: Allocator> {
 }
 
 impl<G: ClientGate, A: Allocator + Clone> Sharing<Key, i64, Function, A> for Blocks<'_, G, A> {
+    ghost use Rattle.std.specs.Prelude.{◌≤◌};
+    ghost use Rattle.bin_history.specs.Limits.{most_calls, most_recorded_calls};
     ghost use Rattle.mapcli_core.specs.Played.{HasPlayed};
 
     type Out = Result<Vec<Reply<i64>, A>, Fault>;
+
+    ghost fits = { λ b ledger. most_recorded_calls ≤ most_calls ledger.form ledger.clients };
 
     ghost does = { λ b before after answer. HasPlayed b.blocks.now before after answer };
 

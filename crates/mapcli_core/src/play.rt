@@ -1,5 +1,6 @@
 //! The client blocks of a script, each played by a thread of its own on one map.
-ghost use Rattle.std.specs.Prelude.{◌≡◌, length, map, All, Ok, IfOk, IfErr};
+ghost use Rattle.std.specs.Prelude.{◌≡◌, ◌≤◌, length, map, All, Ok, IfOk, IfErr};
+ghost use Rattle.bin_history.specs.Limits.{most_calls, most_recorded_calls};
 ghost use Rattle.chm.specs.declared.fault.Fault.TheVariants.{NoMemory};
 ghost use Rattle.count_ledger.specs.Opening.{lists_of, new_passes};
 ghost use Rattle.script.specs.Verdicts.{IsWithinLimits};
@@ -48,6 +49,8 @@ fn play_blocks<R: Threads + Wait + Sync, G: ClientGate + Sync, A: Allocator + Cl
 ) -> Result<Replies<A>, Fault>
     requires limits { IsWithinLimits (lists_of blocks) }
     requires fresh { passes.old.items ≡ new_passes map.now.ledger.id (length blocks.items) }
+    requires limit { most_recorded_calls
+        ≤ most_calls map.now.ledger.form map.now.ledger.clients }
     ensures ledger { All (λ p. p.ledger ≡ map.now.ledger.id) passes.new.items }
     ensures played { IfOk result
         (λ replies. ArePlayed (lists_of blocks) (lists_of replies) passes.new.items) }

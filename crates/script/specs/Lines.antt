@@ -9,14 +9,20 @@ use Rattle.std.specs.List.{slice_split}
 abbrev pub Word : Type 0
 Word = List ℕ
 
+abbrev pub line_feed : ℕ
+line_feed = 10
+
+abbrev pub space : ℕ
+space = 32
+
 -- the text begins with the line, which a line feed ends, and goes on with more
 pub record BeginsWith (text l more : List ℕ) : Type 0 where
-  pub parts : text ≡ l ++ 10 ∷ more
-  pub no_line_feed : All (λ b. b ≢ 10) l
+  pub parts : text ≡ l ++ line_feed ∷ more
+  pub no_line_feed : All (λ b. b ≢ line_feed) l
 
 -- the parts of a line between its spaces
 abbrev pub words : List ℕ → List Word
-words l = slice_split (λ b. b == 32) l
+words l = slice_split (λ b. b == space) l
 
 -- a byte from 0x20 to 0x7E
 abbrev pub is_printable : ℕ → Bool

@@ -1,8 +1,8 @@
 -- Which text is which script, and which line of another text is bad.
 use Rattle.std.specs.Prelude.{◌≡◌, ◌≢◌, ℕ, ◌+◌, ◌<◌, ◌≤◌, ◌⊎◌, List, [], ◌∷◌, ◌++◌, length, All}
-use Rattle.bin_history.specs.Limits.{most_clients, most_calls}
+use Rattle.bin_history.specs.Limits.{most_clients, most_recorded_calls}
 use Rattle.bin_history.specs.declared.form.Form.TheVariants.{Recorded}
-use Rattle.script.specs.Lines.{Word, BeginsWith, words, IsPrintable, IsSpaced}
+use Rattle.script.specs.Lines.{Word, BeginsWith, line_feed, words, IsPrintable, IsSpaced}
 use Rattle.script.specs.Grammar.{ScriptCall, Line, client, query, call, ask, Form, start_forms, block_forms}
 use Rattle.script.specs.Grammar.{query_forms, Reads}
 use Rattle.script.specs.Faults.{AreWrong}
@@ -25,17 +25,17 @@ forms_at (queries blocks asked) = query_forms
 
 -- one more such line is too many: there are at most 32 blocks, each of at most 1,000,000 calls
 abbrev pub IsTooMany : Section → Line → Type 0
-IsTooMany (calls blocks block) client = most_clients ≤ length blocks + 1
-IsTooMany (calls blocks block) (call c) = most_calls Recorded ≤ length block
+IsTooMany (calls blocks block) client = most_clients Recorded ≤ length blocks + 1
+IsTooMany (calls blocks block) (call c) = most_recorded_calls ≤ length block
 IsTooMany _ _ = ⊥
 
 -- a line that is not too many leads from section to section
 pub data Leads : Section → Line → Section → Type 0 where
   first_client : Leads start client (calls [] [])
-  next_client : (blocks : List (List ScriptCall)) (block : List ScriptCall) → length blocks + 1 < most_clients
+  next_client : (blocks : List (List ScriptCall)) (block : List ScriptCall) → length blocks + 1 < most_clients Recorded
       → Leads (calls blocks block) client (calls (blocks ++ block ∷ []) [])
   next_call : (blocks : List (List ScriptCall)) (block : List ScriptCall) (c : ScriptCall) →
-      length block < most_calls Recorded
+      length block < most_recorded_calls
       → Leads (calls blocks block) (call c) (calls blocks (block ++ c ∷ []))
   first_query : (blocks : List (List ScriptCall)) (block : List ScriptCall) →
       Leads (calls blocks block) query (queries (blocks ++ block ∷ []) [])
@@ -75,7 +75,7 @@ pub data HasVerdictFrom : Section → ℕ → List ℕ → Verdict → Type 0 wh
       → HasVerdictFrom q (n + 1) more v → HasVerdictFrom p n text v
   bad : (p : Section) (n : ℕ) (text l more : List ℕ) (kind : Kind) → BeginsWith text l more → IsBad p l kind →
       HasVerdictFrom p n text (faulty n kind)
-  cut : (p : Section) (n : ℕ) (text : List ℕ) → text ≢ [] → All (λ b. b ≢ 10) text →
+  cut : (p : Section) (n : ℕ) (text : List ℕ) → text ≢ [] → All (λ b. b ≢ line_feed) text →
       HasVerdictFrom p n text (faulty n kinds.Cut)
   ended : (blocks : List (List ScriptCall)) (asked : List Query) (n : ℕ) →
       HasVerdictFrom (queries blocks asked) n [] (whole blocks asked)

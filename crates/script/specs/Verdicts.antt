@@ -1,6 +1,6 @@
 -- What a text is, and what its reading answers.
 use Rattle.std.specs.Prelude.{◌≡◌, ℕ, ◌<◌, ◌≤◌, List, length, All, map}
-use Rattle.bin_history.specs.Limits.{most_clients, most_calls}
+use Rattle.bin_history.specs.Limits.{most_clients, most_recorded_calls}
 use Rattle.bin_history.specs.declared.form.Form.TheVariants.{Recorded}
 use Rattle.script.specs.Grammar.{ScriptCall}
 use Rattle.script.specs.Reading.{start, Verdict, whole, faulty, HasVerdictFrom}
@@ -33,8 +33,8 @@ IsFaulty text n kind = IsJust text (faulty n kind)
 -- there are 1 to 32 blocks, each of at most 1,000,000 calls
 pub record IsWithinLimits (blocks : List (List ScriptCall)) : Type 0 where
   pub some : 0 < length blocks
-  pub few : length blocks ≤ most_clients
-  pub short : All (λ b. length b ≤ most_calls Recorded) blocks
+  pub few : length blocks ≤ most_clients Recorded
+  pub short : All (λ b. length b ≤ most_recorded_calls) blocks
 
 -- a refusal that is not for want of memory names the fault
 abbrev pub IsTold : List ℕ → ParseError → Type 0

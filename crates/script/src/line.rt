@@ -2,7 +2,7 @@
 ghost use Rattle.std.specs.Prelude.{◌≡◌, ◌≢◌, ◌∷◌, ◌++◌, ◌≤◌, All, MatchOption, length, take, true};
 ghost use Rattle.std.specs.Prelude.{false};
 ghost use Rattle.hashkeys.specs.Text.{is_key};
-ghost use Rattle.script.specs.Lines.{BeginsWith};
+ghost use Rattle.script.specs.Lines.{BeginsWith, line_feed, space};
 
 use crate::bytes::place_before;
 use hashkeys::Key;
@@ -30,7 +30,7 @@ impl<'a> Model for TextLine<'a> {
 /// The first line of a text, and what follows its line feed, if there is one.
 #[inline(always)]
 pub(crate) fn first_line(text: &[u8]) -> Option<(TextLine<'_>, &[u8])>
-    ensures { MatchOption result (All (λ b. b ≢ 10) text.now)
+    ensures { MatchOption result (All (λ b. b ≢ line_feed) text.now)
         (λ r. BeginsWith text.now r.0 r.1.now) }
 {
     let len = place_before(text, text.len(), b'\n');
@@ -61,9 +61,9 @@ impl<'a> TextLine<'a> {
     /// What stands before the first space, and what follows it, if there is one.
     #[inline(always)]
     pub(crate) fn split(&self) -> (TextLine<'a>, Option<TextLine<'a>>)
-        ensures before { All (λ b. b ≢ 32) result.0 }
+        ensures before { All (λ b. b ≢ space) result.0 }
         ensures parts { MatchOption result.1 (result.0 ≡ self.now)
-            (λ more. self.now ≡ result.0 ++ 32 ∷ more) }
+            (λ more. self.now ≡ result.0 ++ space ∷ more) }
     {
         let text = self.text;
         let end = place_before(text, self.len, b' ');

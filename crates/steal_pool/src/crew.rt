@@ -22,7 +22,11 @@ use std::marker::PhantomData;
 
 /// The members of a pool, each with a way into each other's deque. The last is number 0. And a list
 /// of no way, for the pool's end.
-pub(crate) fn members<T: Drop, A: Allocator + Clone, S: Seats<A>>(
+///
+/// # Errors
+///
+/// `AllocError`.
+pub fn members<T: Drop, A: Allocator + Clone, S: Seats<A>>(
     alloc: &A,
     deques: &mut Vec<Own<T, A>, A>,
 ) -> Result<(Vec<Member<T, A, S>, A>, Vec<Way<T, A, S>, A>), AllocError>
@@ -85,8 +89,12 @@ impl<T: Drop, A: Allocator + Clone, S: Seats<A>> Member<T, A, S> {
     }
 
     /// Pushes a task, or hands it back.
+    ///
+    /// # Errors
+    ///
+    /// The task, where memory for it is refused.
     #[tactic(auto, using(crate::proofs::Moves::weigh_snoc))]
-    pub(crate) fn push(&mut self, task: T) -> Result<(), T>
+    pub fn push(&mut self, task: T) -> Result<(), T>
         ensures shape { shape self.new ≡ shape self.old }
         ensures back { IfErr result (λ x. x ≡ task) }
         ensures pushed { (h : T → ℕ) →
@@ -100,7 +108,7 @@ impl<T: Drop, A: Allocator + Clone, S: Seats<A>> Member<T, A, S> {
 
     /// Its own newest task, or else the oldest of another member.
     #[tactic(auto, using(crate::proofs::Moves::weigh_snoc))]
-    pub(crate) fn take(&mut self) -> Option<T>
+    pub fn take(&mut self) -> Option<T>
         ensures shape { shape self.new ≡ shape self.old }
         ensures pushed { (h : T → ℕ) → weight_pushed_by h self.new ≡ weight_pushed_by h self.old }
         ensures taken { (h : T → ℕ) →

@@ -13,7 +13,7 @@ use crossbeam_deque::{Pass, Steal, Stealer, Worker};
 use std::alloc::{AllocError, Allocator};
 
 /// The owner's side of a deque.
-pub(crate) type Own<T, A> = Worker<T, A, Log<T>, EachOnce>;
+pub type Own<T, A> = Worker<T, A, Log<T>, EachOnce>;
 
 /// A side from which others take its oldest task.
 pub(crate) type Other<T, A> = Stealer<T, A, Log<T>, EachOnce>;

@@ -3,7 +3,8 @@
 //! counted completers, and its workers take the leaves: each pushes what it forks to a
 //! deque of its own, takes its newest task, or else the oldest of another worker's.
 //! What `run` answers is the part of the whole range, whoever did which leaf. A run ends with a
-//! settlement: each task that was pushed was taken once.
+//! settlement: each task that was pushed was taken once. The parts of a run are public as well:
+//! tests of what only they show use them.
 #![tactic(auto)]
 
 mod body;
@@ -22,12 +23,17 @@ mod rule;
 mod seats;
 mod settle;
 mod task;
-#[cfg(test)]
-mod tests;
 mod way;
 
 pub use body::Body;
+pub use crew::members;
+pub use deque::Own;
 pub use finished::{Finished, Tasks};
 pub use gate::{Gate, OpenGate};
 pub use limits::MOST_WORKERS;
-pub use pool::run;
+pub use member::Member;
+pub use order::Order;
+pub use pool::{new_deques, nodes_for, run, run_order};
+pub use seats::Seats;
+pub use settle::close;
+pub use way::Way;

@@ -16,7 +16,7 @@ use std::alloc::Allocator;
 /// given back.
 #[derive(Drop)]
 pub struct Member<T, A: Allocator, S: Seats<A>> {
-    pub(crate) number: usize,
+    pub number: usize,
     pub(crate) own: Own<T, A>,
     pub(crate) out: u64,
     pub(crate) ways: Vec<Way<T, A, S>, A>,

@@ -7,13 +7,13 @@ use crate::body::Body;
 /// How many workers, of whom at most so many have threads, do what with how many bins, in which
 /// batch.
 #[derive(Drop)]
-pub(crate) struct Order<'a, B: Body, G> {
-    pub(crate) workers: usize,
-    pub(crate) threads: usize,
-    pub(crate) gate: &'a G,
-    pub(crate) body: &'a B,
-    pub(crate) bins: usize,
-    pub(crate) batch: usize,
+pub struct Order<'a, B: Body, G> {
+    pub workers: usize,
+    pub threads: usize,
+    pub gate: &'a G,
+    pub body: &'a B,
+    pub bins: usize,
+    pub batch: usize,
     ghost workers_are: { (0 < workers) × (workers ≤ most_workers) },
     ghost bins_are: { (0 < bins) × (bins ≤ B.limit body.now) },
     ghost batch_is: { batch ≤ most_batch },

@@ -29,8 +29,8 @@ use std::thread::Threads;
 /// How many tasks a deque has room for at first.
 const CAPACITY: usize = 4;
 
-// The nodes of a tree for a batch: 2 to the number of its binary digits.
-pub(crate) fn nodes_for(batch: usize) -> usize
+/// The nodes of a tree for a batch: 2 to the number of its binary digits.
+pub fn nodes_for(batch: usize) -> usize
     requires { batch ≤ most_batch }
     ensures nodes { (batch < result) × (level : ℕ) × (level ≤ 7) × (result ≡ 2 ^ level) }
     ensures tight { (batch ≡ 0 → result ≡ 1) × (0 < batch → result ≤ 2 * batch) }
@@ -47,8 +47,12 @@ pub(crate) fn nodes_for(batch: usize) -> usize
     }
 }
 
-// An empty deque for each worker.
-pub(crate) fn new_deques<T: Drop, A: Allocator + Clone>(
+/// An empty deque for each worker.
+///
+/// # Errors
+///
+/// `AllocError`.
+pub fn new_deques<T: Drop, A: Allocator + Clone>(
     alloc: &A,
     workers: usize,
 ) -> Result<Vec<Own<T, A>, A>, AllocError>
@@ -184,8 +188,8 @@ where
     run_tree::<B, G, Brand, A, Rt>(rt, alloc, order, &tree, root)
 }
 
-// A run, or one leaf over everything.
-pub(crate) fn run_order<
+/// A run, or where memory for it is refused one leaf over everything. It waits for its workers.
+pub fn run_order<
     B: Body + Sync,
     G: Gate + Sync,
     A: Allocator + Clone + Send + Sync,

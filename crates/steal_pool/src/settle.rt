@@ -145,7 +145,7 @@ fn told(counted: Option<Tasks>, left: u128) -> Option<Tasks>
 /// Ends a pool, whose members are all back, by way of an empty list: each task that one of them
 /// took was pushed by one of them, and each task that was pushed was taken once, or is left. What
 /// they pushed and took, where none is left and all know; and how many are left.
-pub(crate) fn close<T: Drop, A: Allocator, S: Seats<A>>(
+pub fn close<T: Drop, A: Allocator, S: Seats<A>>(
     members: Vec<Member<T, A, S>, A>,
     none: Vec<Way<T, A, S>, A>,
 ) -> (Option<Tasks>, u128)

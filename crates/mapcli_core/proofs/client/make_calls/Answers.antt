@@ -11,7 +11,7 @@ use Rattle.mapcli_core.proofs.client.make_calls.Goals as goal
 pub loop-call-preserved : goal.loop-call-preserved
 loop-call-preserved g c =
     let (ledger, client, made, count, replied, room) = c.loop-call.invariant in
-    let (front, r, is_front, called, found) = c.in_ok-reply.ensures.called in
+    let (front, r, is_front, called, found) = c.in_ok-reply.ensures.answered.called in
     let calls : List ScriptCall = c.args.calls.now.items in
     let before : List ScriptCall = take c.loop-call.call-index calls in
     let records : c.call-in-loop-call.new.pass.made ≡ c.loop-call.pass.made ++ r ∷ [] =

@@ -1,9 +1,21 @@
-use Rattle.std.proofs.Common.{◌≡◌, Vec, ap, subst, sym, ◌∙◌, arith, inl, inr}
+use Rattle.std.proofs.Common.{◌≡◌, ◌≤◌, ℕ, Vec, ap, refl, subst, sym, ◌∙◌, arith, inl, inr}
 use Rattle.std.proofs.lemmas.List.{length-map}
+use Rattle.bin_history.specs.Limits.{most_calls, most_recorded_calls}
+use Rattle.bin_history.specs.declared.form.Form.{Form}
+use Rattle.bin_history.specs.declared.form.Form.TheVariants.{Lean}
 use Rattle.count_ledger.specs.Opening.{lists_of}
 use Rattle.mapcli_core.specs.Played.{ArePlayed}
 use Rattle.mapcli_core.proofs.Allowed.{IsAllowed-closed}
+use Rattle.mapcli_core.proofs.Limits.{blocks-fit}
 use Rattle.mapcli_core.proofs.play.play.Goals as goal
+
+pub play_blocks-requires-clause-limit : goal.play_blocks-requires-clause-limit
+play_blocks-requires-clause-limit g c = λ κs within.
+    let new = c.in_ok-map.ensures.new in
+    let (some, few) = (c.in_ok-map.ensures.limits.ok refl).1 in
+    subst (λ (f : Form). most_recorded_calls ≤ most_calls f c.in_ok-map.map.ledger.clients) (sym new.form)
+    (subst (λ (n : ℕ). most_recorded_calls ≤ most_calls Lean n) (sym new.clients)
+    (blocks-fit _ some few))
 
 pub returns-in-Ok-close-clause-ok : goal.returns-in-Ok-close-clause-ok
 returns-in-Ok-close-clause-ok g c =

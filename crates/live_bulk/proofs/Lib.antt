@@ -1,0 +1,7 @@
+mod Crossing
+mod Gathered
+mod Probes
+mod SeatedClients
+mod Seen
+mod ShareWalks
+mod Sought

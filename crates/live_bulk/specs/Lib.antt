@@ -1,0 +1,4 @@
+pub mod Shared
+pub mod Plans
+pub mod Folds
+pub mod Searches

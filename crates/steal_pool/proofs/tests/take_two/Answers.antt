@@ -1,6 +1,0 @@
-use Rattle.crossbeam_deque.specs.Handles.{worker_deque}
-use Rattle.steal_pool.proofs.Seating.{seated}
-use Rattle.steal_pool.proofs.tests.take_two.Goals as goal
-
-pub seated_take_two-requires-clause-seats : goal.seated_take_two-requires-clause-seats
-seated_take_two-requires-clause-seats c = seated worker_deque c.in_ok-deques.deques.items
