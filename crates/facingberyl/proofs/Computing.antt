@@ -11,17 +11,10 @@ use Rattle.bin_history.specs.declared.call.Call.TheVariants.{ComputeIfAbsent, Co
 use Rattle.bin_history.specs.declared.call.Reply.{Reply}
 use Rattle.bin_history.specs.declared.call.Reply.TheVariants.{Value, Truth}
 use Rattle.chm.specs.Headline.{IsMade}
-use Rattle.facingberyl.specs.Computed.{asks, IsTold}
+use Rattle.facingberyl.specs.Computed.{asks, changes, IsTold, IsToldChange}
 use Rattle.count_ledger.specs.Views.{PassView}
 use Rattle.count_ledger.specs.Words.{word_of}
 use Rattle.count_ledger.proofs.WordSums.{word_of-add, sum_of_deltas-push}
-
--- the number of keys changes
-abbrev pub changes : {V : Type 0} → Option V → Option V → Bool
-changes None None = false
-changes None (Some y) = true
-changes (Some x) None = true
-changes (Some x) (Some y) = false
 
 same_word : (a b : ℕ) → a < 2 ^ 64 → b ≡ (a + 0) % 2 ^ 64 → not (b == a) ≡ false
 same_word a b small is = ap not (eq-eqb b a (omega (arith, is)))
@@ -80,27 +73,29 @@ other : (b n : Bool) → b ≡ not n → n ≡ not b
 other b true e = ap not (sym e)
 other b false e = ap not (sym e)
 
+-- the balance before the call and the balance after it differ where the call changed the number of keys
+pub told-change : {K V F : Type 0} (old mid made new : PassView K V F) (a b : ℕ) → mid ≡ old → new ≡ made → a < 2 ^ 64
+    → a ≡ word_of (sum_of_deltas old.made) → b ≡ word_of (sum_of_deltas made.made)
+    → IsToldChange old new (not (b == a))
+told-change {K} {V} {F} old mid made new a b mid_is new_is small a_is b_is r is =
+    changed_balance old.made r a b small a_is
+    (b_is ∙ ap (λ (p : PassView K V F). word_of (sum_of_deltas p.made)) (sym new_is)
+    ∙ ap (λ (rs : List (RecordView K V F)). word_of (sum_of_deltas rs)) is)
+
 module _ {K V F : Type 0} (same_value : V → V → Bool) (remapped : F → K → Option V → Option V)
     (merged : F → V → V → Option V)
-    (old mid made new : PassView K V F) (a b : ℕ) (value : Option V) (front : List (RecordView K V F))
-    (mid_is : mid ≡ old) (new_is : new ≡ made) (small : a < 2 ^ 64) (a_is : a ≡ word_of (sum_of_deltas old.made))
-    (b_is : b ≡ word_of (sum_of_deltas made.made)) where
+    (old new : PassView K V F) (changed : Bool) (value : Option V) (front : List (RecordView K V F))
+    (is_told : IsToldChange old new changed) where
   told : (call : Call K V F) (r : RecordView K V F) (test : Bool → Bool) →
-      IsMade same_value remapped merged call mid made (Value value) front r
-      → test (changes r.before r.after) ≡ asks call r.before → IsTold call old new (test (not (b == a)))
+      IsMade same_value remapped merged call old new (Value value) front r
+      → test (changes r.before r.after) ≡ asks call r.before → IsTold call old new (test changed)
   told call r test is asked =
-      let made_is : made.made ≡ old.made ++ r ∷ [] = ap (λ (p : PassView K V F). p.made) is.pass
-      ∙ ap (λ (p : PassView K V F). p.made ++ r ∷ []) mid_is in (
-        r,
-        ap (λ (p : PassView K V F). p.made) new_is ∙ made_is,
-        is.call_is,
-        ap test (changed_balance old.made r a b small a_is
-            (b_is ∙ ap (λ (rs : List (RecordView K V F)). word_of (sum_of_deltas rs)) made_is)) ∙ asked,
-      )
+      let made_is : new.made ≡ old.made ++ r ∷ [] = ap (λ (p : PassView K V F). p.made) is.pass in
+      (r, made_is, is.call_is, ap test (is_told r made_is) ∙ asked)
 
   pub told-absent : (k : K) (f : F) (r : RecordView K V F) (none : Bool) → is_some value ≡ not none
-      → IsMade same_value remapped merged (ComputeIfAbsent k f) mid made (Value value) front r
-      → IsTold (ComputeIfAbsent k f) old new (none || not (b == a))
+      → IsMade same_value remapped merged (ComputeIfAbsent k f) old new (Value value) front r
+      → IsTold (ComputeIfAbsent k f) old new (none || changed)
   told-absent k f r none none_is is =
       told (ComputeIfAbsent k f) r (λ c. none || c) is
       (ap (λ (n : Bool). n || changes r.before r.after)
@@ -110,8 +105,8 @@ module _ {K V F : Type 0} (same_value : V → V → Bool) (remapped : F → K �
       (λ x e. is.left ∙ ap (after same_value remapped merged (ComputeIfAbsent k f)) e))
 
   pub told-present : (k : K) (f : F) (r : RecordView K V F) (some : Bool) → some ≡ is_some value
-      → IsMade same_value remapped merged (ComputeIfPresent k f) mid made (Value value) front r
-      → IsTold (ComputeIfPresent k f) old new (some || not (b == a))
+      → IsMade same_value remapped merged (ComputeIfPresent k f) old new (Value value) front r
+      → IsTold (ComputeIfPresent k f) old new (some || changed)
   told-present k f r some some_is is =
       told (ComputeIfPresent k f) r (λ c. some || c) is
       (ap (λ (n : Bool). n || changes r.before r.after)
@@ -120,8 +115,8 @@ module _ {K V F : Type 0} (same_value : V → V → Bool) (remapped : F → K �
       (λ e. is.left ∙ ap (after same_value remapped merged (ComputeIfPresent k f)) e))
 
   pub told-merge : (k : K) (v : V) (f : F) (r : RecordView K V F) (none : Bool) → is_some value ≡ not none
-      → IsMade same_value remapped merged (Merge k v f) mid made (Value value) front r
-      → IsTold (Merge k v f) old new (none || not (not (b == a)))
+      → IsMade same_value remapped merged (Merge k v f) old new (Value value) front r
+      → IsTold (Merge k v f) old new (none || not changed)
   told-merge k v f r none none_is is =
       told (Merge k v f) r (λ c. none || not c) is
       (ap (λ (n : Bool). n || not (changes r.before r.after))

@@ -2,6 +2,9 @@ pub mod Passes
 mod Computing
 mod ManyPuts
 mod Turns
+mod Whole
+mod Kept
+mod Made
 mod Replies
 pub mod Tallies
-pub mod Shared
+pub mod Crossing

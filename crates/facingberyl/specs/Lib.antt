@@ -2,6 +2,6 @@ pub mod Teams
 pub mod Computed
 pub mod Tallies
 pub mod Replies
-pub mod Desks
+pub mod PassPools
 pub mod Folds
 pub mod Filled

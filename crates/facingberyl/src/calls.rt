@@ -1,16 +1,23 @@
-//! The calls of a client, each with an answer of its own type. One that may make an entry of its
-//! key takes the key, the others borrow it.
+//! The calls of a client, each with a result of its own type. One that may make an entry of its key
+//! takes the key, the others borrow it.
+//!
+//! What a call says of memory is said of a lean map. In a recorded map each call also copies its key
+//! and the values before and after for its record. In either, a call that finds the table full or a
+//! move open does a part of the move, which may allocate; that this fails does not fail the call.
 ghost use Rattle.std.specs.Prelude.{◌≡◌, true, false};
 ghost use Rattle.bin_history.specs.Ops.{call_on, key_in};
+ghost use Rattle.bin_history.specs.Sure.{IsNeverRefused};
 ghost use Rattle.chm.specs.Headline.{AreExact, IsAnsweredAs};
+ghost use Rattle.chm.specs.Sure.{IsMadeOrFull, IsSureOf};
 ghost use Rattle.bin_history.specs.declared.call.Call.TheVariants.{Get, Contains, Put, PutIfAbsent};
 ghost use Rattle.bin_history.specs.declared.call.Call.TheVariants.{Remove, RemoveIf, Replace};
 ghost use Rattle.bin_history.specs.declared.call.Call.TheVariants.{ReplaceIf, Compute};
 ghost use Rattle.bin_history.specs.declared.call.Reply.TheVariants.{Value, Truth};
+ghost use Rattle.bin_history.specs.declared.form.Form.TheVariants.{Lean};
 ghost use Rattle.facingberyl.specs.Replies.{answers_truth};
 
 use crate::client::{Client, Loan};
-use bin_history::{Given, Op, Remap, Reply, Value};
+use bin_history::{KeyArg, Op, Remap, Reply, Value};
 use chm::Fault;
 use hashkeys::HashKey;
 use std::alloc::Allocator;
@@ -25,10 +32,10 @@ impl<'c, L: Loan, K: HashKey, V: Value, F: Remap<K, V>, A: Allocator + Clone> Cl
     A,
 > {
     /// Makes a call whose reply is a value.
-    fn value_given<R: Wait>(
+    pub(crate) fn value_given<R: Wait>(
         &mut self,
         rt: &R,
-        key: Given<'_, K>,
+        key: KeyArg<'_, K>,
         op: Op<V, F>,
     ) -> Result<Option<V>, Fault>
         requires exact { AreExact K.is_clone V.is_clone F.is_clone }
@@ -36,6 +43,7 @@ impl<'c, L: Loan, K: HashKey, V: Value, F: Remap<K, V>, A: Allocator + Clone> Cl
         ensures answered { IsAnsweredAs K.eq V.eq F.remapped F.merged Value
             self.old.map.now.ledger
             (call_on (key_in key.entry) op) self.old.pass.now self.new.pass.now result }
+        ensures sure { IsSureOf V.is_infallible self.old.map.now.ledger.form op result }
         ensures map { self.new.map.now ≡ self.old.map.now }
     {
         match self.map.call_on(rt, self.pass, key, op)? {
@@ -58,7 +66,7 @@ impl<'c, L: Loan, K: HashKey, V: Value, F: Remap<K, V>, A: Allocator + Clone> Cl
             (call_on key op) self.old.pass.now self.new.pass.now result }
         ensures map { self.new.map.now ≡ self.old.map.now }
     {
-        let key: Given<'c, K> = Given::Owned(key);
+        let key: KeyArg<'c, K> = KeyArg::Owned(key);
         self.value_given(rt, key, op)
     }
 
@@ -66,7 +74,7 @@ impl<'c, L: Loan, K: HashKey, V: Value, F: Remap<K, V>, A: Allocator + Clone> Cl
     fn truth_given<R: Wait>(
         &mut self,
         rt: &R,
-        key: Given<'_, K>,
+        key: KeyArg<'_, K>,
         op: Op<V, F>,
     ) -> Result<bool, Fault>
         requires exact { AreExact K.is_clone V.is_clone F.is_clone }
@@ -74,6 +82,7 @@ impl<'c, L: Loan, K: HashKey, V: Value, F: Remap<K, V>, A: Allocator + Clone> Cl
         ensures answered { IsAnsweredAs K.eq V.eq F.remapped F.merged Truth
             self.old.map.now.ledger
             (call_on (key_in key.entry) op) self.old.pass.now self.new.pass.now result }
+        ensures sure { IsSureOf V.is_infallible self.old.map.now.ledger.form op result }
         ensures map { self.new.map.now ≡ self.old.map.now }
     {
         match self.map.call_on(rt, self.pass, key, op)? {
@@ -82,58 +91,53 @@ impl<'c, L: Loan, K: HashKey, V: Value, F: Remap<K, V>, A: Allocator + Clone> Cl
         }
     }
 
-    /// Makes a call whose key is handed over, and whose reply is a truth.
-    fn truth_of<R: Wait>(&mut self, rt: &R, key: K, op: Op<V, F>) -> Result<bool, Fault>
-        requires exact { AreExact K.is_clone V.is_clone F.is_clone }
-        requires truth { answers_truth op ≡ true }
-        ensures answered { IsAnsweredAs K.eq V.eq F.remapped F.merged Truth
-            self.old.map.now.ledger
-            (call_on key op) self.old.pass.now self.new.pass.now result }
-        ensures map { self.new.map.now ≡ self.old.map.now }
-    {
-        let key: Given<'c, K> = Given::Owned(key);
-        self.truth_given(rt, key, op)
-    }
-
-    /// The value at the key. It waits for the key's bin.
+    /// Returns a clone of the value at the key. It locks the key's bucket, for which it waits, and
+    /// takes time linear in the keys of the bucket. In a lean map it allocates only what the clone
+    /// does.
     ///
     ///     client.put(rt, 1, 5)?;
     ///     assert_eq!(client.get(rt, &1)?, Some(5));
     ///
     /// # Errors
     ///
-    /// `PassFull` where the client has made all the calls that it may, and `NoMemory`. Nothing is
-    /// changed then.
+    /// `PassFull` where the client has made all the calls that it may. `NoMemory`, which in a lean map
+    /// comes only where the value cannot be copied. Nothing is changed then.
     pub fn get<R: Wait>(&mut self, rt: &R, key: &K) -> Result<Option<V>, Fault>
         requires exact { AreExact K.is_clone V.is_clone F.is_clone }
         ensures answered { IsAnsweredAs K.eq V.eq F.remapped F.merged Value
             self.old.map.now.ledger
             (Get key.now) self.old.pass.now self.new.pass.now result }
+        ensures sure { self.old.map.now.ledger.form ≡ Lean → IsNeverRefused V.is_infallible →
+            IsMadeOrFull result }
         ensures map { self.new.map.now ≡ self.old.map.now }
     {
-        self.value_given(rt, Given::Lent(key), Op::Get)
+        self.value_given(rt, KeyArg::Borrowed(key), Op::Get)
     }
 
-    /// Whether the key has a value. It waits for the key's bin.
+    /// Returns whether the key has a value. It locks the key's bucket, for which it waits, and
+    /// takes time linear in the keys of the bucket. In a lean map it allocates nothing.
     ///
     ///     client.put(rt, 1, 5)?;
     ///     assert!(client.contains_key(rt, &1)?);
     ///
     /// # Errors
     ///
-    /// `PassFull` where the client has made all the calls that it may, and `NoMemory`. Nothing is
-    /// changed then.
+    /// `PassFull` where the client has made all the calls that it may; in a recorded map, `NoMemory`.
+    /// Nothing is changed then.
     pub fn contains_key<R: Wait>(&mut self, rt: &R, key: &K) -> Result<bool, Fault>
         requires exact { AreExact K.is_clone V.is_clone F.is_clone }
         ensures answered { IsAnsweredAs K.eq V.eq F.remapped F.merged Truth
             self.old.map.now.ledger
             (Contains key.now) self.old.pass.now self.new.pass.now result }
+        ensures sure { self.old.map.now.ledger.form ≡ Lean → IsMadeOrFull result }
         ensures map { self.new.map.now ≡ self.old.map.now }
     {
-        self.truth_given(rt, Given::Lent(key), Op::Contains)
+        self.truth_given(rt, KeyArg::Borrowed(key), Op::Contains)
     }
 
-    /// Gives the key this value. Returns the value before. It waits for the key's bin.
+    /// Sets the value at the key, and returns the value before. It locks the key's bucket, for
+    /// which it waits, and takes time linear in the keys of the bucket. In a lean map it allocates
+    /// for a new key alone.
     ///
     ///     client.put(rt, 1, 5)?;
     ///     assert_eq!(client.put(rt, 1, 6)?, Some(5));
@@ -152,8 +156,9 @@ impl<'c, L: Loan, K: HashKey, V: Value, F: Remap<K, V>, A: Allocator + Clone> Cl
         self.value_of(rt, key, Op::Put(value))
     }
 
-    /// Gives the key this value where it has none. Returns the value before. It waits for the
-    /// key's bin.
+    /// Sets the value at the key where it has none, and returns the value before. It locks the
+    /// key's bucket, for which it waits, and takes time linear in the keys of the bucket. In a lean
+    /// map it allocates for a new key, and what the clone of a value that stays does.
     ///
     ///     client.put(rt, 1, 5)?;
     ///     assert_eq!(client.put_if_absent(rt, 1, 6)?, Some(5));
@@ -172,87 +177,98 @@ impl<'c, L: Loan, K: HashKey, V: Value, F: Remap<K, V>, A: Allocator + Clone> Cl
         self.value_of(rt, key, Op::PutIfAbsent(value))
     }
 
-    /// Takes the key away. Returns the value before. It waits for the key's bin.
+    /// Removes the key, and returns the value before. It locks the key's bucket, for which it
+    /// waits, and takes time linear in the keys of the bucket. In a lean map it allocates nothing.
     ///
     ///     client.put(rt, 1, 5)?;
     ///     assert_eq!(client.remove(rt, &1)?, Some(5));
     ///
     /// # Errors
     ///
-    /// `PassFull` where the client has made all the calls that it may, and `NoMemory`. Nothing is
-    /// changed then.
+    /// `PassFull` where the client has made all the calls that it may; in a recorded map, `NoMemory`.
+    /// Nothing is changed then.
     pub fn remove<R: Wait>(&mut self, rt: &R, key: &K) -> Result<Option<V>, Fault>
         requires exact { AreExact K.is_clone V.is_clone F.is_clone }
         ensures answered { IsAnsweredAs K.eq V.eq F.remapped F.merged Value
             self.old.map.now.ledger
             (Remove key.now) self.old.pass.now self.new.pass.now result }
+        ensures sure { self.old.map.now.ledger.form ≡ Lean → IsMadeOrFull result }
         ensures map { self.new.map.now ≡ self.old.map.now }
     {
-        self.value_given(rt, Given::Lent(key), Op::Remove)
+        self.value_given(rt, KeyArg::Borrowed(key), Op::Remove)
     }
 
-    /// Takes the key away where it has this value. Returns whether it had. It waits for the key's
-    /// bin.
+    /// Removes the key where it has this value, and returns whether it had. It locks the key's
+    /// bucket, for which it waits, and takes time linear in the keys of the bucket. In a lean map
+    /// it allocates nothing.
     ///
     ///     client.put(rt, 1, 5)?;
-    ///     assert!(!client.remove_if(rt, 1, 6)?);
+    ///     assert!(!client.remove_if(rt, &1, 6)?);
     ///
     /// # Errors
     ///
-    /// `PassFull` where the client has made all the calls that it may, and `NoMemory`. Nothing is
-    /// changed then.
-    pub fn remove_if<R: Wait>(&mut self, rt: &R, key: K, value: V) -> Result<bool, Fault>
+    /// `PassFull` where the client has made all the calls that it may; in a recorded map, `NoMemory`.
+    /// Nothing is changed then.
+    pub fn remove_if<R: Wait>(&mut self, rt: &R, key: &K, value: V) -> Result<bool, Fault>
         requires exact { AreExact K.is_clone V.is_clone F.is_clone }
         ensures answered { IsAnsweredAs K.eq V.eq F.remapped F.merged Truth
             self.old.map.now.ledger
-            (RemoveIf key value) self.old.pass.now self.new.pass.now result }
+            (RemoveIf key.now value) self.old.pass.now self.new.pass.now result }
+        ensures sure { self.old.map.now.ledger.form ≡ Lean → IsMadeOrFull result }
         ensures map { self.new.map.now ≡ self.old.map.now }
     {
-        self.truth_of(rt, key, Op::RemoveIf(value))
+        self.truth_given(rt, KeyArg::Borrowed(key), Op::RemoveIf(value))
     }
 
-    /// Gives the key this value where it has one. Returns the value before. It waits for the key's
-    /// bin.
+    /// Sets the value at the key where it has one, and returns the value before. It locks the key's
+    /// bucket, for which it waits, and takes time linear in the keys of the bucket. In a lean map
+    /// it allocates nothing.
     ///
     ///     client.remove(rt, &1)?;
     ///     assert_eq!(client.replace(rt, &1, 6)?, None);
     ///
     /// # Errors
     ///
-    /// `PassFull` where the client has made all the calls that it may, and `NoMemory`. Nothing is
-    /// changed then.
+    /// `PassFull` where the client has made all the calls that it may; in a recorded map, `NoMemory`.
+    /// Nothing is changed then.
     pub fn replace<R: Wait>(&mut self, rt: &R, key: &K, value: V) -> Result<Option<V>, Fault>
         requires exact { AreExact K.is_clone V.is_clone F.is_clone }
         ensures answered { IsAnsweredAs K.eq V.eq F.remapped F.merged Value
             self.old.map.now.ledger
             (Replace key.now value) self.old.pass.now self.new.pass.now result }
+        ensures sure { self.old.map.now.ledger.form ≡ Lean → IsMadeOrFull result }
         ensures map { self.new.map.now ≡ self.old.map.now }
     {
-        self.value_given(rt, Given::Lent(key), Op::Replace(value))
+        self.value_given(rt, KeyArg::Borrowed(key), Op::Replace(value))
     }
 
-    /// Gives the key the new value where it has the old one. Returns whether it had. It waits for
-    /// the key's bin.
+    /// Sets the new value at the key where it has the old one, and returns whether it had. It locks
+    /// the key's bucket, for which it waits, and takes time linear in the keys of the bucket. In a
+    /// lean map it allocates nothing.
     ///
     ///     client.put(rt, 1, 5)?;
-    ///     assert!(client.replace_if(rt, 1, 5, 6)?);
+    ///     assert!(client.replace_if(rt, &1, 5, 6)?);
     ///
     /// # Errors
     ///
-    /// `PassFull` where the client has made all the calls that it may, and `NoMemory`. Nothing is
-    /// changed then.
-    pub fn replace_if<R: Wait>(&mut self, rt: &R, key: K, old: V, new: V) -> Result<bool, Fault>
+    /// `PassFull` where the client has made all the calls that it may; in a recorded map, `NoMemory`.
+    /// Nothing is changed then.
+    pub fn replace_if<R: Wait>(&mut self, rt: &R, key: &K, old: V, new: V) -> Result<bool, Fault>
         requires exact { AreExact K.is_clone V.is_clone F.is_clone }
         ensures answered { IsAnsweredAs K.eq V.eq F.remapped F.merged Truth
             self.old.map.now.ledger
-            (ReplaceIf key old new) self.old.pass.now self.new.pass.now result }
+            (ReplaceIf key.now old new) self.old.pass.now self.new.pass.now result }
+        ensures sure { self.old.map.now.ledger.form ≡ Lean → IsMadeOrFull result }
         ensures map { self.new.map.now ≡ self.old.map.now }
     {
-        self.truth_of(rt, key, Op::ReplaceIf(old, new))
+        self.truth_given(rt, KeyArg::Borrowed(key), Op::ReplaceIf(old, new))
     }
 
-    /// Gives the key what the function makes of its value, or of none. Returns the value after.
-    /// The function is always used. It waits for the key's bin.
+    /// Sets what the function makes of the value at the key, or of none, and returns the value
+    /// after. Where the function makes none, the key is removed. The function is always used. It
+    /// locks the key's bucket, for which it waits, and takes time linear in the keys of the bucket.
+    /// The key's bucket is locked while the function runs. In a lean map it allocates for a new
+    /// key, what the function does, and what the clone of the value does.
     ///
     ///     client.put(rt, 1, 5)?;
     ///     assert_eq!(client.compute(rt, 1, Add)?, Some(5));

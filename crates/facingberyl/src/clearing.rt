@@ -1,10 +1,13 @@
 //! A client empties the map.
-ghost use Rattle.std.specs.Prelude.{◌≡◌, ◌≤◌, length, IfErr, IsErrOf, OnOk};
+ghost use Rattle.std.specs.Prelude.{◌≡◌, ◌≤◌, length, IfErr, IsErrOf, OnOk, OnErr};
 ghost use Rattle.bin_history.specs.Calls.{after};
 ghost use Rattle.bin_history.specs.Copies.{IsExact};
+ghost use Rattle.bin_history.specs.Sure.{IsNeverRefused};
+ghost use Rattle.bin_history.specs.declared.form.Form.TheVariants.{Lean};
 ghost use Rattle.count_ledger.specs.Limits.{most_calls};
 ghost use Rattle.chm.specs.Cleared.{HasLeft, HasOwnLeft, HasRemoved, IsCleared, IsEmptied};
 ghost use Rattle.chm.specs.Refusals.{IsOfCall};
+ghost use Rattle.chm.specs.Sure.{IsMadeOrFull};
 
 use crate::client::{Client, Loan};
 use bin_history::{Remap, Value};
@@ -21,9 +24,10 @@ impl<L: Loan, K: HashKey, V: Value, F: Remap<K, V>, A: Allocator + Clone> Client
     F,
     A,
 > {
-    /// Takes all entries away, bin by bin in walk order, each bin under one hold, by a remove of
-    /// each entry that it meets, as `Map::clear` does. Others may put new ones into bins that were
-    /// left; with one client the map is then empty. It waits for each bin in turn.
+    /// Removes all entries, bucket by bucket in walk order, each bucket under one lock, by a remove
+    /// of each entry that it meets, as `Map::clear` does. Others may put new ones into buckets that
+    /// were left; with one client the map is then empty. It waits for each bucket in turn, and
+    /// takes time linear in the buckets and the entries.
     ///
     ///     client.put(rt, 1, 5)?;
     ///     client.clear(rt)?;
@@ -32,7 +36,8 @@ impl<L: Loan, K: HashKey, V: Value, F: Remap<K, V>, A: Allocator + Clone> Client
     /// # Errors
     ///
     /// `PassFull` where the client has made all the calls that it may and an entry is left, and
-    /// `NoMemory`. The removes made before that stand.
+    /// `NoMemory` where one is left: in a lean map only where a key's copy asks for memory. The
+    /// removes made before that stand.
     pub fn clear<R: Wait>(&mut self, rt: &R) -> Result<(), Fault>
         requires keys { IsExact K.is_clone }
         requires values { IsExact V.is_clone }
@@ -45,12 +50,14 @@ impl<L: Loan, K: HashKey, V: Value, F: Remap<K, V>, A: Allocator + Clone> Client
             self.new.pass.now) }
         ensures removed { HasRemoved self.old.pass.now self.new.pass.now }
         ensures full { IsErrOf result Fault.PassFull →
-            most_calls self.old.map.now.ledger.form ≤ length self.new.pass.now.made }
-        ensures left { IsErrOf result Fault.PassFull →
-            HasLeft K.eq K.code (after V.eq F.remapped F.merged) self.old.map.now.ledger
-            self.new.pass.now }
-        ensures own_left { self.old.map.now.ledger.clients ≡ 1 → IsErrOf result Fault.PassFull →
-            HasOwnLeft K.eq K.code self.old.map.now.ledger self.new.pass.now }
+            most_calls self.old.map.now.ledger.form self.old.map.now.ledger.clients ≤ length self.new.pass.now.made }
+        ensures left { OnErr result
+            (HasLeft K.eq K.code (after V.eq F.remapped F.merged) self.old.map.now.ledger
+            self.new.pass.now) }
+        ensures own_left { self.old.map.now.ledger.clients ≡ 1 →
+            OnErr result (HasOwnLeft K.eq K.code self.old.map.now.ledger self.new.pass.now) }
+        ensures sure { self.old.map.now.ledger.form ≡ Lean → IsNeverRefused K.is_infallible →
+            IsNeverRefused V.is_infallible → IsMadeOrFull result }
         ensures faults { IfErr result IsOfCall }
         ensures map { self.new.map.now ≡ self.old.map.now }
     {

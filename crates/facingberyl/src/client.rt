@@ -8,12 +8,16 @@ use hashkeys::HashKey;
 use std::alloc::Allocator;
 use std::marker::{Brand, PhantomData};
 
-/// Which map a client works on, and which pass it was lent. A call at `Brand` picks them.
+/// Which map a client works on, its number, and which pass it was lent. A call at `Brand` picks
+/// them.
 pub trait Loan {
+    ghost use Rattle.std.specs.Prelude.{ℕ};
     ghost use Rattle.count_ledger.specs.Views.{LedgerId};
     ghost use base.Fml.{GName};
 
     ghost ledger: { LedgerId };
+
+    ghost client: { ℕ };
 
     ghost lent: { GName };
 }
@@ -32,6 +36,8 @@ impl Loan for Brand {
       slot_names = [];
     } };
 
+    ghost client = { 0 };
+
     ghost lent = { 0 };
 }
 
@@ -44,11 +50,12 @@ pub struct Client<'a, L: Loan, K: HashKey, V: Value, F: Remap<K, V>, A: Allocato
     pub loan: PhantomData<L>,
     pub ghost map_is: { map.now.ledger.id ≡ L.ledger },
     pub ghost pass_is: { pass.now.ledger ≡ L.ledger },
+    pub ghost client_is: { pass.now.client ≡ L.client },
     pub ghost lent: { pass.ghost_name ≡ L.lent },
 }
 
 impl<L: Loan, K: HashKey, V: Value, F: Remap<K, V>, A: Allocator> Client<'_, L, K, V, F, A> {
-    /// The client's number: 0 for the first of a team, and so on.
+    /// Returns the client's number: 0 for the first of a team, and so on.
     pub fn number(&self) -> usize
         ensures { result ≡ self.now.pass.now.client }
     {

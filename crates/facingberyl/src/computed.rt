@@ -1,15 +1,17 @@
 //! The calls that may use a function, or not.
-ghost use Rattle.std.specs.Prelude.{◌≡◌, IfOk};
+ghost use Rattle.std.specs.Prelude.{◌≡◌, false, IfOk};
+ghost use Rattle.bin_history.specs.Ops.{call_on, key_in};
 ghost use Rattle.chm.specs.Headline.{AreExact, IsAnsweredAs};
 ghost use Rattle.bin_history.specs.Deltas.{sum_of_deltas};
 ghost use Rattle.bin_history.specs.declared.call.Call.TheVariants.{ComputeIfAbsent};
 ghost use Rattle.bin_history.specs.declared.call.Call.TheVariants.{ComputeIfPresent, Merge};
 ghost use Rattle.bin_history.specs.declared.call.Reply.TheVariants.{Value};
 ghost use Rattle.count_ledger.specs.Words.{word_of};
-ghost use Rattle.facingberyl.specs.Computed.{IsTold};
+ghost use Rattle.facingberyl.specs.Computed.{IsTold, IsToldChange};
+ghost use Rattle.facingberyl.specs.Replies.{answers_truth};
 
 use crate::client::{Client, Loan};
-use bin_history::{Op, Remap, Value};
+use bin_history::{KeyArg, Op, Remap, Value};
 use chm::Fault;
 use hashkeys::HashKey;
 use std::alloc::Allocator;
@@ -25,8 +27,8 @@ pub struct Computed<V> {
 }
 
 impl<L: Loan, K: HashKey, V: Value, F: Remap<K, V>, A: Allocator> Client<'_, L, K, V, F, A> {
-    /// How many keys the client's calls added, less how many they took away, as a 64-bit two's
-    /// complement number. It takes no memory and waits for nobody.
+    /// Returns how many keys the client's calls added, less how many they removed, as a 64-bit
+    /// two's complement number. It takes constant time, allocates nothing, and waits for nobody.
     ///
     ///     client.remove(rt, &1)?;
     ///     let before = client.balance();
@@ -41,16 +43,41 @@ impl<L: Loan, K: HashKey, V: Value, F: Remap<K, V>, A: Allocator> Client<'_, L, 
     }
 }
 
-impl<L: Loan, K: HashKey, V: Value, F: Remap<K, V>, A: Allocator + Clone> Client<
-    '_,
+impl<'c, L: Loan, K: HashKey, V: Value, F: Remap<K, V>, A: Allocator + Clone> Client<
+    'c,
     L,
     K,
     V,
     F,
     A,
 > {
-    /// Gives a key without a value what the function makes of none. Returns the value after, and
-    /// whether the function was used. It waits for the key's bin.
+    /// Makes a call whose reply is a value. Returns the value, and whether the call made its key
+    /// present or took it away. The reply does not tell that, so the balance of the pass does.
+    fn value_and_change<R: Wait>(
+        &mut self,
+        rt: &R,
+        key: KeyArg<'_, K>,
+        op: Op<V, F>,
+    ) -> Result<(Option<V>, bool), Fault>
+        requires exact { AreExact K.is_clone V.is_clone F.is_clone }
+        requires value { answers_truth op ≡ false }
+        ensures answered { IsAnsweredAs K.eq V.eq F.remapped F.merged
+            (λ answer. Value answer.0) self.old.map.now.ledger
+            (call_on (key_in key.entry) op) self.old.pass.now self.new.pass.now result }
+        ensures changed { IfOk result (λ answer. IsToldChange self.old.pass.now self.new.pass.now answer.1) }
+        ensures map { self.new.map.now ≡ self.old.map.now }
+    {
+        let before = self.map.balance(self.pass);
+        let value = self.value_given(rt, key, op)?;
+        let changed = self.map.balance(self.pass) != before;
+        Ok((value, changed))
+    }
+
+    /// Sets what the function makes of none at a key without a value. Returns the value after, and
+    /// whether the function was used. It locks the key's bucket, for which it waits, and takes time
+    /// linear in the keys of the bucket. The key's bucket is locked while the function runs. In a
+    /// lean map it allocates for a new key, what the function does, and what the clone of the value
+    /// does.
     ///
     ///     client.put(rt, 1, 5)?;
     ///     assert_eq!(client.compute_if_absent(rt, 1, Add)?, Computed { value: Some(5), used: false });
@@ -74,18 +101,20 @@ impl<L: Loan, K: HashKey, V: Value, F: Remap<K, V>, A: Allocator + Clone> Client
             self.new.pass.now answer.used) }
         ensures map { self.new.map.now ≡ self.old.map.now }
     {
-        let before = self.map.balance(self.pass);
-        let value = self.value_of(rt, key, Op::ComputeIfAbsent(function))?;
-        let changed = self.map.balance(self.pass) != before;
+        let key: KeyArg<'c, K> = KeyArg::Owned(key);
+        let (value, changed) = self.value_and_change(rt, key, Op::ComputeIfAbsent(function))?;
         let used = value.is_none() | changed;
         Ok(Computed { value, used })
     }
 
-    /// Gives a key with a value what the function makes of it. Returns the value after, and
-    /// whether the function was used. It waits for the key's bin.
+    /// Sets what the function makes of the value at a key with one; where it makes none, the key is
+    /// removed. Returns the value after, and whether the function was used. It locks the key's
+    /// bucket, for which it waits, and takes time linear in the keys of the bucket. The key's
+    /// bucket is locked while the function runs. In a lean map it allocates what the function does,
+    /// and what the clone of the value does.
     ///
     ///     client.put(rt, 1, 5)?;
-    ///     assert_eq!(client.compute_if_present(rt, 1, Add)?, Computed { value: Some(5), used: true });
+    ///     assert_eq!(client.compute_if_present(rt, &1, Add)?, Computed { value: Some(5), used: true });
     ///
     /// # Errors
     ///
@@ -94,27 +123,32 @@ impl<L: Loan, K: HashKey, V: Value, F: Remap<K, V>, A: Allocator + Clone> Client
     pub fn compute_if_present<R: Wait>(
         &mut self,
         rt: &R,
-        key: K,
+        key: &K,
         function: F,
     ) -> Result<Computed<V>, Fault>
         requires exact { AreExact K.is_clone V.is_clone F.is_clone }
         ensures answered { IsAnsweredAs K.eq V.eq F.remapped F.merged
             (λ answer. Value answer.value) self.old.map.now.ledger
-            (ComputeIfPresent key function) self.old.pass.now self.new.pass.now result }
+            (ComputeIfPresent key.now function) self.old.pass.now self.new.pass.now result }
         ensures used { IfOk result
-            (λ answer. IsTold (ComputeIfPresent key function) self.old.pass.now
+            (λ answer. IsTold (ComputeIfPresent key.now function) self.old.pass.now
             self.new.pass.now answer.used) }
         ensures map { self.new.map.now ≡ self.old.map.now }
     {
-        let before = self.map.balance(self.pass);
-        let value = self.value_of(rt, key, Op::ComputeIfPresent(function))?;
-        let changed = self.map.balance(self.pass) != before;
+        let (value, changed) = self.value_and_change(
+            rt,
+            KeyArg::Borrowed(key),
+            Op::ComputeIfPresent(function),
+        )?;
         let used = value.is_some() | changed;
         Ok(Computed { value, used })
     }
 
-    /// Gives a key without a value this one, and a key with a value what the function makes of
-    /// both. Returns the value after, and whether the function was used. It waits for the key's bin.
+    /// Sets this value at a key without one, and at a key with one what the function makes of both;
+    /// where it makes none, the key is removed. Returns the value after, and whether the function
+    /// was used. It locks the key's bucket, for which it waits, and takes time linear in the keys
+    /// of the bucket. The key's bucket is locked while the function runs. In a lean map it
+    /// allocates for a new key, what the function does, and what the clone of the value does.
     ///
     ///     client.put(rt, 1, 5)?;
     ///     assert_eq!(client.merge(rt, 1, 2, Add)?, Computed { value: Some(7), used: true });
@@ -139,9 +173,8 @@ impl<L: Loan, K: HashKey, V: Value, F: Remap<K, V>, A: Allocator + Clone> Client
             self.new.pass.now answer.used) }
         ensures map { self.new.map.now ≡ self.old.map.now }
     {
-        let before = self.map.balance(self.pass);
-        let value = self.value_of(rt, key, Op::Merge(value, function))?;
-        let changed = self.map.balance(self.pass) != before;
+        let key: KeyArg<'c, K> = KeyArg::Owned(key);
+        let (value, changed) = self.value_and_change(rt, key, Op::Merge(value, function))?;
         let used = value.is_none() | !changed;
         Ok(Computed { value, used })
     }

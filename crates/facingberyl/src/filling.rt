@@ -20,8 +20,8 @@ impl<L: Loan, K: HashKey, V: Value, F: Remap<K, V>, A: Allocator + Clone> Client
     F,
     A,
 > {
-    /// Gives each key its value, by a put of each pair in order: where a key comes twice, the last
-    /// value stays. It waits for the bin of each key in turn.
+    /// Puts each pair in order: where a key comes twice, the last value stays. It locks the bucket
+    /// of each key in turn, for which it waits, as one `put` after the other does.
     ///
     ///     client.put_all(rt, vec![in alloc; (1, 5), (2, 6)]?)?;
     ///     assert_eq!(client.get(rt, &2)?, Some(6));
@@ -39,7 +39,7 @@ impl<L: Loan, K: HashKey, V: Value, F: Remap<K, V>, A: Allocator + Clone> Client
         ensures put { HasPut K.eq V.eq F.remapped F.merged self.old.map.now.ledger pairs.items
             self.old.pass.now self.new.pass.now (is_ok result) }
         ensures full { IsErrOf result Fault.PassFull →
-            most_calls self.old.map.now.ledger.form ≤ length self.new.pass.now.made }
+            most_calls self.old.map.now.ledger.form self.old.map.now.ledger.clients ≤ length self.new.pass.now.made }
         ensures faults { IfErr result IsOfCall }
         ensures map { self.new.map.now ≡ self.old.map.now }
     {

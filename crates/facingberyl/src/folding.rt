@@ -1,15 +1,15 @@
 //! A client goes over the entries of a map on which others call.
-ghost use Rattle.std.specs.Prelude.{◌≡◌, IfOk, OnOk, IfErr};
+ghost use Rattle.std.specs.Prelude.{◌≡◌, IfOk, IfErr};
 ghost use Rattle.std.specs.List.{FoldsTo};
 ghost use Rattle.bin_history.specs.Calls.{after};
 ghost use Rattle.bin_history.specs.Copies.{IsExact};
 ghost use Rattle.count_ledger.specs.Fronts.{HasSeenMore};
-ghost use Rattle.chm.specs.Visits.{shown_by};
+ghost use Rattle.chm.specs.Cursors.{IsUsedAt};
 ghost use Rattle.facingberyl.specs.Folds.{FoldsPairs, turn, UsesPairs, WalksOver};
 
 use crate::client::{Client, Loan};
 use bin_history::{Remap, Value};
-use chm::{Fault, Visit};
+use chm::{Fault, Map, Pass, Visit};
 use hashkeys::HashKey;
 use std::alloc::Allocator;
 use std::sync::Wait;
@@ -31,24 +31,64 @@ fn fold_entries<K: Drop, V: Drop, A: Allocator, B, G: FnMut(B, (K, V)) -> B>(
     (total, f)
 }
 
-/// Goes over the entries of bins, one bin after the other. Returns the last total, and the function.
-fn fold_visits<K: Drop, V: Drop, A: Allocator, B, G: FnMut(B, (K, V)) -> B>(
-    visits: Vec<Visit<K, V, A>, A>,
-    init: B,
-    f: G,
-) -> (B, G)
-    requires { G.IsAlwaysCallable f }
-    ensures { FoldsTo (turn G.step) (f, init) (shown_by visits.items) (result.1, result.0) }
+/// Goes over the entries of a walk, a bucket at a time. Returns the last total, and the function.
+pub(crate) fn fold_all<
+    K: HashKey,
+    V: Value,
+    F: Remap<K, V>,
+    A: Allocator + Clone,
+    R: Wait,
+    B: Drop,
+    G: FnMut(B, (K, V)) -> B,
+>(rt: &R, map: &Map<K, V, F, A>, pass: &mut Pass<K, V, F>, init: B, f: G) -> Result<(B, G), Fault>
+    requires keys { IsExact K.is_clone }
+    requires values { IsExact V.is_clone }
+    requires callable { G.IsAlwaysCallable f }
+    requires pass { pass.old.ledger ≡ map.now.ledger.id }
+    ensures folded { IfOk result
+        (λ r. WalksOver K.eq K.code (after V.eq F.remapped F.merged) map.now pass.old pass.new
+        (λ pairs. FoldsTo (turn G.step) (f, init) pairs (r.1, r.0))) }
+    ensures seen { HasSeenMore pass.old pass.new }
+    ensures faults { IfErr result (λ fault. fault ≡ Fault.NoMemory) }
 {
+    let mut cursor = map.cursor();
     let mut total = init;
     let mut left = f;
-    for visit in visits {
+    for _ in rt.forever() {
+        let shown = map.visit_next(rt, pass, &mut cursor)?;
+        let Some(visit) = shown else {
+            return Ok((total, left));
+        };
         let Visit { class: _, entries } = visit;
         let (next, last) = fold_entries(entries, total, left);
         total = next;
         left = last;
     }
-    (total, left)
+    unreachable!()
+}
+
+/// Gives the function each entry of a walk where it lies, a bucket at a time.
+pub(crate) fn show_all<
+    K: HashKey,
+    V: Value,
+    F: Remap<K, V>,
+    A: Allocator + Clone,
+    R: Wait,
+    G: FnMut(&K, &V),
+>(rt: &R, map: &Map<K, V, F, A>, pass: &mut Pass<K, V, F>, f: &mut G)
+    requires callable { G.IsAlwaysCallable f.old }
+    requires pass { pass.old.ledger ≡ map.now.ledger.id }
+    ensures shown { WalksOver K.eq K.code (after V.eq F.remapped F.merged) map.now pass.old
+        pass.new (λ pairs. FoldsTo (IsUsedAt G.step) f.old pairs f.new) }
+    ensures seen { HasSeenMore pass.old pass.new }
+{
+    let mut cursor = map.cursor();
+    for _ in rt.forever() {
+        if !map.show_next(rt, pass, &mut cursor, f) {
+            return;
+        }
+    }
+    unreachable!()
 }
 
 impl<L: Loan, K: HashKey, V: Value, F: Remap<K, V>, A: Allocator + Clone> Client<
@@ -61,16 +101,16 @@ impl<L: Loan, K: HashKey, V: Value, F: Remap<K, V>, A: Allocator + Clone> Client
 > {
     /// Goes over the entries of a walk, in walk order, from a first total on: the function makes of
     /// the total so far and a copy of an entry the next total. Returns the last total. Each entry
-    /// is shown as its bin had it when the walk came by; no key comes twice. The function is used
-    /// after the walk, when no bin is held, so it may wait. The walk waits for each bin in turn, and
-    /// takes memory for copies of all entries.
+    /// is shown as its bucket had it when the walk came by; no key comes twice. The function runs
+    /// when no bucket is locked, so it may wait. The walk waits for each bucket in turn, and
+    /// allocates copies of the entries of one bucket at a time.
     ///
     ///     client.put(rt, 1, 5)?;
     ///     assert_eq!(client.fold(rt, 0, |most, (_key, value)| value.max(most))?, 5);
     ///
     /// # Errors
     ///
-    /// `NoMemory`. The function is not used then.
+    /// `NoMemory`. The function was called on the entries of the buckets before.
     pub fn fold<R: Wait, B: Drop, G: FnMut(B, (K, V)) -> B>(
         &mut self,
         rt: &R,
@@ -88,15 +128,14 @@ impl<L: Loan, K: HashKey, V: Value, F: Remap<K, V>, A: Allocator + Clone> Client
         ensures faults { IfErr result (λ fault. fault ≡ Fault.NoMemory) }
         ensures map { self.new.map.now ≡ self.old.map.now }
     {
-        let visits = self.walk(rt)?;
-        let (total, _last) = fold_visits(visits, init, f);
+        let (total, _last) = fold_all(rt, self.map, self.pass, init, f)?;
         Ok(total)
     }
 
     /// Gives the function a copy of each entry of a walk, in walk order. Each entry is shown as its
-    /// bin had it when the walk came by; no key comes twice. The function is used after the walk,
-    /// when no bin is held, so it may wait. The walk waits for each bin in turn, and takes memory
-    /// for copies of all entries.
+    /// bucket had it when the walk came by; no key comes twice. The function runs when no bucket is
+    /// locked, so it may wait. The walk waits for each bucket in turn, and allocates copies of the
+    /// entries of one bucket at a time.
     ///
     ///     client.put(rt, 1, 5)?;
     ///     let mut most = 0;
@@ -105,7 +144,7 @@ impl<L: Loan, K: HashKey, V: Value, F: Remap<K, V>, A: Allocator + Clone> Client
     ///
     /// # Errors
     ///
-    /// `NoMemory`. The function is not used then.
+    /// `NoMemory`. The function was called on the entries of the buckets before.
     pub fn for_each<R: Wait, G: FnMut((K, V))>(&mut self, rt: &R, mut f: G) -> Result<(), Fault>
         requires keys { IsExact K.is_clone }
         requires values { IsExact V.is_clone }
@@ -117,8 +156,30 @@ impl<L: Loan, K: HashKey, V: Value, F: Remap<K, V>, A: Allocator + Clone> Client
         ensures faults { IfErr result (λ fault. fault ≡ Fault.NoMemory) }
         ensures map { self.new.map.now ≡ self.old.map.now }
     {
-        let visits = self.walk(rt)?;
-        let ((), _last) = fold_visits(visits, (), move |(), entry| f(entry));
+        let ((), _last) = fold_all(rt, self.map, self.pass, (), move |(), entry| f(entry))?;
         Ok(())
+    }
+
+    /// Gives the function each entry of a walk, in walk order, where it lies. Each entry is shown as
+    /// its bucket has it when the walk comes by; no key comes twice. Nothing is copied, posted or
+    /// allocated, so nothing can fail.
+    ///
+    /// The walk waits for each bucket in turn, which is locked while the function runs: a function
+    /// that takes long keeps other clients out of the bucket, and one that calls the map, by
+    /// whatever client, deadlocks where its key is of the same bucket.
+    ///
+    ///     client.put(rt, 1, 5)?;
+    ///     let mut most = 0;
+    ///     client.show_each(rt, |_key: &u64, value: &u64| most = most.max(*value));
+    ///     assert_eq!(most, 5);
+    pub fn show_each<R: Wait, G: FnMut(&K, &V)>(&mut self, rt: &R, mut f: G)
+        requires { G.IsAlwaysCallable f }
+        ensures shown { (last : G)
+            × WalksOver K.eq K.code (after V.eq F.remapped F.merged) self.old.map.now
+            self.old.pass.now self.new.pass.now (λ pairs. FoldsTo (IsUsedAt G.step) f pairs last) }
+        ensures seen { HasSeenMore self.old.pass.now self.new.pass.now }
+        ensures map { self.new.map.now ≡ self.old.map.now }
+    {
+        show_all(rt, self.map, self.pass, &mut f);
     }
 }

@@ -53,7 +53,8 @@ impl<K, V, F, B: About<K, V, F>> Model for Letter<K, V, F, B> {
 }
 
 impl<K, V, F, B: About<K, V, F>> Letter<K, V, F, B> {
-    /// A letter with this moment. It takes no memory and waits for nobody.
+    /// Returns a letter with this moment. It takes constant time, allocates nothing, and waits for
+    /// nobody.
     pub fn new(moment: Moment<K, V, F>) -> Letter<K, V, F, B>
         requires ledger { moment.ledger ≡ B.ledger }
         requires told { B.told moment.seen }
@@ -65,8 +66,8 @@ impl<K, V, F, B: About<K, V, F>> Letter<K, V, F, B> {
         }
     }
 
-    /// The moment of the letter, from which a client learns. It takes no memory and waits for
-    /// nobody.
+    /// Returns the moment of the letter, from which a client learns. It takes constant time,
+    /// allocates nothing, and waits for nobody.
     ///
     ///     client.learn(&mut letter.open());
     pub fn open(self) -> Moment<K, V, F>

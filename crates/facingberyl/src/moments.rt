@@ -10,9 +10,9 @@ use hashkeys::HashKey;
 use std::alloc::Allocator;
 
 impl<L: Loan, K: HashKey, V: Value, F: Remap<K, V>, A: Allocator> Client<'_, L, K, V, F, A> {
-    /// What the client has seen of the calls on the map: its own, and all that stand before the
-    /// last of them, or that it learned of. A moment has no bytes, and can go to another client. It
-    /// takes no memory and waits for nobody.
+    /// Returns what the client has seen of the calls on the map: its own, those before them in the
+    /// order of calls, and those that it learned of. A moment has no bytes, and can go to another
+    /// client. It takes constant time, allocates nothing, and waits for nobody.
     pub fn moment(&mut self) -> Moment<K, V, F>
         ensures moment { result ≡ record {
           ledger = self.old.map.now.ledger.id;
@@ -24,8 +24,8 @@ impl<L: Loan, K: HashKey, V: Value, F: Remap<K, V>, A: Allocator> Client<'_, L, 
         self.map.moment(self.pass)
     }
 
-    /// The client learns of a moment: the calls that it makes from now on stand behind all calls of
-    /// the moment. It takes no memory and waits for nobody.
+    /// The client learns of a moment: the calls that it makes from now on come after all calls of
+    /// the moment. It takes constant time, allocates nothing, and waits for nobody.
     ///
     /// Where another client put 5 at 1 before the moment of its letter, and no call on 1 came after:
     ///

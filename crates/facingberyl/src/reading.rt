@@ -1,9 +1,10 @@
 //! What a client reads without a call: nothing is posted, and a full pass may read too.
-ghost use Rattle.std.specs.Prelude.{◌≡◌, ◌<◌, ◌^◌, All, IfOk, IfErr};
+ghost use Rattle.std.specs.Prelude.{◌≡◌, ◌<◌, ◌^◌, All, IfOk, IfErr, IsOk};
 ghost use Rattle.bin_history.specs.Calls.{after};
 ghost use Rattle.bin_history.specs.Copies.{IsExact};
 ghost use Rattle.bin_history.specs.Entries.{HasDistinctKeys, lookup};
 ghost use Rattle.bin_history.specs.Plain.{run};
+ghost use Rattle.bin_history.specs.Sure.{IsNeverRefused};
 ghost use Rattle.count_ledger.specs.Fronts.{HasSeen, HasSeenMore};
 ghost use Rattle.chm.specs.Visits.{AreVisits, IsOwn, IsShown, shown_by};
 
@@ -22,8 +23,9 @@ impl<L: Loan, K: HashKey, V: Value, F: Remap<K, V>, A: Allocator + Clone> Client
     F,
     A,
 > {
-    /// A copy of the value at the key: what all calls so far left there, which the client has then
-    /// seen. It waits for the key's bin.
+    /// Returns a clone of the value at the key, as all calls so far left it, which the client has
+    /// then seen. It is no call and posts nothing. It locks the key's bucket, for which it waits,
+    /// and takes time linear in the keys of the bucket. It allocates only what the clone does.
     ///
     ///     client.put(rt, 1, 5)?;
     ///     assert_eq!(client.look_up(rt, &1)?, Some(5));
@@ -38,15 +40,18 @@ impl<L: Loan, K: HashKey, V: Value, F: Remap<K, V>, A: Allocator + Clone> Client
         ensures found { IfOk result (λ value. value
             ≡ run K.eq (lookup K.eq self.old.map.now.ledger.opening) self.new.pass.now.seen
             key.now) }
+        ensures sure { IsNeverRefused V.is_infallible → IsOk result }
         ensures faults { IfErr result (λ fault. fault ≡ Fault.NoMemory) }
         ensures map { self.new.map.now ≡ self.old.map.now }
     {
         self.map.look_up(rt, self.pass, key)
     }
 
-    /// A copy of the value at the key that the query stands for, as a slice stands for the key of
-    /// its bytes: what all calls so far left there, which the client has then seen. No key is made.
-    /// It waits for the key's bin.
+    /// Returns a clone of the value at the key that the query stands for, as a slice stands for the
+    /// key of its bytes. The value is as all calls so far left it, which the client has then seen.
+    /// No key is made. It is no call and posts nothing. It locks the key's bucket, for which it
+    /// waits, and takes time linear in the keys of the bucket. It allocates only what the clone
+    /// does.
     ///
     ///     client.put(rt, Bytes(b"one"), 5)?;
     ///     assert_eq!(client.look_up_as(rt, b"one".as_slice())?, Some(5));
@@ -61,15 +66,17 @@ impl<L: Loan, K: HashKey, V: Value, F: Remap<K, V>, A: Allocator + Clone> Client
         ensures found { IfOk result (λ value. value
             ≡ run K.eq (lookup K.eq self.old.map.now.ledger.opening) self.new.pass.now.seen
             (Q.stands_for query)) }
+        ensures sure { IsNeverRefused V.is_infallible → IsOk result }
         ensures faults { IfErr result (λ fault. fault ≡ Fault.NoMemory) }
         ensures map { self.new.map.now ≡ self.old.map.now }
     {
         self.map.look_up_as(rt, self.pass, query)
     }
 
-    /// A copy of the value that the key has at some moment: which one is not said. It waits for the
-    /// key's bin. A lean map's bin is held for it, and a recorded one's is read beside others that
-    /// read it.
+    /// Returns a clone of the value that the key has at some moment. Which moment is not said. It
+    /// waits for the key's bucket, which it locks in a lean map and reads beside other readers in a
+    /// recorded one, and takes time linear in the keys of the bucket. It allocates only what the
+    /// clone does.
     ///
     ///     client.put(rt, 1, 5)?;
     ///     assert_eq!(client.glance(rt, &1)?, Some(5));
@@ -86,9 +93,11 @@ impl<L: Loan, K: HashKey, V: Value, F: Remap<K, V>, A: Allocator + Clone> Client
         self.map.glance(rt, key)
     }
 
-    /// A copy of the value at the key that the query stands for, as a slice stands for the key of
-    /// its bytes, at some moment: which one is not said. No key is made. It waits for the key's bin.
-    /// A lean map's bin is held for it, and a recorded one's is read beside others that read it.
+    /// Returns a clone of the value that the key for which the query stands has at some moment; a
+    /// slice stands for the key of its bytes. No key is made. Which moment is not said. It waits
+    /// for the key's bucket, which it locks in a lean map and reads beside other readers in a
+    /// recorded one, and takes time linear in the keys of the bucket. It allocates only what the
+    /// clone does.
     ///
     ///     client.put(rt, Bytes(b"one"), 5)?;
     ///     assert_eq!(client.glance_as(rt, b"one".as_slice())?, Some(5));
@@ -106,10 +115,11 @@ impl<L: Loan, K: HashKey, V: Value, F: Remap<K, V>, A: Allocator + Clone> Client
         self.map.glance_as(rt, query)
     }
 
-    /// Copies of the entries of each bin in walk order, one bin after the other, as `Map::walk`
-    /// shows them: each bin as all calls before had left it, those that the client had seen when
-    /// the walk began, and others made meanwhile. No key comes twice. With one client the walk shows
-    /// the map. It waits for each bin in turn, and takes memory for the copies.
+    /// Returns copies of the entries of each bucket in walk order, one bucket after the other, as
+    /// `Map::walk` does: each bucket as all calls before had left it, those that the client had
+    /// seen when the walk began, and others made meanwhile. No key comes twice. With one client the
+    /// walk shows the map. It waits for each bucket in turn, takes time linear in the buckets and
+    /// the entries, and allocates the copies.
     ///
     ///     client.put(rt, 1, 5)?;
     ///     let visits = client.walk(rt)?;
@@ -138,9 +148,10 @@ impl<L: Loan, K: HashKey, V: Value, F: Remap<K, V>, A: Allocator + Clone> Client
 }
 
 impl<L: Loan, K: HashKey, V: Value, F: Remap<K, V>, A: Allocator> Client<'_, L, K, V, F, A> {
-    /// How many keys there are, as far as a look at one client's count after the other tells: while
-    /// other threads call, it is the number at no one moment, and nothing is promised but that it is
-    /// below 2^63. It waits for nobody.
+    /// Returns how many keys there are, as far as a look at one client's count after the other
+    /// tells. While other threads call, this is the number at no one moment, and nothing is
+    /// promised but that it is below 2^63. It looks at no more than 32 counts, allocates nothing,
+    /// and waits for nobody.
     ///
     ///     client.put(rt, 1, 5)?;
     ///     assert_eq!(client.mapping_count(), 1);

@@ -1,8 +1,9 @@
-//! What teams, servers and clients show of themselves: their map, and a client's number.
+//! What teams, shared maps and clients show of themselves: their map, and a client's number.
 use crate::client::{Client, Loan};
 use crate::owned::OwnedClient;
-use crate::server::Server;
+use crate::shared::SharedMap;
 use crate::team::Team;
+use crate::unshared::Unshared;
 use bin_history::{Remap, Value};
 use hashkeys::HashKey;
 use std::alloc::Allocator;
@@ -14,9 +15,17 @@ impl<K: HashKey, V: Value, F: Remap<K, V>, A: Allocator> Debug for Team<K, V, F,
     }
 }
 
-impl<K: HashKey, V: Value, F: Remap<K, V>, A: Allocator> Debug for Server<K, V, F, A> {
+impl<K: HashKey, V: Value, F: Remap<K, V>, A: Allocator> Debug for SharedMap<K, V, F, A> {
     fn fmt<W: fmt::Write>(&self, f: &mut Formatter<W>) -> fmt::Result {
-        f.debug_struct("Server").field("map", self.map()).finish()
+        f.debug_struct("SharedMap")
+            .field("map", self.map())
+            .finish()
+    }
+}
+
+impl<K: HashKey, V: Value, F: Remap<K, V>, A: Allocator> Debug for Unshared<K, V, F, A> {
+    fn fmt<W: fmt::Write>(&self, f: &mut Formatter<W>) -> fmt::Result {
+        f.debug_struct("Unshared").field("map", self.map()).finish()
     }
 }
 

@@ -11,15 +11,16 @@ use std::marker::{Brand, PhantomData};
 use std::sync::Wait;
 
 /// What each client of a team does, in a thread of its own, by calls with the pass that it is lent,
-/// and what it answers.
+/// and what it returns.
 pub trait Work<K: HashKey, V: Value, F: Remap<K, V>, A: Allocator> {
-    ghost use Rattle.count_ledger.specs.Views.{LedgerId, PassView};
+    ghost use Rattle.count_ledger.specs.Views.{LedgerView, PassView};
 
-    /// What each client answers.
+    /// What each client returns.
     type Out: Drop;
 
-    // The maps' ledgers with which the work can be done: where it brings moments, theirs.
-    ghost fits: { Self → LedgerId → Type 0 } = { λ _ _. Unit {0} };
+    // The ledgers of the maps with which the work can be done: where it brings moments, theirs;
+    // where it makes calls that lean maps alone have, ledgers of lean maps.
+    ghost fits: { Self → LedgerView K V → Type 0 } = { λ _ _. Unit {0} };
 
     // What the work may leave of a pass, and answer.
     ghost does: { Self → PassView K V F → PassView K V F → Self.Out → Type 0 } = { λ _ _ _ _.
@@ -27,12 +28,12 @@ pub trait Work<K: HashKey, V: Value, F: Remap<K, V>, A: Allocator> {
 
     /// The work of a client: `client.number()` is 0 for the first, and so on.
     fn work<L: Loan, R: Wait>(&self, rt: &R, client: &mut Client<'_, L, K, V, F, A>) -> Self::Out
-        requires { fits self.now client.old.map.now.ledger.id }
+        requires { fits self.now client.old.map.now.ledger }
         ensures { does self.now client.old.pass.now client.new.pass.now result };
 }
 
-/// Lets a client work whose loan is known, and gives the pass back. The answer is left where it is
-/// wanted.
+/// Lets a client work whose loan is known, and gives the pass back. What the work returns is left
+/// where it is wanted.
 fn work_seated<
     'a,
     L: Loan,
@@ -51,10 +52,12 @@ fn work_seated<
 ) -> &'a mut Pass<K, V, F>
     requires map { map.now.ledger.id ≡ L.ledger }
     requires pass { pass.old.ledger ≡ L.ledger }
+    requires client { pass.old.client ≡ L.client }
     requires lent { pass.ghost_name ≡ L.lent }
-    requires fits { W.fits work.now map.now.ledger.id }
+    requires fits { W.fits work.now map.now.ledger }
     ensures lent { result.ghost_name ≡ pass.entry.ghost_name }
     ensures ledger { result.now.ledger ≡ L.ledger }
+    ensures client { result.now.client ≡ L.client }
     ensures done { IsSomeAnd answer.new (W.does work.now pass.old result.now) }
 {
     let mut client: Client<'a, L, K, V, F, A> = Client {
@@ -81,7 +84,7 @@ impl<K: HashKey, V: Value, F: Remap<K, V>, A: Allocator, W: Work<K, V, F, A>> Sh
     for Lent<'_, W> {
     type Out = W::Out;
 
-    ghost fits = { λ lent id. W.fits lent.work.now id };
+    ghost fits = { λ lent ledger. W.fits lent.work.now ledger };
 
     ghost does = { λ lent old new answer. W.does lent.work.now old new answer };
 

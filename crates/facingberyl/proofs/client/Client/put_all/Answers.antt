@@ -1,6 +1,5 @@
-use Rattle.std.proofs.Common.{ap, subst, ◌∙◌}
+use Rattle.std.proofs.Common.{subst, ◌∙◌}
 use Rattle.chm.specs.Views.{MapView}
-use Rattle.bin_history.specs.declared.call.Call.TheVariants.{Put}
 use Rattle.bin_history.specs.declared.call.Reply.TheVariants.{Value}
 use Rattle.std.specs.Vec.Iter.{into_iter_items}
 use Rattle.facingberyl.specs.Filled.{HasPut}

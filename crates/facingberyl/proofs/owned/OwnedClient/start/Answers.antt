@@ -1,7 +1,7 @@
 use denote.Param.Send.{sendable}
 use Rattle.std.proofs.CrossingOver.{crosses}
 use Rattle.std.proofs.Crossing as wide
-use Rattle.facingberyl.proofs.Shared.{owned_send}
+use Rattle.facingberyl.proofs.Crossing.{owned_send}
 use Rattle.facingberyl.proofs.owned.OwnedClient.start.Goals as goal
 
 pub spawn_with-requires-send-F : goal.spawn_with-requires-send-F

@@ -1,0 +1,153 @@
+//! A client walks over the map, a bucket at a time.
+ghost use Rattle.std.specs.Prelude.{◌≡◌, ◌++◌, ◌∷◌, [], None, List, true, false, IfOk, IfErr, IfSome, IfNone};
+ghost use Rattle.std.specs.Prelude.{Some, IsOk, IsSomeAnd, OnErr};
+ghost use Rattle.std.specs.List.{FoldsTo};
+ghost use Rattle.bin_history.specs.Calls.{after};
+ghost use Rattle.bin_history.specs.Copies.{IsExact};
+ghost use Rattle.count_ledger.specs.Fronts.{HasSeen, HasSeenMore};
+ghost use Rattle.count_ledger.specs.Views.{PassView};
+ghost use Rattle.chm.specs.Cursors.{AreShown, HasCome, IsUsedAt, list_of};
+ghost use Rattle.chm.specs.Visits.{IsVisit, VisitView};
+
+use crate::client::{Client, Loan};
+use bin_history::{Remap, Value};
+use chm::{Cursor, Fault, Visit};
+use hashkeys::HashKey;
+use std::alloc::Allocator;
+use std::sync::Wait;
+
+impl<L: Loan, K: HashKey, V: Value, F: Remap<K, V>, A: Allocator + Clone> Client<
+    '_,
+    L,
+    K,
+    V,
+    F,
+    A,
+> {
+    /// Returns a cursor at the beginning of a walk.
+    ///
+    ///     let mut cursor = client.cursor();
+    pub fn cursor(&self) -> Cursor
+        ensures n { result.n ≡ self.now.map.now.n }
+        ensures first { result.next ≡ Some (record { n = self.now.map.now.n; index = 0 }) }
+        ensures begun { (none : List (VisitView K V)) → none ≡ [] → HasCome result none }
+    {
+        self.map.cursor()
+    }
+
+    /// Returns the next bucket of a walk, by copies of its entries in order, as all calls before had
+    /// left it, which the client has then seen; none at the end of the walk. What the steps of a walk
+    /// return stands in walk order, no key comes twice, and at the end every key has come. Calls of
+    /// others, and of the client itself, may be made between two steps, and a program may stop
+    /// before the end.
+    ///
+    /// It waits for the bucket, and takes memory for the copies of its entries alone.
+    ///
+    ///     let mut cursor = client.cursor();
+    ///     assert!(client.visit_next(rt, &mut cursor)?.is_some());
+    ///
+    /// # Errors
+    ///
+    /// `NoMemory`. The cursor is as it was: the same bucket is next.
+    pub fn visit_next<R: Wait>(
+        &mut self,
+        rt: &R,
+        cursor: &mut Cursor,
+    ) -> Result<Option<Visit<K, V, A>>, Fault>
+        requires keys { IsExact K.is_clone }
+        requires values { IsExact V.is_clone }
+        requires cursor { cursor.old.n ≡ self.old.map.now.n }
+        ensures visit { IfOk result (λ v. IfSome v (λ v.
+            HasSeen K.eq (after V.eq F.remapped F.merged) self.old.map.now.ledger self.old.pass.now self.new.pass.now
+            × IsVisit K.eq K.code self.old.map.now.ledger self.new.pass.now.seen v)) }
+        ensures come { (shown : List (VisitView K V)) → HasCome cursor.old shown →
+            IfOk result (λ v. HasCome cursor.new (shown ++ list_of v)) }
+        ensures shown { (start : PassView K V F) (shown : List (VisitView K V)) →
+            AreShown K.eq K.code (after V.eq F.remapped F.merged) self.old.map.now.ledger start shown
+            self.old.pass.now → IfOk result (λ v. AreShown K.eq K.code (after V.eq F.remapped F.merged)
+            self.old.map.now.ledger start (shown ++ list_of v) self.new.pass.now) }
+        ensures end { IfOk result (λ v. IfNone v ((cursor.old.next ≡ None) × (self.new.pass.now ≡ self.old.pass.now))) }
+        ensures seen { HasSeenMore self.old.pass.now self.new.pass.now }
+        ensures n { cursor.new.n ≡ cursor.old.n }
+        ensures same { OnErr result (cursor.new ≡ cursor.old) }
+        ensures ended { cursor.old.next ≡ None → IsOk result }
+        ensures faults { IfErr result (λ fault. fault ≡ Fault.NoMemory) }
+        ensures map { self.new.map.now ≡ self.old.map.now }
+    {
+        self.map.visit_next(rt, self.pass, cursor)
+    }
+
+    /// Tries to do what `visit_next` does, and waits for nobody. Returns none where the next bucket
+    /// is locked just then: the client and the cursor are as they were.
+    ///
+    ///     let mut cursor = client.cursor();
+    ///     assert!(client.try_visit_next(&mut cursor).is_some());
+    ///
+    /// # Errors
+    ///
+    /// `NoMemory`. The cursor is as it was.
+    pub fn try_visit_next(
+        &mut self,
+        cursor: &mut Cursor,
+    ) -> Option<Result<Option<Visit<K, V, A>>, Fault>>
+        requires keys { IsExact K.is_clone }
+        requires values { IsExact V.is_clone }
+        requires cursor { cursor.old.n ≡ self.old.map.now.n }
+        ensures visit { IfSome result (λ tried. IfOk tried (λ v. IfSome v (λ v.
+            HasSeen K.eq (after V.eq F.remapped F.merged) self.old.map.now.ledger self.old.pass.now self.new.pass.now
+            × IsVisit K.eq K.code self.old.map.now.ledger self.new.pass.now.seen v))) }
+        ensures come { (shown : List (VisitView K V)) → HasCome cursor.old shown →
+            IfSome result (λ tried. IfOk tried (λ v. HasCome cursor.new (shown ++ list_of v))) }
+        ensures shown { (start : PassView K V F) (shown : List (VisitView K V)) →
+            AreShown K.eq K.code (after V.eq F.remapped F.merged) self.old.map.now.ledger start shown
+            self.old.pass.now → IfSome result (λ tried. IfOk tried
+            (λ v. AreShown K.eq K.code (after V.eq F.remapped F.merged) self.old.map.now.ledger start
+            (shown ++ list_of v) self.new.pass.now)) }
+        ensures end { IfSome result (λ tried. IfOk tried
+            (λ v. IfNone v ((cursor.old.next ≡ None) × (self.new.pass.now ≡ self.old.pass.now)))) }
+        ensures seen { HasSeenMore self.old.pass.now self.new.pass.now }
+        ensures n { cursor.new.n ≡ cursor.old.n }
+        ensures same { IfSome result (λ tried. OnErr tried (cursor.new ≡ cursor.old)) }
+        ensures ended { cursor.old.next ≡ None → IsSomeAnd result IsOk }
+        ensures faults { IfSome result (λ tried. IfErr tried (λ fault. fault ≡ Fault.NoMemory)) }
+        ensures busy { IfNone result ((self.new.pass.now ≡ self.old.pass.now) × (cursor.new ≡ cursor.old)) }
+        ensures map { self.new.map.now ≡ self.old.map.now }
+    {
+        self.map.try_visit_next(self.pass, cursor)
+    }
+
+    /// Gives the function each entry of the next bucket of a walk, in order, where it lies, as all
+    /// calls before had left the bucket, which the client has then seen. Returns whether there was a
+    /// bucket left, empty ones among them: false is the end of the walk. Nothing is copied, posted or
+    /// allocated, so nothing can fail. In all else it is a step of a walk as `visit_next` is.
+    ///
+    /// It waits for the bucket, which is locked while the function runs: a function that takes long
+    /// keeps other clients out of the bucket, and one that calls the map, by whatever client, deadlocks
+    /// where its key is of the same bucket.
+    ///
+    ///     let mut cursor = client.cursor();
+    ///     let mut most = 0;
+    ///     assert!(client.show_next(rt, &mut cursor, &mut |_key: &u64, value: &u64| most = most.max(*value)));
+    pub fn show_next<R: Wait, G: FnMut(&K, &V)>(
+        &mut self,
+        rt: &R,
+        cursor: &mut Cursor,
+        f: &mut G,
+    ) -> bool
+        requires callable { G.IsAlwaysCallable f.old }
+        requires cursor { cursor.old.n ≡ self.old.map.now.n }
+        ensures shown { result ≡ true → (v : VisitView K V)
+            × HasSeen K.eq (after V.eq F.remapped F.merged) self.old.map.now.ledger self.old.pass.now self.new.pass.now
+            × IsVisit K.eq K.code self.old.map.now.ledger self.new.pass.now.seen v
+            × FoldsTo (IsUsedAt G.step) f.old v.entries f.new
+            × ((shown : List (VisitView K V)) → HasCome cursor.old shown →
+            HasCome cursor.new (shown ++ v ∷ [])) }
+        ensures end { result ≡ false → (cursor.old.next ≡ None) × (self.new.pass.now ≡ self.old.pass.now)
+            × (f.new ≡ f.old) × (cursor.new ≡ cursor.old) }
+        ensures callable { G.IsAlwaysCallable f.new }
+        ensures n { cursor.new.n ≡ cursor.old.n }
+        ensures map { self.new.map.now ≡ self.old.map.now }
+    {
+        self.map.show_next(rt, self.pass, cursor, f)
+    }
+}
