@@ -5,7 +5,7 @@ with what it must be.
 
 usage: python3 examples/run.py [--proved] [--all] [WORD]
 
-Without --proved the libraries are built without their proofs; with it they are those of `rt lib`. WORD: only what has it in its
+Without --proved the library is built without its proofs; with it it is the one of `rt lib`. WORD: only what has it in its
 name. What needs a tool that is not there is left out and named; with --all that is a failure. The last line is
 `N passed, M failed, K left out`; the status is 1 where one failed."""
 import os
@@ -73,13 +73,13 @@ class Place:
     def sanitized(self, compiler, source, more=()):
         return self.program(compiler, source, SANITIZED, more)
 
-    def watched(self, source):
+    def watched(self, compiler, source):
         """A program that ThreadSanitizer watches."""
-        return self.program(C, source, WATCHED)
+        return self.program(compiler, source, WATCHED)
 
     def finds_race(self):
         """Whether ThreadSanitizer finds two threads that use one client."""
-        ran = subprocess.run(self.watched("c/tests/race.c"), capture_output=True, text=True, check=False, timeout=LONGEST)
+        ran = subprocess.run(self.watched(C, "c/tests/race.c"), capture_output=True, text=True, check=False, timeout=LONGEST)
         is_found = "data race" in ran.stderr and "facing_put" in ran.stderr
         return is_found, "found" if is_found else f"not found: {ran.stderr}"
 
@@ -111,6 +111,18 @@ class Place:
         more = {"CARGO_TARGET_DIR": f"{self.folder}/rust", "FACING_LIBS": f"{self.prefix}/lib"}
         return run(["cargo", words[0], "--release", "--quiet", "--offline", *words[1:]], cwd=f"{HERE}/rust", env={**os.environ, **more})
 
+    def cache(self, kind):
+        """The quick tests of the cache server, built in one way; a minute each."""
+        need("cc")
+        words = [sys.executable, f"{TOP}/tools/cache_test", "--quick", "--kind", kind, "--prefix", self.prefix]
+        ran = subprocess.run(words, capture_output=True, text=True, check=False, timeout=LONGEST)
+        said = ran.stdout.strip().splitlines() or [ran.stderr.strip()]
+        if ran.returncode:
+            return False, "; ".join(it for it in said if " passed, " not in it)
+        if lacks := [it for it in said if ": left out, " in it]:
+            raise Lacking("; ".join(lacks))
+        return True, said[-1]
+
     def python(self, program):
         more = {"FACING": f"{self.prefix}/lib/libfacing.so", "PYTHONDONTWRITEBYTECODE": "1"}
         return run([sys.executable, f"{HERE}/python/{program}"], env={**os.environ, **more})
@@ -139,7 +151,11 @@ def each(program, *counts):
     return [[*program, str(keys), str(calls)] for keys, calls in counts]
 
 
+# Megabytes that a process may have.
+LIMITS = ("20", "60", "200")
 MANY, FEW = ((1, 100000), (16, 100000), (60000, 300000)), ((1, 5000), (16, 10000), (60000, 10000))
+BY_TEXT, CPP_BY_TEXT = [*C, "-DCOUNTS"], [*CPP, "-DCOUNTS"]
+SEEDED = ["-Wl,--wrap=getrandom"]
 WORKS = [
     ("C, the first program", lambda it: run(it.program(C, "c/first.c"))),
     ("C, the first program by pkg-config", lambda it: it.by_pkg_config()),
@@ -149,42 +165,64 @@ WORKS = [
     ("C++, sanitized, calls", lambda it: run(it.sanitized(CPP17, "cpp/calls.cpp"))),
     ("C, word count", lambda it: run(it.program(C, "c/word_count.c"))),
     ("C++, word count", lambda it: run(it.program(CPP, "c/word_count.c"))),
+    ("C, word count by byte strings", lambda it: run(it.program(C, "c/bytes.c"))),
+    ("C++, word count by byte strings", lambda it: run(it.program(CPP, "c/bytes.c"))),
     ("Rust, word count", lambda it: it.cargo("run", "--example", "word_count")),
     ("Rust, tests", lambda it: counted(it.cargo("test"))),
     ("Python, word count", lambda it: it.python("word_count.py")),
     ("Python, tests", lambda it: counted(it.python("test_facing.py"))),
     ("C, many keys at once", lambda it: run(it.program(C, "c/tests/many.c"))),
-    ("C, a pool of clients", lambda it: run(it.program(C, "c/tests/pool.c"))),
-    ("C++, a pool of clients", lambda it: run(it.program(CPP, "c/tests/pool.c"))),
-    ("C, 4 threads on 1, 16 and 60000 keys", lambda it: run(*each(it.program(C, "c/tests/counts.c"), *MANY))),
-    ("C, memory refused", lambda it: run(it.program(C, "c/tests/refused.c", more=WRAPPED))),
-    ("C, misuses", lambda it: run(it.program(C, "c/tests/misuse.c"))),
+    ("C, misuses one by one", lambda it: run(it.program(C, "c/tests/rows.c"))),
+    ("C++, sanitized, misuses one by one", lambda it: run(it.sanitized(CPP, "c/tests/rows.c"))),
+    ("C, handles of another kind, and no seed", lambda it: run(it.program(C, "c/tests/kinds.c", more=SEEDED))),
+    ("C, a handle of another library and a freed one", lambda it: run(it.program(C, "c/tests/debug.c"))),
     ("C, sanitized, many keys at once", lambda it: run(it.sanitized(C, "c/tests/many.c"))),
-    ("C, sanitized, a pool of clients", lambda it: run(it.sanitized(C, "c/tests/pool.c"))),
-    ("C, sanitized, 4 threads", lambda it: run(*each(it.sanitized(C, "c/tests/counts.c"), *MANY))),
-    ("C++, sanitized, 4 threads", lambda it: run(*each(it.sanitized(CPP, "c/tests/counts.c"), *MANY))),
-    ("C, sanitized, memory refused", lambda it: run(it.sanitized(C, "c/tests/refused.c", WRAPPED))),
-    ("C, sanitized, misuses", lambda it: run(it.sanitized(C, "c/tests/misuse.c"))),
-    ("C++, sanitized, misuses", lambda it: run(it.sanitized(CPP, "c/tests/misuse.c"))),
-    ("C, ThreadSanitizer, 4 threads", lambda it: run(*each(it.watched("c/tests/counts.c"), *FEW))),
-    ("C, ThreadSanitizer, many keys at once", lambda it: run(it.watched("c/tests/many.c"))),
-    ("C, ThreadSanitizer, a pool of clients", lambda it: run([it.watched("c/tests/pool.c"), "2000"])),
+    ("C, sanitized, handles of another kind", lambda it: run(it.sanitized(C, "c/tests/kinds.c", SEEDED))),
+    ("C, sanitized, a handle of another library and a freed one", lambda it: run(it.sanitized(C, "c/tests/debug.c"))),
+    ("C, ThreadSanitizer, many keys at once", lambda it: run(it.watched(C, "c/tests/many.c"))),
     ("C, ThreadSanitizer, two threads that use one client", lambda it: it.finds_race()),
-    ("bytes, C, ThreadSanitizer, word count", lambda it: run(it.watched("c/bytes.c"))),
-    ("C, valgrind, 4 threads", lambda it: run(*each(it.under_valgrind(C, "c/tests/counts.c"), *FEW))),
-    ("C++, valgrind, 4 threads", lambda it: run(*each(it.under_valgrind(CPP, "c/tests/counts.c"), *FEW))),
-    ("C, valgrind, memory refused", lambda it: run([*it.under_valgrind(C, "c/tests/refused.c", WRAPPED), "7"])),
-    ("C, valgrind, misuses", lambda it: run(it.under_valgrind(C, "c/tests/misuse.c"))),
-    ("bytes, C, word count", lambda it: run(it.program(C, "c/bytes.c"))),
-    ("bytes, C++, word count", lambda it: run(it.program(CPP, "c/bytes.c"))),
+    ("bytes, C, threads", lambda it: run(it.program(C, "c/tests/bytes_threads.c"))),
     ("bytes, C, memory refused", lambda it: run(it.program(C, "c/tests/bytes_refused.c", more=WRAPPED))),
     ("bytes, C, misuses", lambda it: run(it.program(C, "c/tests/bytes_misuse.c"))),
-    ("bytes, C, sanitized, word count", lambda it: run(it.sanitized(C, "c/bytes.c"))),
+    ("bytes, C, sanitized, threads", lambda it: run(it.sanitized(C, "c/tests/bytes_threads.c"))),
     ("bytes, C, sanitized, memory refused", lambda it: run(it.sanitized(C, "c/tests/bytes_refused.c", WRAPPED))),
     ("bytes, C++, sanitized, misuses", lambda it: run(it.sanitized(CPP, "c/tests/bytes_misuse.c"))),
+    ("bytes, C, ThreadSanitizer, threads", lambda it: run([it.watched(C, "c/tests/bytes_threads.c"), "2000"])),
+    ("bytes, C, ThreadSanitizer, word count", lambda it: run(it.watched(C, "c/bytes.c"))),
+    ("bytes, C, valgrind, threads", lambda it: run([*it.under_valgrind(C, "c/tests/bytes_threads.c"), "500"])),
     ("bytes, C, valgrind, memory refused", lambda it: run([*it.under_valgrind(C, "c/tests/bytes_refused.c", WRAPPED), "7"])),
+    ("bytes, cache server", lambda it: it.cache("plain")),
+    ("bytes, cache server, sanitized", lambda it: it.cache("address")),
+    ("bytes, cache server, ThreadSanitizer", lambda it: it.cache("thread")),
+    ("bytes, cache server, with programs of Redis", lambda it: it.cache("redis")),
     ("bytes, C, valgrind, misuses", lambda it: run([*it.under_valgrind(C, "c/tests/bytes_misuse.c"), "2000"])),
 ]
+
+
+def works_on_values(kind, c, cpp):
+    """Returns the works on a map whose values are numbers."""
+    return [
+        (f"{kind}, C, 4 threads on 1, 16 and 60000 keys", lambda it: run(*each(it.program(c, "c/tests/counts.c"), *MANY))),
+        (f"{kind}, C, a pool of clients", lambda it: run(it.program(c, "c/tests/pool.c"))),
+        (f"{kind}, C++, a pool of clients", lambda it: run(it.program(cpp, "c/tests/pool.c"))),
+        (f"{kind}, C, memory refused", lambda it: run(it.program(c, "c/tests/refused.c", more=WRAPPED))),
+        (f"{kind}, C, misuses", lambda it: run(it.program(c, "c/tests/misuse.c"))),
+        (f"{kind}, C, limits of memory", lambda it: run(*[[it.program(c, "c/tests/limits.c"), limit] for limit in LIMITS])),
+        (f"{kind}, C, sanitized, 4 threads", lambda it: run(*each(it.sanitized(c, "c/tests/counts.c"), *MANY))),
+        (f"{kind}, C++, sanitized, 4 threads", lambda it: run(*each(it.sanitized(cpp, "c/tests/counts.c"), *MANY))),
+        (f"{kind}, C, sanitized, a pool of clients", lambda it: run(it.sanitized(c, "c/tests/pool.c"))),
+        (f"{kind}, C, sanitized, memory refused", lambda it: run(it.sanitized(c, "c/tests/refused.c", WRAPPED))),
+        (f"{kind}, C, sanitized, misuses", lambda it: run(it.sanitized(c, "c/tests/misuse.c"))),
+        (f"{kind}, C++, sanitized, misuses", lambda it: run(it.sanitized(cpp, "c/tests/misuse.c"))),
+        (f"{kind}, C, ThreadSanitizer, 4 threads", lambda it: run(*each(it.watched(c, "c/tests/counts.c"), *FEW))),
+        (f"{kind}, C, ThreadSanitizer, a pool of clients", lambda it: run([it.watched(c, "c/tests/pool.c"), "2000"])),
+        (f"{kind}, C, valgrind, 4 threads", lambda it: run(*each(it.under_valgrind(c, "c/tests/counts.c"), *FEW))),
+        (f"{kind}, C, valgrind, memory refused", lambda it: run([*it.under_valgrind(c, "c/tests/refused.c", WRAPPED), "7"])),
+        (f"{kind}, C, valgrind, misuses", lambda it: run(it.under_valgrind(c, "c/tests/misuse.c"))),
+    ]
+
+
+WORKS += works_on_values("numbers", C, CPP) + works_on_values("counts", BY_TEXT, CPP_BY_TEXT)
 
 
 def main(words):

@@ -1,6 +1,6 @@
 /* A concurrent hash map from 64-bit numbers to 64-bit numbers. C99 or later, C++98 or later.
  *
- * The functions below call the exports of the library facing_c, and try again while another thread holds the lock of the
+ * The functions below call the exports of the library facing, and try again while another thread holds the lock of the
  * key's bucket. A program must keep these rules; nothing checks them:
  *  1. Use a handle from one thread at a time. It is move-only: after copying the struct, use one copy.
  *  2. Hand a handle to another thread over a lock, the start or join of a thread, or a sequentially consistent atomic.
@@ -9,128 +9,22 @@
  *     forked child of a process with threads.
  *  5. Output handles are overwritten, not freed.
  * The functions check the rest: they reject null pointers and lengths that no array has, and set a handle to null once it
- * is freed.
+ * is freed. With FACING_DEBUG defined, in all files of a program or in none, they also tell on stderr of a handle of another
+ * header and of a copy of one of the last 1,024 handles that were freed.
  *
  * Every function but facing_free returns a status. Where it is not FACING_DONE nothing was changed, but where facing_close
- * says so, and an answer is {0, 0}. The `answer` of a client's call may be NULL. */
+ * or a call of many keys says so, and an answer is {0, 0}, but where FACING_NO_ROOM tells a length. The `answer` of a
+ * client's call may be NULL. */
 #ifndef FACING_H
 #define FACING_H
-#include <poll.h>
-#include <sched.h>
-#include <stddef.h>
-#include <stdint.h>
-
-/* How the functions are declared. A shared library of them defines it as what makes them visible. */
-#ifndef FACING_API
-#ifdef __cplusplus
-#define FACING_API inline
-#elif defined(__GNUC__)
-#define FACING_API static inline __attribute__((unused))
-#else
-#define FACING_API static inline
-#endif
-#endif
-
-/* A compiler warns where a status is dropped, unless FACING_CHECKED is defined as nothing. */
-#ifndef FACING_CHECKED
-#ifdef __GNUC__
-#define FACING_CHECKED __attribute__((warn_unused_result))
-#else
-#define FACING_CHECKED
-#endif
-#endif
-
-#if defined(__cplusplus) && __cplusplus >= 201103L
-#define FACING_NULL nullptr
-#else
-#define FACING_NULL NULL
-#endif
+#include "facing_base.h"
 
 #ifdef __cplusplus
 extern "C" {
 #endif
 
-/* ThreadSanitizer does not see into the library. Where it watches a program these lines tell it what a call orders, by the
- * key, and that what the library does is no access of the program. So it finds races of the program, and two threads that
- * use one client. */
-#if defined(__SANITIZE_THREAD__)
-#define FACING_WATCHED 1
-#elif defined(__has_feature)
-#if __has_feature(thread_sanitizer)
-#define FACING_WATCHED 1
-#endif
-#endif
-#ifdef FACING_WATCHED
-void __tsan_acquire(void *at);
-void __tsan_release(void *at);
-void AnnotateIgnoreReadsBegin(const char *file, int line);
-void AnnotateIgnoreReadsEnd(const char *file, int line);
-void AnnotateIgnoreWritesBegin(const char *file, int line);
-void AnnotateIgnoreWritesEnd(const char *file, int line);
-extern char facing_places[1024];
-__attribute__((weak)) char facing_places[1024];
-#define FACING_ENTER(key)                                                                                                   \
-    (__tsan_release(&facing_places[(key) % 1024]), AnnotateIgnoreReadsBegin(__FILE__, __LINE__),                            \
-     AnnotateIgnoreWritesBegin(__FILE__, __LINE__))
-#define FACING_LEAVE(key)                                                                                                   \
-    (AnnotateIgnoreWritesEnd(__FILE__, __LINE__), AnnotateIgnoreReadsEnd(__FILE__, __LINE__),                               \
-     __tsan_acquire(&facing_places[(key) % 1024]))
-#else
-#define FACING_ENTER(key) ((void)0)
-#define FACING_LEAVE(key) ((void)0)
-#endif
-
-/* What a function returns. */
-enum facing_status {
-    FACING_DONE,         /* the call was made */
-    FACING_BUSY,         /* of an export alone: the call was not made, since the bucket was locked */
-    FACING_NO_MEMORY,    /* out of memory; a map that was to be closed can be closed again */
-    FACING_CLIENT_FULL,  /* the client made all the calls that it may */
-    FACING_BAD_CAPACITY, /* the capacity is not 1 to 2^26, or 2^32 pairs or more were to be opened with */
-    FACING_BAD_CLIENTS,  /* the number of clients is out of its range */
-    FACING_CLIENT_OUT,   /* of a close: a client is not freed yet */
-    FACING_BIN_MISSING,  /* of a close: the map ended, a part of it was not found; no run has met this */
-    FACING_WRONG_HANDLE, /* the handle is null, or is of another kind */
-    FACING_BAD_ARGUMENT, /* of the functions below alone: a pointer is null, two are the same, or a length is past 2^60 - 1
-                          */
-    FACING_TOO_LONG,     /* of facing_bytes.h alone: a key or a value has more than 65,536 bytes */
-    FACING_NO_CLIENT     /* of facing_client alone: every client of the map is in use */
-};
-
-/* Returns a sentence for a status, without memory and without a line's end. */
-FACING_API const char *facing_strerror(uint32_t status) {
-    switch (status) {
-    case FACING_DONE: return "done";
-    case FACING_BUSY: return "busy: the key's bucket is locked";
-    case FACING_NO_MEMORY: return "out of memory";
-    case FACING_CLIENT_FULL: return "the client made all the calls that it may";
-    case FACING_BAD_CAPACITY: return "the capacity is not 1 to 2^26";
-    case FACING_BAD_CLIENTS: return "the number of clients is out of its range";
-    case FACING_CLIENT_OUT: return "a client of the map is not freed yet";
-    case FACING_BIN_MISSING: return "a part of the map is missing";
-    case FACING_WRONG_HANDLE: return "the handle is null or of another kind";
-    case FACING_BAD_ARGUMENT: return "an argument is null, the same as another, or too long";
-    case FACING_TOO_LONG: return "a key or a value is longer than 65,536 bytes";
-    case FACING_NO_CLIENT: return "every client of the map is in use";
-    default: return "no status of this library";
-    }
-}
-
-/* A handle of an open map, of one of its clients, or of a closed map. It begins as {0}, or where a call fills it. */
-typedef struct facing_handle {
-    void *at;
-} facing_handle;
-
-/* `found` is 1 where there is a value, or where the question's answer is yes, and else 0; `value` is the value, or 0. */
-typedef struct facing_answer {
-    uint32_t found;
-    uint64_t value;
-} facing_answer;
-
-/* The exports. Each waits for nobody, takes its handle, and gives it back by `out`, which holds null before. It fails on a
- * null handle, and `out` and `answer` are as they were. */
+/* The exports, as facing_base.h says. */
 uint32_t facing_c_open(size_t capacity, uint32_t clients, uint32_t salt, facing_handle *out);
-uint32_t facing_c_client(facing_handle map, facing_handle *out, facing_handle *client);
 uint32_t facing_c_try_get(facing_handle client, facing_handle *out, uint64_t key, facing_answer *answer);
 uint32_t facing_c_try_contains(facing_handle client, facing_handle *out, uint64_t key, facing_answer *answer);
 uint32_t facing_c_try_put(facing_handle client, facing_handle *out, uint64_t key, uint64_t value, facing_answer *answer);
@@ -146,55 +40,29 @@ uint32_t facing_c_try_add(facing_handle client, facing_handle *out, uint64_t key
 uint32_t facing_c_try_greatest(facing_handle client, facing_handle *out, uint64_t key, uint64_t value,
                                facing_answer *answer);
 uint32_t facing_c_try_set(facing_handle client, facing_handle *out, uint64_t key, uint64_t value, facing_answer *answer);
-uint32_t facing_c_count(facing_handle any, facing_handle *out, facing_answer *answer);
-uint32_t facing_c_close(facing_handle map, facing_handle *out);
 uint32_t facing_c_find(facing_handle closed, facing_handle *out, uint64_t key, facing_answer *answer);
-uint32_t facing_c_pairs(facing_handle closed, facing_handle *out, uint64_t *keys, size_t keys_len, uint64_t *values,
-                        size_t values_len, facing_answer *answer);
-uint32_t facing_c_reopen(facing_handle closed, facing_handle *out, uint32_t clients, facing_handle *map);
-void facing_c_free(facing_handle any);
+uint32_t facing_c_try_pairs(facing_handle any, facing_handle *out, uint64_t at, uint64_t *next, uint64_t *keys,
+                            size_t keys_len, uint64_t *values, size_t values_len, facing_answer *answer);
 
-/* Backs off: spins for a short while, later yields, and then sleeps for a millisecond. */
-FACING_API void facing_wait(unsigned round) {
-    if (round < 7) {
-        for (unsigned i = 0; i < 1u << round; i++) {
-#if defined(__x86_64__)
-            __builtin_ia32_pause();
-#endif
-        }
-    } else if (round < 64) {
-        sched_yield();
-    } else {
-        poll(FACING_NULL, 0, 1);
-    }
-}
-
-/* Opens an empty map for 1 to 32 clients, with a table of `capacity` buckets to begin with: 1 to 2^26, rounded up to a power
- * of two. A bucket takes some 32 bytes, so 2^26 of them take 2 GB at once; the table grows by itself, so begin small.
+/* Opens an empty map for 1 to 65,536 clients, with a table of `capacity` buckets to begin with: 1 to 2^26, rounded up to a
+ * power of two. A bucket takes some 32 bytes, so 2^26 of them take 2 GB at once; the table grows by itself, so begin small.
  * Returns FACING_BAD_CAPACITY, FACING_BAD_CLIENTS or FACING_NO_MEMORY, and the handle is null then. */
 FACING_CHECKED FACING_API uint32_t facing_open(size_t capacity, uint32_t clients, uint32_t salt, facing_handle *map) {
+    facing_handle made = {FACING_NULL};
     uint32_t status;
     if (map == FACING_NULL) return FACING_BAD_ARGUMENT;
     map->at = FACING_NULL;
     FACING_ENTER(0);
-    status = facing_c_open(capacity, clients, salt, map);
+    status = facing_c_open(capacity, clients, salt, &made);
     FACING_LEAVE(0);
-    return status;
+    return facing_fill(&map->at, made, FACING_NUMBERS, status);
 }
 
 /* Fills `client` with a client of the map that is not in use. Free it to give it back, in any thread.
  * Returns FACING_NO_CLIENT where all are in use, FACING_NO_MEMORY, or FACING_WRONG_HANDLE; the handle is null then. */
 FACING_CHECKED FACING_API uint32_t facing_client(facing_handle *map, facing_handle *client) {
-    facing_handle back = {FACING_NULL};
-    uint32_t status;
     if (map == FACING_NULL || client == FACING_NULL || map == client) return FACING_BAD_ARGUMENT;
-    client->at = FACING_NULL;
-    FACING_ENTER(0);
-    status = facing_c_client(*map, &back, client);
-    FACING_LEAVE(0);
-    *map = back;
-    if (status == FACING_CLIENT_OUT) status = FACING_NO_CLIENT;
-    return status;
+    return facing_any_client(&map->at, &client->at, FACING_NUMBERS);
 }
 
 /* == Calls of a client ==
@@ -205,80 +73,83 @@ FACING_CHECKED FACING_API uint32_t facing_client(facing_handle *map, facing_hand
  * A call may also allocate parts of a table that grows, and goes on where there is no memory for them. */
 #define FACING_CALL(export_and_arguments)                                                                                   \
     uint32_t status;                                                                                                        \
-    unsigned round;                                                                                                         \
+    unsigned round = 0;                                                                                                     \
+    facing_handle lent, back;                                                                                               \
     facing_answer dropped;                                                                                                  \
     if (client == FACING_NULL) return FACING_BAD_ARGUMENT;                                                                  \
     if (answer == FACING_NULL) answer = &dropped;                                                                           \
     answer->found = 0;                                                                                                      \
     answer->value = 0;                                                                                                      \
-    for (round = 0;; round += round < 64) {                                                                                 \
-        facing_handle back = {FACING_NULL};                                                                                 \
+    do {                                                                                                                    \
+        lent = facing_lend(client->at, FACING_NUMBERS);                                                                     \
+        back.at = FACING_NULL;                                                                                              \
         FACING_ENTER(key);                                                                                                  \
         status = export_and_arguments;                                                                                      \
         FACING_LEAVE(key);                                                                                                  \
-        *client = back;                                                                                                     \
+        client->at = facing_back(client->at, lent.at, back.at);                                                             \
         if (status != FACING_BUSY) return status;                                                                           \
         facing_wait(round);                                                                                                 \
-    }
+        round += round < 64;                                                                                                \
+    } while (1)
 
 /* The answer is the value at the key. */
 FACING_CHECKED FACING_API uint32_t facing_get(facing_handle *client, uint64_t key, facing_answer *answer) {
-    FACING_CALL(facing_c_try_get(*client, &back, key, answer))
+    FACING_CALL(facing_c_try_get(lent, &back, key, answer));
 }
 
 /* The answer is whether the key has a value, in `found` alone. */
 FACING_CHECKED FACING_API uint32_t facing_contains(facing_handle *client, uint64_t key, facing_answer *answer) {
-    FACING_CALL(facing_c_try_contains(*client, &back, key, answer))
+    FACING_CALL(facing_c_try_contains(lent, &back, key, answer));
 }
 
 /* Stores the value at the key. The answer is the value before. */
 FACING_CHECKED FACING_API uint32_t facing_put(facing_handle *client, uint64_t key, uint64_t value, facing_answer *answer) {
-    FACING_CALL(facing_c_try_put(*client, &back, key, value, answer))
+    FACING_CALL(facing_c_try_put(lent, &back, key, value, answer));
 }
 
 /* Stores the value where the key has none. The answer is the value before. */
 FACING_CHECKED FACING_API uint32_t facing_put_if_absent(facing_handle *client, uint64_t key, uint64_t value,
                                                         facing_answer *answer) {
-    FACING_CALL(facing_c_try_put_if_absent(*client, &back, key, value, answer))
+    FACING_CALL(facing_c_try_put_if_absent(lent, &back, key, value, answer));
 }
 
 /* Removes the key. The answer is the value before. */
 FACING_CHECKED FACING_API uint32_t facing_remove(facing_handle *client, uint64_t key, facing_answer *answer) {
-    FACING_CALL(facing_c_try_remove(*client, &back, key, answer))
+    FACING_CALL(facing_c_try_remove(lent, &back, key, answer));
 }
 
 /* Removes the key where it has this value. The answer is whether it had, in `found` alone. */
 FACING_CHECKED FACING_API uint32_t facing_remove_if(facing_handle *client, uint64_t key, uint64_t value,
                                                     facing_answer *answer) {
-    FACING_CALL(facing_c_try_remove_if(*client, &back, key, value, answer))
+    FACING_CALL(facing_c_try_remove_if(lent, &back, key, value, answer));
 }
 
 /* Stores the value where the key has one. The answer is the value before. */
 FACING_CHECKED FACING_API uint32_t facing_replace(facing_handle *client, uint64_t key, uint64_t value,
                                                   facing_answer *answer) {
-    FACING_CALL(facing_c_try_replace(*client, &back, key, value, answer))
+    FACING_CALL(facing_c_try_replace(lent, &back, key, value, answer));
 }
 
 /* Stores the new value where the key has the old one. The answer is whether it had, in `found` alone. */
 FACING_CHECKED FACING_API uint32_t facing_replace_if(facing_handle *client, uint64_t key, uint64_t old_value,
                                                      uint64_t new_value, facing_answer *answer) {
-    FACING_CALL(facing_c_try_replace_if(*client, &back, key, old_value, new_value, answer))
+    FACING_CALL(facing_c_try_replace_if(lent, &back, key, old_value, new_value, answer));
 }
 
 /* Adds to the value at the key, up to 2^64 - 1, or stores the value where there is none. The answer is the value after. */
 FACING_CHECKED FACING_API uint32_t facing_add(facing_handle *client, uint64_t key, uint64_t value, facing_answer *answer) {
-    FACING_CALL(facing_c_try_add(*client, &back, key, value, answer))
+    FACING_CALL(facing_c_try_add(lent, &back, key, value, answer));
 }
 
 /* Stores the greater of the key's value and this one. The answer is the value after. */
 FACING_CHECKED FACING_API uint32_t facing_greatest(facing_handle *client, uint64_t key, uint64_t value,
                                                    facing_answer *answer) {
-    FACING_CALL(facing_c_try_greatest(*client, &back, key, value, answer))
+    FACING_CALL(facing_c_try_greatest(lent, &back, key, value, answer));
 }
 
 /* Stores the value at the key. The answer is the value after, which is this one. */
 FACING_CHECKED FACING_API uint32_t facing_set(facing_handle *client, uint64_t key, uint64_t value, facing_answer *answer) {
-    FACING_CALL(facing_c_try_set(*client, &back, key, value, answer))
+    FACING_CALL(facing_c_try_set(lent, &back, key, value, answer));
 }
 
 /* == Many calls at once ==
@@ -287,8 +158,8 @@ FACING_CHECKED FACING_API uint32_t facing_set(facing_handle *client, uint64_t ke
  * made; where the status is not FACING_DONE the call on keys[*done] failed, and those after it were not made. */
 
 /* Stores each value at its key. */
-FACING_CHECKED FACING_API uint32_t
-    facing_put_all(facing_handle *client, const uint64_t *keys, const uint64_t *values, size_t len, size_t *done) {
+FACING_CHECKED FACING_API uint32_t facing_put_all(facing_handle *client, const uint64_t *keys, const uint64_t *values,
+                                                  size_t len, size_t *done) {
     size_t i = 0;
     uint32_t status = FACING_DONE;
     if (len != 0 && (keys == FACING_NULL || values == FACING_NULL)) status = FACING_BAD_ARGUMENT;
@@ -333,92 +204,90 @@ FACING_CHECKED FACING_API uint32_t facing_add_all(facing_handle *client, const u
 /* Counts the keys, by the handle of a map, a client or a closed map. Of an open map the count is an estimate: it adds the
  * clients' counters one by one. Of a closed map it is exact. */
 FACING_CHECKED FACING_API uint32_t facing_count(facing_handle *any, uint64_t *count) {
-    facing_handle back = {FACING_NULL};
-    facing_answer answer = {0, 0};
-    uint32_t status;
     if (count == FACING_NULL) return FACING_BAD_ARGUMENT;
     *count = 0;
     if (any == FACING_NULL) return FACING_BAD_ARGUMENT;
-    FACING_ENTER(0);
-    status = facing_c_count(*any, &back, &answer);
-    FACING_LEAVE(0);
-    *any = back;
-    *count = answer.value;
-    return status;
+    return facing_any_count(&any->at, count, FACING_NUMBERS);
 }
 
 /* Closes the map, whose clients must all be freed. Its handle is then that of the closed map, which can be read and
  * reopened. Returns FACING_CLIENT_OUT where a client is not freed, and the map goes on; FACING_NO_MEMORY, and then the map
  * gives out no more clients, and can be closed again; FACING_BIN_MISSING, and then the map has ended. */
 FACING_CHECKED FACING_API uint32_t facing_close(facing_handle *map) {
-    facing_handle back = {FACING_NULL};
-    uint32_t status;
     if (map == FACING_NULL) return FACING_BAD_ARGUMENT;
-    FACING_ENTER(0);
-    status = facing_c_close(*map, &back);
-    FACING_LEAVE(0);
-    *map = back;
-    return status;
+    return facing_any_close(&map->at, FACING_NUMBERS);
 }
 
 /* The answer is the value at a key of a closed map. Takes no lock and no memory. */
 FACING_CHECKED FACING_API uint32_t facing_find(facing_handle *closed, uint64_t key, facing_answer *answer) {
-    facing_handle back = {FACING_NULL};
+    facing_handle lent, back = {FACING_NULL};
     uint32_t status;
     if (closed == FACING_NULL || answer == FACING_NULL) return FACING_BAD_ARGUMENT;
     answer->found = 0;
     answer->value = 0;
+    lent = facing_lend(closed->at, FACING_NUMBERS);
     FACING_ENTER(0);
-    status = facing_c_find(*closed, &back, key, answer);
+    status = facing_c_find(lent, &back, key, answer);
     FACING_LEAVE(0);
-    *closed = back;
+    closed->at = facing_back(closed->at, lent.at, back.at);
     return status;
 }
 
-/* Copies the first pairs of a closed map, at most `len`, and stores in `copied` how many. Takes no lock and no memory. */
-FACING_CHECKED FACING_API uint32_t facing_pairs(facing_handle *closed, uint64_t *keys, uint64_t *values, size_t len,
-                                                size_t *copied) {
-    facing_handle back = {FACING_NULL};
+/* Copies the pairs of the next buckets of a closed map or, by a client, of an open one: whole buckets, as many as `room`
+ * pairs have room for. Stores in `copied` how many pairs were copied, and moves the cursor. Call it until cursor->at is
+ * UINT64_MAX. Of an open map each bucket is as all calls before had left it, but two buckets are copied at two times: a key
+ * that stays in the map all the while is copied once, and one that comes or goes meanwhile may be copied or not. Locks one
+ * bucket at a time, and allocates a copy of it.
+ * Returns FACING_NO_ROOM where the next bucket alone has more than `room` pairs: `copied` is how many it has, and the cursor
+ * is at it. Returns FACING_NO_MEMORY or FACING_WRONG_HANDLE. Where a bucket fails behind pairs that were copied the status
+ * is FACING_DONE, and the next call begins with that bucket. */
+FACING_CHECKED FACING_API uint32_t facing_pairs(facing_handle *any, facing_cursor *cursor, uint64_t *keys, uint64_t *values,
+                                                size_t room, size_t *copied) {
+    facing_handle lent, back;
     facing_answer answer = {0, 0};
+    uint64_t next;
     uint32_t status;
+    unsigned round = 0;
     if (copied == FACING_NULL) return FACING_BAD_ARGUMENT;
     *copied = 0;
-    if (closed == FACING_NULL || keys == FACING_NULL || values == FACING_NULL || keys == values || len >> 60 != 0)
+    if (any == FACING_NULL || cursor == FACING_NULL || keys == FACING_NULL || values == FACING_NULL || keys == values
+        || room >> 60 != 0)
         return FACING_BAD_ARGUMENT;
-    FACING_ENTER(0);
-    status = facing_c_pairs(*closed, &back, keys, len, values, len, &answer);
-    FACING_LEAVE(0);
-    *closed = back;
-    *copied = answer.value;
+    do {
+        next = cursor->at;
+        lent = facing_lend(any->at, FACING_NUMBERS);
+        back.at = FACING_NULL;
+        FACING_ENTER(0);
+        status = facing_c_try_pairs(lent, &back, cursor->at, &next, keys + *copied, room - *copied, values + *copied,
+                                    room - *copied, &answer);
+        FACING_LEAVE(0);
+        any->at = facing_back(any->at, lent.at, back.at);
+        if (status == FACING_DONE) {
+            *copied += answer.value;
+            cursor->at = next;
+            round = 0;
+        } else if (status == FACING_BUSY) {
+            facing_wait(round);
+            round += round < 64;
+        }
+    } while (status == FACING_BUSY || (status == FACING_DONE && cursor->at != UINT64_MAX));
+    FACING_SEE_ALL();
+    if (*copied != 0) return FACING_DONE;
+    if (status == FACING_NO_ROOM) *copied = answer.value;
     return status;
 }
 
 /* Opens a map with copies of the pairs of a closed one, which stays as it is. Fails as facing_open does. */
 FACING_CHECKED FACING_API uint32_t facing_reopen(facing_handle *closed, uint32_t clients, facing_handle *map) {
-    facing_handle back = {FACING_NULL};
-    uint32_t status;
     if (closed == FACING_NULL || map == FACING_NULL || closed == map) return FACING_BAD_ARGUMENT;
-    map->at = FACING_NULL;
-    FACING_ENTER(0);
-    status = facing_c_reopen(*closed, &back, clients, map);
-    FACING_LEAVE(0);
-    *closed = back;
-    return status;
+    return facing_any_reopen(&closed->at, clients, &map->at, FACING_NUMBERS);
 }
 
 /* Frees what a handle stands for, and sets the handle to null: a client goes back to its map; a map ends with its last
  * handle. A null handle is left alone. */
 FACING_API void facing_free(facing_handle *any) {
-    if (any == FACING_NULL) return;
-    FACING_ENTER(0);
-    facing_c_free(*any);
-    FACING_LEAVE(0);
-    any->at = FACING_NULL;
+    if (any != FACING_NULL) facing_any_free(&any->at, FACING_NUMBERS);
 }
-
-/* The version of the library, as "0.1.0"; "0.1.0 unproved" of one that was built without its proofs. It is there where the
- * library was installed by tools/install. */
-const char *facing_version(void);
 
 #ifdef __cplusplus
 }

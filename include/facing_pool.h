@@ -1,29 +1,33 @@
-/* A map of 64-bit numbers that any thread may call: a pool of clients over facing.h. Needs GCC's or clang's atomics, and
- * POSIX threads.
+/* Maps that any thread may call: pools of clients over facing.h, facing_bytes.h and facing_counts.h. Needs GCC's or clang's
+ * atomics, and POSIX threads.
  *
  * A call takes a client that no other thread uses, makes the call, and gives the client back; where all are in use it backs
  * off as facing_wait does. So open the pool with at least as many clients as threads call at the same time. Which client
  * makes a call is not said: two calls of one thread may be made by two clients. Both are made one after the other all the
  * same, and the second sees the first.
  *
- * A pool is used by its address: do not copy it. */
+ * A pool is used by its address: do not copy it. Each call returns FACING_BAD_ARGUMENT where the pool is NULL or empty, and
+ * else what the client's call of that name returns. */
 #ifndef FACING_POOL_H
 #define FACING_POOL_H
 #include "facing.h"
+#include "facing_bytes.h"
+#include "facing_counts.h"
 #include <pthread.h>
 #include <stdlib.h>
 
 #ifdef __cplusplus
-#define FACING_POOL_ROOM(at) static_cast<facing_pool_slot *>(at)
 extern "C" {
-#else
-#define FACING_POOL_ROOM(at) (at)
 #endif
 
-/* A client, and whether a thread uses it; on a cache line of its own. */
+/* A client, and whether a thread uses it; on cache lines of its own. */
 typedef struct facing_pool_slot {
     uint32_t in_use;
-    facing_handle client;
+    union {
+        facing_handle numbers;
+        facing_bytes_handle bytes;
+        facing_counts_handle counts;
+    } client;
     char line[112];
 } facing_pool_slot;
 
@@ -33,43 +37,26 @@ typedef struct facing_pool {
     uint32_t clients;
 } facing_pool;
 
-/* Frees the pool's clients and its map. No call may run any more. */
-FACING_API void facing_pool_free(facing_pool *pool) {
-    uint32_t i;
-    if (pool == FACING_NULL) return;
-    for (i = 0; pool->slots != FACING_NULL && i < pool->clients; i++)
-        facing_free(&pool->slots[i].client);
-    free(pool->slots);
-    pool->slots = FACING_NULL;
-    pool->clients = 0;
-    facing_free(&pool->map);
-}
+typedef struct facing_bytes_pool {
+    facing_bytes_handle map;
+    facing_pool_slot *slots;
+    uint32_t clients;
+} facing_bytes_pool;
 
-/* Opens an empty map with a pool of clients. Fails as facing_open and facing_client do, and then the pool is empty. */
-FACING_CHECKED FACING_API uint32_t facing_pool_open(size_t capacity, uint32_t clients, uint32_t salt, facing_pool *pool) {
-    uint32_t i, status;
-    if (pool == FACING_NULL) return FACING_BAD_ARGUMENT;
-    pool->slots = FACING_NULL;
-    pool->clients = 0;
-    status = facing_open(capacity, clients, salt, &pool->map);
-    if (status != FACING_DONE) return status;
-    pool->slots = FACING_POOL_ROOM(calloc(clients, sizeof *pool->slots));
-    if (pool->slots == FACING_NULL) status = FACING_NO_MEMORY;
-    pool->clients = clients;
-    for (i = 0; status == FACING_DONE && i < clients; i++)
-        status = facing_client(&pool->map, &pool->slots[i].client);
-    if (status != FACING_DONE) facing_pool_free(pool);
-    return status;
-}
+typedef struct facing_counts_pool {
+    facing_counts_handle map;
+    facing_pool_slot *slots;
+    uint32_t clients;
+} facing_counts_pool;
 
-/* Returns a client that no other thread uses, once there is one. Give it back with facing_pool_give. */
-FACING_API facing_pool_slot *facing_pool_take(facing_pool *pool) {
+/* Returns one of so many slots that no other thread uses, once there is one. Give it back with facing_pool_give. */
+FACING_INNER facing_pool_slot *facing_slot(facing_pool_slot *slots, uint32_t clients) {
     unsigned round;
     uint64_t thread = pthread_self(), start = (thread >> 12) * 11400714819323198485u >> 32;
     for (round = 0;; round += round < 64) {
         uint32_t i;
-        for (i = 0; i < pool->clients; i++) {
-            facing_pool_slot *slot = &pool->slots[(start + i) % pool->clients];
+        for (i = 0; i < clients; i++) {
+            facing_pool_slot *slot = &slots[(start + i) % clients];
             if (__atomic_load_n(&slot->in_use, __ATOMIC_SEQ_CST) == 0
                 && __atomic_exchange_n(&slot->in_use, 1, __ATOMIC_SEQ_CST) == 0)
                 return slot;
@@ -86,72 +73,120 @@ FACING_API void facing_pool_give(facing_pool_slot *slot) {
     facing_pool_slot *slot;                                                                                                 \
     uint32_t status;                                                                                                        \
     if (pool == FACING_NULL || pool->clients == 0) return FACING_BAD_ARGUMENT;                                              \
-    slot = facing_pool_take(pool);                                                                                          \
+    slot = facing_slot(pool->slots, pool->clients);                                                                         \
     status = call;                                                                                                          \
     facing_pool_give(slot);                                                                                                 \
+    return status
+
+/* == A pool for facing.h == */
+
+/* Frees the pool's clients and its map. No call may run any more. */
+FACING_API void facing_pool_free(facing_pool *pool) {
+    uint32_t i;
+    if (pool == FACING_NULL) return;
+    for (i = 0; pool->slots != FACING_NULL && i < pool->clients; i++)
+        facing_free(&pool->slots[i].client.numbers);
+    free(pool->slots);
+    pool->slots = FACING_NULL;
+    pool->clients = 0;
+    facing_free(&pool->map);
+}
+
+/* Opens an empty map with a pool of clients. Fails as facing_open and facing_client do, and then the pool is empty. */
+FACING_CHECKED FACING_API uint32_t facing_pool_open(size_t capacity, uint32_t clients, uint32_t salt, facing_pool *pool) {
+    uint32_t i, status;
+    if (pool == FACING_NULL) return FACING_BAD_ARGUMENT;
+    pool->slots = FACING_NULL;
+    pool->clients = 0;
+    status = facing_open(capacity, clients, salt, &pool->map);
+    if (status != FACING_DONE) return status;
+    pool->slots = FACING_TO(facing_pool_slot *, calloc(clients, sizeof *pool->slots));
+    if (pool->slots == FACING_NULL) status = FACING_NO_MEMORY;
+    pool->clients = clients;
+    for (i = 0; status == FACING_DONE && i < clients; i++)
+        status = facing_client(&pool->map, &pool->slots[i].client.numbers);
+    if (status != FACING_DONE) facing_pool_free(pool);
     return status;
+}
 
-/* The answer is the value at the key. */
+/* Returns a slot with a client, `client.numbers`, that no other thread uses, once there is one: for several calls by one
+ * client. The pool is not empty. Give the slot back with facing_pool_give. */
+FACING_API facing_pool_slot *facing_pool_take(facing_pool *pool) {
+    return facing_slot(pool->slots, pool->clients);
+}
+
 FACING_CHECKED FACING_API uint32_t facing_pool_get(facing_pool *pool, uint64_t key, facing_answer *answer) {
-    FACING_POOL_CALL(facing_get(&slot->client, key, answer))
+    FACING_POOL_CALL(facing_get(&slot->client.numbers, key, answer));
 }
 
-/* The answer is whether the key has a value, in `found` alone. */
 FACING_CHECKED FACING_API uint32_t facing_pool_contains(facing_pool *pool, uint64_t key, facing_answer *answer) {
-    FACING_POOL_CALL(facing_contains(&slot->client, key, answer))
+    FACING_POOL_CALL(facing_contains(&slot->client.numbers, key, answer));
 }
 
-/* Removes the key. The answer is the value before. */
-FACING_CHECKED FACING_API uint32_t facing_pool_remove(facing_pool *pool, uint64_t key, facing_answer *answer) {
-    FACING_POOL_CALL(facing_remove(&slot->client, key, answer))
-}
-
-/* Stores the value at the key. The answer is the value before. */
 FACING_CHECKED FACING_API uint32_t facing_pool_put(facing_pool *pool, uint64_t key, uint64_t value, facing_answer *answer) {
-    FACING_POOL_CALL(facing_put(&slot->client, key, value, answer))
+    FACING_POOL_CALL(facing_put(&slot->client.numbers, key, value, answer));
 }
 
-/* Stores the value where the key has none. The answer is the value before. */
 FACING_CHECKED FACING_API uint32_t facing_pool_put_if_absent(facing_pool *pool, uint64_t key, uint64_t value,
                                                              facing_answer *answer) {
-    FACING_POOL_CALL(facing_put_if_absent(&slot->client, key, value, answer))
+    FACING_POOL_CALL(facing_put_if_absent(&slot->client.numbers, key, value, answer));
 }
 
-/* Removes the key where it has this value. The answer is whether it had, in `found` alone. */
+FACING_CHECKED FACING_API uint32_t facing_pool_remove(facing_pool *pool, uint64_t key, facing_answer *answer) {
+    FACING_POOL_CALL(facing_remove(&slot->client.numbers, key, answer));
+}
+
 FACING_CHECKED FACING_API uint32_t facing_pool_remove_if(facing_pool *pool, uint64_t key, uint64_t value,
                                                          facing_answer *answer) {
-    FACING_POOL_CALL(facing_remove_if(&slot->client, key, value, answer))
+    FACING_POOL_CALL(facing_remove_if(&slot->client.numbers, key, value, answer));
 }
 
-/* Stores the value where the key has one. The answer is the value before. */
 FACING_CHECKED FACING_API uint32_t facing_pool_replace(facing_pool *pool, uint64_t key, uint64_t value,
                                                        facing_answer *answer) {
-    FACING_POOL_CALL(facing_replace(&slot->client, key, value, answer))
+    FACING_POOL_CALL(facing_replace(&slot->client.numbers, key, value, answer));
 }
 
-/* Adds to the value at the key, up to 2^64 - 1, or stores the value where there is none. The answer is the value after. */
-FACING_CHECKED FACING_API uint32_t facing_pool_add(facing_pool *pool, uint64_t key, uint64_t value, facing_answer *answer) {
-    FACING_POOL_CALL(facing_add(&slot->client, key, value, answer))
-}
-
-/* Stores the greater of the key's value and this one. The answer is the value after. */
-FACING_CHECKED FACING_API uint32_t facing_pool_greatest(facing_pool *pool, uint64_t key, uint64_t value,
-                                                        facing_answer *answer) {
-    FACING_POOL_CALL(facing_greatest(&slot->client, key, value, answer))
-}
-
-/* Stores the value at the key. The answer is the value after, which is this one. */
-FACING_CHECKED FACING_API uint32_t facing_pool_set(facing_pool *pool, uint64_t key, uint64_t value, facing_answer *answer) {
-    FACING_POOL_CALL(facing_set(&slot->client, key, value, answer))
-}
-
-/* Stores the new value where the key has the old one. The answer is whether it had, in `found` alone. */
 FACING_CHECKED FACING_API uint32_t facing_pool_replace_if(facing_pool *pool, uint64_t key, uint64_t old_value,
                                                           uint64_t new_value, facing_answer *answer) {
-    FACING_POOL_CALL(facing_replace_if(&slot->client, key, old_value, new_value, answer))
+    FACING_POOL_CALL(facing_replace_if(&slot->client.numbers, key, old_value, new_value, answer));
 }
 
-#undef FACING_POOL_CALL
+FACING_CHECKED FACING_API uint32_t facing_pool_add(facing_pool *pool, uint64_t key, uint64_t value, facing_answer *answer) {
+    FACING_POOL_CALL(facing_add(&slot->client.numbers, key, value, answer));
+}
+
+FACING_CHECKED FACING_API uint32_t facing_pool_greatest(facing_pool *pool, uint64_t key, uint64_t value,
+                                                        facing_answer *answer) {
+    FACING_POOL_CALL(facing_greatest(&slot->client.numbers, key, value, answer));
+}
+
+FACING_CHECKED FACING_API uint32_t facing_pool_set(facing_pool *pool, uint64_t key, uint64_t value, facing_answer *answer) {
+    FACING_POOL_CALL(facing_set(&slot->client.numbers, key, value, answer));
+}
+
+FACING_CHECKED FACING_API uint32_t facing_pool_pairs(facing_pool *pool, facing_cursor *cursor, uint64_t *keys,
+                                                     uint64_t *values, size_t room, size_t *copied) {
+    FACING_POOL_CALL(facing_pairs(&slot->client.numbers, cursor, keys, values, room, copied));
+}
+
+FACING_CHECKED FACING_API uint32_t facing_pool_count(facing_pool *pool, uint64_t *count) {
+    FACING_POOL_CALL(facing_count(&slot->client.numbers, count));
+}
+
+FACING_CHECKED FACING_API uint32_t facing_pool_put_all(facing_pool *pool, const uint64_t *keys, const uint64_t *values,
+                                                       size_t len, size_t *done) {
+    FACING_POOL_CALL(facing_put_all(&slot->client.numbers, keys, values, len, done));
+}
+
+FACING_CHECKED FACING_API uint32_t facing_pool_get_all(facing_pool *pool, const uint64_t *keys, facing_answer *answers,
+                                                       size_t len, size_t *done) {
+    FACING_POOL_CALL(facing_get_all(&slot->client.numbers, keys, answers, len, done));
+}
+
+FACING_CHECKED FACING_API uint32_t facing_pool_add_all(facing_pool *pool, const uint64_t *keys, const uint64_t *values,
+                                                       size_t len, size_t *done) {
+    FACING_POOL_CALL(facing_add_all(&slot->client.numbers, keys, values, len, done));
+}
 
 /* Frees the clients and closes the map: `closed` is then the closed map, and the pool is empty. No call may run any more.
  * Where the close fails the map is in `closed` all the same, and facing_close can be tried again, but after
@@ -163,6 +198,252 @@ FACING_CHECKED FACING_API uint32_t facing_pool_close(facing_pool *pool, facing_h
     facing_pool_free(pool);
     return facing_close(closed);
 }
+
+/* == A pool for facing_bytes.h == */
+
+/* Frees the pool's clients and its map. No call may run any more. */
+FACING_API void facing_bytes_pool_free(facing_bytes_pool *pool) {
+    uint32_t i;
+    if (pool == FACING_NULL) return;
+    for (i = 0; pool->slots != FACING_NULL && i < pool->clients; i++)
+        facing_bytes_free(&pool->slots[i].client.bytes);
+    free(pool->slots);
+    pool->slots = FACING_NULL;
+    pool->clients = 0;
+    facing_bytes_free(&pool->map);
+}
+
+/* Opens an empty map with a pool of clients. Fails as facing_bytes_open and facing_bytes_client do, and then the pool is
+ * empty. */
+FACING_CHECKED FACING_API uint32_t facing_bytes_pool_open(size_t capacity, uint32_t clients, facing_bytes_pool *pool) {
+    uint32_t i, status;
+    if (pool == FACING_NULL) return FACING_BAD_ARGUMENT;
+    pool->slots = FACING_NULL;
+    pool->clients = 0;
+    status = facing_bytes_open(capacity, clients, &pool->map);
+    if (status != FACING_DONE) return status;
+    pool->slots = FACING_TO(facing_pool_slot *, calloc(clients, sizeof *pool->slots));
+    if (pool->slots == FACING_NULL) status = FACING_NO_MEMORY;
+    pool->clients = clients;
+    for (i = 0; status == FACING_DONE && i < clients; i++)
+        status = facing_bytes_client(&pool->map, &pool->slots[i].client.bytes);
+    if (status != FACING_DONE) facing_bytes_pool_free(pool);
+    return status;
+}
+
+/* Returns a slot with a client, `client.bytes`, that no other thread uses, once there is one: for several calls by one
+ * client. The pool is not empty. Give the slot back with facing_pool_give. */
+FACING_API facing_pool_slot *facing_bytes_pool_take(facing_bytes_pool *pool) {
+    return facing_slot(pool->slots, pool->clients);
+}
+
+FACING_CHECKED FACING_API uint32_t facing_bytes_pool_get(facing_bytes_pool *pool, const void *key, size_t key_len,
+                                                         void *room, size_t room_len, facing_bytes_answer *answer) {
+    FACING_POOL_CALL(facing_bytes_get(&slot->client.bytes, key, key_len, room, room_len, answer));
+}
+
+FACING_CHECKED FACING_API uint32_t facing_bytes_pool_hold(facing_bytes_pool *pool, const void *key, size_t key_len,
+                                                          facing_bytes_handle *held, facing_bytes_answer *answer) {
+    FACING_POOL_CALL(facing_bytes_hold(&slot->client.bytes, key, key_len, held, answer));
+}
+
+FACING_CHECKED FACING_API uint32_t facing_bytes_pool_contains(facing_bytes_pool *pool, const void *key, size_t key_len,
+                                                              facing_bytes_answer *answer) {
+    FACING_POOL_CALL(facing_bytes_contains(&slot->client.bytes, key, key_len, answer));
+}
+
+FACING_CHECKED FACING_API uint32_t facing_bytes_pool_put(facing_bytes_pool *pool, const void *key, size_t key_len,
+                                                         const void *value, size_t value_len, void *room, size_t room_len,
+                                                         facing_bytes_answer *answer) {
+    FACING_POOL_CALL(facing_bytes_put(&slot->client.bytes, key, key_len, value, value_len, room, room_len, answer));
+}
+
+FACING_CHECKED FACING_API uint32_t facing_bytes_pool_put_if_absent(facing_bytes_pool *pool, const void *key, size_t key_len,
+                                                                   const void *value, size_t value_len, void *room,
+                                                                   size_t room_len, facing_bytes_answer *answer) {
+    FACING_POOL_CALL(
+        facing_bytes_put_if_absent(&slot->client.bytes, key, key_len, value, value_len, room, room_len, answer));
+}
+
+FACING_CHECKED FACING_API uint32_t facing_bytes_pool_remove(facing_bytes_pool *pool, const void *key, size_t key_len,
+                                                            void *room, size_t room_len, facing_bytes_answer *answer) {
+    FACING_POOL_CALL(facing_bytes_remove(&slot->client.bytes, key, key_len, room, room_len, answer));
+}
+
+FACING_CHECKED FACING_API uint32_t facing_bytes_pool_remove_if(facing_bytes_pool *pool, const void *key, size_t key_len,
+                                                               const void *value, size_t value_len,
+                                                               facing_bytes_answer *answer) {
+    FACING_POOL_CALL(facing_bytes_remove_if(&slot->client.bytes, key, key_len, value, value_len, answer));
+}
+
+FACING_CHECKED FACING_API uint32_t facing_bytes_pool_replace(facing_bytes_pool *pool, const void *key, size_t key_len,
+                                                             const void *value, size_t value_len, void *room,
+                                                             size_t room_len, facing_bytes_answer *answer) {
+    FACING_POOL_CALL(facing_bytes_replace(&slot->client.bytes, key, key_len, value, value_len, room, room_len, answer));
+}
+
+FACING_CHECKED FACING_API uint32_t facing_bytes_pool_replace_if(facing_bytes_pool *pool, const void *key, size_t key_len,
+                                                                const void *old_value, size_t old_len, const void *new_value,
+                                                                size_t new_len, facing_bytes_answer *answer) {
+    FACING_POOL_CALL(
+        facing_bytes_replace_if(&slot->client.bytes, key, key_len, old_value, old_len, new_value, new_len, answer));
+}
+
+FACING_CHECKED FACING_API uint32_t facing_bytes_pool_pairs(facing_bytes_pool *pool, facing_cursor *cursor,
+                                                           uint64_t *key_lens, uint64_t *value_lens, size_t len, void *room,
+                                                           size_t room_len, facing_bytes_sizes *copied) {
+    FACING_POOL_CALL(facing_bytes_pairs(&slot->client.bytes, cursor, key_lens, value_lens, len, room, room_len, copied));
+}
+
+FACING_CHECKED FACING_API uint32_t facing_bytes_pool_count(facing_bytes_pool *pool, uint64_t *count) {
+    FACING_POOL_CALL(facing_bytes_count(&slot->client.bytes, count));
+}
+
+/* Frees the clients and closes the map: `closed` is then the closed map, and the pool is empty. No call may run any more.
+ * Where the close fails the map is in `closed` all the same, and facing_bytes_close can be tried again, but after
+ * FACING_BIN_MISSING, when it has ended. */
+FACING_CHECKED FACING_API uint32_t facing_bytes_pool_close(facing_bytes_pool *pool, facing_bytes_handle *closed) {
+    if (pool == FACING_NULL || closed == FACING_NULL) return FACING_BAD_ARGUMENT;
+    *closed = pool->map;
+    pool->map.at = FACING_NULL;
+    facing_bytes_pool_free(pool);
+    return facing_bytes_close(closed);
+}
+
+/* == A pool for facing_counts.h == */
+
+/* Frees the pool's clients and its map. No call may run any more. */
+FACING_API void facing_counts_pool_free(facing_counts_pool *pool) {
+    uint32_t i;
+    if (pool == FACING_NULL) return;
+    for (i = 0; pool->slots != FACING_NULL && i < pool->clients; i++)
+        facing_counts_free(&pool->slots[i].client.counts);
+    free(pool->slots);
+    pool->slots = FACING_NULL;
+    pool->clients = 0;
+    facing_counts_free(&pool->map);
+}
+
+/* Opens an empty map with a pool of clients. Fails as facing_counts_open and facing_counts_client do, and then the pool is
+ * empty. */
+FACING_CHECKED FACING_API uint32_t facing_counts_pool_open(size_t capacity, uint32_t clients, facing_counts_pool *pool) {
+    uint32_t i, status;
+    if (pool == FACING_NULL) return FACING_BAD_ARGUMENT;
+    pool->slots = FACING_NULL;
+    pool->clients = 0;
+    status = facing_counts_open(capacity, clients, &pool->map);
+    if (status != FACING_DONE) return status;
+    pool->slots = FACING_TO(facing_pool_slot *, calloc(clients, sizeof *pool->slots));
+    if (pool->slots == FACING_NULL) status = FACING_NO_MEMORY;
+    pool->clients = clients;
+    for (i = 0; status == FACING_DONE && i < clients; i++)
+        status = facing_counts_client(&pool->map, &pool->slots[i].client.counts);
+    if (status != FACING_DONE) facing_counts_pool_free(pool);
+    return status;
+}
+
+/* Returns a slot with a client, `client.counts`, that no other thread uses, once there is one: for several calls by one
+ * client. The pool is not empty. Give the slot back with facing_pool_give. */
+FACING_API facing_pool_slot *facing_counts_pool_take(facing_counts_pool *pool) {
+    return facing_slot(pool->slots, pool->clients);
+}
+
+FACING_CHECKED FACING_API uint32_t facing_counts_pool_get(facing_counts_pool *pool, const void *key, size_t key_len,
+                                                          facing_answer *answer) {
+    FACING_POOL_CALL(facing_counts_get(&slot->client.counts, key, key_len, answer));
+}
+
+FACING_CHECKED FACING_API uint32_t facing_counts_pool_contains(facing_counts_pool *pool, const void *key, size_t key_len,
+                                                               facing_answer *answer) {
+    FACING_POOL_CALL(facing_counts_contains(&slot->client.counts, key, key_len, answer));
+}
+
+FACING_CHECKED FACING_API uint32_t facing_counts_pool_put(facing_counts_pool *pool, const void *key, size_t key_len,
+                                                          uint64_t value, facing_answer *answer) {
+    FACING_POOL_CALL(facing_counts_put(&slot->client.counts, key, key_len, value, answer));
+}
+
+FACING_CHECKED FACING_API uint32_t facing_counts_pool_put_if_absent(facing_counts_pool *pool, const void *key,
+                                                                    size_t key_len, uint64_t value, facing_answer *answer) {
+    FACING_POOL_CALL(facing_counts_put_if_absent(&slot->client.counts, key, key_len, value, answer));
+}
+
+FACING_CHECKED FACING_API uint32_t facing_counts_pool_remove(facing_counts_pool *pool, const void *key, size_t key_len,
+                                                             facing_answer *answer) {
+    FACING_POOL_CALL(facing_counts_remove(&slot->client.counts, key, key_len, answer));
+}
+
+FACING_CHECKED FACING_API uint32_t facing_counts_pool_remove_if(facing_counts_pool *pool, const void *key, size_t key_len,
+                                                                uint64_t value, facing_answer *answer) {
+    FACING_POOL_CALL(facing_counts_remove_if(&slot->client.counts, key, key_len, value, answer));
+}
+
+FACING_CHECKED FACING_API uint32_t facing_counts_pool_replace(facing_counts_pool *pool, const void *key, size_t key_len,
+                                                              uint64_t value, facing_answer *answer) {
+    FACING_POOL_CALL(facing_counts_replace(&slot->client.counts, key, key_len, value, answer));
+}
+
+FACING_CHECKED FACING_API uint32_t facing_counts_pool_replace_if(facing_counts_pool *pool, const void *key, size_t key_len,
+                                                                 uint64_t old_value, uint64_t new_value,
+                                                                 facing_answer *answer) {
+    FACING_POOL_CALL(facing_counts_replace_if(&slot->client.counts, key, key_len, old_value, new_value, answer));
+}
+
+FACING_CHECKED FACING_API uint32_t facing_counts_pool_add(facing_counts_pool *pool, const void *key, size_t key_len,
+                                                          uint64_t value, facing_answer *answer) {
+    FACING_POOL_CALL(facing_counts_add(&slot->client.counts, key, key_len, value, answer));
+}
+
+FACING_CHECKED FACING_API uint32_t facing_counts_pool_greatest(facing_counts_pool *pool, const void *key, size_t key_len,
+                                                               uint64_t value, facing_answer *answer) {
+    FACING_POOL_CALL(facing_counts_greatest(&slot->client.counts, key, key_len, value, answer));
+}
+
+FACING_CHECKED FACING_API uint32_t facing_counts_pool_set(facing_counts_pool *pool, const void *key, size_t key_len,
+                                                          uint64_t value, facing_answer *answer) {
+    FACING_POOL_CALL(facing_counts_set(&slot->client.counts, key, key_len, value, answer));
+}
+
+FACING_CHECKED FACING_API uint32_t facing_counts_pool_pairs(facing_counts_pool *pool, facing_cursor *cursor,
+                                                            uint64_t *key_lens, uint64_t *values, size_t len, void *room,
+                                                            size_t room_len, facing_bytes_sizes *copied) {
+    FACING_POOL_CALL(facing_counts_pairs(&slot->client.counts, cursor, key_lens, values, len, room, room_len, copied));
+}
+
+FACING_CHECKED FACING_API uint32_t facing_counts_pool_count(facing_counts_pool *pool, uint64_t *count) {
+    FACING_POOL_CALL(facing_counts_count(&slot->client.counts, count));
+}
+
+FACING_CHECKED FACING_API uint32_t facing_counts_pool_put_all(facing_counts_pool *pool, const uint64_t *key_lens, size_t len,
+                                                              const void *keys, size_t keys_len, const uint64_t *values,
+                                                              size_t *done) {
+    FACING_POOL_CALL(facing_counts_put_all(&slot->client.counts, key_lens, len, keys, keys_len, values, done));
+}
+
+FACING_CHECKED FACING_API uint32_t facing_counts_pool_get_all(facing_counts_pool *pool, const uint64_t *key_lens, size_t len,
+                                                              const void *keys, size_t keys_len, facing_answer *answers,
+                                                              size_t *done) {
+    FACING_POOL_CALL(facing_counts_get_all(&slot->client.counts, key_lens, len, keys, keys_len, answers, done));
+}
+
+FACING_CHECKED FACING_API uint32_t facing_counts_pool_add_all(facing_counts_pool *pool, const uint64_t *key_lens, size_t len,
+                                                              const void *keys, size_t keys_len, const uint64_t *values,
+                                                              size_t *done) {
+    FACING_POOL_CALL(facing_counts_add_all(&slot->client.counts, key_lens, len, keys, keys_len, values, done));
+}
+
+/* Frees the clients and closes the map: `closed` is then the closed map, and the pool is empty. No call may run any more.
+ * Where the close fails the map is in `closed` all the same, and facing_counts_close can be tried again, but after
+ * FACING_BIN_MISSING, when it has ended. */
+FACING_CHECKED FACING_API uint32_t facing_counts_pool_close(facing_counts_pool *pool, facing_counts_handle *closed) {
+    if (pool == FACING_NULL || closed == FACING_NULL) return FACING_BAD_ARGUMENT;
+    *closed = pool->map;
+    pool->map.at = FACING_NULL;
+    facing_counts_pool_free(pool);
+    return facing_counts_close(closed);
+}
+
+#undef FACING_POOL_CALL
 
 #ifdef __cplusplus
 }

@@ -1,27 +1,10 @@
 /* Counts words in threads, each with a client of one map of byte strings, and compares the counts with one thread's. A word's
- * count is eight bytes; a thread that counts it on puts the next count where the one that it saw still stands.
+ * count is eight bytes; a thread that counts it on puts the next count where the one that it saw still stands. facing_counts.h
+ * counts in one call, as word_count.c shows; this is how any value is changed by what it was.
  *
  * usage: bytes [FILE]; a text of its own where there is none. */
 #include "words.h"
 #include "facing_bytes.h"
-#include <string.h>
-
-struct word {
-    const char *at;
-    size_t len;
-};
-
-/* Finds the next word from a place on; it has no letters where there is none. */
-static struct word next_word(const char *text, size_t *from, size_t to) {
-    struct word word;
-    size_t i = *from;
-    while (i < to && !isalpha((unsigned char)text[i])) i++;
-    word.at = text + i;
-    while (i < to && isalpha((unsigned char)text[i]) && i < (size_t)(word.at - text) + FACING_LONGEST) i++;
-    word.len = (size_t)(text + i - word.at);
-    *from = i;
-    return word;
-}
 
 /* Counts a word on. */
 static uint32_t count_word(facing_bytes_handle *client, struct word word) {
@@ -51,7 +34,7 @@ static void *count_part(void *it) {
 static uint32_t count_all(facing_bytes_handle *map, const char *text, size_t len) {
     facing_bytes_handle clients[THREADS];
     struct part parts[THREADS];
-    uint32_t status = facing_bytes_open(16, THREADS, 0, map);
+    uint32_t status = facing_bytes_open(16, THREADS, map);
     cut(text, len, parts);
     for (int i = 0; i < THREADS && status == FACING_DONE; i++) {
         parts[i].client = &clients[i];
@@ -61,31 +44,21 @@ static uint32_t count_all(facing_bytes_handle *map, const char *text, size_t len
     return status == FACING_DONE ? facing_bytes_close(map) : status;
 }
 
-static int by_letters(const void *a, const void *b) {
-    const struct word *x = (const struct word *)a, *y = (const struct word *)b;
-    int order = memcmp(x->at, y->at, x->len < y->len ? x->len : y->len);
-    return order != 0 ? order : (x->len > y->len) - (x->len < y->len);
-}
-
 /* Compares the closed map with one thread's counts, and returns how many words differ. */
 static size_t differences(facing_bytes_handle *map, const char *text, size_t len, size_t *words, size_t *different) {
-    struct word *all = (struct word *)malloc((len / 2 + 1) * sizeof *all), word;
+    struct word *all = sorted_words(text, len, words);
     uint64_t count;
-    size_t n = 0, from = 0, wrong = 0;
-    if (all == NULL) exit(2);
+    size_t wrong = 0;
     *different = 0;
-    while ((word = next_word(text, &from, len)).len != 0) all[n++] = word;
-    qsort(all, n, sizeof *all, by_letters);
-    for (size_t i = 0, j; i < n; i = j) {
+    for (size_t i = 0, j; i < *words; i = j) {
         facing_bytes_answer answer;
-        for (j = i; j < n && by_letters(&all[j], &all[i]) == 0; j++) {}
+        for (j = i; j < *words && by_letters(&all[j], &all[i]) == 0; j++) {}
         wrong += facing_bytes_find(map, all[i].at, all[i].len, &count, sizeof count, &answer) != FACING_DONE
             || answer.found != 1 || answer.len != sizeof count || count != j - i;
         ++*different;
     }
     wrong += facing_bytes_count(map, &count) != FACING_DONE || count != *different;
     free(all);
-    *words = n;
     return wrong;
 }
 

@@ -1,4 +1,4 @@
-/* Texts, and threads that go over their parts. */
+/* Texts, their words, and threads that go over their parts. */
 #ifndef WORDS_H
 #define WORDS_H
 
@@ -7,8 +7,44 @@
 #include <stdint.h>
 #include <stdio.h>
 #include <stdlib.h>
+#include <string.h>
 
-enum { THREADS = 4 };
+enum { THREADS = 4, LONGEST_WORD = 65536 };
+
+/* A word of a text. */
+struct word {
+    const char *at;
+    size_t len;
+};
+
+/* Finds the next word from a place on; it has no letters where there is none. */
+static struct word next_word(const char *text, size_t *from, size_t to) {
+    struct word word;
+    size_t i = *from;
+    while (i < to && !isalpha((unsigned char)text[i])) i++;
+    word.at = text + i;
+    while (i < to && isalpha((unsigned char)text[i]) && i < (size_t)(word.at - text) + LONGEST_WORD) i++;
+    word.len = (size_t)(text + i - word.at);
+    *from = i;
+    return word;
+}
+
+static int by_letters(const void *a, const void *b) {
+    const struct word *x = (const struct word *)a, *y = (const struct word *)b;
+    int order = memcmp(x->at, y->at, x->len < y->len ? x->len : y->len);
+    return order != 0 ? order : (x->len > y->len) - (x->len < y->len);
+}
+
+/* All words of a text, in the order of their letters. */
+static struct word *sorted_words(const char *text, size_t len, size_t *words) {
+    struct word *all = (struct word *)malloc((len / 2 + 1) * sizeof *all), word;
+    size_t n = 0, from = 0;
+    if (all == NULL) exit(2);
+    while ((word = next_word(text, &from, len)).len != 0) all[n++] = word;
+    qsort(all, n, sizeof *all, by_letters);
+    *words = n;
+    return all;
+}
 
 /* A part of a text, which a thread goes over with a client, up to the first status that is not 0. */
 struct part {

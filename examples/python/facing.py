@@ -1,4 +1,5 @@
-"""Concurrent hash maps that Python's threads share: 64-bit numbers to 64-bit numbers (Map), and bytes to bytes (BytesMap).
+"""Concurrent hash maps that Python's threads share: 64-bit numbers to 64-bit numbers (Map), bytes to 64-bit numbers (CountsMap), and
+bytes to bytes (BytesMap).
 
 They stand on the shared library that tools/install makes. ctypes lets other threads run during each call. A client serves one
 call at a time, for which it has a lock; give each thread a client of its own. Where all threads spend their time in Python code a
@@ -14,8 +15,10 @@ import threading
 
 U64, U32, SIZE = ctypes.c_uint64, ctypes.c_uint32, ctypes.c_size_t
 LONGEST = 65536
+LAST = 2**64 - 1
 NAMES = (
-    "DONE BUSY NO_MEMORY CLIENT_FULL BAD_CAPACITY BAD_CLIENTS CLIENT_OUT BIN_MISSING WRONG_HANDLE BAD_ARGUMENT TOO_LONG NO_CLIENT"
+    "DONE BUSY NO_MEMORY CLIENT_FULL BAD_CAPACITY BAD_CLIENTS CLIENT_OUT BIN_MISSING WRONG_HANDLE BAD_ARGUMENT TOO_LONG NO_CLIENT "
+    "NO_SEED NO_ROOM"
 ).split()
 
 
@@ -37,6 +40,14 @@ class _Handle(ctypes.Structure):
 
 class _Answer(ctypes.Structure):
     _fields_ = [("found", U32), ("value", U64)]
+
+
+class _Cursor(ctypes.Structure):
+    _fields_ = [("at", U64)]
+
+
+class _Sizes(ctypes.Structure):
+    _fields_ = [("pairs", U64), ("bytes", U64)]
 
 
 def _places():
@@ -66,31 +77,28 @@ _LIB.facing_version.argtypes, _LIB.facing_version.restype = [], ctypes.c_char_p
 
 
 def _declare():
-    """Declares the functions of facing.h and facing_bytes.h."""
+    """Declares the functions of facing.h, facing_bytes.h and facing_counts.h."""
     handle, answer, numbers, size = (ctypes.POINTER(it) for it in (_Handle, _Answer, U64, SIZE))
-    data = [ctypes.c_char_p, SIZE]
-    room = [ctypes.c_char_p, SIZE]
-    both = {
-        "open": [SIZE, U32, U32, handle], "client": [handle, handle], "close": [handle], "free": [handle],
-        "count": [handle, numbers], "reopen": [handle, U32, handle],
-    }
-    forms = {f"facing_{name}": form for name, form in both.items()}
-    forms |= {f"facing_bytes_{name}": form for name, form in both.items()}
-    forms |= {f"facing_{name}": [handle, U64, answer] for name in ("get", "contains", "remove", "find")}
-    forms |= {
-        f"facing_{name}": [handle, U64, U64, answer]
-        for name in ("put", "put_if_absent", "remove_if", "replace", "add", "greatest", "set")
-    }
-    forms["facing_replace_if"] = [handle, U64, U64, U64, answer]
-    forms["facing_pairs"] = [handle, numbers, numbers, SIZE, size]
+    data, cursor, sizes = [ctypes.c_char_p, SIZE], ctypes.POINTER(_Cursor), ctypes.POINTER(_Sizes)
+    forms = {}
+    for kind, key in (("facing", [U64]), ("facing_counts", data), ("facing_bytes", data)):
+        forms |= {f"{kind}_{name}": [handle] for name in ("close", "free")}
+        forms |= {f"{kind}_client": [handle, handle], f"{kind}_count": [handle, numbers], f"{kind}_reopen": [handle, U32, handle]}
+        forms[f"{kind}_open"] = [SIZE, U32, *([U32] if kind == "facing" else []), handle]
+        value, room = (data, data) if kind == "facing_bytes" else ([U64], [])
+        forms |= {f"{kind}_{name}": [handle, *key, *room, answer] for name in ("get", "remove", "find")}
+        forms |= {f"{kind}_{name}": [handle, *key, *value, *room, answer] for name in ("put", "put_if_absent", "replace")}
+        forms[f"{kind}_contains"] = [handle, *key, answer]
+        forms[f"{kind}_remove_if"] = [handle, *key, *value, answer]
+        forms[f"{kind}_replace_if"] = [handle, *key, *value, *value, answer]
+        if not room:
+            forms |= {f"{kind}_{name}": [handle, *key, U64, answer] for name in ("add", "greatest", "set")}
+    forms["facing_pairs"] = [handle, cursor, numbers, numbers, SIZE, size]
+    forms |= {f"{kind}_pairs": [handle, cursor, numbers, numbers, SIZE, *data, sizes] for kind in ("facing_counts", "facing_bytes")}
     forms |= {f"facing_{name}_all": [handle, numbers, numbers, SIZE, size] for name in ("put", "add")}
     forms["facing_get_all"] = [handle, numbers, answer, SIZE, size]
-    forms |= {f"facing_bytes_{name}": [handle, *data, *room, answer] for name in ("get", "remove", "find")}
-    forms |= {f"facing_bytes_{name}": [handle, *data, *data, *room, answer] for name in ("put", "put_if_absent", "replace")}
-    forms["facing_bytes_contains"] = [handle, *data, answer]
-    forms["facing_bytes_remove_if"] = [handle, *data, *data, answer]
-    forms["facing_bytes_replace_if"] = [handle, *data, *data, *data, answer]
-    forms["facing_bytes_pairs"] = [handle, U64, numbers, numbers, SIZE, *room, size]
+    forms |= {f"facing_counts_{name}_all": [handle, numbers, SIZE, *data, numbers, size] for name in ("put", "add")}
+    forms["facing_counts_get_all"] = [handle, numbers, SIZE, *data, answer, size]
     for name, form in forms.items():
         function = getattr(_LIB, name)
         function.argtypes, function.restype = form, None if name.endswith("_free") else U32
@@ -110,6 +118,13 @@ def number(value):
     if not 0 <= value < 1 << 64:
         raise OverflowError(f"{value} is not a number of 64 bits: 0 to 2**64 - 1")
     return value
+
+
+def text(value):
+    """Returns a value that is bytes, or like them; else it raises TypeError."""
+    if not isinstance(value, (bytes, bytearray, memoryview)):
+        raise TypeError(f"a {type(value).__name__} is not bytes")
+    return bytes(value)
 
 
 def numbers(values):
@@ -160,24 +175,49 @@ class _Owned:
         with self._lock:
             getattr(_LIB, f"{self._kind}_free")(self._handle)
 
-    def _do(self, name, *arguments):
+    def _status(self, name, *arguments):
         with self._lock:
-            _check(getattr(_LIB, f"{self._kind}_{name}")(self._handle, *arguments))
+            return getattr(_LIB, f"{self._kind}_{name}")(self._handle, *arguments)
+
+    def _do(self, name, *arguments):
+        _check(self._status(name, *arguments))
 
     def _count(self):
         count = U64()
         self._do("count", count)
         return count.value
 
+    def _walk(self):
+        """Goes over all pairs, some buckets at a time."""
+        cursor = _Cursor()
+        while cursor.at != LAST:
+            yield from self._next_pairs(cursor)
+
+    def _next_pairs(self, cursor, count=4096, size=1 << 20):
+        """Returns the pairs of the next buckets, as many as find room; where one bucket finds none there is more room."""
+        keys, values, copied = (U64 * max(count, 1))(), (U64 * max(count, 1))(), _Sizes()
+        room = ctypes.create_string_buffer(max(size, 1))
+        status = self._status("pairs", cursor, keys, values, count, room, size, copied)
+        if status == NAMES.index("NO_ROOM"):
+            return self._next_pairs(cursor, copied.pairs, copied.bytes)
+        _check(status)
+        raw, at, pairs = ctypes.string_at(room, copied.bytes), 0, []
+        for key, value in zip(keys[: copied.pairs], values[: copied.pairs]):
+            end = at + key
+            pairs.append((raw[at:end], value if self._kind == "facing_counts" else raw[end : end + value]))
+            at = end + (0 if self._kind == "facing_counts" else value)
+        return pairs
+
 
 class Map(_Owned):
-    """An open map, with a table of so many buckets to begin with, and so many clients."""
+    """An open map of numbers, with a table of so many buckets to begin with, and so many clients."""
 
     def __init__(self, capacity=16, clients=4, salt=0):
         super().__init__()
-        for it in (capacity, clients, salt):
-            number(it)
-        _check(getattr(_LIB, f"{self._kind}_open")(capacity, min(clients, 2**32 - 1), salt & 0xFFFFFFFF, self._handle))
+        self._open(capacity, clients, number(salt) & 0xFFFFFFFF)
+
+    def _open(self, capacity, clients, *salt):
+        _check(getattr(_LIB, f"{self._kind}_open")(number(capacity), min(number(clients), 2**32 - 1), *salt, self._handle))
 
     def client(self):
         """Returns a client that is not in use, for one thread at a time."""
@@ -225,18 +265,34 @@ class _Calls(_Owned):
         """Returns how many keys the map has; an estimate while calls run."""
         return self._count()
 
+    def pairs(self):
+        """Goes over the pairs of the open map, some buckets at a time: each bucket as it is when it is read."""
+        return self._walk()
+
 
 class Client(_Calls):
     """A client of a map of numbers. It goes back to its map when it is freed."""
 
-    def _call(self, name, *arguments):
+    @staticmethod
+    def _key(key):
+        return (number(key),)
+
+    def _call(self, name, key, *values):
         answer = _Answer()
-        self._do(name, *map(number, arguments), answer)
+        self._do(name, *self._key(key), *map(number, values), answer)
         return answer
 
     def _value(self, name, *arguments):
         answer = self._call(name, *arguments)
         return answer.value if answer.found else None
+
+    def _next_pairs(self, cursor, count=4096):
+        return _number_pairs(self, cursor, count)
+
+    def _packed(self, keys):
+        """Returns what stands for keys in calls on many, what must stay meanwhile, and how many there are."""
+        keys, at_keys = numbers(keys)
+        return (at_keys,), keys, len(keys)
 
     def get(self, key, default=None):
         value = self._value("get", key)
@@ -291,16 +347,51 @@ class Client(_Calls):
 
     def _all(self, name, pairs):
         pairs = list(pairs.items() if isinstance(pairs, collections.abc.Mapping) else pairs)
-        (keys, at_keys), (values, at_values) = numbers(it for it, _ in pairs), numbers(it for _, it in pairs)
-        self._do(name, at_keys, at_values, len(keys), SIZE())
-        del values
+        given, kept, count = self._packed(it for it, _ in pairs)
+        values, at_values = numbers(it for _, it in pairs)
+        self._many(name, given, at_values, count)
+        del kept, values
+
+    def _many(self, name, given, values, count):
+        self._do(name, *given, values, count, SIZE())
 
     def get_all(self, keys):
         """Returns the values at the keys, None where there is none."""
-        keys, at_keys = numbers(keys)
-        answers = (_Answer * max(len(keys), 1))()
-        self._do("get_all", at_keys, answers, len(keys), SIZE())
-        return [it.value if it.found else None for it in answers[: len(keys)]]
+        given, kept, count = self._packed(keys)
+        answers = (_Answer * max(count, 1))()
+        self._many("get_all", given, answers, count)
+        del kept
+        return [it.value if it.found else None for it in answers[:count]]
+
+
+def _number_pairs(owned, cursor, count):
+    keys, values, copied = (U64 * max(count, 1))(), (U64 * max(count, 1))(), SIZE()
+    status = owned._status("pairs", cursor, keys, values, count, copied)
+    if status == NAMES.index("NO_ROOM"):
+        return _number_pairs(owned, cursor, copied.value)
+    _check(status)
+    return list(zip(keys[: copied.value], values[: copied.value]))
+
+
+class CountsClient(Client):
+    """A client of a map from bytes to numbers. A key has at most 65,536 bytes."""
+
+    _kind = "facing_counts"
+    _next_pairs = _Owned._next_pairs
+
+    @staticmethod
+    def _key(key):
+        key = text(key)
+        return key, len(key)
+
+    def _packed(self, keys):
+        keys = [text(it) for it in keys]
+        lens, at_lens = numbers(map(len, keys))
+        joined = b"".join(keys)
+        return (at_lens, len(keys), joined, len(joined)), (lens, joined), len(keys)
+
+    def _many(self, name, given, values, count):
+        self._do(name, *given, values, SIZE())
 
 
 class _Mapping(_Owned, collections.abc.Mapping):
@@ -322,6 +413,10 @@ class _Mapping(_Owned, collections.abc.Mapping):
     def items(self):
         return self.pairs()
 
+    def pairs(self):
+        """Returns all pairs as a list."""
+        return list(self._walk())
+
     def _reopened(self, opened, clients):
         self._do("reopen", min(number(clients), 2**32 - 1), opened._handle)
         return opened
@@ -335,12 +430,8 @@ class Closed(_Mapping):
         self._do("find", number(key), answer)
         return answer.value if answer.found else None
 
-    def pairs(self):
-        """Returns all pairs as a list."""
-        count, copied = len(self), SIZE()
-        keys, values = (U64 * max(count, 1))(), (U64 * max(count, 1))()
-        self._do("pairs", keys, values, count, copied)
-        return list(zip(keys[: copied.value], values[: copied.value]))
+    def _next_pairs(self, cursor, count=4096):
+        return _number_pairs(self, cursor, count)
 
     def reopen(self, clients=4):
         """Returns an open map with copies of the pairs."""
@@ -349,8 +440,41 @@ class Closed(_Mapping):
         return self._reopened(opened, clients)
 
 
-class BytesMap(Map):
-    """An open map from bytes to bytes of at most 65,536."""
+class CountsMap(Map):
+    """An open map from bytes of at most 65,536 to numbers. It draws a secret seed."""
+
+    _kind = "facing_counts"
+
+    def __init__(self, capacity=16, clients=4):
+        _Owned.__init__(self)
+        self._open(capacity, clients)
+
+    def _client(self):
+        return CountsClient()
+
+    def _closed(self):
+        return ClosedCounts()
+
+
+class ClosedCounts(_Mapping):
+    """A closed map from bytes to numbers."""
+
+    _kind = "facing_counts"
+
+    def _find(self, key):
+        answer, key = _Answer(), text(key)
+        self._do("find", key, len(key), answer)
+        return answer.value if answer.found else None
+
+    def reopen(self, clients=4):
+        """Returns an open map with copies of the pairs."""
+        opened = CountsMap.__new__(CountsMap)
+        _Owned.__init__(opened)
+        return self._reopened(opened, clients)
+
+
+class BytesMap(CountsMap):
+    """An open map from bytes to bytes of at most 65,536. It draws a secret seed."""
 
     _kind = "facing_bytes"
 
@@ -372,13 +496,13 @@ class BytesClient(_Calls):
 
     def _call(self, name, *data, room=True):
         answer = _Answer()
-        given = [part for it in data for part in (bytes(it), len(it))]
+        given = [part for it in map(text, data) for part in (it, len(it))]
         with self._lock:
             more = [self._room, LONGEST] if room else []
             _check(getattr(_LIB, f"facing_bytes_{name}")(self._handle, *given, *more, answer))
             if not room:
                 return answer.found == 1
-            return self._room.raw[: answer.value] if answer.found else None
+            return ctypes.string_at(self._room, answer.value) if answer.found else None
 
     def get(self, key, default=None):
         value = self._call("get", key)
@@ -418,24 +542,9 @@ class ClosedBytes(_Mapping):
     _kind = "facing_bytes"
 
     def _find(self, key):
-        answer, room = _Answer(), ctypes.create_string_buffer(LONGEST)
-        self._do("find", bytes(key), len(key), room, LONGEST, answer)
-        return room.raw[: answer.value] if answer.found else None
-
-    def pairs(self):
-        """Returns all pairs as a list."""
-        pairs, count = [], 4096
-        room = ctypes.create_string_buffer(16 * LONGEST)
-        keys, values = (U64 * count)(), (U64 * count)()
-        while True:
-            copied = SIZE()
-            self._do("pairs", len(pairs), keys, values, count, room, len(room), copied)
-            if not copied.value:
-                return pairs
-            raw, at = room.raw, 0
-            for key, value in zip(keys[: copied.value], values[: copied.value]):
-                pairs.append((raw[at : at + key], raw[at + key : at + key + value]))
-                at += key + value
+        answer, room, key = _Answer(), ctypes.create_string_buffer(LONGEST), text(key)
+        self._do("find", key, len(key), room, LONGEST, answer)
+        return ctypes.string_at(room, answer.value) if answer.found else None
 
     def reopen(self, clients=4):
         """Returns an open map with copies of the pairs."""

@@ -35,7 +35,7 @@ class Calls(unittest.TestCase):
         self.refuses("BAD_CAPACITY", facing.Map, 0, 1)
         self.refuses("BAD_CAPACITY", facing.Map, 2**26 + 1, 1)
         self.refuses("BAD_CLIENTS", facing.Map, 16, 0)
-        self.refuses("BAD_CLIENTS", facing.Map, 16, 33)
+        self.refuses("BAD_CLIENTS", facing.Map, 16, 65537)
 
     def test_a_map_closes_when_its_clients_are_back(self):
         shared = facing.Map(16, 1)
@@ -96,6 +96,36 @@ class Calls(unittest.TestCase):
                 self.assertEqual(dict(closed), {1: 6, 2: 6, 3: 9})
 
 
+    def test_pairs_of_an_open_map(self):
+        with facing.Map(16, 1) as shared, shared.client() as client:
+            client.put_all((key, 2 * key) for key in range(10000))
+            self.assertEqual(dict(client.pairs()), {key: 2 * key for key in range(10000)})
+
+
+class Counts(unittest.TestCase):
+    def test_counts(self):
+        words = [b"word %d" % (i % 7) for i in range(1000)] + [b""] * 3
+        expected = collections.Counter(words)
+        with facing.CountsMap(16, 1) as shared:
+            with shared.client() as client:
+                for word in words:
+                    client.add(word)
+                self.assertEqual(dict(client.pairs()), expected)
+                client.add_all(expected)
+                client.put_all([(b"x" * 65536, 5)])
+                self.assertEqual(client.get_all([b"", b"word 1", b"?", b"x" * 65536]), [6, 2 * expected[b"word 1"], None, 5])
+                self.assertEqual(client.get_all([]), [])
+                self.assertTrue(client.remove_if(b"x" * 65536, 5))
+                for wrong in (7, "text", None):
+                    with self.assertRaises(TypeError):
+                        client.add(wrong)
+            with shared.close() as closed:
+                self.assertEqual(dict(closed), {word: 2 * count for word, count in expected.items()})
+                self.assertEqual((len(closed), closed[b""], closed.get(b"?")), (8, 6, None))
+                with closed.reopen(1) as again, again.client() as client:
+                    self.assertEqual(client.add(b""), 7)
+
+
 class Bytes(unittest.TestCase):
     def test_calls_on_bytes(self):
         with facing.BytesMap(16, 1) as shared:
@@ -112,6 +142,14 @@ class Bytes(unittest.TestCase):
                 self.assertFalse(client.remove_if(b"", b"1"))
                 self.assertEqual(client.remove(b""), b"")
                 self.assertFalse(client.contains(b""))
+                with self.assertRaises(TypeError):
+                    client.put(5, b"")
+                many = {b"key %d" % key: b"v" * (key * 100) for key in range(300)}
+                for key, value in many.items():
+                    client.put(key, value)
+                self.assertEqual(dict(client.pairs()), {**many, b"a": b"x" * 65536})
+                for key in many:
+                    client.remove(key)
             with shared.close() as closed:
                 self.assertEqual(closed.items(), [(b"a", b"x" * 65536)])
                 self.assertEqual((len(closed), closed[b"a"], closed.get(b"b")), (1, b"x" * 65536, None))

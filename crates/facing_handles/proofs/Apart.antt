@@ -18,14 +18,14 @@ use Rattle.std.proofs.alloc.Calls.{Fits, token, handle_tells}
 use Rattle.std.proofs.BoxSteps.Form.{Bx, D, X, P, R, τ, handle, word}
 use Rattle.std.proofs.BoxSteps.Steps.{box_in, box_out}
 use Rattle.std.specs.Box.Ownership.{box_owns}
-use Rattle.facing_handles.specs.contracts.Loose as loose
+use Rattle.facing_handles.specs.contracts.RawBox as raw_box
 
 module _ (E : Bx) where
   abbrev pub Pair : RattleType
   Pair = Tuple (RawPtr ∷ P E ∷ [])
 
   abbrev pub Parts : RattleType
-  Parts = loose.the_row (R E) (P E) E.al.g
+  Parts = raw_box.the_row (R E) (P E) E.al.g
 
   -- the parts of a box whose block begins at this place
   abbrev pub parts_at : ℕ → ℕ → E.al.row.Denot → X E → (Parts).Denot

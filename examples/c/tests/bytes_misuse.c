@@ -49,11 +49,14 @@ static void free_slot(struct slot *it) {
 
 static void open_map(struct slot *it) {
     uint32_t expected = seldom() ? FACING_BAD_CAPACITY : seldom() ? FACING_BAD_CLIENTS : FACING_DONE;
-    uint32_t clients = expected == FACING_BAD_CLIENTS ? (below(2) ? 0 : 33) : (uint32_t)below(4) + 1;
+    uint32_t clients = expected == FACING_BAD_CLIENTS ? (below(2) ? 0 : 65537) : (uint32_t)below(4) + 1;
+    const uint64_t seed[2] = {draw(), draw()};
     size_t capacity = expected == FACING_BAD_CAPACITY ? (below(2) ? 0 : ((size_t)1 << 26) + 1) : (size_t)below(64) + 1;
-    if (seldom()) want_status(facing_bytes_open(capacity, clients, 0, NULL), FACING_BAD_ARGUMENT, "open");
+    if (seldom()) want_status(facing_bytes_open(capacity, clients, NULL), FACING_BAD_ARGUMENT, "open");
+    if (seldom()) want_status(facing_bytes_open_seeded(capacity, clients, below(2) ? seed : NULL, NULL), FACING_BAD_ARGUMENT, "open");
     free_slot(it);
-    want_status(facing_bytes_open(capacity, clients, (uint32_t)below(1000), &it->handle), expected, "open");
+    if (seldom()) want_status(facing_bytes_open_seeded(capacity, clients, NULL, &it->handle), FACING_BAD_ARGUMENT, "open");
+    want_status(facing_bytes_open_seeded(capacity, clients, seed, &it->handle), expected, "open");
     if (expected == FACING_DONE) fill(it, MAP, content_like(NULL, clients));
     want_kept(it);
 }
@@ -148,24 +151,25 @@ static void make_call(struct slot *it) {
         want_room(none, 0, "what a long key leaves");
     } else {
         int is_there = 0;
+        if (kind == 0 && old != 0 && value_of(old).len > len) expected = FACING_NO_ROOM;
         want_status(call(kind, &it->handle, key == 0 && below(2) ? none : k, v, w, len, &answer), expected, "a call");
         if (it->kind == CLIENT) is_there = note(kind, it->of, key, value, other);
         want(answer.found == (uint32_t)is_there, "what a call finds");
         want(answer.len == (is_there && !is_truth(kind) ? value_of(old).len : 0), "the length of a value");
-        want_room(is_there && !is_truth(kind) ? value_of(old) : none, len, "the value before");
+        want_room(is_there && !is_truth(kind) && expected != FACING_NO_ROOM ? value_of(old) : none, len, "the value before");
     }
     want_kept(it);
 }
 
 /* A call that is not made leaves the answer as it was: one of what is no client, or with a key that is too long. */
 static void call_in_vain(struct slot *it) {
-    facing_bytes_handle out = {NULL};
-    facing_bytes_answer answer = {7, 7};
+    facing_handle given = {it->handle.at}, out = {NULL};
+    facing_answer answer = {7, 7};
     size_t len = (size_t)FACING_LONGEST + (it->kind == CLIENT ? 1 : below(2));
-    want_status(facing_c_bytes_try_contains(it->handle, &out, pattern, len, &answer),
+    want_status(facing_c_bytes_try_contains(given, &out, pattern, len, &answer),
                 it->kind == CLIENT ? FACING_TOO_LONG : FACING_WRONG_HANDLE, "a call in vain");
-    it->handle = out;
-    want(answer.found == 7 && answer.len == 7, "what a call in vain leaves");
+    it->handle.at = out.at;
+    want(answer.found == 7 && answer.value == 7, "what a call in vain leaves");
     want_kept(it);
 }
 
@@ -175,12 +179,22 @@ static uint64_t live(const struct content *of) {
     return count;
 }
 
+static int is_map(const struct slot *it) {
+    return it->kind != NOTHING && it->kind != HELD;
+}
+
+static uint64_t bytes_of(const struct content *of) {
+    uint64_t bytes = 0;
+    for (unsigned i = 0; i < KEYS; i++) bytes += of->values[i] != 0 ? key_of(i).len + value_of(of->values[i]).len : 0;
+    return bytes;
+}
+
 static void count_keys(struct slot *it) {
     uint64_t count = 7;
     int is_null = seldom();
     want_status(facing_bytes_count(is_null ? NULL : &it->handle, &count),
-                is_null ? FACING_BAD_ARGUMENT : it->kind == NOTHING ? FACING_WRONG_HANDLE : FACING_DONE, "count");
-    want(count == (is_null || it->kind == NOTHING ? 0 : live(it->of)), "a count");
+                is_null ? FACING_BAD_ARGUMENT : is_map(it) ? FACING_DONE : FACING_WRONG_HANDLE, "count");
+    want(count == (is_null || !is_map(it) ? 0 : live(it->of)), "a count");
     want_kept(it);
 }
 
@@ -195,16 +209,17 @@ static void close_map(struct slot *it) {
 static void find_key(struct slot *it) {
     unsigned key = (unsigned)below(KEYS), value = it->kind == CLOSED ? it->of->values[key] : 0;
     struct text k = key_of(key), none = {NULL, 0};
-    int is_long = seldom();
+    int is_long = seldom(), fits;
     size_t len = some_len();
     facing_bytes_answer answer = {7, 7};
     if (is_long) k.at = pattern, k.len = FACING_LONGEST + 1, value = 0;
     memset(room, 7, (size_t)2 * SMALL);
     memset(room + FACING_LONGEST - SMALL, 7, (size_t)2 * SMALL);
+    fits = value == 0 || value_of(value).len <= len;
     want_status(facing_bytes_find(&it->handle, k.at, k.len, room, len, &answer),
-                it->kind != CLOSED ? FACING_WRONG_HANDLE : is_long ? FACING_TOO_LONG : FACING_DONE, "find");
+                it->kind != CLOSED ? FACING_WRONG_HANDLE : is_long ? FACING_TOO_LONG : fits ? FACING_DONE : FACING_NO_ROOM, "find");
     want(answer.found == (value != 0) && answer.len == (value != 0 ? value_of(value).len : 0), "what is found");
-    want_room(value != 0 ? value_of(value) : none, len, "the value that is found");
+    want_room(value != 0 && fits ? value_of(value) : none, len, "the value that is found");
     want_kept(it);
 }
 
@@ -218,26 +233,72 @@ static int is_pair(const struct content *of, const uint8_t *at, uint64_t key_len
     return 0;
 }
 
-/* Walks over a closed map, some pairs at a time. */
+/* Walks over a map, some pairs at a time, in room for few or for many. What finds no room tells how much it needs. */
 static void walk(struct slot *it) {
-    uint64_t key_lens[KEYS], value_lens[KEYS], from = 0;
-    static uint8_t pairs[4 * FACING_LONGEST];
-    size_t len = 1 + (size_t)below(KEYS), copied = 7;
-    uint32_t expected = it->kind == CLOSED ? FACING_DONE : FACING_WRONG_HANDLE;
+    uint64_t key_lens[KEYS], value_lens[KEYS], all = 0;
+    static uint8_t pairs[KEYS * 2 * FACING_LONGEST];
+    int can = it->kind == CLOSED || it->kind == CLIENT;
+    size_t len = (size_t)below(KEYS + 1), most = below(2) ? sizeof pairs : (size_t)below(4 * FACING_LONGEST);
+    facing_cursor cursor = {0};
+    facing_bytes_sizes copied = {7, 7}, sizes = {0, 0};
     if (seldom())
-        want_status(facing_bytes_pairs(&it->handle, 0, key_lens, key_lens, len, pairs, sizeof pairs, &copied), FACING_BAD_ARGUMENT,
+        want_status(facing_bytes_pairs(&it->handle, &cursor, key_lens, key_lens, KEYS, pairs, most, &copied), FACING_BAD_ARGUMENT,
                     "pairs with one room for both lengths");
     do {
         size_t at = 0;
-        want_status(facing_bytes_pairs(&it->handle, from, key_lens, value_lens, len, pairs, sizeof pairs, &copied), expected,
-                    "pairs");
-        for (size_t i = 0; i < copied; i++) {
+        uint32_t status = facing_bytes_pairs(&it->handle, &cursor, key_lens, value_lens, len, pairs, most, &copied);
+        if (can && status == FACING_NO_ROOM && (len < KEYS || most < sizeof pairs)) {
+            want(copied.pairs > len || copied.bytes > most, "what finds no room");
+            len = KEYS;
+            most = sizeof pairs;
+            continue;
+        }
+        want_status(status, can ? FACING_DONE : FACING_WRONG_HANDLE, "pairs");
+        for (size_t i = 0; i < copied.pairs; i++) {
             want(is_pair(it->of, pairs + at, key_lens[i], value_lens[i]), "a pair");
             at += key_lens[i] + value_lens[i];
         }
-        from += copied;
-    } while (copied != 0);
-    want(from == (it->kind == CLOSED ? live(it->of) : 0), "how many pairs");
+        want(at == copied.bytes, "the bytes of pairs");
+        all += copied.pairs;
+    } while (can && cursor.at != UINT64_MAX && wrong == 0);
+    want(all == (can ? live(it->of) : 0), "how many pairs");
+    want_status(facing_bytes_sizes_of(&it->handle, &sizes), can ? FACING_DONE : FACING_WRONG_HANDLE, "sizes");
+    want(sizes.pairs == all && sizes.bytes == (can ? bytes_of(it->of) : 0), "sizes");
+    want_kept(it);
+}
+
+/* Holds a value, which stays when the map changes. */
+static void hold_value(struct slot *it, struct slot *to) {
+    unsigned key = (unsigned)below(KEYS), value = it->kind == CLIENT ? it->of->values[key] : 0;
+    struct text k = key_of(key);
+    facing_bytes_answer answer = {7, 7};
+    if (it == to || seldom()) {
+        want_status(facing_bytes_hold(&it->handle, k.at, k.len, it == to ? &it->handle : NULL, &answer), FACING_BAD_ARGUMENT, "hold");
+        return;
+    }
+    free_slot(to);
+    value = it->kind == CLIENT ? it->of->values[key] : 0;
+    want_status(facing_bytes_hold(&it->handle, k.at, k.len, &to->handle, &answer),
+                it->kind == CLIENT ? FACING_DONE : FACING_WRONG_HANDLE, "hold");
+    want(answer.found == (value != 0) && answer.len == (value != 0 ? value_of(value).len : 0), "what is held");
+    if (value != 0) fill(to, HELD, it->of), to->value = value;
+    want_kept(it);
+    want_kept(to);
+}
+
+static void read_value(struct slot *it) {
+    struct text rest = {NULL, 0};
+    size_t from = below(3) == 0 ? (size_t)draw() : (size_t)below(SMALL), len = some_len();
+    facing_bytes_answer answer = {7, 7};
+    memset(room, 7, (size_t)2 * SMALL);
+    memset(room + FACING_LONGEST - SMALL, 7, (size_t)2 * SMALL);
+    want_status(facing_bytes_read(&it->handle, from, room, len, &answer), it->kind == HELD ? FACING_DONE : FACING_WRONG_HANDLE, "read");
+    if (it->kind == HELD && from < value_of(it->value).len) {
+        rest.at = value_of(it->value).at + from;
+        rest.len = value_of(it->value).len - from;
+    }
+    want(answer.found == (it->kind == HELD) && answer.len == (it->kind == HELD ? value_of(it->value).len : 0), "what is read of");
+    want_room(rest, len, "what is read");
     want_kept(it);
 }
 
@@ -259,26 +320,27 @@ static void open_again(struct slot *it, struct slot *to) {
 
 /* An export that is handed null refuses it, and leaves everything as it was. */
 static void call_with_null(void) {
-    facing_bytes_handle null = {NULL}, out = {NULL}, more = {NULL};
-    facing_bytes_answer answer = {7, 7};
+    facing_handle null = {NULL}, out = {NULL}, more = {NULL};
+    facing_answer answer = {7, 7};
     uint8_t key[1] = {7}, to[1] = {7};
-    uint64_t lens[1] = {7}, others[1] = {7};
+    uint64_t lens[1] = {7}, others[1] = {7}, next = 7;
+    facing_bytes_sizes sizes = {7, 7};
     uint32_t status;
     switch (below(9)) {
-    case 0: status = facing_c_bytes_client(null, &out, &more); break;
+    case 0: status = facing_c_bytes_try_hold(null, &out, key, 1, &more, &answer); break;
     case 1: status = facing_c_bytes_try_get(null, &out, key, 1, to, 1, &answer); break;
     case 2: status = facing_c_bytes_try_put(null, &out, key, 1, key, 1, to, 1, &answer); break;
     case 3: status = facing_c_bytes_try_replace_if(null, &out, key, 1, key, 1, key, 1, &answer); break;
-    case 4: status = facing_c_bytes_count(null, &out, &answer); break;
-    case 5: status = facing_c_bytes_close(null, &out); break;
+    case 4: status = facing_c_count(null, &out, &answer); break;
+    case 5: status = facing_c_bytes_read(null, &out, 0, to, 1, &answer); break;
     case 6: status = facing_c_bytes_find(null, &out, key, 1, to, 1, &answer); break;
-    case 7: status = facing_c_bytes_pairs(null, &out, 0, lens, 1, others, 1, to, 1, &answer); break;
-    default: status = facing_c_bytes_reopen(null, &out, 1, &more);
+    case 7: status = facing_c_bytes_try_pairs(null, &out, 0, &next, lens, 1, others, 1, to, 1, &sizes); break;
+    default: status = facing_c_bytes_try_contains(null, &out, key, 1, &answer);
     }
     want_status(status, FACING_WRONG_HANDLE, "a call of null");
     want(out.at == NULL && more.at == NULL, "null's room");
-    want(answer.found == 7 && answer.len == 7 && to[0] == 7 && lens[0] == 7 && others[0] == 7, "what null's call leaves");
-    facing_c_bytes_free(null);
+    want(answer.found == 7 && answer.value == 7 && to[0] == 7 && lens[0] == 7 && others[0] == 7 && sizes.pairs == 7, "what null's call leaves");
+    facing_c_free(null);
 }
 
 int main(int argc, char **argv) {
@@ -291,12 +353,14 @@ int main(int argc, char **argv) {
         case 1: case 2: case 3: take_client(some_slot(MAP), some_slot(NOTHING)); break;
         case 4: close_map(some_slot(MAP)); break;
         case 5: open_again(some_slot(CLOSED), some_slot(NOTHING)); break;
-        case 6: free_slot(some_slot(below(2) ? CLIENT : CLOSED)); break;
-        case 7: count_keys(some_slot((enum kind)below(4))); break;
+        case 6: free_slot(some_slot(below(2) ? CLIENT : below(2) ? CLOSED : HELD)); break;
+        case 7: count_keys(some_slot((enum kind)below(5))); break;
         case 8: case 9: find_key(some_slot(CLOSED)); break;
-        case 10: walk(some_slot(CLOSED)); break;
+        case 10: walk(some_slot(below(2) ? CLOSED : CLIENT)); break;
+        case 13: hold_value(some_slot(CLIENT), some_slot(NOTHING)); break;
+        case 14: read_value(some_slot(HELD)); break;
         case 11: call_with_null(); break;
-        case 12: call_in_vain(some_slot((enum kind)below(4))); break;
+        case 12: call_in_vain(some_slot((enum kind)below(5))); break;
         default: make_call(some_slot(CLIENT));
         }
     }

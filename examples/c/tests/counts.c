@@ -1,11 +1,8 @@
-/* Four threads make calls of all kinds on one map that begins with 16 bins, check what each answers as far as one thread can
+/* Four threads make calls of all kinds on one map that begins with 16 buckets, check what each answers as far as one thread can
  * know it, and the closed map is compared with what one thread counts.
  *
  * usage: counts [KEYS [CALLS]]; CALLS of each thread. */
-#include "facing.h"
-#include <pthread.h>
-#include <stdio.h>
-#include <stdlib.h>
+#include "values.h"
 
 enum { THREADS = 4 };
 
@@ -19,7 +16,7 @@ struct pair {
 };
 
 struct worker {
-    facing_handle client;
+    any_handle client;
     uint64_t number, wrong;
     struct pair *own;
     uint64_t *seen;
@@ -53,17 +50,17 @@ static facing_answer expected(struct pair *it, unsigned kind, uint64_t value) {
 }
 
 /* A call of a thread's own key. Kinds 5 and 6 ask for the value that is there where it is even, and else for another. */
-static uint32_t call_own(facing_handle *client, uint64_t key, unsigned kind, struct pair was, uint64_t value, facing_answer *answer) {
+static uint32_t call_own(any_handle *client, uint64_t key, unsigned kind, struct pair was, uint64_t value, facing_answer *answer) {
     uint64_t asked = was.has && was.value % 2 == 0 ? was.value : was.value + 1;
     switch (kind) {
-    case 0: return facing_put(client, key, value, answer);
-    case 1: return facing_get(client, key, answer);
-    case 2: return facing_put_if_absent(client, key, value, answer);
-    case 3: return facing_replace(client, key, value, answer);
-    case 4: return facing_remove(client, key, answer);
-    case 5: return facing_remove_if(client, key, asked, answer);
-    case 6: return facing_replace_if(client, key, asked, value, answer);
-    default: return facing_contains(client, key, answer);
+    case 0: return DO(put)(client, KEY(key), value, answer);
+    case 1: return DO(get)(client, KEY(key), answer);
+    case 2: return DO(put_if_absent)(client, KEY(key), value, answer);
+    case 3: return DO(replace)(client, KEY(key), value, answer);
+    case 4: return DO(remove)(client, KEY(key), answer);
+    case 5: return DO(remove_if)(client, KEY(key), asked, answer);
+    case 6: return DO(replace_if)(client, KEY(key), asked, value, answer);
+    default: return DO(contains)(client, KEY(key), answer);
     }
 }
 
@@ -80,8 +77,8 @@ static int own_call_is_wrong(struct worker *it, uint64_t r) {
 static int shared_call_is_wrong(struct worker *it, uint64_t r) {
     uint64_t at = (r >> 16) % keys, value = r >> 40, old = it->seen[at];
     facing_answer answer;
-    if (r % 16 >= 8) return facing_greatest(&it->client, keys + at, value, &answer) != FACING_DONE || !answer.found || answer.value < value;
-    if (facing_add(&it->client, at, 1, &answer) != FACING_DONE) return 1;
+    if (r % 16 >= 8) return DO(greatest)(&it->client, KEY(keys + at), value, &answer) != FACING_DONE || !answer.found || answer.value < value;
+    if (DO(add)(&it->client, KEY(at), 1, &answer) != FACING_DONE) return 1;
     it->seen[at] = answer.value;
     return !answer.found || answer.value <= old;
 }
@@ -93,7 +90,7 @@ static void *work(void *of) {
         uint64_t r = draw(&state);
         it->wrong += (uint64_t)(r % 16 < 10 ? shared_call_is_wrong(it, r) : own_call_is_wrong(it, r));
     }
-    facing_free(&it->client);
+    DO(free)(&it->client);
     return NULL;
 }
 
@@ -116,41 +113,42 @@ static void count_alone(struct pair *all) {
 }
 
 /* Compares the pairs of the closed map, and finds of its first keys, with what one thread counted. */
-static uint64_t compare(facing_handle *map, const struct pair *all, uint64_t *live) {
+static uint64_t compare(any_handle *map, const struct pair *all, uint64_t *live) {
     uint64_t count, wrong = 0, expected_count = 0, room = (2 + THREADS) * keys;
-    uint64_t *found = (uint64_t *)calloc(room, sizeof *found), *values = (uint64_t *)calloc(room, sizeof *values);
+    struct read_pair *found = (struct read_pair *)calloc(room, sizeof *found);
     size_t copied;
     for (uint64_t i = 0; i < room; i++) expected_count += (uint64_t)all[i].has;
-    wrong += facing_count(map, &count) != FACING_DONE || count != expected_count;
-    wrong += facing_pairs(map, found, values, room, &copied) != FACING_DONE || copied != count;
-    for (size_t i = 0; i < copied; i++) wrong += found[i] >= room || !all[found[i]].has || all[found[i]].value != values[i];
+    wrong += DO(count)(map, &count) != FACING_DONE || count != expected_count;
+    copied = read_all(map, found, room);
+    wrong += copied != count;
+    for (size_t i = 0; i < copied && copied <= room; i++)
+        wrong += found[i].key >= room || !all[found[i].key].has || all[found[i].key].value != found[i].value;
     for (uint64_t i = 0; i < room; i++) {
         facing_answer answer;
-        wrong += facing_find(map, i, &answer) != FACING_DONE || answer.found != (uint32_t)all[i].has
+        wrong += DO(find)(map, KEY(i), &answer) != FACING_DONE || answer.found != (uint32_t)all[i].has
                  || (answer.found && answer.value != all[i].value);
     }
     free(found);
-    free(values);
     *live = count;
     return wrong;
 }
 
 int main(int argc, char **argv) {
-    facing_handle map;
+    any_handle map;
     struct worker workers[THREADS];
     pthread_t threads[THREADS];
     struct pair *all;
     uint64_t wrong = 0, live;
     if (argc > 1) keys = strtoull(argv[1], NULL, 10);
     if (argc > 2) calls = strtoull(argv[2], NULL, 10);
-    if (facing_open(16, THREADS, 0, &map) != FACING_DONE) return 1;
+    if (DO(open)(OPEN_WITH(16, THREADS), &map) != FACING_DONE) return 1;
     for (unsigned i = 0; i < THREADS; i++) {
         struct worker *it = &workers[i];
         it->number = i;
         it->wrong = 0;
         it->own = (struct pair *)calloc(keys, sizeof *it->own);
         it->seen = (uint64_t *)calloc(keys, sizeof *it->seen);
-        if (facing_client(&map, &it->client) != FACING_DONE) return 1;
+        if (DO(client)(&map, &it->client) != FACING_DONE) return 1;
     }
     for (unsigned i = 0; i < THREADS; i++)
         if (pthread_create(&threads[i], NULL, work, &workers[i])) return 2;
@@ -160,12 +158,12 @@ int main(int argc, char **argv) {
         free(workers[i].own);
         free(workers[i].seen);
     }
-    if (facing_close(&map) != FACING_DONE) return 1;
+    if (DO(close)(&map) != FACING_DONE) return 1;
     all = (struct pair *)calloc((2 + THREADS) * keys, sizeof *all);
     count_alone(all);
     wrong += compare(&map, all, &live);
     printf("%llu calls, %llu pairs, %llu wrong\n", (unsigned long long)(THREADS * calls), (unsigned long long)live, (unsigned long long)wrong);
     free(all);
-    facing_free(&map);
+    DO(free)(&map);
     return wrong != 0;
 }

@@ -43,8 +43,8 @@ static void left_out(facing_handle *client) {
 static void sentences(void) {
     uint32_t i, j;
     want(strcmp(facing_strerror(FACING_NO_MEMORY), "out of memory") == 0);
-    for (i = FACING_DONE; i <= FACING_NO_CLIENT; i++) {
-        want(strcmp(facing_strerror(i), facing_strerror(FACING_NO_CLIENT + 1)) != 0);
+    for (i = FACING_DONE; i <= FACING_NO_ROOM; i++) {
+        want(strcmp(facing_strerror(i), facing_strerror(FACING_NO_ROOM + 1)) != 0);
         for (j = FACING_DONE; j < i; j++) want(strcmp(facing_strerror(i), facing_strerror(j)) != 0);
     }
 }

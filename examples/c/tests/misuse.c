@@ -2,9 +2,7 @@
  * null pointers, one pointer twice, and numbers past the limits. Each wrong one must end with its code and change nothing.
  *
  * usage: misuse [MISUSES [SEED]] */
-#include "facing.h"
-#include <stdio.h>
-#include <stdlib.h>
+#include "values.h"
 
 enum { KEYS = 24 };
 
@@ -15,13 +13,11 @@ struct content {
     uint32_t clients, out, handles;
 };
 
-typedef facing_handle any_handle;
-
 #include "misusing.h"
 
 static void free_slot(struct slot *it) {
-    facing_free(seldom() ? NULL : &it->handle);
-    facing_free(&it->handle);
+    DO(free)(seldom() ? NULL : &it->handle);
+    DO(free)(&it->handle);
     empty(it);
     want_kept(it);
 }
@@ -30,7 +26,7 @@ static void free_slot(struct slot *it) {
 static uint32_t some_clients(uint32_t *expected) {
     if (!seldom()) return (uint32_t)below(4) + 1;
     *expected = FACING_BAD_CLIENTS;
-    return below(2) ? 0 : 33 + (uint32_t)below((1u << 31));
+    return below(2) ? 0 : 65537 + (uint32_t)below((1u << 31));
 }
 
 static size_t some_capacity(uint32_t *expected) {
@@ -43,11 +39,11 @@ static void open_map(struct slot *it) {
     uint32_t expected = FACING_DONE, clients = some_clients(&expected);
     size_t capacity = expected == FACING_DONE ? some_capacity(&expected) : 16;
     if (seldom()) {
-        want_status(facing_open(capacity, clients, 0, NULL), FACING_BAD_ARGUMENT, "open");
+        want_status(DO(open)(OPEN_WITH(capacity, clients), NULL), FACING_BAD_ARGUMENT, "open");
         return;
     }
     free_slot(it);
-    want_status(facing_open(capacity, clients, (uint32_t)draw(), &it->handle), expected, "open");
+    want_status(DO(open)(OPEN_WITH(capacity, clients), &it->handle), expected, "open");
     if (expected == FACING_DONE) fill(it, MAP, content_like(NULL, clients));
     want_kept(it);
 }
@@ -55,12 +51,12 @@ static void open_map(struct slot *it) {
 static void take_client(struct slot *it, struct slot *to) {
     uint32_t expected = it->kind != MAP ? FACING_WRONG_HANDLE : it->of->out == it->of->clients ? FACING_NO_CLIENT : FACING_DONE;
     if (it == to || seldom()) {
-        facing_handle *one = it == to || below(2) ? &it->handle : NULL;
-        want_status(facing_client(one, one == NULL ? &to->handle : below(2) ? one : NULL), FACING_BAD_ARGUMENT, "client");
+        any_handle *one = it == to || below(2) ? &it->handle : NULL;
+        want_status(DO(client)(one, one == NULL ? &to->handle : below(2) ? one : NULL), FACING_BAD_ARGUMENT, "client");
     } else {
         free_slot(to);
         if (it->kind == MAP && it->of->out < it->of->clients) expected = FACING_DONE;
-        want_status(facing_client(&it->handle, &to->handle), expected, "client");
+        want_status(DO(client)(&it->handle, &to->handle), expected, "client");
         if (expected == FACING_DONE) fill(to, CLIENT, it->of), it->of->out++;
     }
     want_kept(it);
@@ -68,19 +64,19 @@ static void take_client(struct slot *it, struct slot *to) {
 }
 
 /* The call of a number, by a client or by what is none. */
-static uint32_t call(unsigned kind, facing_handle *client, uint64_t key, uint64_t value, facing_answer *answer) {
+static uint32_t call(unsigned kind, any_handle *client, uint64_t key, uint64_t value, facing_answer *answer) {
     switch (kind) {
-    case 0: return facing_get(client, key, answer);
-    case 1: return facing_contains(client, key, answer);
-    case 2: return facing_put(client, key, value, answer);
-    case 3: return facing_put_if_absent(client, key, value, answer);
-    case 4: return facing_remove(client, key, answer);
-    case 5: return facing_remove_if(client, key, value, answer);
-    case 6: return facing_replace(client, key, value, answer);
-    case 7: return facing_replace_if(client, key, value, value + 1, answer);
-    case 8: return facing_add(client, key, value, answer);
-    case 9: return facing_greatest(client, key, value, answer);
-    default: return facing_set(client, key, value, answer);
+    case 0: return DO(get)(client, KEY(key), answer);
+    case 1: return DO(contains)(client, KEY(key), answer);
+    case 2: return DO(put)(client, KEY(key), value, answer);
+    case 3: return DO(put_if_absent)(client, KEY(key), value, answer);
+    case 4: return DO(remove)(client, KEY(key), answer);
+    case 5: return DO(remove_if)(client, KEY(key), value, answer);
+    case 6: return DO(replace)(client, KEY(key), value, answer);
+    case 7: return DO(replace_if)(client, KEY(key), value, value + 1, answer);
+    case 8: return DO(add)(client, KEY(key), value, answer);
+    case 9: return DO(greatest)(client, KEY(key), value, answer);
+    default: return DO(set)(client, KEY(key), value, answer);
     }
 }
 
@@ -114,20 +110,20 @@ static facing_answer answer_of(unsigned kind, struct content *of, uint64_t key, 
 static void call_with_null(void) {
     facing_handle null = {NULL}, out = {NULL}, more = {NULL};
     facing_answer answer = {7, 7};
-    uint64_t keys[1] = {7}, values[1] = {7};
-    switch (below(9)) {
-    case 0: want_status(facing_c_client(null, &out, &more), FACING_WRONG_HANDLE, "client of null"); break;
-    case 1: want_status(facing_c_try_get(null, &out, 1, &answer), FACING_WRONG_HANDLE, "get of null"); break;
-    case 2: want_status(facing_c_try_put(null, &out, 1, 2, &answer), FACING_WRONG_HANDLE, "put of null"); break;
-    case 3: want_status(facing_c_try_replace_if(null, &out, 1, 2, 3, &answer), FACING_WRONG_HANDLE, "replace_if of null"); break;
-    case 4: want_status(facing_c_count(null, &out, &answer), FACING_WRONG_HANDLE, "count of null"); break;
-    case 5: want_status(facing_c_close(null, &out), FACING_WRONG_HANDLE, "close of null"); break;
-    case 6: want_status(facing_c_find(null, &out, 1, &answer), FACING_WRONG_HANDLE, "find of null"); break;
-    case 7: want_status(facing_c_pairs(null, &out, keys, 1, values, 1, &answer), FACING_WRONG_HANDLE, "pairs of null"); break;
-    default: want_status(facing_c_reopen(null, &out, 1, &more), FACING_WRONG_HANDLE, "reopen of null");
+    uint32_t status;
+    switch (below(8)) {
+    case 0: status = facing_c_client(null, &out, &more); break;
+    case 1: status = EXPORT(try_get)(null, &out, EXPORT_KEY(1), &answer); break;
+    case 2: status = EXPORT(try_put)(null, &out, EXPORT_KEY(1), 2, &answer); break;
+    case 3: status = EXPORT(try_replace_if)(null, &out, EXPORT_KEY(1), 2, 3, &answer); break;
+    case 4: status = facing_c_count(null, &out, &answer); break;
+    case 5: status = facing_c_close(null, &out); break;
+    case 6: status = EXPORT(find)(null, &out, EXPORT_KEY(1), &answer); break;
+    default: status = facing_c_reopen(null, &out, 1, &more);
     }
+    want_status(status, FACING_WRONG_HANDLE, "a call of null");
     want(out.at == NULL && more.at == NULL, "null's room");
-    want(answer.found == 7 && answer.value == 7 && keys[0] == 7 && values[0] == 7, "what null's call leaves");
+    want(answer.found == 7 && answer.value == 7, "what null's call leaves");
     facing_c_free(null);
 }
 
@@ -148,11 +144,12 @@ static void make_call(struct slot *it) {
 
 /* A call of what is no client leaves the answer as it was. */
 static void call_another_kind(struct slot *it) {
-    facing_handle out = {NULL};
+    facing_handle given = {it->handle.at}, out = {NULL};
+    uint64_t key = below(KEYS);
     facing_answer answer = {7, 7};
     if (it->kind == CLIENT) return;
-    want_status(facing_c_try_get(it->handle, &out, below(KEYS), &answer), FACING_WRONG_HANDLE, "get of another kind");
-    it->handle = out;
+    want_status(EXPORT(try_get)(given, &out, EXPORT_KEY(key), &answer), FACING_WRONG_HANDLE, "get of another kind");
+    it->handle.at = out.at;
     want(answer.found == 7 && answer.value == 7, "what a get of another kind leaves");
     want_kept(it);
 }
@@ -166,17 +163,17 @@ static uint64_t live(const struct content *of) {
 static void count_keys(struct slot *it) {
     uint64_t count = 7;
     int is_null = seldom();
-    want_status(facing_count(is_null ? NULL : &it->handle, &count),
+    want_status(DO(count)(is_null ? NULL : &it->handle, &count),
                 is_null ? FACING_BAD_ARGUMENT : it->kind == NOTHING ? FACING_WRONG_HANDLE : FACING_DONE, "count");
     want(count == (is_null || it->kind == NOTHING ? 0 : live(it->of)), "a count");
-    if (seldom()) want_status(facing_count(&it->handle, NULL), FACING_BAD_ARGUMENT, "count");
+    if (seldom()) want_status(DO(count)(&it->handle, NULL), FACING_BAD_ARGUMENT, "count");
     want_kept(it);
 }
 
 static void close_map(struct slot *it) {
     uint32_t expected = it->kind != MAP ? FACING_WRONG_HANDLE : it->of->out != 0 ? FACING_CLIENT_OUT : FACING_DONE;
-    if (seldom()) want_status(facing_close(NULL), FACING_BAD_ARGUMENT, "close");
-    want_status(facing_close(&it->handle), expected, "close");
+    if (seldom()) want_status(DO(close)(NULL), FACING_BAD_ARGUMENT, "close");
+    want_status(DO(close)(&it->handle), expected, "close");
     if (expected == FACING_DONE) it->kind = CLOSED;
     want_kept(it);
 }
@@ -185,7 +182,7 @@ static void find_key(struct slot *it) {
     uint64_t key = below(KEYS);
     int is_null = seldom(), is_closed = it->kind == CLOSED;
     facing_answer answer = {7, 7};
-    want_status(facing_find(is_null ? NULL : &it->handle, key, is_null && below(2) ? NULL : &answer),
+    want_status(DO(find)(is_null ? NULL : &it->handle, KEY(key), is_null && below(2) ? NULL : &answer),
                 is_null ? FACING_BAD_ARGUMENT : is_closed ? FACING_DONE : FACING_WRONG_HANDLE, "find");
     if (!is_null) {
         want(answer.found == (uint32_t)(is_closed && it->of->has[key]), "whether it is found");
@@ -194,35 +191,69 @@ static void find_key(struct slot *it) {
     want_kept(it);
 }
 
-static void copy_pairs(struct slot *it) {
+/* Reads pairs with one argument that is wrong. */
+static uint32_t read_wrongly(any_handle *any, unsigned how) {
+    facing_cursor cursor = {0};
     uint64_t keys[KEYS], values[KEYS];
-    size_t len = below(KEYS + 1), copied = 7;
-    facing_handle *closed = &it->handle;
-    switch (below(60)) {
-    case 0: want_status(facing_pairs(NULL, keys, values, len, &copied), FACING_BAD_ARGUMENT, "pairs"); break;
-    case 1: want_status(facing_pairs(closed, NULL, values, len, &copied), FACING_BAD_ARGUMENT, "pairs"); break;
-    case 2: want_status(facing_pairs(closed, keys, NULL, len, &copied), FACING_BAD_ARGUMENT, "pairs"); break;
-    case 3: want_status(facing_pairs(closed, keys, keys, len, &copied), FACING_BAD_ARGUMENT, "pairs"); break;
-    case 4: want_status(facing_pairs(closed, keys, values, len, NULL), FACING_BAD_ARGUMENT, "pairs"); break;
-    case 5: want_status(facing_pairs(closed, keys, values, SIZE_MAX >> below(4), &copied), FACING_BAD_ARGUMENT, "pairs"); break;
-    default:
-        want_status(facing_pairs(closed, keys, values, len, &copied), it->kind == CLOSED ? FACING_DONE : FACING_WRONG_HANDLE, "pairs");
-        want(copied == (it->kind != CLOSED ? 0 : len < live(it->of) ? len : live(it->of)), "how many were copied");
-        for (size_t i = 0; i < copied; i++)
-            want(keys[i] < KEYS && it->of->has[keys[i]] && it->of->values[keys[i]] == values[i], "a pair");
-    }
+#ifdef COUNTS
+    char room[KEYS * 64];
+    facing_bytes_sizes copied;
+    return facing_counts_pairs(how == 0 ? NULL : any, how == 1 ? NULL : &cursor, how == 2 ? NULL : keys,
+                               how == 3 ? NULL : how == 4 ? keys : values, how == 6 ? SIZE_MAX >> below(4) : (size_t)KEYS,
+                               how == 7 ? NULL : how == 8 ? (void *)keys : room, sizeof room, how == 5 ? NULL : &copied);
+#else
+    size_t copied;
+    return facing_pairs(how == 0 ? NULL : any, how == 1 ? NULL : &cursor, how == 2 ? NULL : keys,
+                        how == 3 ? NULL : how >= 7 || how == 4 ? keys : values, how == 6 ? SIZE_MAX >> below(4) : (size_t)KEYS,
+                        how == 5 ? NULL : &copied);
+#endif
+}
+
+/* Reads from a place that nobody gave: pairs of the map, or none. */
+static void read_from_anywhere(struct slot *it) {
+    facing_cursor cursor = {below(2) ? draw() : below(100)};
+    struct read_pair pairs[KEYS];
+    size_t copied;
+    uint32_t status = read_pairs(&it->handle, &cursor, pairs, KEYS, &copied);
+    want_status(status, it->kind == CLOSED || it->kind == CLIENT ? FACING_DONE : FACING_WRONG_HANDLE, "a read from anywhere");
+    for (size_t i = 0; status == FACING_DONE && i < copied; i++)
+        want(pairs[i].key < KEYS && it->of->has[pairs[i].key] && it->of->values[pairs[i].key] == pairs[i].value, "a pair");
+}
+
+/* Reads all pairs, some at a time. A bucket that finds no room is read with room for all. */
+static void copy_pairs(struct slot *it) {
+    int can = it->kind == CLOSED || it->kind == CLIENT;
+    size_t len = below(KEYS + 1), copied = 7, all = 0;
+    facing_cursor cursor = {0};
+    do {
+        struct read_pair pairs[KEYS];
+        uint32_t status = read_pairs(&it->handle, &cursor, pairs, len, &copied);
+        if (can && status == FACING_NO_ROOM && len < KEYS) {
+            want(len < copied && copied <= live(it->of), "what finds no room");
+            len = KEYS;
+            continue;
+        }
+        want_status(status, can ? FACING_DONE : FACING_WRONG_HANDLE, "pairs");
+        want(can ? copied <= len : copied == 0, "how many were copied");
+        for (size_t i = 0; i < copied && can; i++)
+            want(pairs[i].key < KEYS && it->of->has[pairs[i].key] && it->of->values[pairs[i].key] == pairs[i].value, "a pair");
+        all += copied;
+    } while (can && cursor.at != UINT64_MAX && wrong == 0);
+    want(!can || all == live(it->of), "how many pairs there are");
+    if (seldom()) want_status(read_wrongly(&it->handle, (unsigned)below(9)), FACING_BAD_ARGUMENT, "wrong pairs");
+    if (seldom()) read_from_anywhere(it);
     want_kept(it);
 }
 
 static void open_again(struct slot *it, struct slot *to) {
     uint32_t expected = FACING_DONE, clients = some_clients(&expected);
     if (it == to || seldom()) {
-        facing_handle *one = it == to || below(2) ? &it->handle : NULL;
-        want_status(facing_reopen(one, clients, one == NULL ? &to->handle : below(2) ? one : NULL), FACING_BAD_ARGUMENT, "reopen");
+        any_handle *one = it == to || below(2) ? &it->handle : NULL;
+        want_status(DO(reopen)(one, clients, one == NULL ? &to->handle : below(2) ? one : NULL), FACING_BAD_ARGUMENT, "reopen");
     } else {
         free_slot(to);
         if (it->kind != CLOSED) expected = FACING_WRONG_HANDLE;
-        want_status(facing_reopen(&it->handle, clients, &to->handle), expected, "reopen");
+        want_status(DO(reopen)(&it->handle, clients, &to->handle), expected, "reopen");
         if (expected == FACING_DONE) fill(to, MAP, content_like(it->of, clients));
     }
     want_kept(it);
@@ -241,7 +272,8 @@ int main(int argc, char **argv) {
         case 6: free_slot(some_slot(below(2) ? CLIENT : CLOSED)); break;
         case 7: count_keys(some_slot((enum kind)below(4))); break;
         case 8: case 9: find_key(some_slot(CLOSED)); break;
-        case 10: case 11: copy_pairs(some_slot(CLOSED)); break;
+        case 10: copy_pairs(some_slot(below(2) ? CLOSED : CLIENT)); break;
+        case 11: copy_pairs(some_slot((enum kind)below(4))); break;
         case 12: call_with_null(); break;
         case 13: call_another_kind(some_slot((enum kind)below(4))); break;
         default: make_call(some_slot(CLIENT));

@@ -5,13 +5,14 @@
 
 enum { SLOTS = 12 };
 
-/* What the handle in a slot stands for. */
-enum kind { NOTHING, MAP, CLIENT, CLOSED };
+/* What the handle in a slot stands for; a value that is held has a number. */
+enum kind { NOTHING, MAP, CLIENT, CLOSED, HELD };
 
 struct slot {
     any_handle handle;
     enum kind kind;
     struct content *of;
+    unsigned value;
 };
 
 static struct slot slots[SLOTS];

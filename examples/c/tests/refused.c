@@ -2,6 +2,8 @@
  * on, alone or with all that follow it until a call tells of it. Each refusal is a code, and leaves the map as it was.
  *
  * It is linked so that the library's malloc and realloc are those below (--wrap). */
+#include "values.h"
+
 #include "refusing.h"
 
 enum { CLIENTS = 2, KEYS = 300, ROOM = KEYS + 10 };
@@ -13,42 +15,47 @@ static struct {
 } model[ROOM];
 
 /* The open map has just what the model has. */
-static void look(facing_handle *any, facing_handle *client) {
+static void look(any_handle *any, any_handle *client) {
     long from = refused_from, to = refused_to;
     uint64_t count, live = 0;
     refused_to = 0;
     for (uint64_t key = 0; key < ROOM; key++) {
         facing_answer answer;
-        want(facing_get(client, key, &answer) == FACING_DONE && answer.found == (uint32_t)model[key].has, "a key's presence");
+        want(DO(get)(client, KEY(key), &answer) == FACING_DONE && answer.found == (uint32_t)model[key].has, "a key's presence");
         want(!answer.found || answer.value == model[key].value, "a value");
         live += answer.found;
     }
-    want(facing_count(any, &count) == FACING_DONE && count == live, "the count of an open map");
+    want(DO(count)(any, &count) == FACING_DONE && count == live, "the count of an open map");
     refused_from = from;
     refused_to = to;
 }
 
 /* The closed map has just what the model has. */
-static void look_closed(facing_handle *closed) {
-    static uint64_t keys[ROOM], values[ROOM];
+static void look_closed(any_handle *closed) {
+    static struct read_pair pairs[ROOM];
     uint64_t count, live = 0;
-    size_t copied;
+    facing_cursor cursor = {0};
+    size_t copied, all = 0;
     for (uint64_t key = 0; key < ROOM; key++) live += (uint64_t)model[key].has;
-    want(facing_pairs(closed, keys, values, ROOM, &copied) == FACING_DONE && copied == live, "how many pairs");
-    for (size_t i = 0; i < copied; i++)
-        want(keys[i] < ROOM && model[keys[i]].has && model[keys[i]].value == values[i], "a pair");
-    want(facing_count(closed, &count) == FACING_DONE && count == live, "the count of a closed map");
+    while (cursor.at != UINT64_MAX) {
+        if (was_refused(read_pairs(closed, &cursor, pairs + all, ROOM - all, &copied), "pairs")) continue;
+        all += copied;
+    }
+    want(all == live, "how many pairs");
+    for (size_t i = 0; i < all; i++)
+        want(pairs[i].key < ROOM && model[pairs[i].key].has && model[pairs[i].key].value == pairs[i].value, "a pair");
+    want(DO(count)(closed, &count) == FACING_DONE && count == live, "the count of a closed map");
 }
 
 /* Each kind of call: 1 puts, 2 adds, 3 removes, and else gives a key that has none a value, and puts another in its place. */
-static uint32_t call(facing_handle *client, int kind, uint64_t key, facing_answer *answer) {
+static uint32_t call(any_handle *client, int kind, uint64_t key, facing_answer *answer) {
     switch (kind) {
-    case 1: return facing_put(client, key, key * 7, answer);
-    case 2: return facing_add(client, key, 5, answer);
-    case 3: return facing_remove(client, key, answer);
-    case 4: return facing_put_if_absent(client, key, key, answer);
-    case 5: return facing_replace(client, key, key + 1, answer);
-    default: return facing_greatest(client, key, key + 2, answer);
+    case 1: return DO(put)(client, KEY(key), key * 7, answer);
+    case 2: return DO(add)(client, KEY(key), 5, answer);
+    case 3: return DO(remove)(client, KEY(key), answer);
+    case 4: return DO(put_if_absent)(client, KEY(key), key, answer);
+    case 5: return DO(replace)(client, KEY(key), key + 1, answer);
+    default: return DO(greatest)(client, KEY(key), key + 2, answer);
     }
 }
 
@@ -65,7 +72,7 @@ static void note(int kind, uint64_t key) {
     model[key].has = 1;
 }
 
-static void make(facing_handle *map, facing_handle *client, int kind, uint64_t key) {
+static void make(any_handle *map, any_handle *client, int kind, uint64_t key) {
     facing_answer answer;
     while (was_refused(call(client, kind, key, &answer), "a call")) {
         want(answer.found == 0 && answer.value == 0, "an empty answer");
@@ -74,38 +81,54 @@ static void make(facing_handle *map, facing_handle *client, int kind, uint64_t k
     note(kind, key);
 }
 
-static void work(facing_handle *map) {
-    facing_handle clients[CLIENTS];
+/* Calls on keys that are there take no memory. The keys were looked at just before, so the table is not about to grow. */
+static void call_without_memory(any_handle *client) {
+    long before = requests;
+    for (uint64_t key = 0; key < ROOM; key++) {
+        facing_answer answer;
+        if (!model[key].has) continue;
+        want(DO(add)(client, KEY(key), 1, &answer) == FACING_DONE && answer.value == model[key].value + 1, "an add");
+        want(DO(put)(client, KEY(key), model[key].value, NULL) == FACING_DONE, "a put");
+        want(DO(replace_if)(client, KEY(key), model[key].value, 1, NULL) == FACING_DONE, "a replace_if");
+        want(DO(greatest)(client, KEY(key), 0, &answer) == FACING_DONE && answer.value == 1, "a greatest");
+        want(DO(set)(client, KEY(key), model[key].value, NULL) == FACING_DONE, "a set");
+    }
+    want(requests == before, "a call on a key that is there takes memory");
+}
+
+static void work(any_handle *map) {
+    any_handle clients[CLIENTS];
     for (int i = 0; i < CLIENTS; i++)
-        while (was_refused(facing_client(map, &clients[i]), "a client")) want(map->at != NULL && clients[i].at == NULL, "no client");
+        while (was_refused(DO(client)(map, &clients[i]), "a client")) want(map->at != NULL && clients[i].at == NULL, "no client");
     for (uint64_t key = 0; key < KEYS; key++) make(map, &clients[key % CLIENTS], 1, key);
     for (uint64_t key = 0; key < ROOM; key++) make(map, &clients[key % CLIENTS], 2 + (int)(key % 5), key);
     look(map, &clients[0]);
-    for (int i = 0; i < CLIENTS; i++) facing_free(&clients[i]);
+    call_without_memory(&clients[1]);
+    for (int i = 0; i < CLIENTS; i++) DO(free)(&clients[i]);
 }
 
-static void close_and_look(facing_handle *map) {
+static void close_and_look(any_handle *map) {
     uint64_t count, again;
-    want(facing_count(map, &count) == FACING_DONE, "a count before the close");
-    while (was_refused(facing_close(map), "a close"))
-        want(map->at != NULL && facing_count(map, &again) == FACING_DONE && again == count, "the count where the close was refused");
+    want(DO(count)(map, &count) == FACING_DONE, "a count before the close");
+    while (was_refused(DO(close)(map), "a close"))
+        want(map->at != NULL && DO(count)(map, &again) == FACING_DONE && again == count, "the count where the close was refused");
     look_closed(map);
 }
 
 static void live(void) {
-    facing_handle map, second;
+    any_handle map, second;
     for (int key = 0; key < ROOM; key++) model[key].has = 0;
-    while (was_refused(facing_open(16, CLIENTS, 0, &map), "an open")) want(map.at == NULL, "no map");
+    while (was_refused(DO(open)(OPEN_WITH(16, CLIENTS), &map), "an open")) want(map.at == NULL, "no map");
     work(&map);
     close_and_look(&map);
-    while (was_refused(facing_reopen(&map, CLIENTS, &second), "a reopen")) {
+    while (was_refused(DO(reopen)(&map, CLIENTS, &second), "a reopen")) {
         want(second.at == NULL, "no second map");
         look_closed(&map);
     }
-    facing_free(&map);
+    DO(free)(&map);
     work(&second);
     close_and_look(&second);
-    facing_free(&second);
+    DO(free)(&second);
     want(blocks == 0, "blocks that are left");
 }
 

@@ -1,4 +1,4 @@
-//! What the static library exports, as `facing.h` has it.
+//! What the static library exports, as the headers have it, and the system's random bytes.
 use std::os::raw::c_void;
 
 #[repr(C)]
@@ -7,18 +7,20 @@ pub(crate) struct Handle {
     pub(crate) at: *mut c_void,
 }
 
+impl Handle {
+    pub(crate) const fn null() -> Handle {
+        Handle { at: std::ptr::null_mut() }
+    }
+}
+
 #[repr(C)]
-#[derive(Clone, Copy)]
+#[derive(Clone, Copy, Default)]
 pub(crate) struct Answer {
     pub(crate) found: u32,
     pub(crate) value: u64,
 }
 
 impl Answer {
-    pub(crate) const fn none() -> Answer {
-        Answer { found: 0, value: 0 }
-    }
-
     pub(crate) fn value(self) -> Option<u64> {
         (self.found == 1).then_some(self.value)
     }
@@ -26,14 +28,38 @@ impl Answer {
     pub(crate) fn truth(self) -> bool {
         self.found == 1
     }
+
+    /// The answer's value, which is a length or a count.
+    pub(crate) fn len(self) -> usize {
+        usize::try_from(self.value).unwrap_or(usize::MAX)
+    }
+}
+
+#[repr(C)]
+#[derive(Clone, Copy, Default)]
+pub(crate) struct Sizes {
+    pub(crate) pairs: u64,
+    pub(crate) bytes: u64,
 }
 
 type Out = *mut Handle;
 type Told = *mut Answer;
+type Bytes = *const u8;
+type Room = *mut u8;
+type Numbers = *mut u64;
 
+// Of each kind of handle.
+extern "C" {
+    pub(crate) fn facing_c_client(map: Handle, out: Out, client: Out) -> u32;
+    pub(crate) fn facing_c_count(any: Handle, out: Out, answer: Told) -> u32;
+    pub(crate) fn facing_c_close(map: Handle, out: Out) -> u32;
+    pub(crate) fn facing_c_reopen(closed: Handle, out: Out, clients: u32, map: Out) -> u32;
+    pub(crate) fn facing_c_free(any: Handle);
+}
+
+// Numbers by numbers.
 extern "C" {
     pub(crate) fn facing_c_open(capacity: usize, clients: u32, salt: u32, out: Out) -> u32;
-    pub(crate) fn facing_c_client(map: Handle, out: Out, client: Out) -> u32;
     pub(crate) fn facing_c_try_get(client: Handle, out: Out, key: u64, answer: Told) -> u32;
     pub(crate) fn facing_c_try_contains(client: Handle, out: Out, key: u64, answer: Told) -> u32;
     pub(crate) fn facing_c_try_put(client: Handle, out: Out, key: u64, value: u64, answer: Told) -> u32;
@@ -45,18 +71,192 @@ extern "C" {
     pub(crate) fn facing_c_try_add(client: Handle, out: Out, key: u64, value: u64, answer: Told) -> u32;
     pub(crate) fn facing_c_try_greatest(client: Handle, out: Out, key: u64, value: u64, answer: Told) -> u32;
     pub(crate) fn facing_c_try_set(client: Handle, out: Out, key: u64, value: u64, answer: Told) -> u32;
-    pub(crate) fn facing_c_count(any: Handle, out: Out, answer: Told) -> u32;
-    pub(crate) fn facing_c_close(map: Handle, out: Out) -> u32;
     pub(crate) fn facing_c_find(closed: Handle, out: Out, key: u64, answer: Told) -> u32;
-    pub(crate) fn facing_c_pairs(
-        closed: Handle,
+    pub(crate) fn facing_c_try_pairs(
+        any: Handle,
         out: Out,
-        keys: *mut u64,
+        at: u64,
+        next: Numbers,
+        keys: Numbers,
         keys_len: usize,
-        values: *mut u64,
+        values: Numbers,
         values_len: usize,
         answer: Told,
     ) -> u32;
-    pub(crate) fn facing_c_reopen(closed: Handle, out: Out, clients: u32, map: Out) -> u32;
-    pub(crate) fn facing_c_free(any: Handle);
+}
+
+// Numbers by byte strings.
+extern "C" {
+    pub(crate) fn facing_c_counts_open(capacity: usize, clients: u32, seed0: u64, seed1: u64, out: Out) -> u32;
+    pub(crate) fn facing_c_counts_try_get(client: Handle, out: Out, key: Bytes, len: usize, answer: Told) -> u32;
+    pub(crate) fn facing_c_counts_try_contains(client: Handle, out: Out, key: Bytes, len: usize, answer: Told) -> u32;
+    pub(crate) fn facing_c_counts_try_put(client: Handle, out: Out, key: Bytes, len: usize, value: u64, answer: Told)
+        -> u32;
+    pub(crate) fn facing_c_counts_try_put_if_absent(
+        client: Handle,
+        out: Out,
+        key: Bytes,
+        len: usize,
+        value: u64,
+        answer: Told,
+    ) -> u32;
+    pub(crate) fn facing_c_counts_try_remove(client: Handle, out: Out, key: Bytes, len: usize, answer: Told) -> u32;
+    pub(crate) fn facing_c_counts_try_remove_if(
+        client: Handle,
+        out: Out,
+        key: Bytes,
+        len: usize,
+        value: u64,
+        answer: Told,
+    ) -> u32;
+    pub(crate) fn facing_c_counts_try_replace(
+        client: Handle,
+        out: Out,
+        key: Bytes,
+        len: usize,
+        value: u64,
+        answer: Told,
+    ) -> u32;
+    pub(crate) fn facing_c_counts_try_replace_if(
+        client: Handle,
+        out: Out,
+        key: Bytes,
+        len: usize,
+        old: u64,
+        new: u64,
+        answer: Told,
+    ) -> u32;
+    pub(crate) fn facing_c_counts_try_add(client: Handle, out: Out, key: Bytes, len: usize, value: u64, answer: Told)
+        -> u32;
+    pub(crate) fn facing_c_counts_try_greatest(
+        client: Handle,
+        out: Out,
+        key: Bytes,
+        len: usize,
+        value: u64,
+        answer: Told,
+    ) -> u32;
+    pub(crate) fn facing_c_counts_try_set(client: Handle, out: Out, key: Bytes, len: usize, value: u64, answer: Told)
+        -> u32;
+    pub(crate) fn facing_c_counts_find(closed: Handle, out: Out, key: Bytes, len: usize, answer: Told) -> u32;
+    pub(crate) fn facing_c_counts_try_pairs(
+        any: Handle,
+        out: Out,
+        at: u64,
+        next: Numbers,
+        key_lens: Numbers,
+        key_lens_len: usize,
+        values: Numbers,
+        values_len: usize,
+        room: Room,
+        room_len: usize,
+        copied: *mut Sizes,
+    ) -> u32;
+}
+
+// Byte strings by byte strings.
+extern "C" {
+    pub(crate) fn facing_c_bytes_open(capacity: usize, clients: u32, seed0: u64, seed1: u64, out: Out) -> u32;
+    pub(crate) fn facing_c_bytes_try_get(
+        client: Handle,
+        out: Out,
+        key: Bytes,
+        len: usize,
+        room: Room,
+        room_len: usize,
+        answer: Told,
+    ) -> u32;
+    pub(crate) fn facing_c_bytes_try_hold(client: Handle, out: Out, key: Bytes, len: usize, held: Out, answer: Told) -> u32;
+    pub(crate) fn facing_c_bytes_read(held: Handle, out: Out, from: usize, room: Room, room_len: usize, answer: Told)
+        -> u32;
+    pub(crate) fn facing_c_bytes_try_contains(client: Handle, out: Out, key: Bytes, len: usize, answer: Told) -> u32;
+    pub(crate) fn facing_c_bytes_try_put(
+        client: Handle,
+        out: Out,
+        key: Bytes,
+        len: usize,
+        value: Bytes,
+        value_len: usize,
+        room: Room,
+        room_len: usize,
+        answer: Told,
+    ) -> u32;
+    pub(crate) fn facing_c_bytes_try_put_if_absent(
+        client: Handle,
+        out: Out,
+        key: Bytes,
+        len: usize,
+        value: Bytes,
+        value_len: usize,
+        room: Room,
+        room_len: usize,
+        answer: Told,
+    ) -> u32;
+    pub(crate) fn facing_c_bytes_try_remove(
+        client: Handle,
+        out: Out,
+        key: Bytes,
+        len: usize,
+        room: Room,
+        room_len: usize,
+        answer: Told,
+    ) -> u32;
+    pub(crate) fn facing_c_bytes_try_remove_if(
+        client: Handle,
+        out: Out,
+        key: Bytes,
+        len: usize,
+        value: Bytes,
+        value_len: usize,
+        answer: Told,
+    ) -> u32;
+    pub(crate) fn facing_c_bytes_try_replace(
+        client: Handle,
+        out: Out,
+        key: Bytes,
+        len: usize,
+        value: Bytes,
+        value_len: usize,
+        room: Room,
+        room_len: usize,
+        answer: Told,
+    ) -> u32;
+    pub(crate) fn facing_c_bytes_try_replace_if(
+        client: Handle,
+        out: Out,
+        key: Bytes,
+        len: usize,
+        old: Bytes,
+        old_len: usize,
+        new: Bytes,
+        new_len: usize,
+        answer: Told,
+    ) -> u32;
+    pub(crate) fn facing_c_bytes_find(
+        closed: Handle,
+        out: Out,
+        key: Bytes,
+        len: usize,
+        room: Room,
+        room_len: usize,
+        answer: Told,
+    ) -> u32;
+    pub(crate) fn facing_c_bytes_try_pairs(
+        any: Handle,
+        out: Out,
+        at: u64,
+        next: Numbers,
+        key_lens: Numbers,
+        key_lens_len: usize,
+        value_lens: Numbers,
+        value_lens_len: usize,
+        room: Room,
+        room_len: usize,
+        copied: *mut Sizes,
+    ) -> u32;
+}
+
+// Of the system's C library.
+extern "C" {
+    pub(crate) fn getrandom(room: *mut c_void, len: usize, flags: u32) -> isize;
 }

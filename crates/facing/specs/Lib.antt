@@ -1,0 +1,5 @@
+pub mod Handles
+pub mod Targets
+pub mod Calls
+pub mod Closed
+pub mod Pairs

@@ -1,0 +1,64 @@
+-- Pairs of a bucket, as C is told of them.
+use Rattle.std.specs.Prelude.{◌≡◌, ◌⊎◌, ℕ, ◌<◌, List, [], length, min, nat_eq, Option, Some, None, Result, Ok, Err}
+use Rattle.functions.specs.declared.nothing.NoFunction.{NoFunction}
+use Rattle.hashkeys.specs.Numbers.{number_code}
+use Rattle.bin_history.specs.Calls as calls
+use Rattle.facing_maps.specs.Functions.{greatest_number, remapped, merged, no_value}
+use Rattle.facing_maps.specs.Keys.{Bytes, Key, same_key, same_bytes, code_in}
+use Rattle.facing_maps.specs.Pairs.{AreNumbers, AreCopied, bytes_of, Seen, IsSeen}
+use Rattle.facing_maps.specs.Statuses.{facing_done, facing_no_room, facing_wrong_handle}
+use Rattle.facing_maps.specs.declared.merging.Merging.{Merging}
+use Rattle.facing_maps.specs.declared.stage.Stage.{Stage}
+use Rattle.facing_maps.specs.declared.status.FacingAnswer.{FacingAnswer}
+use Rattle.facing.specs.declared.pairs.FacingSizes.{FacingSizes}
+use Rattle.facing.specs.declared.target.Target.{Target}
+use Rattle.facing.specs.declared.target.Target.TheVariants as target
+
+-- all pairs were copied, or there was no room for all
+abbrev pub IsCopyStatus : ℕ → ℕ → ℕ → Type 0
+IsCopyStatus n all status = ((status ≡ facing_done) × (n ≡ all)) ⊎ ((status ≡ facing_no_room) × (n < all))
+
+-- the number that a walk goes on at, two rooms, and the answer
+abbrev pub Told : Type 0
+Told = ℕ × List ℕ × List ℕ × FacingAnswer
+
+abbrev pub AreNumbersTold : Seen ℕ ℕ → (before after : Told) → ℕ → Type 0
+AreNumbersTold (Ok (Some pairs, next)) before after status = (after.0 ≡ next)
+    × (after.3 ≡ record { found = 1; value = length pairs })
+    × (n : ℕ) × AreNumbers pairs (before.1, before.2) (after.1, after.2) n × IsCopyStatus n (length pairs) status
+AreNumbersTold (Ok (None, next)) before after status =
+    (status ≡ facing_done) × (after ≡ (next, before.1, before.2, record { found = 1; value = 0 }))
+AreNumbersTold (Err other) before after status = (status ≡ other) × (after ≡ before)
+
+-- the number that a walk goes on at, three rooms, and the sizes
+abbrev pub ToldBytes : Type 0
+ToldBytes = ℕ × List ℕ × List ℕ × Bytes × FacingSizes
+
+abbrev pub ArePairsTold : {V : Type 0} → (V → ℕ) → (V → Bytes) → Seen Key V → (before after : ToldBytes) → ℕ → Type 0
+ArePairsTold number laid (Ok (Some pairs, next)) before after status = (after.0 ≡ next)
+    × (after.4 ≡ record { pairs = length pairs; bytes = min (length (bytes_of laid pairs)) greatest_number })
+    × (n : ℕ) × AreCopied number laid pairs (before.1, before.2, before.3) (after.1, after.2, after.3) n
+    × IsCopyStatus n (length pairs) status
+ArePairsTold number laid (Ok (None, next)) before after status =
+    (status ≡ facing_done) × (after ≡ (next, before.1, before.2, before.3, record { pairs = 0; bytes = 0 }))
+ArePairsTold number laid (Err other) before after status = (status ≡ other) × (after ≡ before)
+
+-- of a closed map of the kind, or of a client of one, they are the pairs at this place; anything else is as it was, and a
+-- wrong handle
+abbrev pub AreNumbersOf : Target → ℕ → (before after : Told) → Target → ℕ → Type 0
+AreNumbersOf (target.Numbers s) at before after then status = (t : Stage ℕ ℕ Merging) × (then ≡ target.Numbers t)
+    × (seen : Seen ℕ ℕ) × IsSeen nat_eq number_code (calls.after nat_eq remapped merged) s at t seen
+    × AreNumbersTold seen before after status
+AreNumbersOf other at before after then status = (then ≡ other) × (status ≡ facing_wrong_handle) × (after ≡ before)
+
+abbrev pub AreBytesOf : Target → ℕ → (before after : ToldBytes) → Target → ℕ → Type 0
+AreBytesOf (target.Bytes seed s) at before after then status = (t : Stage Key Bytes NoFunction) × (then ≡ target.Bytes seed t)
+    × (seen : Seen Key Bytes) × IsSeen same_key code_in (calls.after same_bytes no_value no_value) s at t seen
+    × ArePairsTold length (λ v. v) seen before after status
+AreBytesOf other at before after then status = (then ≡ other) × (status ≡ facing_wrong_handle) × (after ≡ before)
+
+abbrev pub AreCountsOf : Target → ℕ → (before after : ToldBytes) → Target → ℕ → Type 0
+AreCountsOf (target.Counts seed s) at before after then status = (t : Stage Key ℕ Merging) × (then ≡ target.Counts seed t)
+    × (seen : Seen Key ℕ) × IsSeen same_key code_in (calls.after nat_eq remapped merged) s at t seen
+    × ArePairsTold (λ v. v) (λ _. []) seen before after status
+AreCountsOf other at before after then status = (then ≡ other) × (status ≡ facing_wrong_handle) × (after ≡ before)

@@ -1,0 +1,254 @@
+//! The exports that copy pairs out of a map, a bucket at a time.
+ghost use Rattle.std.specs.Prelude.{◌≡◌};
+ghost use Rattle.facing_maps.specs.Statuses.{facing_wrong_handle};
+ghost use Rattle.facing.specs.Handles.{IsFilled};
+ghost use Rattle.facing.specs.Pairs.{AreNumbersTold, ArePairsTold, AreNumbersOf, AreCountsOf, AreBytesOf};
+
+use crate::handle::{FacingHandle, FacingOut};
+use crate::target::Target;
+use facing_maps::{
+    DONE, FacingAnswer, Laid, NO_ROOM, SeededKey, Seen, WRONG_HANDLE, copy_numbers, copy_pairs,
+    total,
+};
+
+/// How many pairs a bucket has, and how many bytes their keys and values have.
+#[repr(C)]
+#[derive(Clone, Copy, PartialEq, Eq, Debug)]
+pub struct FacingSizes {
+    pub pairs: u64,
+    pub bytes: u64,
+}
+
+/// Tells what a step of a walk showed.
+fn tell_numbers(
+    seen: Seen<u64, u64>,
+    next: &mut u64,
+    keys: &mut [u64],
+    values: &mut [u64],
+    answer: &mut FacingAnswer,
+) -> u32
+    ensures { AreNumbersTold seen (next.old, keys.old, values.old, answer.old)
+        (next.new, keys.new, values.new, answer.new) result }
+{
+    match seen {
+        Ok((shown, then)) => match shown {
+            Some(pairs) => {
+                let pairs = pairs.as_slice();
+                *next = then;
+                *answer = FacingAnswer::some(pairs.len() as u64);
+                let count = copy_numbers(pairs, keys, values);
+                if count < pairs.len() { NO_ROOM } else { DONE }
+            }
+            None => {
+                *next = then;
+                *answer = FacingAnswer::some(0);
+                DONE
+            }
+        },
+        Err(status) => status,
+    }
+}
+
+/// Tells what a step of a walk showed.
+fn tell_pairs<V: Laid>(
+    seen: Seen<SeededKey, V>,
+    next: &mut u64,
+    key_lens: &mut [u64],
+    numbers: &mut [u64],
+    room: &mut [u8],
+    sizes: &mut FacingSizes,
+) -> u32
+    ensures { ArePairsTold V.number V.laid seen (next.old, key_lens.old, numbers.old, room.old, sizes.old)
+        (next.new, key_lens.new, numbers.new, room.new, sizes.new) result }
+{
+    match seen {
+        Ok((shown, then)) => match shown {
+            Some(pairs) => {
+                let pairs = pairs.as_slice();
+                *next = then;
+                *sizes = FacingSizes {
+                    pairs: pairs.len() as u64,
+                    bytes: total(pairs),
+                };
+                let count = copy_pairs(pairs, key_lens, numbers, room);
+                if count < pairs.len() { NO_ROOM } else { DONE }
+            }
+            None => {
+                *next = then;
+                *sizes = FacingSizes { pairs: 0, bytes: 0 };
+                DONE
+            }
+        },
+        Err(status) => status,
+    }
+}
+
+/// Tells the pairs of a bucket of the numbers map that this is.
+fn numbers_at(
+    target: &mut Target,
+    at: u64,
+    next: &mut u64,
+    keys: &mut [u64],
+    values: &mut [u64],
+    answer: &mut FacingAnswer,
+) -> u32
+    ensures { AreNumbersOf target.old at (next.old, keys.old, values.old, answer.old)
+        (next.new, keys.new, values.new, answer.new) target.new result }
+{
+    match target {
+        Target::Numbers(stage) => tell_numbers(stage.try_visit(at), next, keys, values, answer),
+        Target::Bytes(_, _) => WRONG_HANDLE,
+        Target::Counts(_, _) => WRONG_HANDLE,
+        Target::Held(_) => WRONG_HANDLE,
+    }
+}
+
+/// Tries to copy the pairs of the bucket at this place, of a closed map or of one whose client this is, as
+/// far as there is room for them. It answers how many the bucket has, and the
+/// number that a walk goes on at. A walk begins at 0.
+#[unsafe(no_mangle)]
+pub extern "C" fn facing_c_try_pairs(
+    any: FacingHandle,
+    out: &mut FacingOut,
+    at: u64,
+    next: &mut u64,
+    keys: &mut [u64],
+    values: &mut [u64],
+    answer: &mut FacingAnswer,
+) -> u32
+    ensures filled { IsFilled any.ptr → IsFilled out.new.ptr }
+    ensures copied { IsFilled any.ptr → AreNumbersOf any.target at
+        (next.old, keys.old, values.old, answer.old)
+        (next.new, keys.new, values.new, answer.new) out.new.target result }
+    ensures null { ¬ IsFilled any.ptr → (result ≡ facing_wrong_handle) × (out.new ≡ out.old)
+        × (next.new ≡ next.old) × (keys.new ≡ keys.old)
+        × (values.new ≡ values.old)
+        × (answer.new ≡ answer.old) }
+{
+    let Some(mut target) = any.into_box() else {
+        return WRONG_HANDLE;
+    };
+    let status = numbers_at(target.as_mut(), at, next, keys, values, answer);
+    *out = FacingOut::of(target);
+    status
+}
+
+/// Tells the pairs of a bucket of the bytes map that this is.
+fn bytes_at(
+    target: &mut Target,
+    at: u64,
+    next: &mut u64,
+    key_lens: &mut [u64],
+    value_lens: &mut [u64],
+    room: &mut [u8],
+    sizes: &mut FacingSizes,
+) -> u32
+    ensures { AreBytesOf target.old at (next.old, key_lens.old, value_lens.old, room.old, sizes.old)
+        (next.new, key_lens.new, value_lens.new, room.new, sizes.new) target.new result }
+{
+    match target {
+        Target::Bytes(_, stage) => tell_pairs(
+            stage.try_visit(at),
+            next,
+            key_lens,
+            value_lens,
+            room,
+            sizes,
+        ),
+        Target::Numbers(_) => WRONG_HANDLE,
+        Target::Counts(_, _) => WRONG_HANDLE,
+        Target::Held(_) => WRONG_HANDLE,
+    }
+}
+
+/// Tries to copy the pairs of the bucket at this place, of a closed map or of one whose client this is, as
+/// far as there is room for them. It answers how many the bucket has and their bytes, and the
+/// number that a walk goes on at. A walk begins at 0.
+#[unsafe(no_mangle)]
+pub extern "C" fn facing_c_bytes_try_pairs(
+    any: FacingHandle,
+    out: &mut FacingOut,
+    at: u64,
+    next: &mut u64,
+    key_lens: &mut [u64],
+    value_lens: &mut [u64],
+    room: &mut [u8],
+    sizes: &mut FacingSizes,
+) -> u32
+    ensures filled { IsFilled any.ptr → IsFilled out.new.ptr }
+    ensures copied { IsFilled any.ptr → AreBytesOf any.target at
+        (next.old, key_lens.old, value_lens.old, room.old, sizes.old)
+        (next.new, key_lens.new, value_lens.new, room.new, sizes.new) out.new.target result }
+    ensures null { ¬ IsFilled any.ptr → (result ≡ facing_wrong_handle) × (out.new ≡ out.old)
+        × (next.new ≡ next.old) × (key_lens.new ≡ key_lens.old)
+        × (value_lens.new ≡ value_lens.old)
+        × (room.new ≡ room.old)
+        × (sizes.new ≡ sizes.old) }
+{
+    let Some(mut target) = any.into_box() else {
+        return WRONG_HANDLE;
+    };
+    let status = bytes_at(target.as_mut(), at, next, key_lens, value_lens, room, sizes);
+    *out = FacingOut::of(target);
+    status
+}
+
+/// Tells the pairs of a bucket of the counts map that this is.
+fn counts_at(
+    target: &mut Target,
+    at: u64,
+    next: &mut u64,
+    key_lens: &mut [u64],
+    values: &mut [u64],
+    room: &mut [u8],
+    sizes: &mut FacingSizes,
+) -> u32
+    ensures { AreCountsOf target.old at (next.old, key_lens.old, values.old, room.old, sizes.old)
+        (next.new, key_lens.new, values.new, room.new, sizes.new) target.new result }
+{
+    match target {
+        Target::Counts(_, stage) => tell_pairs(
+            stage.try_visit(at),
+            next,
+            key_lens,
+            values,
+            room,
+            sizes,
+        ),
+        Target::Numbers(_) => WRONG_HANDLE,
+        Target::Bytes(_, _) => WRONG_HANDLE,
+        Target::Held(_) => WRONG_HANDLE,
+    }
+}
+
+/// Tries to copy the pairs of the bucket at this place, of a closed map or of one whose client this is, as
+/// far as there is room for them. It answers how many the bucket has and the bytes of their keys, and the
+/// number that a walk goes on at. A walk begins at 0.
+#[unsafe(no_mangle)]
+pub extern "C" fn facing_c_counts_try_pairs(
+    any: FacingHandle,
+    out: &mut FacingOut,
+    at: u64,
+    next: &mut u64,
+    key_lens: &mut [u64],
+    values: &mut [u64],
+    room: &mut [u8],
+    sizes: &mut FacingSizes,
+) -> u32
+    ensures filled { IsFilled any.ptr → IsFilled out.new.ptr }
+    ensures copied { IsFilled any.ptr → AreCountsOf any.target at
+        (next.old, key_lens.old, values.old, room.old, sizes.old)
+        (next.new, key_lens.new, values.new, room.new, sizes.new) out.new.target result }
+    ensures null { ¬ IsFilled any.ptr → (result ≡ facing_wrong_handle) × (out.new ≡ out.old)
+        × (next.new ≡ next.old) × (key_lens.new ≡ key_lens.old)
+        × (values.new ≡ values.old)
+        × (room.new ≡ room.old)
+        × (sizes.new ≡ sizes.old) }
+{
+    let Some(mut target) = any.into_box() else {
+        return WRONG_HANDLE;
+    };
+    let status = counts_at(target.as_mut(), at, next, key_lens, values, room, sizes);
+    *out = FacingOut::of(target);
+    status
+}

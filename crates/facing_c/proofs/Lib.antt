@@ -1,4 +1,0 @@
-pub mod Heap
-pub mod Handles
-pub mod Copied
-pub mod Crossing

@@ -1,0 +1,138 @@
+-- What a handle stands for may go to another thread.
+use denote.RattleType.{RattleType}
+use denote.Enum.Declared as enum
+use denote.Struct.Declared.{shape}
+use denote.Param.Send.{IsSend, IsSync, Frees, AllSend, AllSync, EachSend, sendable}
+use Rattle.std.proofs.CrossingOver.{crosses}
+use Rattle.std.proofs.Crossing as heap
+use Rattle.std.specs.declared.alloc.Allocator as Allocator
+use Rattle.std.specs.declared.clone.Clone as Clone
+use Rattle.std.specs.declared.cmp.Eq as Eq
+use Rattle.std.specs.declared.cmp.PartialEq as PartialEq
+use Rattle.std_heap.specs.contracts.Global as Heap
+use Rattle.std_heap.specs.contracts.GlobalAllocator.TheImpl.{ghosts}
+use Rattle.hashkeys.specs.contracts.bytes.ByteString as ByteString
+use Rattle.hashkeys.specs.contracts.bytes.ByteString.TheInside as StringInside
+use Rattle.hashkeys.specs.declared.hashing.HashKey as HashKey
+use Rattle.seeded_keys.specs.contracts.hashed.Hashed as Hashed
+use Rattle.bin_history.specs.declared.call.Remap as Remap
+use Rattle.bin_history.specs.declared.call.Value as Value
+use Rattle.bin_history.proofs.Shared.{bin_send}
+use Rattle.chm.specs.contracts.closed.quiet.Quiet as Quiet
+use Rattle.chm.specs.contracts.closed.quiet.Quiet.TheInside as QuietInside
+use Rattle.facingberyl.proofs.Crossing.{owned_send, shared_send, unshared_send}
+use Rattle.facing_maps.specs.contracts.keys.Keys as Keys
+use Rattle.facing_maps.specs.contracts.keys.Keys.TheInside as KeysInside
+use Rattle.facing_maps.specs.contracts.shared.SharedBytes as SharedBytes
+use Rattle.facing_maps.specs.contracts.shared.SharedBytes.TheInside as SharedInside
+use Rattle.facing_maps.specs.contracts.stage.Stage as Stage
+
+module _ (K V F A : RattleType) (hash : HashKey.Ghosts K.Denot) (key_eq : Eq.Ghosts K.Denot)
+    (key_same : PartialEq.Ghosts K.Denot)
+    (key_clone : Clone.Ghosts K.Denot) (value : Value.Ghosts V.Denot) (value_clone : Clone.Ghosts V.Denot) (value_eq : Eq.Ghosts V.Denot)
+    (value_same : PartialEq.Ghosts V.Denot)
+    (remap : Remap.Ghosts F.Denot K.Denot V.Denot) (function_clone : Clone.Ghosts F.Denot)
+    (alloc : Allocator.Ghosts A.Denot)
+    (sk : IsSend K) (sv : IsSend V) (sf : IsSend F) (sa : IsSend A) (yk : IsSync K) (yv : IsSync V) (yf : IsSync F)
+    (ya : IsSync A)
+    (frees : Frees alloc alloc.dealloc_token) where
+  quiet_fields : AllSend
+      (shape (QuietInside.the_type K V F A hash key_eq key_same key_clone value_clone value_eq value_same remap
+      function_clone alloc)).fields
+  quiet_fields = (
+    search (sendable, crosses, bin_send) depth 30,
+    (
+      search sendable depth 20,
+      (
+        search sendable depth 20,
+        (
+          search sendable depth 20,
+          (
+            search sendable depth 20,
+            (
+              search (sendable, crosses) depth 20,
+              (search (sendable, crosses) depth 20, (search (sendable, crosses) depth 20, (search (sendable, crosses) depth 20, tt))),
+            ),
+          ),
+        ),
+      ),
+    ),
+  )
+
+  -- a closed map
+  quiet_send : IsSend
+      (Quiet.the_row K V F A hash key_eq key_same key_clone value_clone value_eq value_same remap function_clone alloc)
+  quiet_send = search (sendable, quiet_fields) depth 30
+
+module _ (K V F : RattleType) (hash : HashKey.Ghosts K.Denot) (key_eq : Eq.Ghosts K.Denot)
+    (key_same : PartialEq.Ghosts K.Denot)
+    (key_clone : Clone.Ghosts K.Denot) (value : Value.Ghosts V.Denot) (value_clone : Clone.Ghosts V.Denot) (value_eq : Eq.Ghosts V.Denot)
+    (value_same : PartialEq.Ghosts V.Denot)
+    (remap : Remap.Ghosts F.Denot K.Denot V.Denot) (function_clone : Clone.Ghosts F.Denot)
+    (sk : IsSend K) (sv : IsSend V) (sf : IsSend F) (yk : IsSync K) (yv : IsSync V) (yf : IsSync F) where
+  stages_send : EachSend
+      (enum.shape (Stage.the_type K V F hash key_eq key_same key_clone value value_clone value_eq value_same remap
+      function_clone)).variants
+  stages_send = (
+    (search (sendable, crosses, heap.crosses, shared_send) depth 30, tt),
+    (
+      (search (sendable, crosses, heap.crosses, owned_send) depth 30, tt),
+      (
+        (search (sendable, crosses, heap.crosses, unshared_send) depth 30, tt),
+        ((search (sendable, crosses, heap.crosses, quiet_send) depth 30, tt), (tt, tt)),
+      ),
+    ),
+  )
+
+  -- a map, or a client
+  pub stage_send : IsSend
+      (Stage.the_row K V F hash key_eq key_same key_clone value value_clone value_eq value_same remap function_clone)
+  stage_send = search (sendable, stages_send) depth 30
+
+  -- the same in a field
+  pub stage_within : IsSend
+      (Stage.the_field K V F hash key_eq key_same key_clone value value_clone value_eq value_same remap function_clone).row
+  stage_within = search (sendable, stages_send) depth 30
+
+-- a key
+string_fields_send : AllSend (shape (StringInside.the_type Heap.the_row ghosts)).fields
+string_fields_send = (search (sendable, heap.crosses) depth 20, tt)
+
+pub string_send : IsSend (ByteString.the_row Heap.the_row ghosts)
+string_send = search (sendable, string_fields_send) depth 20
+
+string_fields_sync : AllSync (shape (StringInside.the_type Heap.the_row ghosts)).fields
+string_fields_sync = (search (sendable, heap.crosses) depth 20, tt)
+
+pub string_sync : IsSync (ByteString.the_row Heap.the_row ghosts)
+string_sync = search (sendable, string_fields_sync) depth 20
+
+-- a key with its code
+pub key_send : IsSend (Hashed.the_row (ByteString.the_row Heap.the_row ghosts))
+key_send = search (sendable, string_send) depth 20
+
+pub key_sync : IsSync (Hashed.the_row (ByteString.the_row Heap.the_row ghosts))
+key_sync = search (sendable, string_sync) depth 20
+
+-- a value
+shared_fields_send : AllSend (shape SharedInside.the_type).fields
+shared_fields_send = (search (sendable, heap.crosses) depth 20, tt)
+
+pub value_send : IsSend SharedBytes.the_row
+value_send = search (sendable, shared_fields_send) depth 20
+
+shared_fields_sync : AllSync (shape SharedInside.the_type).fields
+shared_fields_sync = (search (sendable, heap.crosses) depth 20, tt)
+
+pub value_sync : IsSync SharedBytes.the_row
+value_sync = search (sendable, shared_fields_sync) depth 20
+
+-- a seed, and room for a key
+keys_fields : AllSend (shape KeysInside.the_type).fields
+keys_fields = (
+  search sendable depth 20,
+  (search (sendable, crosses, heap.crosses) depth 20, (search (sendable, heap.crosses) depth 20, tt)),
+)
+
+pub keys_send : IsSend Keys.the_row
+keys_send = search (sendable, keys_fields) depth 20

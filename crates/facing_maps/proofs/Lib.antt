@@ -1,0 +1,5 @@
+pub mod Crossing
+pub mod Copied
+pub mod Walking
+pub mod Asked
+pub mod Shown

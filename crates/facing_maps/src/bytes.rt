@@ -1,0 +1,105 @@
+//! Calls of clients of maps from bytes to bytes.
+ghost use Rattle.std.specs.Prelude.{◌≡◌, ◌≤◌, IfOk, length, max};
+ghost use Rattle.bin_history.specs.Ops.{call_on};
+ghost use Rattle.facing_maps.specs.Calls.{IsCalled, IsTried};
+ghost use Rattle.facing_maps.specs.Functions.{no_value};
+ghost use Rattle.facing_maps.specs.Keys.{key_of, same_key, same_bytes, longest, IsRefusal};
+ghost use Rattle.facing_maps.specs.Statuses.{facing_longest};
+
+use crate::keys::{Keys, SeededKey};
+use crate::seeded::try_at;
+use crate::shared::SharedBytes;
+use crate::stage::Stage;
+use crate::status::{MOST_BYTES, NO_MEMORY, TOO_LONG, Tried, WRONG_HANDLE};
+use bin_history::Op;
+use facingberyl::OwnedClient;
+use functions::NoFunction;
+use hashkeys::Bytes;
+use std::alloc::{AllocError, Global};
+
+/// The call with values of its own in the place of these. It takes memory for each.
+fn owned(
+    alloc: Global,
+    op: Op<Bytes<'_>, NoFunction>,
+) -> Result<Op<SharedBytes, NoFunction>, AllocError>
+    ensures { IfOk result (λ o. o ≡ op.entry) }
+{
+    Ok(match op {
+        Op::Get => Op::Get,
+        Op::Contains => Op::Contains,
+        Op::Put(value) => Op::Put(SharedBytes::copy_of(alloc, value.0)?),
+        Op::PutIfAbsent(value) => Op::PutIfAbsent(SharedBytes::copy_of(alloc, value.0)?),
+        Op::Remove => Op::Remove,
+        Op::RemoveIf(value) => Op::RemoveIf(SharedBytes::copy_of(alloc, value.0)?),
+        Op::Replace(value) => Op::Replace(SharedBytes::copy_of(alloc, value.0)?),
+        Op::ReplaceIf(old, new) => Op::ReplaceIf(
+            SharedBytes::copy_of(alloc, old.0)?,
+            SharedBytes::copy_of(alloc, new.0)?,
+        ),
+        Op::ComputeIfAbsent(function) => Op::ComputeIfAbsent(function),
+        Op::ComputeIfPresent(function) => Op::ComputeIfPresent(function),
+        Op::Compute(function) => Op::Compute(function),
+        Op::Merge(value, function) => { Op::Merge(SharedBytes::copy_of(alloc, value.0)?, function) }
+    })
+}
+
+/// How long the longest of a call's values is.
+fn longest(op: &Op<Bytes<'_>, NoFunction>) -> usize
+    ensures { result ≡ longest op.now }
+{
+    match op {
+        Op::Get | Op::Contains | Op::Remove => 0,
+        Op::Put(value) | Op::PutIfAbsent(value) | Op::RemoveIf(value) | Op::Replace(value) => {
+            value.0.len()
+        }
+        Op::ReplaceIf(old, new) => old.0.len().max(new.0.len()),
+        Op::ComputeIfAbsent(_) | Op::ComputeIfPresent(_) | Op::Compute(_) => 0,
+        Op::Merge(value, _) => value.0.len(),
+    }
+}
+
+/// Tries a call of a client on the key of these bytes, with copies of these values.
+fn try_bytes_at(
+    client: &mut OwnedClient<SeededKey, SharedBytes, NoFunction, Global>,
+    keys: &mut Keys,
+    key: &[u8],
+    op: Op<Bytes<'_>, NoFunction>,
+) -> Tried<SharedBytes>
+    ensures tried { IsTried same_key same_bytes no_value no_value
+        (max (length key.now) (longest op.entry) ≤ facing_longest)
+        (IsRefusal (max (length key.now) (longest op.entry))) client.old.map.ledger
+        (call_on (key_of keys.old key.now) op.entry) client.old.pass client.new.pass result }
+    ensures map { client.new.map ≡ client.old.map }
+    ensures seed { keys.new ≡ keys.old }
+{
+    if longest(&op) > MOST_BYTES || key.len() > MOST_BYTES {
+        return Err(TOO_LONG);
+    }
+    match owned(keys.allocator(), op) {
+        Ok(op) => try_at(client, keys, key, op),
+        Err(_) => Err(NO_MEMORY),
+    }
+}
+
+/// Tries a call on the key of these bytes, with copies of these values, of the client that this is.
+/// It waits for nobody.
+pub fn try_bytes(
+    stage: &mut Stage<SeededKey, SharedBytes, NoFunction>,
+    keys: &mut Keys,
+    key: &[u8],
+    op: Op<Bytes<'_>, NoFunction>,
+) -> Tried<SharedBytes>
+    ensures called { IsCalled same_key same_bytes no_value no_value
+        (max (length key.now) (longest op.entry) ≤ facing_longest)
+        (IsRefusal (max (length key.now) (longest op.entry))) stage.old
+        (call_on (key_of keys.old key.now) op.entry) stage.new result }
+    ensures seed { keys.new ≡ keys.old }
+{
+    match stage {
+        Stage::Client(client) => try_bytes_at(client, keys, key, op),
+        Stage::Map(_) => Err(WRONG_HANDLE),
+        Stage::CloseFailed(_) => Err(WRONG_HANDLE),
+        Stage::Closed(_) => Err(WRONG_HANDLE),
+        Stage::Gone => Err(WRONG_HANDLE),
+    }
+}

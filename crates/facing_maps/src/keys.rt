@@ -1,0 +1,82 @@
+//! Keys of bytes under a seed.
+ghost use Rattle.std.specs.Prelude.{◌≡◌, IfOk};
+ghost use Rattle.seeded_keys.specs.Seeds.{keyed};
+ghost use Rattle.facing_maps.specs.Keys.{key_of};
+
+use hashkeys::ByteString;
+use seeded_keys::{Hashed, Query, Seed};
+use std::alloc::{AllocError, Global};
+use std::marker::Model;
+use std::mem;
+
+/// A key of bytes, with its code under the seed of its map.
+pub type SeededKey = Hashed<ByteString<Global>>;
+
+/// The seed of a map's keys, and room for the bytes of one key, which grows to those of the longest
+/// key that a call was made on. Contracts see the seed.
+#[derive(Drop)]
+pub struct Keys {
+    seed: Seed,
+    room: Vec<u8, Global>,
+    alloc: Global,
+}
+
+impl Model for Keys {
+    ghost use Rattle.seeded_keys.specs.declared.seed.Seed.{Seed};
+
+    ghost Value = { Seed };
+
+    ghost view = { λ k. k.seed };
+}
+
+impl Keys {
+    /// Keys under this seed, without room. It takes no memory.
+    pub fn new(alloc: Global, seed: Seed) -> Keys
+        ensures { result ≡ seed }
+    {
+        Keys {
+            seed,
+            room: Vec::new(alloc),
+            alloc,
+        }
+    }
+
+    /// Keys under the same seed, without room. It takes no memory.
+    pub fn again(&self) -> Keys
+        ensures { result ≡ self.now }
+    {
+        Keys::new(self.alloc, self.seed)
+    }
+
+    /// The memory that keys and values are made in.
+    pub(crate) fn allocator(&self) -> Global {
+        self.alloc
+    }
+
+    /// What stands for the key of these bytes, where none is made.
+    pub fn query<'a>(&self, bytes: &'a [u8]) -> Query<'a>
+        ensures code { result.code ≡ keyed self.now bytes.now }
+        ensures bytes { result.bytes.now ≡ bytes.now }
+    {
+        self.seed.query(bytes)
+    }
+
+    /// The key of these bytes, in the room, until it is taken back. It takes memory where the room is
+    /// too small, and where it gets none the room is empty.
+    pub(crate) fn key(&mut self, bytes: &[u8]) -> Result<SeededKey, AllocError>
+        ensures key { IfOk result (λ k. k ≡ key_of self.old bytes.now) }
+        ensures same { self.new ≡ self.old }
+    {
+        let mut room = mem::replace(&mut self.room, Vec::new(self.alloc));
+        room.clear();
+        room.extend_from_slice(bytes)?;
+        Ok(self.seed.key(room))
+    }
+
+    /// Takes the room of a key back.
+    pub(crate) fn take_back(&mut self, key: SeededKey)
+        ensures { self.new ≡ self.old }
+    {
+        self.room = key.into_bytes().into_bytes();
+    }
+}

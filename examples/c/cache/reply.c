@@ -1,0 +1,126 @@
+/* Writes replies, and sends them. What a client does not read waits here, up to a limit; then its connection is closed. */
+#include "cache.h"
+#include <errno.h>
+#include <string.h>
+#include <sys/socket.h>
+
+/* The most bytes of a line with a number. */
+enum { NUMBER = 32 };
+
+size_t unsent(const struct connection *c) {
+    return c->out.len - c->sent;
+}
+
+/* Sends what there is, as far as the socket takes it. */
+void send_replies(struct connection *c) {
+    while (!c->is_broken && unsent(c) > 0) {
+        ssize_t sent = send(c->socket, c->out.at + c->sent, unsent(c), MSG_NOSIGNAL);
+        if (sent > 0)
+            c->sent += (size_t)sent;
+        else if (sent < 0 && (errno == EAGAIN || errno == EWOULDBLOCK))
+            return;
+        else if (sent == 0 || errno != EINTR)
+            c->is_broken = true;
+    }
+    c->out.len = c->sent = 0;
+    buffer_move(&c->worker->out, &c->out);
+}
+
+/* Makes room for so many bytes, and returns where they go; NULL where the connection is to be closed. */
+static uint8_t *more_out(struct connection *c, size_t len) {
+    uint64_t limit = c->worker->cache->limits.output;
+    if (unsent(c) + len > limit) send_replies(c);
+    if (unsent(c) + len > limit) c->is_broken = true;
+    if (c->is_broken) return NULL;
+    if (c->sent > unsent(c) && c->out.room - c->out.len < len) {
+        memmove(c->out.at, c->out.at + c->sent, unsent(c));
+        c->out.len -= c->sent;
+        c->sent = 0;
+    }
+    if (c->out.at == NULL) buffer_move(&c->out, &c->worker->out);
+    if (!buffer_reserve(&c->out, len)) {
+        c->is_broken = true;
+        return NULL;
+    }
+    return c->out.at + c->out.len;
+}
+
+/* Writes a line with a number behind a mark, and returns its length. */
+static size_t write_number(uint8_t line[NUMBER], char mark, int64_t number) {
+    uint8_t digits[NUMBER];
+    uint64_t left = number < 0 ? 0 - (uint64_t)number : (uint64_t)number;
+    size_t n = 0, len = 0;
+    do
+        digits[n++] = (uint8_t)('0' + left % 10);
+    while ((left /= 10) > 0);
+    line[len++] = (uint8_t)mark;
+    if (number < 0) line[len++] = '-';
+    while (n > 0)
+        line[len++] = digits[--n];
+    line[len++] = '\r';
+    line[len++] = '\n';
+    return len;
+}
+
+static void reply_line(struct connection *c, char mark, int64_t number) {
+    uint8_t *to = more_out(c, NUMBER);
+    if (to != NULL) c->out.len += write_number(to, mark, number);
+}
+
+static void reply_text(struct connection *c, char mark, const char *text) {
+    size_t len = strlen(text);
+    uint8_t *to = more_out(c, len + 3);
+    if (to == NULL) return;
+    to[0] = (uint8_t)mark;
+    memcpy(to + 1, text, len);
+    memcpy(to + 1 + len, "\r\n", 2);
+    c->out.len += len + 3;
+}
+
+void reply_simple(struct connection *c, const char *text) {
+    reply_text(c, '+', text);
+}
+
+/* The text has no line's end. */
+void reply_error(struct connection *c, const char *text) {
+    reply_text(c, '-', text);
+}
+
+void reply_number(struct connection *c, int64_t number) {
+    reply_line(c, ':', number);
+}
+
+void reply_list(struct connection *c, size_t count) {
+    reply_line(c, '*', (int64_t)count);
+}
+
+void reply_none(struct connection *c) {
+    reply_line(c, '$', -1);
+}
+
+void reply_bulk(struct connection *c, struct bytes bytes) {
+    uint8_t *to = more_out(c, NUMBER + bytes.len + 2);
+    size_t len;
+    if (to == NULL) return;
+    len = write_number(to, '$', (int64_t)bytes.len);
+    if (bytes.len > 0) memcpy(to + len, bytes.at, bytes.len);
+    memcpy(to + len + bytes.len, "\r\n", 2);
+    c->out.len += len + bytes.len + 2;
+}
+
+/* Why a call was not made; NULL where it was. */
+const char *error_of(uint32_t status) {
+    switch (status) {
+    case FACING_DONE: return NULL;
+    case STORE_FULL: return "OOM command not allowed when used memory > 'maxmemory'.";
+    case FACING_NO_MEMORY: return "OOM out of memory";
+    case FACING_TOO_LONG: return "ERR string exceeds maximum allowed size (proto-max-bulk-len)";
+    default: return "ERR the map did not make the call";
+    }
+}
+
+/* Replies with a number where the call was made, and returns the error else. */
+const char *done_or_error(struct connection *c, uint32_t status, int64_t number) {
+    if (status == FACING_DONE) reply_number(c, number);
+    return error_of(status);
+}

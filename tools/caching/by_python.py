@@ -1,0 +1,52 @@
+"""Round trips of Python's module redis with a server: run with its port. Ends with status 1, and says why, where a call returns another
+value than Redis's pages and the module's say."""
+import sys
+
+import redis
+
+CALLS = [
+    ("ping", lambda it: it.ping(), True),
+    ("echo", lambda it: it.echo("a"), b"a"),
+    ("set", lambda it: it.set("a", 1), True),
+    ("get", lambda it: it.get("a"), b"1"),
+    ("none", lambda it: it.get("none"), None),
+    ("nx", lambda it: it.set("a", 2, nx=True), None),
+    ("xx", lambda it: it.set("a", 2, xx=True, ex=100), True),
+    ("ttl", lambda it: 90 <= it.ttl("a") <= 100, True),
+    ("persist", lambda it: it.persist("a"), True),
+    ("expire", lambda it: it.expire("a", 10), True),
+    ("setnx", lambda it: it.setnx("a", 3), False),
+    ("getset", lambda it: it.getset("a", 3), b"2"),
+    ("incr", lambda it: it.incr("a", 4), 7),
+    ("decr", lambda it: it.decr("a"), 6),
+    ("append", lambda it: it.append("a", "0"), 2),
+    ("strlen", lambda it: it.strlen("a"), 2),
+    ("mset", lambda it: it.mset({"b": 1, "c": 2}), True),
+    ("mget", lambda it: it.mget("a", "none", "c"), [b"60", None, b"2"]),
+    ("exists", lambda it: it.exists("a", "b", "none"), 2),
+    ("dbsize", lambda it: it.dbsize(), 3),
+    ("pipeline", lambda it: it.pipeline(transaction=False).incr("b").get("b").execute(), [2, b"2"]),
+    ("info", lambda it: it.info()["connected_clients"] > 0, True),
+    ("info of keys", lambda it: it.info("keyspace")["db0"]["keys"], 3),
+    ("client_setname", lambda it: it.client_setname("me"), True),
+    ("incrby", lambda it: it.incrby("b", 8), 10),
+    ("decrby", lambda it: it.decrby("b", 8), 2),
+    ("pexpire", lambda it: it.pexpire("b", 100000), True),
+    ("pttl", lambda it: 90000 <= it.pttl("b") <= 100000, True),
+    ("scan", lambda it: sorted(it.scan(0, match="[bc]", count=100)[1]), [b"b", b"c"]),
+    ("delete", lambda it: it.delete("a", "none"), 1),
+    ("scan_iter", lambda it: sorted(it.scan_iter("*")), [b"b", b"c"]),
+    ("flushall", lambda it: it.flushall(), True),
+    ("dbsize", lambda it: it.dbsize(), 0),
+]
+
+
+def main(port):
+    with redis.Redis(port=port) as it:
+        for name, call, wanted in CALLS:
+            if (got := call(it)) != wanted:
+                sys.exit(f"{name}: {got!r}, not {wanted!r}")
+
+
+if __name__ == "__main__":
+    main(int(sys.argv[1]))

@@ -1,0 +1,186 @@
+"""What hostile clients send, while another client looks whether its own keys stay as they are."""
+import contextlib
+import random
+import socket
+import threading
+import time
+
+from .client import OK, PONG, Closed, Connection, Error, packed
+from .server import Failed
+from .together import must
+
+PROTOCOL = "ERR Protocol error: "
+# What is sent, and the error before the connection is closed.
+MALFORMED = (
+    (b"*1\r\n@4\r\nPING\r\n", "expected '$', got '@'"),
+    (b"*1\r\n\x004\r\nPING\r\n", "expected '$', got '?'"),
+    (b"*x\r\n", "invalid multibulk length"),
+    (b"*\r\n", "invalid multibulk length"),
+    (b"*1\rx", "invalid multibulk length"),
+    (b"*1048577\r\n", "invalid multibulk length"),
+    (b"*99999999999999999999\r\n", "invalid multibulk length"),
+    (b"*" + b"1" * 100, "too big mbulk count string"),
+    (b"*1\r\n$x\r\n", "invalid bulk length"),
+    (b"*1\r\n$-1\r\n", "invalid bulk length"),
+    (b"*1\r\n$1048577\r\n", "invalid bulk length"),
+    (b"*1\r\n$9223372036854775807\r\n", "invalid bulk length"),
+    (b"*1\r\n$18446744073709551615\r\n", "invalid bulk length"),
+    (b"*1\r\n$" + b"1" * 100, "too big bulk count string"),
+    (b"*1\r\n$4\r\nPINGPING\r\n", "expected a line's end behind a bulk"),
+    (b"x" * 70000, "too big inline request"),
+    (packed("PING") * 3 + b"*1\r\n?", "expected '$', got '?'"),
+)
+
+
+@contextlib.contextmanager
+def witness(server):
+    """Another client's keys: they must be as it left them, all the while and at the end."""
+    stop, faults, drawn = threading.Event(), [], random.Random(5)
+
+    def look():
+        kept = {f"witness{it}": None for it in range(20)}
+        try:
+            with Connection(server.port) as it:
+                while not stop.is_set():
+                    key, value = drawn.choice(list(kept)), drawn.randbytes(drawn.randrange(2000))
+                    must(it.call("GET", key) == kept[key], f"{key} is another")
+                    must(it.call("SET", key, value) == OK, f"{key} is not set")
+                    kept[key] = value
+        except Exception as why:
+            faults.append(repr(why))
+
+    thread = threading.Thread(target=look)
+    thread.start()
+    try:
+        yield
+    finally:
+        stop.set()
+        thread.join()
+    must(not faults, f"another client: {'; '.join(faults)}")
+
+
+def malformed_requests(server):
+    """A request that is wrong gets its error, after the replies to those before it, and the connection is closed."""
+    with witness(server):
+        for data, error in MALFORMED:
+            with Connection(server.port) as it:
+                it.send(data)
+                while (got := it.reply()) == PONG:
+                    pass
+                must(got == Error(PROTOCOL + error), f"{data[:40]!r}: {got!r}")
+                must(it.is_closed(), f"{data[:40]!r}: the connection is not closed")
+
+
+def cut_requests(server):
+    """A connection that ends anywhere in a request leaves nothing of it."""
+    request = packed("SET", "cut", "value")
+    with witness(server):
+        for at in range(len(request)):
+            with Connection(server.port) as it:
+                it.send(request[:at])
+                it.socket.shutdown(socket.SHUT_WR)
+                must(it.is_closed(), "a connection that ended is not closed")
+        with Connection(server.port) as it:
+            must(it.call("GET", "cut") is None, "a request that was cut was run")
+
+
+def random_bytes(server, seconds, seed):
+    """Bytes at random, and right requests with a few bytes changed: each connection ends with a reply or is closed."""
+    drawn, until = random.Random(f"bytes {seed}"), time.monotonic() + seconds
+    words = [b"GET", b"SET", b"MSET", b"SCAN", b"INCR", b"EXPIRE", b"APPEND", b"CLIENT", b"\xff", b"", b"0", b"MATCH", b"-1", b"EX"]
+    with witness(server):
+        while time.monotonic() < until:
+            parts = []
+            for _ in range(drawn.randrange(1, 30)):
+                data = bytearray(packed(*(drawn.choice(words) for _ in range(drawn.randrange(1, 6)))))
+                for _ in range(drawn.choice((0, 0, 1, 3))):
+                    data[drawn.randrange(len(data))] = drawn.choice((*b"*$\r\n0123456789-", drawn.randrange(256)))
+                parts.append(bytes(data) if drawn.random() < 0.95 else drawn.randbytes(100))
+            with contextlib.suppress(Closed), Connection(server.port) as it:
+                it.send(b"".join(parts))
+                it.socket.shutdown(socket.SHUT_WR)
+                must(it.is_closed(), "a connection that ended is not closed")
+
+
+def huge_requests(server):
+    """What is larger than the limits is refused, and what is as large as them is not."""
+    long = b"x" * 65528
+    with witness(server), Connection(server.port) as it:
+        too_long = Error("ERR string exceeds maximum allowed size (proto-max-bulk-len)")
+        must(it.call("SET", "huge", long) == OK and it.call("GET", "huge") == long, "the longest value is not taken")
+        must(it.call("APPEND", "huge", "x") == too_long and it.call("STRLEN", "huge") == 65528, "a longer value is taken")
+        must(it.call("SET", "huge", long + b"x") == too_long, "a longer value is taken")
+        must(it.call("MSET", "other", "1", "huge", long + b"x") == too_long, "a longer value is taken")
+        must(it.call("EXISTS", "other") == 0, "a part of MSET is stored")
+        key = b"k" * 65536
+        must(it.call("SET", key, "1") == OK and it.call("GET", key) == b"1", "the longest key is not taken")
+        must(it.call("SET", key + b"k", "1") == too_long and it.call("GET", key + b"k") == too_long, "a longer key is taken")
+        must(it.call("MGET", *[key] * 15) == [b"1"] * 15, "a request of a megabyte is not taken")
+        many = ["x"] * 100000
+        must(it.call("EXISTS", *many) == 0 and it.call("DEL", key, "huge") == 2, "a request of 100,000 words is not taken")
+        it.send(b"*1048576\r\n" + b"$1\r\nx\r\n" * 160000)
+        must(it.reply() == Error(PROTOCOL + "invalid bulk length") and it.is_closed(), "a larger request is taken")
+
+
+def thousand_connections(server):
+    """1,000 connections at the same time, each with its own answer; some wait, some end in the midst of a request."""
+    with witness(server), contextlib.ExitStack() as stack:
+        all_of = [stack.enter_context(Connection(server.port)) for _ in range(1000)]
+        for number, it in enumerate(all_of):
+            it.send(packed("SET", f"mine{number}", number) + packed("GET", f"mine{number}") + b"*2\r\n$3\r\nGE")
+        for number, it in enumerate(all_of):
+            must([it.reply(), it.reply()] == [OK, b"%d" % number], f"connection {number} has another's bytes")
+        for it in all_of[::3]:
+            it.close()
+        for number, it in enumerate(all_of):
+            if number % 3:
+                it.send(b"T\r\n" + packed(f"mine{number}")[4:])
+                must(it.reply() == b"%d" % number, f"connection {number} has another's bytes")
+
+
+def one_byte_at_a_time(server):
+    """200 connections that send a byte each in turn."""
+    data = packed("SET", "slow", "value") + packed("GET", "slow")
+    with witness(server), contextlib.ExitStack() as stack:
+        all_of = [stack.enter_context(Connection(server.port)) for _ in range(200)]
+        for at in range(len(data)):
+            for it in all_of:
+                it.send(data[at : at + 1])
+        for it in all_of:
+            must([it.reply(), it.reply()] == [OK, b"value"], "a slow client has another reply")
+
+
+def connections(it):
+    return int(it.call("INFO").split(b"connected_clients:")[1].split()[0])
+
+
+def are_closed(server, it, request, clients=1):
+    """Sends a request from clients that never read, and waits until the server has closed their connections."""
+    with contextlib.ExitStack() as stack:
+        deaf = [stack.enter_context(Connection(server.port, room=4096)) for _ in range(clients)]
+        must(all(other.call("PING") == PONG for other in deaf), "no reply")
+        before, until = connections(it), time.monotonic() + 300
+        for other in deaf:
+            other.send(request)
+        while connections(it) > before - clients:
+            must(time.monotonic() < until, "a connection is not closed")
+            time.sleep(0.02)
+
+
+def clients_that_never_read(server, output=1 << 24):
+    """Replies that nobody reads are bounded: the connection is closed, and the memory comes back."""
+    with witness(server), Connection(server.port) as it:
+        must(it.call("SET", "large", "x" * 60000) == OK, "a key was not set")
+        before = server.resident()
+        for _ in range(4):
+            are_closed(server, it, packed("GET", "large") * 1000)
+        after = server.resident()
+        must(not server.is_plain or after < before + 3 * output, f"{(after - before) >> 20} MB more are resident than before")
+        must(len(it.call("MGET", *["large"] * 100)) == 100, "another client has no reply")
+
+
+def amplified(server):
+    """One small request whose reply is larger than the limit: the connection is closed."""
+    with witness(server), Connection(server.port) as it:
+        must(it.call("SET", "large", "x" * 60000) == OK, "a key was not set")
+        are_closed(server, it, packed("MGET", *["large"] * 20000))
