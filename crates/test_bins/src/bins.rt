@@ -5,7 +5,6 @@ use bin_history::{Call, Record, RecordedBin, Reply};
 use hashkeys::{Class, Key, Salt};
 use std::alloc::{AllocError, Global};
 use std::process::Abort;
-use std::test::Fail;
 use test_support::Plus;
 
 type KeyBin = RecordedBin<Key, u64, Plus, Global>;
@@ -36,12 +35,12 @@ fn assert_entries(rt: &impl Abort, entries: &[(Key, u64)], wanted: &[(&[u8], u64
 }
 
 #[test]
-fn each_call_replies_and_leaves_what_its_row_says(rt: HostRuntime) -> Result<(), Fail> {
-    let rows = rows(&rt, rt.alloc())?;
-    let mut bin = empty(rt.alloc(), Class::new(1, 0))?;
+fn each_call_replies_and_leaves_what_its_row_says(rt: HostRuntime) {
+    let rows = rows(&rt, rt.alloc()).expect(&rt, "memory");
+    let mut bin = empty(rt.alloc(), Class::new(1, 0)).expect(&rt, "memory");
     let mut line = 0u64;
     for (call, reply, delta) in rows {
-        let answered = make(&rt, &mut bin, call)?;
+        let answered = make(&rt, &mut bin, call).expect(&rt, "memory");
         assert!(rt; answered == reply, "call {line} replied {answered:?}");
         let last = bin.records().last().expect(&rt, "a record");
         let found = (last.client(), last.ordinal(), last.delta());
@@ -54,7 +53,6 @@ fn each_call_replies_and_leaves_what_its_row_says(rt: HostRuntime) -> Result<(),
         &[(b"a", 6), (b"b", 7), (b"c", u64::MAX)],
     );
     assert_same(&rt, &bin.base().len(), &0);
-    Ok(())
 }
 
 /// A bin of class (16, 1) after 1,025 calls on two keys: both are put, one is taken away and put
@@ -87,20 +85,23 @@ fn assert_halves(rt: &impl Abort, bin: &KeyBin) -> Result<(), AllocError> {
 }
 
 #[test]
-fn the_oldest_records_are_folded(rt: HostRuntime) -> Result<(), Fail> {
-    let bin = folded(&rt, rt.alloc())?;
+fn the_oldest_records_are_folded(rt: HostRuntime) {
+    let bin = folded(&rt, rt.alloc()).expect(&rt, "memory");
     assert_same(&rt, &bin.records().len(), &513);
     assert_entries(&rt, bin.base(), &[(b"q", 1), (b"a", 2)]);
-    assert_entries(&rt, &bin.copy_entries()?, &[(b"a", 2), (b"q", 3)]);
+    assert_entries(
+        &rt,
+        &bin.copy_entries().expect(&rt, "memory"),
+        &[(b"a", 2), (b"q", 3)],
+    );
     assert!(rt; bin.get(&key(&rt, b"q")) == Some(&3));
     assert!(rt; bin.get(&key(&rt, b"A")).is_none());
-    assert_halves(&rt, &bin)?;
-    Ok(())
+    assert_halves(&rt, &bin).expect(&rt, "memory");
 }
 
 #[test]
-fn a_bin_stores_few_records(rt: HostRuntime) -> Result<(), Fail> {
-    let mut bin = empty(rt.alloc(), Class::new(1, 0))?;
+fn a_bin_stores_few_records(rt: HostRuntime) {
+    let mut bin = empty(rt.alloc(), Class::new(1, 0)).expect(&rt, "memory");
     let mut calls = 0;
     for (wanted, stored, base) in [
         (512, 512, None),
@@ -112,7 +113,9 @@ fn a_bin_stores_few_records(rt: HostRuntime) -> Result<(), Fail> {
         (1_000_000, 576, Some(999_424)),
     ] {
         for _ in calls..wanted {
-            let _ = make(&rt, &mut bin, Call::Merge(key(&rt, b"a"), 1, Plus(Some(0))))?;
+            let _ = make(&rt, &mut bin, Call::Merge(key(&rt, b"a"), 1, Plus(Some(0)))).expect(
+                &rt, "memory",
+            );
         }
         calls = wanted;
         assert_same(&rt, &bin.records().len(), &stored);
@@ -120,11 +123,10 @@ fn a_bin_stores_few_records(rt: HostRuntime) -> Result<(), Fail> {
         assert_same(&rt, &(folded, bin.base().len() <= 1), &(base, true));
         assert_entries(&rt, bin.entries(), &[(b"a", wanted)]);
     }
-    Ok(())
 }
 
 #[test]
-fn a_record_tells_its_call_and_both_values(rt: HostRuntime) -> Result<(), Fail> {
+fn a_record_tells_its_call_and_both_values(rt: HostRuntime) {
     for (before, after, delta) in [
         (None, None, 0),
         (None, Some(1), 1),
@@ -142,5 +144,20 @@ fn a_record_tells_its_call_and_both_values(rt: HostRuntime) -> Result<(), Fail> 
         assert_same(&rt, &of, &(3, 5, b"a".as_slice()));
         assert_same(&rt, &found, &(before, after, delta));
     }
-    Ok(())
+}
+
+#[test]
+fn a_record_has_any_client_below_65536_and_any_ordinal_below_2_to_48(rt: HostRuntime) {
+    for (client, ordinal) in [
+        (0, 0),
+        (65_535, 0),
+        (64, 1),
+        (0, 281_474_976_710_655),
+        (65_535, 281_474_976_710_655),
+    ] {
+        let call: Call<Key, u64, Plus> = Call::Get(key(&rt, b"a"));
+        let entry = Record::new(client, ordinal, call, None, None);
+        let of = (entry.client(), entry.ordinal());
+        assert_same(&rt, &of, &(client, ordinal));
+    }
 }

@@ -4,11 +4,10 @@ ghost use Rattle.bin_history.specs.Entries.{HasDistinctKeys};
 
 use crate::asserts::assert_same;
 use crate::twins::Twin;
-use bin_history::{Bin, Form, Given, Op, Reply};
+use bin_history::{Bin, Form, KeyArg, Op, Reply};
 use hashkeys::{Class, Salt};
 use std::alloc::{AllocError, Global};
 use std::process::Abort;
-use std::test::Fail;
 use test_support::Plus;
 
 type LongBin = Bin<Twin, u64, Plus, Global>;
@@ -39,7 +38,7 @@ fn make(
     let (salt, class) = (bin.salt(), bin.class());
     let hash = salt.hash_of(&key);
     assert!(rt; class.covers(hash));
-    Ok(bin.make_on(&alloc, hash, Given::Owned(key), op, 0, 0)?.0)
+    Ok(bin.make_on(&alloc, hash, KeyArg::Owned(key), op, 0, 0)?.0)
 }
 
 /// Asserts that the walk goes over the numbers from 1 on, in order, but for 500,000, then over the
@@ -59,10 +58,12 @@ fn assert_walk(rt: &impl Abort, bin: &LongBin) {
 }
 
 #[test]
-fn a_million_entries_under_one_hash(rt: HostRuntime) -> Result<(), Fail> {
+fn a_million_entries_under_one_hash(rt: HostRuntime) {
     let alloc = rt.alloc();
-    let base = numbered(alloc)?;
-    let mut bin = Bin::new(&alloc, Form::Lean, Salt(0), Class::new(1, 0), base)?;
+    let base = numbered(alloc).expect(&rt, "memory");
+    let mut bin = Bin::new(&alloc, Form::Lean, Salt(0), Class::new(1, 0), base).expect(
+        &rt, "memory",
+    );
     for (number, op, found) in [
         (999_999, Op::Put(7), Some(999_999)),
         (0, Op::Remove, Some(0)),
@@ -71,11 +72,11 @@ fn a_million_entries_under_one_hash(rt: HostRuntime) -> Result<(), Fail> {
         (0, Op::Put(5), None),
         (0, Op::Get, Some(5)),
     ] {
-        let reply = make(&rt, alloc, &mut bin, number, op)?;
+        let reply = make(&rt, alloc, &mut bin, number, op).expect(&rt, "memory");
         assert_same(&rt, &(number, reply), &(number, Reply::Value(found)));
     }
     assert_walk(&rt, &bin);
-    let copy = bin.copy_entries(&alloc)?;
+    let copy = bin.copy_entries(&alloc).expect(&rt, "memory");
     assert_same(&rt, &copy.len(), &999_999);
     assert!(rt; bin.class().n() < 65536);
     let Ok((low, high)) = bin.split(&alloc) else {
@@ -84,5 +85,4 @@ fn a_million_entries_under_one_hash(rt: HostRuntime) -> Result<(), Fail> {
     };
     assert_walk(&rt, &low);
     assert!(rt; high.first().is_none());
-    Ok(())
 }

@@ -1,12 +1,12 @@
 //! Bins with their roles, and the calls on them that are posted.
-ghost use Rattle.std.specs.Prelude.{◌≡◌, ◌<◌, true, [], length, All, IfOk, IfErr};
+ghost use Rattle.std.specs.Prelude.{◌≡◌, ◌<◌, ◌^◌, true, [], length, All, IfOk, IfErr};
 ghost use Rattle.hashkeys.specs.Classes.{is_of, low_half, high_half};
 ghost use Rattle.hashkeys.specs.Limits.{most_bins};
 ghost use Rattle.bin_history.specs.Copies.{IsExact};
 ghost use Rattle.count_ledger.specs.Agreement.{part_of_role};
 ghost use Rattle.count_ledger.specs.Limits.{most_calls};
 
-use bin_history::{Bin, Form, Given, Op, Remap, Reply, Value};
+use bin_history::{Bin, Form, KeyArg, Op, Remap, Reply, Value};
 use count_ledger::{BinRole, Ledger, Pass, Unsettled};
 use hashkeys::{Class, HashKey, Salt};
 use std::alloc::{AllocError, Allocator};
@@ -74,7 +74,8 @@ impl<K: HashKey, V: Value, F: Remap<K, V>, A: Allocator + Clone> Held<K, V, F, A
         requires values { IsExact V.is_clone }
         requires pass { pass.old.ledger ≡ ledger.now.id }
         requires role { self.old.ledger ≡ ledger.now.id }
-        requires room { length pass.old.made < most_calls ledger.now.form }
+        requires room { length pass.old.made < most_calls ledger.now.form ledger.now.clients }
+        requires short { length pass.old.made < 2 ^ 48 }
         requires of_class { is_of K.code self.old.salt self.old.class key ≡ true }
         ensures pass { pass.new.ledger ≡ pass.old.ledger }
         ensures role { self.new.ledger ≡ self.old.ledger }
@@ -82,7 +83,7 @@ impl<K: HashKey, V: Value, F: Remap<K, V>, A: Allocator + Clone> Held<K, V, F, A
         self.bin.lawful();
         let (client, made) = (pass.client(), pass.made());
         let hash = self.bin.salt().hash_of(&key);
-        let key: Given<'a, K> = Given::Owned(key);
+        let key: KeyArg<'a, K> = KeyArg::Owned(key);
         let (reply, trace) = self.bin.make_on(&self.alloc, hash, key, op, client, made)?;
         ledger.post_trace(pass, &mut self.role, &trace);
         Ok(reply)

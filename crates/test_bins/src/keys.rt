@@ -2,7 +2,6 @@
 use crate::asserts::assert_same;
 use hashkeys::{ByteString, Bytes, Class, HashKey, Key, Salt, spread};
 use std::process::Abort;
-use std::test::Fail;
 
 /// A key with its code, spread and slots of 16, 32 and 4,096.
 #[derive(Drop)]
@@ -14,7 +13,7 @@ struct Row {
 }
 
 #[test]
-fn known_codes_spreads_and_slots(rt: HostRuntime) -> Result<(), Fail> {
+fn known_codes_spreads_and_slots(rt: HostRuntime) {
     let rows = [
         Row {
             text: b"a",
@@ -54,17 +53,16 @@ fn known_codes_spreads_and_slots(rt: HostRuntime) -> Result<(), Fail> {
         },
     ];
     for row in &rows {
-        let key = Key::read(row.text).ok_or("no key")?;
+        let key = Key::read(row.text).expect(&rt, "a key");
         let hash = Salt(0).hash_of(&key);
         let found = (key.bytes(), key.hash_code(), spread(row.code), hash);
         assert_same(&rt, &found, &(row.text, row.code, row.spread, row.spread));
         assert_same(&rt, &[hash % 16, hash % 32, hash % 4096], &row.slots);
     }
-    Ok(())
 }
 
 #[test]
-fn known_hashes_under_salts(rt: HostRuntime) -> Result<(), Fail> {
+fn known_hashes_under_salts(rt: HostRuntime) {
     let rows: [(&[u8], u32, u32, u32, u32); 7] = [
         (b"a", 1, 96, 0, 0),
         (b"q", 1, 112, 0, 16),
@@ -75,11 +73,10 @@ fn known_hashes_under_salts(rt: HostRuntime) -> Result<(), Fail> {
         (b"zzzzzz", 2_147_483_648, 0x571F_EADF, 15, 31),
     ];
     for (text, salt, hash, of_16, of_32) in rows {
-        let key = Key::read(text).ok_or("no key")?;
+        let key = Key::read(text).expect(&rt, "a key");
         let found = Salt(salt).hash_of(&key);
         assert_same(&rt, &(found, hash % 16, hash % 32), &(hash, of_16, of_32));
     }
-    Ok(())
 }
 
 #[test]
@@ -104,12 +101,12 @@ fn is_no_key(rt: &impl Abort, bytes: &[u8]) {
 }
 
 #[test]
-fn other_bytes_are_no_key(rt: HostRuntime) -> Result<(), Fail> {
-    let longest = Key::read(&[b'_'; 32]).ok_or("no key")?;
+fn other_bytes_are_no_key(rt: HostRuntime) {
+    let longest = Key::read(&[b'_'; 32]).expect(&rt, "a key");
     assert_same(&rt, &longest.bytes().len(), &32);
-    let copy = longest.clone()?;
+    let copy = longest.clone().expect(&rt, "memory");
     assert!(rt; copy == longest);
-    let shortest = Key::read(b"_").ok_or("no key")?;
+    let shortest = Key::read(b"_").expect(&rt, "a key");
     assert!(rt; copy != shortest);
     is_no_key(&rt, b"");
     is_no_key(&rt, &[b'_'; 33]);
@@ -124,38 +121,35 @@ fn other_bytes_are_no_key(rt: HostRuntime) -> Result<(), Fail> {
     for byte in [b'0', b'9', b'A', b'Z', b'a', b'z', b'_'] {
         assert!(rt; Key::read(&[byte]).is_some());
     }
-    Ok(())
 }
 
 #[test]
-fn keys_stand_in_byte_order(rt: HostRuntime) -> Result<(), Fail> {
+fn keys_stand_in_byte_order(rt: HostRuntime) {
     // Digits, capitals, `_`, small letters; and a key before those that it begins.
     let texts: [&[u8]; 9] = [
         b"0", b"9", b"A", b"AA", b"B", b"_", b"a", b"zzzzzz", b"zzzzzzz",
     ];
     for (i, text) in texts.iter().enumerate() {
-        let key = Key::read(text).ok_or("no key")?;
+        let key = Key::read(text).expect(&rt, "a key");
         for (j, other) in texts.iter().enumerate() {
-            let other_key = Key::read(other).ok_or("no key")?;
+            let other_key = Key::read(other).expect(&rt, "a key");
             assert!(rt; key.cmp(&other_key) == i.cmp(&j), "{text:?} and {other:?}");
             assert!(rt; (key < other_key) == (i < j), "{text:?} and {other:?}");
         }
     }
-    Ok(())
 }
 
 #[test]
-fn numbers_have_known_codes(rt: HostRuntime) -> Result<(), Fail> {
-    assert_eq!(rt; 0u64.hash_code(), 0);
-    assert_eq!(rt; 1u64.hash_code(), 0x9e37_79b9);
-    assert_eq!(rt; 1u32.hash_code(), 0x9e37_79b9);
-    assert_eq!(rt; 2u64.hash_code(), 0x3c6e_f372);
-    assert_eq!(rt; 0x1_0000_0000u64.hash_code(), 0x7f4a_7c15);
-    Ok(())
+fn numbers_have_known_codes(rt: HostRuntime) {
+    assert_same(&rt, &0u64.hash_code(), &0);
+    assert_same(&rt, &1u64.hash_code(), &0x9e37_79b9);
+    assert_same(&rt, &1u32.hash_code(), &0x9e37_79b9);
+    assert_same(&rt, &2u64.hash_code(), &0x3c6e_f372);
+    assert_same(&rt, &0x1_0000_0000u64.hash_code(), &0x7f4a_7c15);
 }
 
 #[test]
-fn numbers_that_differ_in_upper_bits_lie_apart(rt: HostRuntime) -> Result<(), Fail> {
+fn numbers_that_differ_in_upper_bits_lie_apart(rt: HostRuntime) {
     for shift in [0u32, 16, 32, 48] {
         let mut slots = [0u8; 256];
         for i in 0..256u64 {
@@ -166,18 +160,16 @@ fn numbers_that_differ_in_upper_bits_lie_apart(rt: HostRuntime) -> Result<(), Fa
             assert!(rt; *count < 8, "{count} of 256 numbers in one slot");
         }
     }
-    Ok(())
 }
 
 #[test]
-fn byte_strings_are_keys(rt: HostRuntime) -> Result<(), Fail> {
-    let own = ByteString::new([66u8, 66].to_vec(rt.alloc())?);
-    let copy = own.clone()?;
-    assert_eq!(rt; Bytes(b"Aa").hash_code(), 2112);
-    assert_eq!(rt; copy.hash_code(), 2112);
-    assert_eq!(rt; copy.bytes(), b"BB".as_slice());
+fn byte_strings_are_keys(rt: HostRuntime) {
+    let own = ByteString::new([66u8, 66].to_vec(rt.alloc()).expect(&rt, "memory"));
+    let copy = own.clone().expect(&rt, "memory");
+    assert_same(&rt, &Bytes(b"Aa").hash_code(), &2112);
+    assert_same(&rt, &copy.hash_code(), &2112);
+    assert_same(&rt, &copy.bytes(), &b"BB".as_slice());
     assert!(rt; copy == own);
     assert!(rt; Bytes(b"Aa") != Bytes(b"BB"));
-    assert_eq!(rt; own.into_bytes().as_slice(), b"BB".as_slice());
-    Ok(())
+    assert_same(&rt, &own.into_bytes().as_slice(), &b"BB".as_slice());
 }

@@ -67,6 +67,7 @@ pub(crate) fn call(
 {
     let key = key(rt, text);
     assert!(rt; pass.made() < ledger.most_calls());
+    assert!(rt; pass.made() < 1 << 48);
     assert!(rt; bin.class().covers(bin.salt().hash_of(&key)));
     let reply = bin.post(ledger, pass, key, op).expect(rt, "memory");
     assert_same(rt, &reply, &Reply::Value(before));
@@ -167,8 +168,8 @@ pub(crate) fn open(
 }
 
 #[test]
-fn shares_and_sums_count_new_keys(rt: HostRuntime) -> Result<(), Fail> {
-    let (ledger, mut passes, mut bins) = open(&rt, rt.alloc(), 2, 2)?;
+fn shares_and_sums_count_new_keys(rt: HostRuntime) {
+    let (ledger, mut passes, mut bins) = open(&rt, rt.alloc(), 2, 2).expect(&rt, "memory");
     let rows = [
         put(0, 1, b"a", None, 1),
         put(0, 0, b"b", None, 2),
@@ -190,7 +191,6 @@ fn shares_and_sums_count_new_keys(rt: HostRuntime) -> Result<(), Fail> {
     assert_same(&rt, &sums, &(2, 2));
     assert_same(&rt, &shares, &(3, 18_446_744_073_709_551_615));
     assert_same(&rt, &total, &Some(2));
-    Ok(())
 }
 
 /// Divides the last bin.
@@ -216,8 +216,8 @@ fn are_of(bins: &[KeyBin], classes: &[(u32, u32)]) -> bool {
 }
 
 #[test]
-fn a_divided_role_keeps_each_key_in_its_half(rt: HostRuntime) -> Result<(), Fail> {
-    let (ledger, mut passes, mut bins) = open(&rt, rt.alloc(), 2, 2)?;
+fn a_divided_role_keeps_each_key_in_its_half(rt: HostRuntime) {
+    let (ledger, mut passes, mut bins) = open(&rt, rt.alloc(), 2, 2).expect(&rt, "memory");
     let before = [put(0, 1, b"a", None, 1), put(1, 1, b"c", None, 2)];
     make_all(&rt, &ledger, &mut passes, &mut bins, &before);
     divide_last(&rt, &ledger, &mut bins);
@@ -237,7 +237,6 @@ fn a_divided_role_keeps_each_key_in_its_half(rt: HostRuntime) -> Result<(), Fail
     assert!(rt; are_divided);
     assert_same(&rt, &(first, second), &((0, 3), (1, 2)));
     assert_same(&rt, &total, &Some(3));
-    Ok(())
 }
 
 /// Puts a key this many times.
@@ -262,8 +261,8 @@ pub(crate) fn put_often(
 }
 
 #[test]
-fn two_threads_post_to_two_roles(rt: HostRuntime) -> Result<(), Fail> {
-    let (ledger, mut passes, mut bins) = open(&rt, rt.alloc(), 2, 2)?;
+fn two_threads_post_to_two_roles(rt: HostRuntime) {
+    let (ledger, mut passes, mut bins) = open(&rt, rt.alloc(), 2, 2).expect(&rt, "memory");
     let mut pass = passes.pop().expect(&rt, "a pass");
     let mut other_pass = passes.pop().expect(&rt, "a pass");
     let mut bin = bins.pop().expect(&rt, "a bin");
@@ -280,31 +279,28 @@ fn two_threads_post_to_two_roles(rt: HostRuntime) -> Result<(), Fail> {
     bins.push_reserved(other_bin);
     let total = settled(ledger, passes, roles_of(&rt, bins));
     assert_same(&rt, &(counts, total), &((1000, 1000, 2), Some(2)));
-    Ok(())
 }
 
 #[test]
-fn a_pass_takes_a_million_calls(rt: HostRuntime) -> Result<(), Fail> {
-    let (ledger, mut passes, mut bins) = open(&rt, rt.alloc(), 1, 2)?;
+fn a_pass_takes_a_million_calls(rt: HostRuntime) {
+    let (ledger, mut passes, mut bins) = open(&rt, rt.alloc(), 1, 2).expect(&rt, "memory");
     assert!(rt; passes.len() == 1 && bins.len() == 2);
     let (pass, bin) = (&mut passes[0], &mut bins[1]);
     put_often(&rt, &ledger, pass, bin, b"a", MOST_CALLS);
     let counts = (passes[0].made(), ledger.share(&mut passes[0]));
     let total = settled(ledger, passes, roles_of(&rt, bins));
     assert_same(&rt, &(counts, total), &((1_000_000, 1), Some(1)));
-    Ok(())
 }
 
 #[test]
-fn a_name_has_no_bytes(rt: HostRuntime) -> Result<(), Fail> {
-    let (ledger, passes, roles) = open_books(rt.alloc(), 1, 2)?;
+fn a_name_has_no_bytes(rt: HostRuntime) {
+    let (ledger, passes, roles) = open_books(rt.alloc(), 1, 2).expect(&rt, "memory");
     assert!(rt; roles.len() == 2);
     let name = LedgerName::of(&roles[0]);
     drop(name.again().to_tag());
     drop(name);
     let total = settled(ledger, passes, roles);
     assert_same(&rt, &(size_of::<LedgerName>(), total), &(0, Some(0)));
-    Ok(())
 }
 
 #[test]

@@ -14,6 +14,8 @@ mod keys;
 #[cfg(test)]
 mod ledgers;
 #[cfg(test)]
+mod limits;
+#[cfg(test)]
 mod made;
 #[cfg(test)]
 mod moments;
@@ -23,6 +25,8 @@ mod moves;
 mod plain;
 #[cfg(test)]
 mod rows;
+#[cfg(test)]
+mod seeded;
 #[cfg(test)]
 mod settling;
 #[cfg(test)]

@@ -1,11 +1,10 @@
 //! Bins of either form, whose calls are made in one step.
 use crate::asserts::{assert_same, key};
 use crate::rows::{Row, rows};
-use bin_history::{Bin, Call, Form, Given, Kind, Reply};
+use bin_history::{Bin, Call, Form, KeyArg, Kind, Reply};
 use hashkeys::{Class, Key, Salt};
 use std::alloc::{AllocError, Global};
 use std::process::Abort;
-use std::test::Fail;
 use test_support::Plus;
 
 type KeyBin = Bin<Key, u64, Plus, Global>;
@@ -47,7 +46,7 @@ fn make(
     assert!(rt; class.covers(hash));
     assert!(rt; ordinal <= 1024);
     let (key, op) = call.into_parts();
-    let (reply, trace) = bin.make_on(&alloc, hash, Given::Owned(key), op, 7, ordinal)?;
+    let (reply, trace) = bin.make_on(&alloc, hash, KeyArg::Owned(key), op, 7, ordinal)?;
     Ok((reply, trace.delta()))
 }
 
@@ -84,25 +83,25 @@ fn assert_answers(rt: &impl Abort, alloc: Global, bin: KeyBin) -> Result<(), All
 }
 
 #[test]
-fn each_call_in_one_step_of_a_lean_bin(rt: HostRuntime) -> Result<(), Fail> {
-    let bin = after_rows(&rt, rt.alloc(), Form::Lean)?;
+fn each_call_in_one_step_of_a_lean_bin(rt: HostRuntime) {
+    let bin = after_rows(&rt, rt.alloc(), Form::Lean).expect(&rt, "memory");
     assert!(rt; bin.form() == Form::Lean);
-    assert_answers(&rt, rt.alloc(), bin)?;
-    Ok(())
+    assert_answers(&rt, rt.alloc(), bin).expect(&rt, "memory");
 }
 
 #[test]
-fn each_call_in_one_step_of_a_recorded_bin(rt: HostRuntime) -> Result<(), Fail> {
-    let bin = after_rows(&rt, rt.alloc(), Form::Recorded)?;
+fn each_call_in_one_step_of_a_recorded_bin(rt: HostRuntime) {
+    let bin = after_rows(&rt, rt.alloc(), Form::Recorded).expect(&rt, "memory");
     assert!(rt; bin.form() == Form::Recorded);
     match bin.into_kind() {
         Kind::Recorded(own) => {
             assert_same(&rt, &(own.records().len(), own.base().len()), &(36, 0));
-            assert_answers(&rt, rt.alloc(), Bin::of_kind(Kind::Recorded(own)))?;
+            assert_answers(&rt, rt.alloc(), Bin::of_kind(Kind::Recorded(own))).expect(
+                &rt, "memory",
+            );
         }
         Kind::Lean(_own) => assert!(rt; false, "the bin is recorded"),
     }
-    Ok(())
 }
 
 /// Asserts that a bin of class (16, 1) under the salt 16, by which the hash of `a` is 113 and that
@@ -126,22 +125,20 @@ fn assert_split(rt: &impl Abort, alloc: Global, form: Form) -> Result<(), AllocE
 }
 
 #[test]
-fn a_salted_bin_is_split_by_salted_hashes(rt: HostRuntime) -> Result<(), Fail> {
-    assert_split(&rt, rt.alloc(), Form::Lean)?;
-    assert_split(&rt, rt.alloc(), Form::Recorded)?;
-    Ok(())
+fn a_salted_bin_is_split_by_salted_hashes(rt: HostRuntime) {
+    assert_split(&rt, rt.alloc(), Form::Lean).expect(&rt, "memory");
+    assert_split(&rt, rt.alloc(), Form::Recorded).expect(&rt, "memory");
 }
 
 #[test]
-fn a_lean_bin_stores_its_entries_alone(rt: HostRuntime) -> Result<(), Fail> {
+fn a_lean_bin_stores_its_entries_alone(rt: HostRuntime) {
     let alloc = rt.alloc();
-    let mut bin = empty(alloc, Form::Lean, Salt(0), Class::new(1, 0))?;
-    let _ = make(&rt, alloc, &mut bin, Call::Put(key(&rt, b"b"), 5), 0)?;
-    let _ = make(&rt, alloc, &mut bin, Call::Put(key(&rt, b"a"), 0), 1)?;
+    let mut bin = empty(alloc, Form::Lean, Salt(0), Class::new(1, 0)).expect(&rt, "memory");
+    let _ = make(&rt, alloc, &mut bin, Call::Put(key(&rt, b"b"), 5), 0).expect(&rt, "memory");
+    let _ = make(&rt, alloc, &mut bin, Call::Put(key(&rt, b"a"), 0), 1).expect(&rt, "memory");
     for _ in 0..10_000u32 {
         let merge = Call::Merge(key(&rt, b"a"), 1, Plus(Some(0)));
-        let _ = make(&rt, alloc, &mut bin, merge, 2)?;
+        let _ = make(&rt, alloc, &mut bin, merge, 2).expect(&rt, "memory");
     }
-    assert_entries(&rt, alloc, &bin, &[(b"b", 5), (b"a", 10_000)])?;
-    Ok(())
+    assert_entries(&rt, alloc, &bin, &[(b"b", 5), (b"a", 10_000)]).expect(&rt, "memory");
 }

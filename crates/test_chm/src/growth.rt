@@ -1,11 +1,14 @@
 //! How many bins there are, with growth and after opening again.
-use crate::maps::{count_all, filled, numbered, put_numbers, records_of};
+ghost use Rattle.std.specs.Prelude.{◌≡◌};
+
+use crate::maps::{
+    KeyMap, KeyPass, assert_same, count_all, filled, numbered, put_numbers, records_of,
+};
 use bin_history::{Form, Reply};
 use std::alloc::Global;
 use std::process::Abort;
 use std::sync::Wait;
-use std::test::Fail;
-use test_maps::{BOTH, Single, close, close_single, open_single};
+use test_maps::{Single, close, close_single, open, open_single, put_back, take_pass};
 
 /// The bins and the keys of a map that so many new keys were put into.
 fn grown<R: Wait + Abort>(
@@ -33,7 +36,7 @@ fn assert_grown<R: Wait + Abort>(rt: &R, alloc: Global, form: Form, rows: &[(usi
 }
 
 #[test]
-fn a_recorded_table_grows_at_three_keys_to_four_bins(rt: HostRuntime) -> Result<(), Fail> {
+fn a_recorded_table_grows_at_three_keys_to_four_bins(rt: HostRuntime) {
     let rows = [
         (1, 0, 1),
         (1, 1, 2),
@@ -51,33 +54,55 @@ fn a_recorded_table_grows_at_three_keys_to_four_bins(rt: HostRuntime) -> Result<
         (4096, 60_000, 65_536),
     ];
     assert_grown(&rt, rt.alloc(), Form::Recorded, &rows);
-    Ok(())
 }
 
 #[test]
-fn a_lean_table_grows_at_three_keys_to_two_bins(rt: HostRuntime) -> Result<(), Fail> {
-    // The put that makes the table too small moves 16 bins, and so does each call after it, until
-    // all are moved.
+fn a_narrow_lean_table_grows_at_a_key_to_four_bins(rt: HostRuntime) {
+    // The put that makes the table full moves 16 bins, and so does each call after it, until all are
+    // moved.
     let rows = [
         (1, 0, 1),
         (1, 1, 2),
-        (1, 2, 2),
-        (1, 3, 4),
-        (1, 5, 4),
-        (1, 6, 8),
-        (1, 11, 8),
-        (1, 12, 16),
-        (5, 0, 8),
-        (16, 23, 16),
-        (16, 24, 32),
-        (16, 47, 32),
-        (16, 48, 48),
-        (16, 49, 64),
-        (16, 95, 64),
-        (16, 96, 80),
-        (16, 97, 96),
-        (16, 98, 112),
-        (16, 99, 128),
+        (1, 2, 4),
+        (1, 3, 8),
+        (1, 4, 16),
+        (1, 5, 32),
+        (1, 7, 32),
+        (1, 8, 48),
+        (1, 9, 64),
+        (2, 1, 4),
+        (4, 1, 8),
+        (5, 1, 8),
+        (5, 2, 16),
+        (16, 3, 16),
+        (16, 4, 32),
+        (16, 7, 32),
+        (16, 8, 48),
+        (16, 9, 64),
+        (16, 15, 64),
+        (16, 16, 80),
+        (16, 19, 128),
+        (16, 31, 128),
+        (16, 32, 144),
+        (16, 38, 240),
+        (16, 39, 256),
+        (128, 31, 128),
+        (128, 32, 144),
+    ];
+    assert_grown(&rt, rt.alloc(), Form::Lean, &rows);
+}
+
+#[test]
+fn a_lean_table_of_256_bins_grows_at_three_keys_to_two_bins(rt: HostRuntime) {
+    let rows = [
+        (16, 383, 256),
+        (16, 384, 272),
+        (16, 399, 512),
+        (129, 383, 256),
+        (256, 384, 272),
+        (512, 767, 512),
+        (512, 768, 528),
+        (512, 799, 1024),
         (1024, 1535, 1024),
         (1024, 1536, 1040),
         (1024, 1598, 2032),
@@ -87,7 +112,42 @@ fn a_lean_table_grows_at_three_keys_to_two_bins(rt: HostRuntime) -> Result<(), F
         (4096, 6399, 8192),
     ];
     assert_grown(&rt, rt.alloc(), Form::Lean, &rows);
-    Ok(())
+}
+
+/// Gets the key of the number 0, which has the value 0.
+fn get_one<R: Wait + Abort>(rt: &R, map: &KeyMap<Global>, pass: &mut KeyPass)
+    requires { pass.old.ledger ≡ map.now.ledger.id }
+    ensures { pass.new.ledger ≡ map.now.ledger.id }
+{
+    let reply = map.get(rt, pass, numbered(rt, 0));
+    assert!(rt; reply == Ok(Reply::Value(Some(0))));
+}
+
+/// How many bins a lean map of 16 has, in which client 0 put 8 keys and client 1 got one then.
+fn helped_by_another<R: Wait + Abort>(rt: &R, alloc: Global) -> usize {
+    let opened = open(alloc, Form::Lean, 16, 2).expect(rt, "a map");
+    let Single {
+        map,
+        pass: mut other,
+        place,
+    } = take_pass(opened).expect(rt, "a pass");
+    let Single {
+        map,
+        mut pass,
+        mut place,
+    } = take_pass((map, place)).expect(rt, "a second pass");
+    put_numbers(rt, &map, &mut pass, 0, 8);
+    get_one(rt, &map, &mut other);
+    put_back(&map, pass, &mut place);
+    let closed = close_single(map, other, place).expect(rt, "a closed map");
+    closed.bins().len()
+}
+
+#[test]
+fn a_get_of_another_client_helps_a_lean_table(rt: HostRuntime) {
+    // The eighth put opens the move from 32 bins and moves 16 of them, and the get moves the others.
+    let bins = helped_by_another(&rt, rt.alloc());
+    assert_same(&rt, &bins, &64);
 }
 
 /// Puts so many new keys into a map of 1,024 lean bins, and gets each once it is put. Answers how
@@ -108,13 +168,12 @@ fn put_and_get<R: Wait + Abort>(rt: &R, alloc: Global, count: u32) -> usize {
 }
 
 #[test]
-fn a_wide_lean_table_grows_whatever_comes_between_puts(rt: HostRuntime) -> Result<(), Fail> {
+fn a_wide_lean_table_grows_whatever_comes_between_puts(rt: HostRuntime) {
     let bins = put_and_get(&rt, rt.alloc(), 1535);
-    assert_eq!(rt; bins, 1024);
+    assert_same(&rt, &bins, &1024);
     // The put moves 16 bins, and the get 16 more.
     let bins = put_and_get(&rt, rt.alloc(), 1536);
-    assert_eq!(rt; bins, 1056);
-    Ok(())
+    assert_same(&rt, &bins, &1056);
 }
 
 /// The bins, the keys and the records of a map that so many new keys were put into, once it is
@@ -153,7 +212,7 @@ fn assert_grown_again<R: Wait + Abort>(
 }
 
 #[test]
-fn a_recorded_table_is_opened_again_with_room_for_its_keys(rt: HostRuntime) -> Result<(), Fail> {
+fn a_recorded_table_is_opened_again_with_room_for_its_keys(rt: HostRuntime) {
     let rows = [
         (1, 0, 1),
         (1, 1, 2),
@@ -165,20 +224,25 @@ fn a_recorded_table_is_opened_again_with_room_for_its_keys(rt: HostRuntime) -> R
         (16, 60_000, 65_536),
     ];
     assert_grown_again(&rt, rt.alloc(), Form::Recorded, &rows);
-    Ok(())
 }
 
 #[test]
-fn a_lean_table_is_opened_again_with_room_for_its_keys(rt: HostRuntime) -> Result<(), Fail> {
+fn a_lean_table_is_opened_again_with_room_for_its_keys(rt: HostRuntime) {
     let rows = [
         (1, 0, 1),
-        (1, 1, 2),
-        (1, 2, 2),
-        (1, 3, 4),
-        (16, 23, 16),
-        (16, 24, 32),
-        (16, 47, 32),
-        (16, 48, 64),
+        (1, 1, 8),
+        (1, 2, 16),
+        (1, 3, 16),
+        (1, 4, 32),
+        (16, 3, 16),
+        (16, 4, 32),
+        (16, 7, 32),
+        (16, 8, 64),
+        (16, 16, 128),
+        (16, 31, 128),
+        (16, 32, 256),
+        (16, 383, 256),
+        (16, 384, 512),
         (4096, 0, 4096),
         (16, 6143, 4096),
         (16, 6144, 8192),
@@ -186,5 +250,4 @@ fn a_lean_table_is_opened_again_with_room_for_its_keys(rt: HostRuntime) -> Resul
         (16, 98_304, 131_072),
     ];
     assert_grown_again(&rt, rt.alloc(), Form::Lean, &rows);
-    Ok(())
 }

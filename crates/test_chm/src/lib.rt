@@ -9,9 +9,13 @@ mod call_examples;
 #[cfg(test)]
 mod calls;
 #[cfg(test)]
+mod cursors;
+#[cfg(test)]
 mod examples;
 #[cfg(test)]
 mod growth;
+#[cfg(test)]
+mod live_examples;
 #[cfg(test)]
 mod loads;
 #[cfg(test)]
@@ -23,11 +27,17 @@ mod moment_examples;
 #[cfg(test)]
 mod moves;
 #[cfg(test)]
+mod numbers;
+#[cfg(test)]
 mod opening;
 #[cfg(test)]
 mod reading;
 #[cfg(test)]
 mod refused;
+#[cfg(test)]
+mod retaining;
+#[cfg(test)]
+mod rosters;
 #[cfg(test)]
 mod rows;
 #[cfg(test)]
@@ -36,3 +46,7 @@ mod shown;
 mod sizes;
 #[cfg(test)]
 mod threads;
+#[cfg(test)]
+mod updating;
+#[cfg(test)]
+mod viewing;

@@ -116,11 +116,11 @@ pub(crate) fn put_numbers<R: Wait + Abort, A: Allocator + Clone>(
 }
 
 /// How many keys a map of 16 bins has room for beside three others: eleven in all where the bins are
-/// recorded, and 23 where they are lean.
+/// recorded, and three where they are lean.
 pub(crate) fn room(form: Form) -> u32 {
     match form {
         Form::Recorded => 8,
-        Form::Lean => 20,
+        Form::Lean => 0,
     }
 }
 

@@ -7,7 +7,6 @@ use chm::Fault;
 use std::alloc::{Allocator, Global};
 use std::process::Abort;
 use std::sync::Wait;
-use std::test::Fail;
 use test_maps::{Single, close_single, open_single};
 use test_support::{Plus, Refusing};
 
@@ -96,9 +95,8 @@ fn asked_for<R: Wait + Abort, A: Allocator + Clone>(
 }
 
 #[test]
-fn calls_on_a_lean_map_ask_for_memory_for_new_keys_alone(rt: HostRuntime) -> Result<(), Fail> {
+fn calls_on_a_lean_map_ask_for_memory_for_new_keys_alone(rt: HostRuntime) {
     let alloc = Refusing::new(rt.alloc());
     let told = asked_for(&rt, &alloc, &alloc);
     assert_same(&rt, &told, &((100_000, 10_000), false, 1001));
-    Ok(())
 }

@@ -8,7 +8,6 @@ use chm::Fault;
 use std::alloc::Global;
 use std::process::Abort;
 use std::sync::Wait;
-use std::test::Fail;
 use test_maps::{BOTH, Single, close_single, open, take_pass};
 
 /// One client puts, and hands its moment over twice; the other learns of it and gets, and learns of
@@ -54,11 +53,10 @@ fn hand_over<R: Wait + Abort>(
 }
 
 #[test]
-fn a_client_learns_what_another_put(rt: HostRuntime) -> Result<(), Fail> {
+fn a_client_learns_what_another_put(rt: HostRuntime) {
     for form in BOTH {
         let (right, made, keys) = hand_over(&rt, rt.alloc(), form);
         assert!(rt; right == Ok(true));
         assert_same(&rt, &(made, keys), &([1, 1], 1));
     }
-    Ok(())
 }

@@ -6,7 +6,6 @@ use bin_history::Form;
 use std::alloc::{Allocator, Global};
 use std::process::Abort;
 use std::sync::Wait;
-use std::test::Fail;
 use test_maps::{Single, close_single, open_single};
 use test_support::Refusing;
 
@@ -64,26 +63,22 @@ fn two_puts<R: Wait + Abort, A: Allocator + Clone>(
 type Requests = (u64, u64, u64);
 
 /// What is wanted where these are the first put's requests: whether it is put and how many bins
-/// there are then, and how many there are after the second put, which in a recorded map has a move
-/// of its own where the first one's was open.
-fn wanted(form: Form, granted: u64, (own, opened, all): Requests) -> ((bool, usize), usize) {
-    let second = match form {
-        Form::Recorded => 4,
-        Form::Lean => 2,
-    };
+/// there are then, and how many there are after the second put, which has a move of its own where the
+/// first one's was open.
+fn wanted(granted: u64, (own, opened, all): Requests) -> ((bool, usize), usize) {
     if granted < own {
         ((false, 1), 2)
     } else if granted < opened {
         ((true, 1), 2)
     } else if granted < all {
-        ((true, 1), second)
+        ((true, 1), 4)
     } else {
-        ((true, 2), second)
+        ((true, 2), 4)
     }
 }
 
 #[test]
-fn a_later_call_goes_on_with_a_refused_move(rt: HostRuntime) -> Result<(), Fail> {
+fn a_later_call_goes_on_with_a_refused_move(rt: HostRuntime) {
     // The first put takes room for its entry, in a recorded map for the record too; and its move
     // for the table of two places, and three times for the strides, or in a lean map four times.
     // Then a recorded bin takes it for the entry and the record of the half that has the key, and
@@ -96,7 +91,7 @@ fn a_later_call_goes_on_with_a_refused_move(rt: HostRuntime) -> Result<(), Fail>
         for granted in 0..all.saturating_add(1) {
             let alloc = Refusing::new(rt.alloc());
             let made = two_puts(&rt, &alloc, &alloc, form, granted);
-            let ((put, before), after) = wanted(form, granted, requests);
+            let ((put, before), after) = wanted(granted, requests);
             assert_eq!(rt;
                 made,
                 [(put, Some(before)), (true, Some(after))],
@@ -104,5 +99,4 @@ fn a_later_call_goes_on_with_a_refused_move(rt: HostRuntime) -> Result<(), Fail>
             );
         }
     }
-    Ok(())
 }

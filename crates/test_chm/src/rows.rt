@@ -9,12 +9,11 @@ use chm::Fault;
 use std::alloc::{Allocator, Global};
 use std::process::Abort;
 use std::sync::Wait;
-use std::test::Fail;
 use test_maps::{BOTH, Single, close_single};
 use test_support::Refusing;
 
 #[test]
-fn a_recorded_table_grows_at_three_quarters_of_its_bins(rt: HostRuntime) -> Result<(), Fail> {
+fn a_recorded_table_grows_at_three_quarters_of_its_bins(rt: HostRuntime) {
     let rows = [
         (2, 1, 2),
         (2, 2, 4),
@@ -31,7 +30,6 @@ fn a_recorded_table_grows_at_three_quarters_of_its_bins(rt: HostRuntime) -> Resu
         let closed = filled(&rt, rt.alloc(), Form::Recorded, capacity, puts);
         assert_eq!(rt; closed.bins().len(), wanted, "{capacity} with {puts} keys");
     }
-    Ok(())
 }
 
 /// Three keys of two bins.
@@ -173,7 +171,7 @@ fn refuse_each<R: Wait + Abort>(rt: &R, memory: Global, form: Form, own: u64) ->
 }
 
 #[test]
-fn each_key_has_its_value_where_a_move_is_refused(rt: HostRuntime) -> Result<(), Fail> {
+fn each_key_has_its_value_where_a_move_is_refused(rt: HostRuntime) {
     // The put's own. The move of a recorded map asks for the wider table, three times for the
     // strides, and at least for a room for each of 32 halves; that of a lean one for the slots of
     // the wider table's parts, four times for the strides, and four times for the part.
@@ -185,5 +183,4 @@ fn each_key_has_its_value_where_a_move_is_refused(rt: HostRuntime) -> Result<(),
             "{requests} requests"
         );
     }
-    Ok(())
 }

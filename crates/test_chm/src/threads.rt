@@ -14,7 +14,6 @@ use std::process::Abort;
 use std::sync::Wait;
 use std::sync::atomic::AtomicU64;
 use std::sync::atomic::Ordering::SeqCst;
-use std::test::Fail;
 use std::thread::{self, Threads};
 use test_maps::{BOTH, close, open};
 use test_support::Plus;
@@ -42,12 +41,11 @@ fn put_once<R: Threads + Wait + Abort + Sync>(rt: &R, alloc: Global, form: Form)
 }
 
 #[test]
-fn one_of_32_clients_finds_no_value(rt: HostRuntime) -> Result<(), Fail> {
+fn one_of_32_clients_finds_no_value(rt: HostRuntime) {
     for form in BOTH {
         let told = put_once(&rt, rt.alloc(), form);
         assert_same(&rt, &told, &[1, 31, 1]);
     }
-    Ok(())
 }
 
 /// So many counters at 0.
@@ -106,9 +104,9 @@ fn assert_once(rt: &impl Abort, replies: &[AtomicU64]) {
 }
 
 #[test]
-fn two_clients_merge_each_sum_once(rt: HostRuntime) -> Result<(), Fail> {
+fn two_clients_merge_each_sum_once(rt: HostRuntime) {
     for form in BOTH {
-        let replies = counters(rt.alloc(), 2001)?;
+        let replies = counters(rt.alloc(), 2001).expect(&rt, "memory");
         let closed = merge_together(&rt, rt.alloc(), form, 2, &replies);
         assert_entries(&rt, closed.entries(), &[(b"a", 2000)]);
         if form == Form::Recorded {
@@ -117,19 +115,17 @@ fn two_clients_merge_each_sum_once(rt: HostRuntime) -> Result<(), Fail> {
         drop(closed);
         assert_once(&rt, &replies);
     }
-    Ok(())
 }
 
 #[test]
-fn many_clients_merge_each_sum_once(rt: HostRuntime) -> Result<(), Fail> {
+fn many_clients_merge_each_sum_once(rt: HostRuntime) {
     for form in BOTH {
-        let replies = counters(rt.alloc(), 32_001)?;
+        let replies = counters(rt.alloc(), 32_001).expect(&rt, "memory");
         let closed = merge_together(&rt, rt.alloc(), form, 32, &replies);
         assert_entries(&rt, closed.entries(), &[(b"a", 32_000)]);
         drop(closed);
         assert_once(&rt, &replies);
     }
-    Ok(())
 }
 
 /// So many entries, each a key with the number that it was made of.
@@ -167,23 +163,21 @@ fn grow_together<R: Threads + Wait + Abort + Sync>(
 }
 
 #[test]
-fn clients_grow_one_table_and_lose_no_key(rt: HostRuntime) -> Result<(), Fail> {
+fn clients_grow_one_table_and_lose_no_key(rt: HostRuntime) {
     for form in BOTH {
         for (capacity, clients, puts) in [(1, 2, 300), (1, 16, 5000), (16, 4, 12_288)] {
             let closed = grow_together(&rt, rt.alloc(), form, capacity, clients, puts);
             assert_numbers(&rt, &closed, clients.saturating_mul(puts));
         }
     }
-    Ok(())
 }
 
 #[test]
-fn four_clients_grow_a_lean_table_to_a_million_bins(rt: HostRuntime) -> Result<(), Fail> {
+fn four_clients_grow_a_lean_table_to_a_million_bins(rt: HostRuntime) {
     // 786,432 keys are three to two of 2^19 bins, and from then on each call moves 16 of them.
     let closed = grow_together(&rt, rt.alloc(), Form::Lean, 16, 4, 206_000);
     assert!(rt; closed.bins().len() > 524_288);
     assert_numbers(&rt, &closed, 824_000);
-    Ok(())
 }
 
 /// What a walk shows of slot 1.
@@ -223,7 +217,7 @@ fn walk_after_two<R: Threads + Wait + Abort + Sync>(
 }
 
 #[test]
-fn a_walk_after_threads_shows_the_calls_of_both(rt: HostRuntime) -> Result<(), Fail> {
+fn a_walk_after_threads_shows_the_calls_of_both(rt: HostRuntime) {
     for form in BOTH {
         let visit = walk_after_two(&rt, rt.alloc(), form).expect(&rt, "a visit of slot 1");
         assert_same(&rt, &visit.entries.len(), &2);
@@ -235,5 +229,4 @@ fn a_walk_after_threads_shows_the_calls_of_both(rt: HostRuntime) -> Result<(), F
             assert!(rt; shown);
         }
     }
-    Ok(())
 }

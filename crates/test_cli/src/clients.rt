@@ -51,8 +51,10 @@ fn count_lines(rt: &impl Abort, text: &[u8], wanted: &str) -> u32 {
 
 /// Of 32 clients that put one key where it is absent, one does.
 #[test]
-fn one_of_32_clients_is_first(rt: HostRuntime) -> Result<(), Fail> {
-    let script = script_of_calls(rt.alloc(), 32, "put_if_absent a 1\n", 1, "count\n")?;
+fn one_of_32_clients_is_first(rt: HostRuntime) {
+    let script = script_of_calls(rt.alloc(), 32, "put_if_absent a 1\n", 1, "count\n").expect(
+        &rt, "memory",
+    );
     let (status, text) = told(&rt, script.as_bytes(), &options(&rt, 4, 16, 0));
     drop(script);
     let found = (
@@ -62,7 +64,6 @@ fn one_of_32_clients_is_first(rt: HostRuntime) -> Result<(), Fail> {
     let is_one = text.ends_with(b"\n1\n");
     drop(text);
     assert!(rt; status == 0 && is_one && found == (1, 31), "{found:?}");
-    Ok(())
 }
 
 /// Counts how often each sum was replied, at the place of its number. Sums past the most are
@@ -143,13 +144,12 @@ fn script_of_many_keys(alloc: Global) -> Result<(String, String), AllocError> {
 
 /// The table grows from one bin while they call.
 #[test]
-fn clients_of_many_keys_do_not_meet(rt: HostRuntime) -> Result<(), Fail> {
-    let (script, wanted) = script_of_many_keys(rt.alloc())?;
+fn clients_of_many_keys_do_not_meet(rt: HostRuntime) {
+    let (script, wanted) = script_of_many_keys(rt.alloc()).expect(&rt, "memory");
     for salt in [0, 1, u32::MAX] {
         let options = options(&rt, 4, 1, salt);
         check_with(&rt, &options, script.as_bytes(), 0, &wanted);
     }
-    Ok(())
 }
 
 /// What a script with one client prints does not change with the size of the table or the salt.

@@ -1,8 +1,12 @@
-//! Tests of what the program does: runs of scripts, from bytes to bytes.
+//! Tests of the program: texts that are scripts, and the faults of those that are none; runs of
+//! scripts, from bytes to bytes; its command line, how ends of runs are told, and readers, writers and
+//! requests for memory that fail.
 #![tactic(auto)]
 
 #[cfg(test)]
 mod clients;
+#[cfg(test)]
+mod devices;
 #[cfg(test)]
 mod limits;
 #[cfg(test)]
@@ -13,3 +17,7 @@ mod queries;
 mod samples;
 #[cfg(test)]
 mod scripts;
+#[cfg(test)]
+mod texts;
+#[cfg(test)]
+mod words;

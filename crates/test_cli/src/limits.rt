@@ -1,7 +1,6 @@
 //! Scripts at and beyond the limits of the language.
 use crate::samples::{PUT_AND_GET, check, check_with, options, told};
 use std::alloc::{AllocError, Global};
-use std::test::Fail;
 
 /// A text of some first bytes, a line as often as is asked, and some last bytes.
 fn repeated(
@@ -20,20 +19,20 @@ fn repeated(
 }
 
 #[test]
-fn there_are_at_most_32_clients(rt: HostRuntime) -> Result<(), Fail> {
-    let most = repeated(rt.alloc(), "", "client\n", 32, "query\n")?;
+fn there_are_at_most_32_clients(rt: HostRuntime) {
+    let most = repeated(rt.alloc(), "", "client\n", 32, "query\n").expect(&rt, "memory");
     let (status, text) = told(&rt, most.as_bytes(), &options(&rt, 4, 16, 0));
     assert!(rt; status == 0 && text.ends_with(b"client 30\nclient 31\n"));
-    let more = repeated(rt.alloc(), "", "client\n", 33, "query\n")?;
+    let more = repeated(rt.alloc(), "", "client\n", 33, "query\n").expect(&rt, "memory");
     check(&rt, more.as_bytes(), 1, "mapcli: line 33: limit\n");
-    Ok(())
 }
 
 #[test]
-fn a_client_makes_at_most_1000000_calls(rt: HostRuntime) -> Result<(), Fail> {
-    let script = repeated(rt.alloc(), "client\n", "get a\n", 1_000_001, "query\n")?;
+fn a_client_makes_at_most_1000000_calls(rt: HostRuntime) {
+    let script = repeated(rt.alloc(), "client\n", "get a\n", 1_000_001, "query\n").expect(
+        &rt, "memory",
+    );
     check(&rt, script.as_bytes(), 1, "mapcli: line 1000002: limit\n");
-    Ok(())
 }
 
 /// A script of one client that puts so many keys of one length, in byte order, with the values 1, 2
@@ -62,33 +61,34 @@ fn script_of_keys(alloc: Global, keys: u64) -> Result<(String, String), AllocErr
 
 /// Where there is memory, no number of keys is refused. The table grows from one bin.
 #[test]
-fn a_map_has_any_number_of_keys(rt: HostRuntime) -> Result<(), Fail> {
+fn a_map_has_any_number_of_keys(rt: HostRuntime) {
     let mut keys = 1u64;
     for _ in 0..17 {
-        let (script, wanted) = script_of_keys(rt.alloc(), keys)?;
+        let (script, wanted) = script_of_keys(rt.alloc(), keys).expect(&rt, "memory");
         check_with(&rt, &options(&rt, 4, 1, 0), script.as_bytes(), 0, &wanted);
         keys = keys.saturating_mul(2);
     }
-    Ok(())
 }
 
 #[test]
-fn a_line_of_spaces_may_be_long(rt: HostRuntime) -> Result<(), Fail> {
-    let script = repeated(rt.alloc(), "client\n", "          ", 1_000_000, "\nquery\n")?;
+fn a_line_of_spaces_may_be_long(rt: HostRuntime) {
+    let script = repeated(rt.alloc(), "client\n", "          ", 1_000_000, "\nquery\n").expect(
+        &rt, "memory",
+    );
     check(&rt, script.as_bytes(), 1, "mapcli: line 2: spaces\n");
-    Ok(())
 }
 
 #[test]
-fn runs_of_bytes_that_are_not_printable(rt: HostRuntime) -> Result<(), Fail> {
+fn runs_of_bytes_that_are_not_printable(rt: HostRuntime) {
     for byte in [0u8, 9, 13, 127, 128, 255] {
         for place in [7usize, 11, 14] {
-            let mut script = Vec::from_slice(rt.alloc(), PUT_AND_GET)?;
-            script.insert(place.min(script.len()), byte)?;
+            let mut script = Vec::from_slice(rt.alloc(), PUT_AND_GET).expect(&rt, "memory");
+            script
+                .insert(place.min(script.len()), byte)
+                .expect(&rt, "memory");
             check(&rt, &script, 1, "mapcli: line 2: bytes\n");
         }
     }
-    Ok(())
 }
 
 #[test]

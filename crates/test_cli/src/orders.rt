@@ -2,7 +2,6 @@
 //! could be called so.
 use crate::samples::{options, told};
 use std::alloc::{AllocError, Global};
-use std::test::Fail;
 
 /// A call of these scripts: a key, `x` or `y`, and what is done with it. Each call replies the
 /// value before it.
@@ -130,7 +129,7 @@ const CHANGING: [&[Line]; 2] = [
 ];
 
 #[test]
-fn orders_of_one_thread_print_what_they_should(rt: HostRuntime) -> Result<(), Fail> {
+fn orders_of_one_thread_print_what_they_should(rt: HostRuntime) {
     // client 1 saw `y` and later no `x`, so `x` was taken away again before: client 0 had put `y`
     // over nothing
     let seen_late = b"client 0\nnone\nnone\nsome 1\nclient 1\nsome 2\nnone\nsome 2\n1\n";
@@ -158,22 +157,20 @@ fn orders_of_one_thread_print_what_they_should(rt: HostRuntime) -> Result<(), Fa
         ),
     ];
     for (blocks, text, wanted) in rows {
-        let found = has_order(rt.alloc(), blocks, text)?;
+        let found = has_order(rt.alloc(), blocks, text).expect(&rt, "memory");
         assert!(rt; found == wanted, "{text:?}");
     }
-    Ok(())
 }
 
 /// Two clients never miss each other's put, however often they try.
 #[test]
-fn two_clients_on_two_keys_have_one_order(rt: HostRuntime) -> Result<(), Fail> {
+fn two_clients_on_two_keys_have_one_order(rt: HostRuntime) {
     for blocks in [CROSSED, CHANGING] {
-        let script = script(rt.alloc(), blocks)?;
+        let script = script(rt.alloc(), blocks).expect(&rt, "memory");
         for _ in 0..500 {
             let (status, text) = told(&rt, script.as_bytes(), &options(&rt, 1, 16, 0));
-            let is_one = has_order(rt.alloc(), blocks, &text)?;
+            let is_one = has_order(rt.alloc(), blocks, &text).expect(&rt, "memory");
             assert!(rt; status == 0 && is_one, "{text:?}");
         }
     }
-    Ok(())
 }

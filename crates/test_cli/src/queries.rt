@@ -6,7 +6,6 @@ use std::process::Abort;
 use std::sync::Wait;
 use std::sync::atomic::AtomicU64;
 use std::sync::atomic::Ordering::SeqCst;
-use std::test::Fail;
 use std::thread;
 use std::thread::Threads;
 
@@ -50,8 +49,8 @@ fn script_of_puts(alloc: Global, query: &str) -> Result<String, AllocError> {
 
 /// Workers that take one leaf after the other miss each other here.
 #[test]
-fn two_leaves_run_at_the_same_time(rt: HostRuntime) -> Result<(), Fail> {
-    let script = script_of_puts(rt.alloc(), "reduce sum 1\n")?;
+fn two_leaves_run_at_the_same_time(rt: HostRuntime) {
+    let script = script_of_puts(rt.alloc(), "reduce sum 1\n").expect(&rt, "memory");
     let gate = TwoLeaves {
         begun: AtomicU64::new(0),
         missed: AtomicU64::new(0),
@@ -60,7 +59,6 @@ fn two_leaves_run_at_the_same_time(rt: HostRuntime) -> Result<(), Fail> {
     drop(script);
     let missed = gate.missed.load(SeqCst);
     assert!(rt; status == 0 && missed == 0 && text.ends_with(b"none\n2080\n"));
-    Ok(())
 }
 
 /// What 64 puts print, and then two sums.
@@ -75,11 +73,10 @@ none\nnone\nnone\nnone\nnone\nnone\nnone\nnone\nnone\nnone\nnone\nnone\nnone\nno
 
 /// One threshold divides nothing, the other all.
 #[test]
-fn a_sum_by_any_threshold_is_the_same(rt: HostRuntime) -> Result<(), Fail> {
+fn a_sum_by_any_threshold_is_the_same(rt: HostRuntime) {
     let query = "reduce sum 18446744073709551615\nreduce sum 1\n";
-    let script = script_of_puts(rt.alloc(), query)?;
+    let script = script_of_puts(rt.alloc(), query).expect(&rt, "memory");
     check_with(&rt, &options(&rt, 2, 16, 0), script.as_bytes(), 0, TWO_SUMS);
-    Ok(())
 }
 
 /// Counts the leaves.
@@ -119,12 +116,14 @@ fn leaves_of<R: Threads + Wait + Sync + Abort + AllocGlobal>(
 /// The work is divided from a threshold of 1 on, and not where the threshold is above the number of
 /// keys.
 #[test]
-fn a_threshold_divides_the_work_or_not(rt: HostRuntime) -> Result<(), Fail> {
+fn a_threshold_divides_the_work_or_not(rt: HostRuntime) {
     for query in ["reduce sum", "reduce max", "search above 9", "list"] {
-        let leaves = (leaves_of(&rt, query, 1)?, leaves_of(&rt, query, 4)?);
+        let leaves = (
+            leaves_of(&rt, query, 1).expect(&rt, "memory"),
+            leaves_of(&rt, query, 4).expect(&rt, "memory"),
+        );
         assert!(rt; leaves.0 > 1 && leaves.1 == 1, "{query}: {leaves:?}");
     }
-    Ok(())
 }
 
 /// The keys `k0` to `k39` in byte order, each with the value that it was put with.
@@ -205,12 +204,11 @@ fn wanted_answers(alloc: Global) -> Result<String, AllocError> {
 
 /// The answers of 1 to 16 workers are the same, at thresholds that divide the work and that do not.
 #[test]
-fn any_workers_answer_the_same(rt: HostRuntime) -> Result<(), Fail> {
-    let script = script_of_queries(rt.alloc())?;
-    let wanted = wanted_answers(rt.alloc())?;
+fn any_workers_answer_the_same(rt: HostRuntime) {
+    let script = script_of_queries(rt.alloc()).expect(&rt, "memory");
+    let wanted = wanted_answers(rt.alloc()).expect(&rt, "memory");
     for workers in [1, 2, 4, 16] {
         let options = options(&rt, workers, 16, 0);
         check_with(&rt, &options, script.as_bytes(), 0, &wanted);
     }
-    Ok(())
 }

@@ -13,7 +13,6 @@ use std::process::Abort;
 use std::sync::Wait;
 use std::sync::atomic::AtomicU64;
 use std::sync::atomic::Ordering::SeqCst;
-use std::test::Fail;
 use std::thread::{self, Threads};
 use test_maps::{close, open};
 
@@ -119,7 +118,7 @@ fn call_while_another_moves<
 }
 
 #[test]
-fn a_call_helps_with_a_stride(rt: HostRuntime) -> Result<(), Fail> {
+fn a_call_helps_with_a_stride(rt: HostRuntime) {
     // The copy that the first waits for is one of a value in the last 16 bins, and the opener,
     // which waits, has not come to them.
     let event = Event::new();
@@ -136,5 +135,4 @@ fn a_call_helps_with_a_stride(rt: HostRuntime) -> Result<(), Fail> {
         &told,
     );
     assert_same(&rt, &(event.given_up(), keys), &(0, 24));
-    Ok(())
 }

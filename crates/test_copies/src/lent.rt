@@ -2,14 +2,13 @@
 ghost use Rattle.std.specs.Prelude.{◌≡◌, All};
 
 use crate::asserts::assert_same;
-use bin_history::{Form, Remap, Reply};
+use bin_history::{Form, KeyArg, Op, Remap, Reply};
 use chm::{Fault, Map};
 use count_ledger::Pass;
 use hashkeys::ByteString;
 use std::alloc::{AllocError, Allocator, Global};
 use std::process::Abort;
 use std::sync::Wait;
-use std::test::Fail;
 use test_maps::{BOTH, Single, close_single, open_single};
 use test_support::Refusing;
 
@@ -91,6 +90,7 @@ pub(crate) fn one_text<R: Wait + Abort, A: Allocator + Clone>(
     alloc: &A,
     form: Form,
 ) -> Texts<A>
+    ensures form { result.map.ledger.form ≡ form }
     ensures pass { result.pass.ledger ≡ result.map.ledger.id }
     ensures place { All (λ p. p.ledger ≡ result.map.ledger.id) result.place.items }
 {
@@ -105,7 +105,9 @@ pub(crate) fn one_text<R: Wait + Abort, A: Allocator + Clone>(
 }
 
 /// A reply, with the length of its value.
-fn told<A: Allocator>(reply: Result<Reply<Text<A>>, Fault>) -> Result<Reply<usize>, Fault> {
+pub(crate) fn told<A: Allocator>(
+    reply: Result<Reply<Text<A>>, Fault>,
+) -> Result<Reply<usize>, Fault> {
     match reply {
         Ok(Reply::Value(Some(value))) => Ok(Reply::Value(Some(value.bytes().len()))),
         Ok(Reply::Value(None)) => Ok(Reply::Value(None)),
@@ -126,9 +128,9 @@ fn make_plain<R: Wait, A: Allocator + Clone>(
     ensures { pass.new.ledger ≡ map.now.ledger.id }
 {
     match call {
-        Lent::Get => map.get_by(rt, pass, key),
-        Lent::Contains => map.contains_key_by(rt, pass, key),
-        _ => map.remove_by(rt, pass, key),
+        Lent::Get => map.call_on(rt, pass, KeyArg::Borrowed(key), Op::Get),
+        Lent::Contains => map.call_on(rt, pass, KeyArg::Borrowed(key), Op::Contains),
+        _ => map.call_on(rt, pass, KeyArg::Borrowed(key), Op::Remove),
     }
 }
 
@@ -145,7 +147,7 @@ fn make<R: Wait, A: Allocator + Clone>(
     ensures { pass.new.ledger ≡ map.now.ledger.id }
 {
     if let Lent::Replace = call {
-        return told(map.replace_by(rt, pass, key, value));
+        return told(map.call_on(rt, pass, KeyArg::Borrowed(key), Op::Replace(value)));
     }
     drop(value);
     told(make_plain(rt, map, pass, call, key))
@@ -202,7 +204,7 @@ fn wanted(call: Lent, present: bool) -> (Reply<usize>, Option<usize>) {
 }
 
 #[test]
-fn calls_that_borrow_their_key_reply_as_those_that_take_it(rt: HostRuntime) -> Result<(), Fail> {
+fn calls_that_borrow_their_key_reply_as_those_that_take_it(rt: HostRuntime) {
     for form in BOTH {
         for call in ALL {
             for present in [true, false] {
@@ -213,7 +215,6 @@ fn calls_that_borrow_their_key_reply_as_those_that_take_it(rt: HostRuntime) -> R
             }
         }
     }
-    Ok(())
 }
 
 /// How many requests for memory a call makes. A lean map copies the value that a get answers. A
@@ -246,14 +247,13 @@ fn refuse_each<R: Wait + Abort>(rt: &R, memory: Global, form: Form, call: Lent, 
 }
 
 #[test]
-fn a_refused_call_that_borrows_its_key_leaves_the_map(rt: HostRuntime) -> Result<(), Fail> {
+fn a_refused_call_that_borrows_its_key_leaves_the_map(rt: HostRuntime) {
     for form in BOTH {
         for call in ALL {
             refuse_each(&rt, rt.alloc(), form, call, true);
             refuse_each(&rt, rt.alloc(), form, call, false);
         }
     }
-    Ok(())
 }
 
 /// Puts, replaces and removes at `a`, which has the value `one`, by value and by reference, and
@@ -276,9 +276,9 @@ fn change_often<R: Wait + Abort, A: Allocator + Clone>(
     switch.refuse_after(0);
     let put = told(map.put(rt, pass, first, four));
     let replaced = told(map.replace(rt, pass, second, fives));
-    let again = told(map.replace_by(rt, pass, &key, sixths));
-    let has = told(map.contains_key_by(rt, pass, &key));
-    let removed = told(map.remove_by(rt, pass, &key));
+    let again = told(map.call_on(rt, pass, KeyArg::Borrowed(&key), Op::Replace(sixths)));
+    let has = told(map.call_on(rt, pass, KeyArg::Borrowed(&key), Op::Contains));
+    let removed = told(map.call_on(rt, pass, KeyArg::Borrowed(&key), Op::Remove));
     let asked = switch.has_refused();
     switch.refuse_after(u64::MAX);
     let last = told(map.put(rt, pass, key, text(rt, alloc, b"one")));
@@ -329,9 +329,8 @@ fn change_lean<R: Wait + Abort, A: Allocator + Clone>(
 }
 
 #[test]
-fn changes_of_a_lean_map_move_their_values(rt: HostRuntime) -> Result<(), Fail> {
+fn changes_of_a_lean_map_move_their_values(rt: HostRuntime) {
     let alloc = Refusing::new(rt.alloc());
     let told = change_lean(&rt, &alloc, &&alloc);
     assert_same(&rt, &told, &(1000, 1));
-    Ok(())
 }

@@ -9,6 +9,8 @@ mod helping;
 #[cfg(test)]
 mod lent;
 #[cfg(test)]
+mod seeking;
+#[cfg(test)]
 mod skipping;
 #[cfg(test)]
 mod slices;

@@ -13,7 +13,6 @@ use std::process::Abort;
 use std::sync::Wait;
 use std::sync::atomic::AtomicU64;
 use std::sync::atomic::Ordering::SeqCst;
-use std::test::Fail;
 use std::thread::{self, Threads};
 use test_maps::{BOTH, close, open};
 
@@ -22,12 +21,12 @@ fn bin_of(key: &Key) -> u32 {
     Salt(0).hash_of(key) % 16
 }
 
-/// How many keys with `a` make a table of 16 bins grow: 12 in all in a recorded map, and 24 in a lean
+/// How many keys with `a` make a table of 16 bins grow: 12 in all in a recorded map, and 4 in a lean
 /// one.
 fn others(form: Form) -> u32 {
     match form {
         Form::Recorded => 11,
-        Form::Lean => 23,
+        Form::Lean => 3,
     }
 }
 
@@ -166,8 +165,8 @@ fn grow_round_a_held_bin<
 }
 
 #[test]
-fn a_bin_that_a_move_skipped_is_moved_by_the_next_call_on_it(rt: HostRuntime) -> Result<(), Fail> {
-    for (form, wanted) in [(Form::Recorded, 12), (Form::Lean, 24)] {
+fn a_bin_that_a_move_skipped_is_moved_by_the_next_call_on_it(rt: HostRuntime) {
+    for (form, wanted) in [(Form::Recorded, 12), (Form::Lean, 4)] {
         let event = Event::new();
         let told = AtomicU64::new(0);
         let quiet = AtomicU64::new(0);
@@ -184,5 +183,4 @@ fn a_bin_that_a_move_skipped_is_moved_by_the_next_call_on_it(rt: HostRuntime) ->
         );
         assert_same(&rt, &(bins, keys, event.given_up()), &([31, 32], wanted, 0));
     }
-    Ok(())
 }

@@ -10,7 +10,6 @@ use hashkeys::Bytes;
 use std::alloc::{Allocator, Global};
 use std::process::Abort;
 use std::sync::Wait;
-use std::test::Fail;
 use test_maps::{BOTH, Single, close_single, open_single};
 use test_support::{Keep, Refusing};
 
@@ -77,7 +76,7 @@ fn looks<R: Wait + Abort, A: Allocator + Clone>(
 }
 
 #[test]
-fn a_slice_finds_the_key_of_its_bytes_and_makes_none(rt: HostRuntime) -> Result<(), Fail> {
+fn a_slice_finds_the_key_of_its_bytes_and_makes_none(rt: HostRuntime) {
     // The copy of the value asks for memory once, and nothing else does.
     for form in BOTH {
         for (granted, found) in [(0, Err(Fault::NoMemory)), (1, Ok(Some(3)))] {
@@ -87,25 +86,26 @@ fn a_slice_finds_the_key_of_its_bytes_and_makes_none(rt: HostRuntime) -> Result<
             assert_same(&rt, &answers, &wanted);
         }
     }
-    Ok(())
 }
 
 /// A map whose keys lie elsewhere.
 type Words = Map<Bytes<'static>, u64, Keep, Global>;
 
-/// Puts 5 at `one`, and answers whether a look-up and a glance find it.
+/// Puts 5 at `one`. Returns whether a look-up, a glance, a view and a tried view find it.
 fn look_up_and_glance<R: Wait>(
     rt: &R,
     map: &Words,
     pass: &mut Pass<Bytes<'static>, u64, Keep>,
-) -> Result<[bool; 2], Fault>
+) -> Result<[bool; 4], Fault>
     requires { pass.old.ledger ≡ map.now.ledger.id }
     ensures { pass.new.ledger ≡ map.now.ledger.id }
 {
     map.put(rt, pass, Bytes(b"one"), 5)?;
     let looked_up = map.look_up_as(rt, pass, b"one".as_slice())? == Some(5);
     let glanced = map.glance_as(rt, b"one".as_slice())? == Some(5);
-    Ok([looked_up, glanced])
+    let viewed = map.view_as(rt, pass, b"one".as_slice(), |value| value.copied()) == Some(5);
+    let tried = map.try_view_as(pass, b"one".as_slice(), |value| value.is_some()) == Some(true);
+    Ok([looked_up, glanced, viewed, tried])
 }
 
 /// What a look-up and a glance find, and whether the closed map has 5 at `one` too.
@@ -113,7 +113,7 @@ fn right_looks<R: Wait + Abort>(
     rt: &R,
     form: Form,
     alloc: Global,
-) -> (Result<[bool; 2], Fault>, bool) {
+) -> (Result<[bool; 4], Fault>, bool) {
     let Single {
         map,
         mut pass,
@@ -126,10 +126,9 @@ fn right_looks<R: Wait + Abort>(
 }
 
 #[test]
-fn each_example_of_a_slice_is_as_it_says(rt: HostRuntime) -> Result<(), Fail> {
+fn each_example_of_a_slice_is_as_it_says(rt: HostRuntime) {
     for form in BOTH {
         let found = right_looks(&rt, form, rt.alloc());
-        assert_same(&rt, &found, &(Ok([true; 2]), true));
+        assert_same(&rt, &found, &(Ok([true; 4]), true));
     }
-    Ok(())
 }

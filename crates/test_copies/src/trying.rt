@@ -4,14 +4,13 @@ ghost use Rattle.bin_history.specs.Copies.{IsExact};
 
 use crate::asserts::{assert_same, key};
 use crate::waiting::{Event, OneAfter};
-use bin_history::{Form, Given, Op, Remap, Reply};
+use bin_history::{Form, KeyArg, Op, Remap, Reply};
 use chm::{Fault, Map};
 use count_ledger::Pass;
 use hashkeys::Key;
 use std::alloc::Global;
 use std::process::Abort;
 use std::sync::Wait;
-use std::test::Fail;
 use std::thread::{self, Threads};
 use test_maps::{BOTH, close, open};
 
@@ -26,7 +25,7 @@ fn try_put<F: Remap<Key, u64>>(
     requires pass { pass.old.ledger ≡ map.now.ledger.id }
     ensures { pass.new.ledger ≡ map.now.ledger.id }
 {
-    match map.try_call(pass, Given::Owned(key(rt, text)), Op::Put(1)) {
+    match map.try_call(pass, KeyArg::Owned(key(rt, text)), Op::Put(1)) {
         Some(told) => Some(told),
         None => None,
     }
@@ -69,7 +68,7 @@ fn try_while_another_computes<R: Threads + Wait + Abort + Sync, F: Remap<Key, u6
 }
 
 #[test]
-fn a_call_that_is_tried_is_not_made_where_its_bin_is_held(rt: HostRuntime) -> Result<(), Fail> {
+fn a_call_that_is_tried_is_not_made_where_its_bin_is_held(rt: HostRuntime) {
     for form in BOTH {
         let (asked, event) = (Event::new(), Event::new());
         let function = OneAfter {
@@ -84,5 +83,4 @@ fn a_call_that_is_tried_is_not_made_where_its_bin_is_held(rt: HostRuntime) -> Re
             &(0, 0, 2),
         );
     }
-    Ok(())
 }

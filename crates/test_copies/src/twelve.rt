@@ -9,7 +9,6 @@ use hashkeys::Key;
 use std::alloc::Global;
 use std::process::Abort;
 use std::sync::Wait;
-use std::test::Fail;
 use test_maps::{Single, close_single, open_single};
 use test_support::{Alloc, Answer, Number, Refusing};
 
@@ -310,7 +309,7 @@ fn refuse_each<R: Wait + Abort>(
 }
 
 #[test]
-fn each_of_the_twelve_calls_is_refused_in_turn(rt: HostRuntime) -> Result<(), Fail> {
+fn each_of_the_twelve_calls_is_refused_in_turn(rt: HostRuntime) {
     // A lean map copies the value that is both stored and replied, and a function asks once: 9
     // where `a` has a value, 5 where it has none; and of those five calls store a new entry. A
     // recorded one copies the values before and after for the record, too, and an argument that is
@@ -324,5 +323,4 @@ fn each_of_the_twelve_calls_is_refused_in_turn(rt: HostRuntime) -> Result<(), Fa
         }
         assert_same(&rt, &requests, &wanted);
     }
-    Ok(())
 }

@@ -13,7 +13,6 @@ use std::process::Abort;
 use std::sync::Wait;
 use std::sync::atomic::AtomicU64;
 use std::sync::atomic::Ordering::SeqCst;
-use std::test::Fail;
 use std::thread::{self, Threads};
 use test_maps::{BOTH, close, open};
 
@@ -127,7 +126,7 @@ fn compute_while_another_puts<R: Threads + Wait + Abort + Sync, F: Remap<Key, u6
 }
 
 #[test]
-fn a_function_waits_for_a_put_on_another_bin(rt: HostRuntime) -> Result<(), Fail> {
+fn a_function_waits_for_a_put_on_another_bin(rt: HostRuntime) {
     for form in BOTH {
         let (asked, event) = (Event::new(), Event::new());
         let function = OneAfter {
@@ -142,7 +141,6 @@ fn a_function_waits_for_a_put_on_another_bin(rt: HostRuntime) -> Result<(), Fail
             &(0, 0, 2),
         );
     }
-    Ok(())
 }
 
 /// What the copies of a value are told to do: nothing, to wait for one another, or to be refused.
@@ -267,10 +265,9 @@ fn glance_together<R: Threads + Wait + Abort + Sync>(
 }
 
 #[test]
-fn two_glances_copy_one_value_at_once(rt: HostRuntime) -> Result<(), Fail> {
+fn two_glances_copy_one_value_at_once(rt: HostRuntime) {
     let told = glance_together(&rt, rt.alloc());
     assert_same(&rt, &told, &((true, true), 0, 1));
-    Ok(())
 }
 
 /// Glances at a value whose copies are refused, and again once they are not. Answers whether each
@@ -297,10 +294,9 @@ fn glance_in_vain<R: Wait + Abort>(
 }
 
 #[test]
-fn a_glance_whose_copy_is_refused_leaves_the_bin(rt: HostRuntime) -> Result<(), Fail> {
+fn a_glance_whose_copy_is_refused_leaves_the_bin(rt: HostRuntime) {
     for form in BOTH {
         let told = glance_in_vain(&rt, rt.alloc(), form);
         assert!(rt; told == (Err(Fault::NoMemory), Ok(true)));
     }
-    Ok(())
 }

@@ -8,7 +8,6 @@ use chm::{Fault, NotClosed};
 use std::alloc::Global;
 use std::process::Abort;
 use std::sync::Wait;
-use std::test::Fail;
 use test_maps::{BOTH, Single, close, put_back};
 use test_support::{Alloc, Refusing};
 
@@ -64,12 +63,11 @@ fn close_at_last<'a, R: Wait + Abort>(
 }
 
 #[test]
-fn a_map_closes_after_each_refused_close(rt: HostRuntime) -> Result<(), Fail> {
+fn a_map_closes_after_each_refused_close(rt: HostRuntime) {
     let counts = Counts::new();
-    for (form, bins) in [(Form::Recorded, 64), (Form::Lean, 32)] {
+    for (form, bins) in [(Form::Recorded, 64), (Form::Lean, 256)] {
         let alloc = Refusing::new(rt.alloc());
         let told = close_at_last(&rt, &alloc, &counts, form);
         assert_same(&rt, &told, &(bins, 40, 40));
     }
-    Ok(())
 }

@@ -8,7 +8,6 @@ use count_ledger::{Pass, retire_all};
 use std::alloc::{AllocError, Global};
 use std::process::Abort;
 use std::sync::Wait;
-use std::test::Fail;
 use std::thread::{self, Threads};
 use test_maps::{BOTH, close, open};
 
@@ -151,12 +150,11 @@ fn count_passes<R: Threads + Wait + Abort + Sync>(rt: &R, alloc: Global, form: F
 }
 
 #[test]
-fn clients_that_are_done_are_all_counted(rt: HostRuntime) -> Result<(), Fail> {
+fn clients_that_are_done_are_all_counted(rt: HostRuntime) {
     // One key and two and so on up to 32; and of each number the lower half away.
     for form in BOTH {
         let counted = count_clients(&rt, rt.alloc(), form);
         assert_same(&rt, &counted, &[528, 272, 272]);
         assert_same(&rt, &count_passes(&rt, rt.alloc(), form), &528);
     }
-    Ok(())
 }

@@ -8,7 +8,6 @@ use chm::Fault;
 use std::alloc::Global;
 use std::process::Abort;
 use std::sync::Wait;
-use std::test::Fail;
 use test_maps::{Single, close_single};
 use test_support::{Alloc, Refusing};
 
@@ -107,7 +106,7 @@ fn refuse_each<R: Wait + Abort>(
             assert!(rt; told.reply == Ok(Reply::Value(None)));
             let wanted = match form {
                 Form::Recorded => (12, 66),
-                Form::Lean => (24, 276),
+                Form::Lean => (4, 6),
             };
             assert_same(rt, &sums(&told.after), &wanted);
         }
@@ -119,7 +118,7 @@ fn refuse_each<R: Wait + Abort>(
 }
 
 #[test]
-fn a_walk_shows_what_a_refused_put_left(rt: HostRuntime) -> Result<(), Fail> {
+fn a_walk_shows_what_a_refused_put_left(rt: HostRuntime) {
     // The put asks for room for the entry, and in a recorded map for the record. The move of a
     // recorded map asks for the table, three times for the strides, once for each half of a bin and
     // twice more for each of the twelve that have a key; that of a lean one for the slots of the
@@ -129,5 +128,4 @@ fn a_walk_shows_what_a_refused_put_left(rt: HostRuntime) -> Result<(), Fail> {
         let requests = refuse_each(&rt, rt.alloc(), &counts, form, own);
         assert_same(&rt, &requests, &wanted);
     }
-    Ok(())
 }

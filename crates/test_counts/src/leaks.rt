@@ -9,7 +9,6 @@ use count_ledger::retire_all;
 use std::alloc::Global;
 use std::process::Abort;
 use std::sync::Wait;
-use std::test::Fail;
 use test_maps::{BOTH, Single, close, close_single, open, open_single};
 use test_support::{Alloc, Refusing};
 
@@ -29,17 +28,16 @@ fn open_and_drop(rt: &impl Abort, alloc: Alloc<'_>, form: Form) {
 }
 
 #[test]
-fn a_new_map_gives_all_back(rt: HostRuntime) -> Result<(), Fail> {
+fn a_new_map_gives_all_back(rt: HostRuntime) {
     for form in BOTH {
         let alloc = Refusing::new(rt.alloc());
         open_and_drop(&rt, &alloc, form);
         assert_all_back(&rt, &alloc);
     }
-    Ok(())
 }
 
 /// The forms, and with how many keys a table of 16 bins has grown to 64.
-const GROWN: [(Form, u32); 2] = [(Form::Recorded, 30), (Form::Lean, 60)];
+const GROWN: [(Form, u32); 2] = [(Form::Recorded, 30), (Form::Lean, 15)];
 
 /// Puts so many keys, and drops the map as it is.
 fn grow_and_drop<R: Wait + Abort>(rt: &R, alloc: Alloc<'_>, form: Form, keys: u32) {
@@ -50,17 +48,16 @@ fn grow_and_drop<R: Wait + Abort>(rt: &R, alloc: Alloc<'_>, form: Form, keys: u3
 }
 
 #[test]
-fn a_map_that_is_not_closed_gives_all_back(rt: HostRuntime) -> Result<(), Fail> {
+fn a_map_that_is_not_closed_gives_all_back(rt: HostRuntime) {
     for (form, keys) in GROWN {
         let alloc = Refusing::new(rt.alloc());
         grow_and_drop(&rt, &alloc, form, keys);
         assert_all_back(&rt, &alloc);
     }
-    Ok(())
 }
 
 #[test]
-fn a_map_that_grew_gives_all_back(rt: HostRuntime) -> Result<(), Fail> {
+fn a_map_that_grew_gives_all_back(rt: HostRuntime) {
     for (form, keys) in GROWN {
         let alloc = Refusing::new(rt.alloc());
         let quiet = closed(&rt, &alloc, form, keys);
@@ -68,7 +65,6 @@ fn a_map_that_grew_gives_all_back(rt: HostRuntime) -> Result<(), Fail> {
         drop(quiet);
         assert_all_back(&rt, &alloc);
     }
-    Ok(())
 }
 
 /// Makes each kind of call two hundred times. So a recorded map folds records of each kind.
@@ -83,13 +79,12 @@ fn call_and_close<R: Wait + Abort>(rt: &R, alloc: Alloc<'_>, form: Form) {
 }
 
 #[test]
-fn calls_of_each_kind_give_all_back(rt: HostRuntime) -> Result<(), Fail> {
+fn calls_of_each_kind_give_all_back(rt: HostRuntime) {
     for form in BOTH {
         let alloc = Refusing::new(rt.alloc());
         call_and_close(&rt, &alloc, form);
         assert_all_back(&rt, &alloc);
     }
-    Ok(())
 }
 
 /// Looks, glances, walks and clears.
@@ -109,13 +104,12 @@ fn read_and_clear<R: Wait + Abort>(rt: &R, alloc: Alloc<'_>, form: Form) {
 }
 
 #[test]
-fn readings_and_a_clear_give_all_back(rt: HostRuntime) -> Result<(), Fail> {
+fn readings_and_a_clear_give_all_back(rt: HostRuntime) {
     for form in BOTH {
         let alloc = Refusing::new(rt.alloc());
         read_and_clear(&rt, &alloc, form);
         assert_all_back(&rt, &alloc);
     }
-    Ok(())
 }
 
 /// Opens a closed map again, closes both, and takes the pairs of one out.
@@ -130,13 +124,12 @@ fn open_again<R: Wait + Abort>(rt: &R, alloc: Alloc<'_>, form: Form) {
 }
 
 #[test]
-fn a_map_that_is_opened_again_gives_all_back(rt: HostRuntime) -> Result<(), Fail> {
+fn a_map_that_is_opened_again_gives_all_back(rt: HostRuntime) {
     for form in BOTH {
         let alloc = Refusing::new(rt.alloc());
         open_again(&rt, &alloc, form);
         assert_all_back(&rt, &alloc);
     }
-    Ok(())
 }
 
 /// Closes a map without the pass of its client, which ends, and gives it up.
@@ -147,13 +140,12 @@ fn give_up<R: Wait + Abort>(rt: &R, alloc: Alloc<'_>, form: Form) {
 }
 
 #[test]
-fn a_map_that_is_given_up_gives_all_back(rt: HostRuntime) -> Result<(), Fail> {
+fn a_map_that_is_given_up_gives_all_back(rt: HostRuntime) {
     for form in BOTH {
         let alloc = Refusing::new(rt.alloc());
         give_up(&rt, &alloc, form);
         assert_all_back(&rt, &alloc);
     }
-    Ok(())
 }
 
 /// Puts one key more into a full map, with the request after so many refused. Answers whether there
@@ -187,10 +179,9 @@ fn refuse_each<R: Wait + Abort>(rt: &R, memory: Global, form: Form) -> u64 {
 }
 
 #[test]
-fn a_refused_put_or_move_gives_all_back(rt: HostRuntime) -> Result<(), Fail> {
+fn a_refused_put_or_move_gives_all_back(rt: HostRuntime) {
     for form in BOTH {
         let requests = refuse_each(&rt, rt.alloc(), form);
         assert!(rt; requests > 9 && requests < 1000);
     }
-    Ok(())
 }

@@ -53,7 +53,7 @@ pub(crate) fn put_below<'a, R: Wait + Abort, A: Allocator + Clone>(
 pub(crate) fn room(form: Form) -> u32 {
     match form {
         Form::Recorded => 11,
-        Form::Lean => 23,
+        Form::Lean => 3,
     }
 }
 

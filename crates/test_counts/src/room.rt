@@ -8,7 +8,6 @@ use count_ledger::retire_all;
 use std::alloc::Global;
 use std::process::Abort;
 use std::sync::Wait;
-use std::test::Fail;
 use test_maps::{Single, close_single, open, open_single};
 use test_support::{Alloc, Refusing};
 
@@ -29,7 +28,7 @@ fn opening(
 }
 
 #[test]
-fn an_opening_asks_once_for_each_of_its_lists(rt: HostRuntime) -> Result<(), Fail> {
+fn an_opening_asks_once_for_each_of_its_lists(rt: HostRuntime) {
     // The bases, the moves, the words of the books and the slots beside them, of which there are
     // none, the passes, the roles, the places and the tables. A lean map asks for the words of its
     // places, too, and for both once more where they are put into their table; and a recorded one
@@ -42,7 +41,6 @@ fn an_opening_asks_once_for_each_of_its_lists(rt: HostRuntime) -> Result<(), Fai
             assert_same(&rt, &(of_lean, of_recorded), &(11, bins.wrapping_add(8)));
         }
     }
-    Ok(())
 }
 
 /// How many bytes a lean map of so many bins keeps.
@@ -51,18 +49,43 @@ fn bytes_of(rt: &impl Abort, memory: Global, bins: usize) -> u64 {
     opening(rt, &alloc, Form::Lean, bins, 1).1
 }
 
+/// How many bytes a lean map keeps that was opened for 16 bins, with so many keys.
+fn bytes_with<R: Wait + Abort>(rt: &R, alloc: Alloc<'_>, counts: &Counts, keys: u32) -> u64 {
+    let Single { map, pass, place } = filled(rt, alloc, counts, Form::Lean, keys);
+    let told = alloc.bytes_out();
+    drop(close_single(map, pass, place).expect(rt, "a closed map"));
+    told
+}
+
 #[test]
-fn a_lean_map_has_room_for_its_own_bins_alone(rt: HostRuntime) -> Result<(), Fail> {
-    let one = bytes_of(&rt, rt.alloc(), 1);
-    let thousand = bytes_of(&rt, rt.alloc(), 1024);
-    let two = bytes_of(&rt, rt.alloc(), 2048);
-    let four = bytes_of(&rt, rt.alloc(), 4096);
-    // Less than a byte for each bin of the widest table, and at most 128 bytes for each of its own.
-    assert!(rt; one < 16_384 && thousand < two && two < four);
-    let more = two.wrapping_sub(thousand);
-    assert!(rt; more <= 1024 * 128);
-    assert_same(&rt, &four.wrapping_sub(two), &more.wrapping_mul(2));
-    Ok(())
+fn a_lean_map_has_room_for_its_own_bins_alone(rt: HostRuntime) {
+    // A bin has 24 bytes, and up to 1,024 bins a cache line each for their words, which else take 8
+    // bytes; all else takes 8,128.
+    for (bins, each) in [
+        (1u64, 88u64),
+        (16, 88),
+        (64, 88),
+        (256, 88),
+        (1024, 88),
+        (2048, 32),
+        (4096, 32),
+    ] {
+        let bytes = bytes_of(&rt, rt.alloc(), bins as usize);
+        assert_same(
+            &rt,
+            &(bins, bytes),
+            &(bins, bins.wrapping_mul(each).wrapping_add(8128)),
+        );
+    }
+}
+
+#[test]
+fn a_lean_map_of_16_keys_has_room_for_128_bins(rt: HostRuntime) {
+    let counts = Counts::new();
+    let alloc = Refusing::new(rt.alloc());
+    let bytes = bytes_with(&rt, &alloc, &counts, 16);
+    // 8,128 bytes, 88 for each of 128 bins, and what the keys and three moves take.
+    assert!(rt; 8128 + 128 * 88 < bytes && bytes < 24_000, "{bytes} bytes");
 }
 
 /// How many requests the put of the next key makes into 16 bins with so many.
@@ -86,7 +109,7 @@ fn requests_of_growth<R: Wait + Abort>(
 }
 
 #[test]
-fn a_move_asks_for_its_table_its_strides_and_copies(rt: HostRuntime) -> Result<(), Fail> {
+fn a_move_asks_for_its_table_its_strides_and_copies(rt: HostRuntime) {
     // The put asks for room for the entry, and in a recorded map for the record; the move for the
     // table, and three times for the strides, or in a lean map four times. Each half of a recorded
     // bin asks for the bin, and where it has the entry and the record of a key for room for both: no
@@ -94,14 +117,13 @@ fn a_move_asks_for_its_table_its_strides_and_copies(rt: HostRuntime) -> Result<(
     // which asks for its places and for their words, and once more for both.
     let counts = Counts::new();
     for (form, keys, wanted) in [
-        (Form::Lean, 23, 1 + 1 + 4 + 4),
+        (Form::Lean, 3, 1 + 1 + 4 + 4),
         (Form::Recorded, 11, 2 + 1 + 3 + 32 + 12 * 2),
     ] {
         let alloc = Refusing::new(rt.alloc());
         let requests = requests_of_growth(&rt, &alloc, &counts, form, keys);
         assert_same(&rt, &requests, &wanted);
     }
-    Ok(())
 }
 
 /// Gets the key 1 so often.
@@ -143,7 +165,7 @@ fn requests_of_calls<'a, R: Wait + Abort>(
 }
 
 #[test]
-fn calls_on_one_key_ask_for_records_and_for_one_fold(rt: HostRuntime) -> Result<(), Fail> {
+fn calls_on_one_key_ask_for_records_and_for_one_fold(rt: HostRuntime) {
     // Room for the entry; for four records, and for twice as many whenever they are full, up to
     // 1,024; and in the base for the key, in the first fold.
     let counts = Counts::new();
@@ -166,7 +188,6 @@ fn calls_on_one_key_ask_for_records_and_for_one_fold(rt: HostRuntime) -> Result<
         let of_lean = requests_of_calls(&rt, &lean, &counts, Form::Lean, gets);
         assert_same(&rt, &(calls, of_recorded, of_lean), &(calls, wanted, 1));
     }
-    Ok(())
 }
 
 /// How many bytes of a lean map are out before a key is put, with it, after another call on it, and
@@ -190,7 +211,7 @@ fn bytes_of_a_key<R: Wait + Abort>(rt: &R, alloc: Alloc<'_>, counts: &Counts) ->
 }
 
 #[test]
-fn a_key_of_a_lean_map_has_room_for_itself_alone(rt: HostRuntime) -> Result<(), Fail> {
+fn a_key_of_a_lean_map_has_room_for_itself_alone(rt: HostRuntime) {
     let alloc = Refusing::new(rt.alloc());
     let counts = Counts::new();
     let [before, with, again, without] = bytes_of_a_key(&rt, &alloc, &counts);
@@ -198,5 +219,4 @@ fn a_key_of_a_lean_map_has_room_for_itself_alone(rt: HostRuntime) -> Result<(), 
     let size = with.wrapping_sub(before);
     assert!(rt; 24 <= size && size <= 48);
     assert_same(&rt, &(again, without), &(with, before));
-    Ok(())
 }

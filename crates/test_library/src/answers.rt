@@ -1,8 +1,8 @@
 //! What clients answer, and in which order.
+use crate::asserts::assert_same;
 use facingberyl::{Add, Client, Fault, Loan, Team, Work};
 use std::alloc::Global;
 use std::sync::Wait;
-use std::test::Fail;
 
 /// Each client puts its number, at its number, and answers both.
 #[derive(Clone, Copy)]
@@ -25,19 +25,18 @@ impl Work<u64, u64, Add, Global> for PutTheNumber {
 /// Four clients answer their numbers, twice: the answers stand in the order of the clients,
 /// whichever thread ends first.
 #[test]
-fn answers_stand_in_the_order_of_the_clients(rt: HostRuntime) -> Result<(), Fail> {
-    let mut team = Team::new(rt.alloc(), 1, 4)?;
-    let first = team.work(&rt, &PutTheNumber)?;
-    let again = team.work(&rt, &PutTheNumber)?;
-    let count = team.close()?.mapping_count();
+fn answers_stand_in_the_order_of_the_clients(rt: HostRuntime) {
+    let mut team = Team::new(rt.alloc(), 1, 4).expect(&rt, "no fault");
+    let first = team.work(&rt, &PutTheNumber).expect(&rt, "no fault");
+    let again = team.work(&rt, &PutTheNumber).expect(&rt, "no fault");
+    let count = team.close().expect(&rt, "no fault").mapping_count();
     let all = [
         Ok((0, Some(0))),
         Ok((1, Some(1))),
         Ok((2, Some(2))),
         Ok((3, Some(3))),
     ];
-    assert_eq!(rt; first.as_slice(), all.as_slice());
-    assert_eq!(rt; again.as_slice(), all.as_slice());
-    assert_eq!(rt; count, 4);
-    Ok(())
+    assert_same(&rt, &first.as_slice(), &all.as_slice());
+    assert_same(&rt, &again.as_slice(), &all.as_slice());
+    assert_same(&rt, &count, &4);
 }

@@ -1,12 +1,19 @@
 //! Threads that share a map without a team, and the pairs of a closed map.
+use crate::asserts::assert_same;
 use facingberyl::{
-    Add, Bytes, Client, Fault, Loan, Map, NotClosed, Pass, Quiet, Salt, Sharing, Team, Work,
-    retire_all,
+    Add, Bytes, Client, Fault, HashKey, Loan, Map, NotClosed, Pass, Quiet, Remap, Salt, Sharing,
+    Team, Value, Work, retire_all,
 };
-use std::alloc::Global;
+use std::alloc::{Allocator, Global};
 use std::sync::Wait;
-use std::test::Fail;
 use std::thread::Threads;
+
+/// The closed map of a team, which is given up where it cannot be closed.
+pub(crate) fn close_or_give_up<K: HashKey, V: Value, F: Remap<K, V>, A: Allocator + Clone>(
+    team: Team<K, V, F, A>,
+) -> Result<Quiet<K, V, F, A>, Fault> {
+    team.close().map_err(|refused| refused.give_up())
+}
 
 /// Each client adds 1 at key 0, and its number at its number.
 #[derive(Clone, Copy)]
@@ -48,15 +55,14 @@ fn shared<R: Threads + Wait + Sync>(rt: &R, alloc: Global) -> Option<Quiet<u64, 
 }
 
 #[test]
-fn threads_share_a_map_without_a_team(rt: HostRuntime) -> Result<(), Fail> {
+fn threads_share_a_map_without_a_team(rt: HostRuntime) {
     let closed = shared(&rt, rt.alloc());
     let mut pairs = Vec::new(rt.alloc());
     if let Some(Ok(taken)) = closed.map(|quiet| quiet.into_entries()) {
         pairs = taken;
     }
     pairs.sort_unstable();
-    assert_eq!(rt; pairs.as_slice(), [(0, 3), (1, 1), (2, 2)].as_slice());
-    Ok(())
+    assert_same(&rt, &pairs.as_slice(), &[(0, 3), (1, 1), (2, 2)].as_slice());
 }
 
 /// Puts two words.
@@ -78,20 +84,22 @@ impl Work<Bytes<'static>, u64, Add, Global> for Words {
 }
 
 #[test]
-fn the_pairs_of_a_team_are_taken_out(rt: HostRuntime) -> Result<(), Fail> {
-    let mut team = Team::new(rt.alloc(), 1, 1)?;
-    for answer in team.work(&rt, &Words)? {
-        answer?;
+fn the_pairs_of_a_team_are_taken_out(rt: HostRuntime) {
+    let mut team = Team::new(rt.alloc(), 1, 1).expect(&rt, "no fault");
+    for answer in team.work(&rt, &Words).expect(&rt, "no fault") {
+        answer.expect(&rt, "no fault");
     }
     let mut sum = 0;
     let mut bytes = 0;
-    if let Ok(pairs) = team.close()?.into_entries() {
+    if let Ok(pairs) = close_or_give_up(team)
+        .expect(&rt, "no fault")
+        .into_entries()
+    {
         for (word, count) in pairs {
             bytes = word.0.len().wrapping_add(bytes);
             sum = count.wrapping_add(sum);
         }
     }
-    assert_eq!(rt; bytes, 6);
-    assert_eq!(rt; sum, 3);
-    Ok(())
+    assert_same(&rt, &bytes, &6);
+    assert_same(&rt, &sum, &3);
 }

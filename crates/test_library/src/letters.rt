@@ -1,12 +1,13 @@
 //! Moments that one client hands to another in letters, through a channel and under a lock.
 ghost use Rattle.std.specs.Prelude.{◌≡◌};
+ghost use Rattle.count_ledger.specs.Fronts.{BeginsWith};
 
+use crate::asserts::assert_same;
 use crossbeam_channel::{Receiver, Sender, bounded};
-use facingberyl::{About, Add, Client, Fault, Letter, Loan, Team, Work};
+use facingberyl::{About, Add, Client, Fault, Letter, Loan, Moment, Team, Work};
 use std::alloc::{AllocError, Global};
 use std::marker::Brand;
 use std::sync::{Mutex, Wait};
-use std::test::Fail;
 use std::thread::Threads;
 
 /// How many keys are told of.
@@ -44,6 +45,16 @@ fn tell_all<B: About<u64, u64, Add>, L: Loan, R: Wait>(
     Ok(MOST)
 }
 
+/// Learns of a moment, as its contract says: no get tells whether a client has learned of the calls
+/// before it.
+fn learn_of<L: Loan>(client: &mut Numbers<'_, L>, moment: &mut Moment<u64, u64, Add>)
+    requires { moment.old.ledger ≡ client.old.map.now.ledger.id }
+    ensures learned { BeginsWith client.new.pass.now.seen moment.old.seen }
+    ensures map { client.new.map.now ≡ client.old.map.now }
+{
+    client.learn(moment);
+}
+
 /// Hears of each number, and counts those that it then gets.
 fn hear_all<B: About<u64, u64, Add>, L: Loan, R: Wait>(
     rt: &R,
@@ -57,7 +68,7 @@ fn hear_all<B: About<u64, u64, Add>, L: Loan, R: Wait>(
         let Ok(Some(letter)) = heard.recv(rt) else {
             return Ok(found);
         };
-        client.learn(&mut letter.open());
+        learn_of(client, &mut letter.open());
         if client.get(rt, &number)? == Some(number) {
             found = found.saturating_add(1);
         }
@@ -70,7 +81,7 @@ impl<B: About<u64, u64, Add>> Work<u64, u64, Add, Global> for Telling<'_, B> {
 
     type Out = Result<u64, Fault>;
 
-    ghost fits = { λ _ id. (B.ledger ≡ id) × ((seen : _) → B.told seen) };
+    ghost fits = { λ _ ledger. (B.ledger ≡ ledger.id) × ((seen : _) → B.told seen) };
 
     fn work<L: Loan, R: Wait>(&self, rt: &R, client: &mut Numbers<'_, L>) -> Result<u64, Fault> {
         if client.number() == 0 {
@@ -103,12 +114,15 @@ fn tell<B: About<u64, u64, Add> + Send + Sync, R: Threads + Wait + Sync>(
 /// One client puts ten thousand keys into a map that grows, and tells of each by a channel; the
 /// other finds each key that it hears of.
 #[test]
-fn a_client_finds_each_key_that_it_hears_of(rt: HostRuntime) -> Result<(), Fail> {
-    let mut team = Team::new(rt.alloc(), 1, 2)?;
-    let answers = tell::<Brand, _>(&rt, rt.alloc(), &mut team)?;
+fn a_client_finds_each_key_that_it_hears_of(rt: HostRuntime) {
+    let mut team = Team::new(rt.alloc(), 1, 2).expect(&rt, "no fault");
+    let answers = tell::<Brand, _>(&rt, rt.alloc(), &mut team).expect(&rt, "no fault");
     drop(team);
-    assert_eq!(rt; answers.as_slice(), [Ok(10_000), Ok(10_000)].as_slice());
-    Ok(())
+    assert_same(
+        &rt,
+        &answers.as_slice(),
+        &[Ok(10_000), Ok(10_000)].as_slice(),
+    );
 }
 
 /// Client 0 puts 5 at 1 and leaves a letter, or else client 1 takes it and gets the value at 1.
@@ -123,7 +137,7 @@ impl<B: About<u64, u64, Add>> Work<u64, u64, Add, Global> for Mailing<'_, B> {
 
     type Out = Result<Option<u64>, Fault>;
 
-    ghost fits = { λ _ id. (B.ledger ≡ id) × ((seen : _) → B.told seen) };
+    ghost fits = { λ _ ledger. (B.ledger ≡ ledger.id) × ((seen : _) → B.told seen) };
 
     fn work<L: Loan, R: Wait>(
         &self,
@@ -176,10 +190,13 @@ fn mail<B: About<u64, u64, Add> + Send + Sync, R: Threads + Wait + Sync>(
 
 /// A letter that was left under a lock tells who takes it of the put before it.
 #[test]
-fn a_letter_is_left_under_a_lock(rt: HostRuntime) -> Result<(), Fail> {
-    let mut team = Team::new(rt.alloc(), 1, 2)?;
-    let answers = mail::<Brand, _>(&rt, &mut team)?;
+fn a_letter_is_left_under_a_lock(rt: HostRuntime) {
+    let mut team = Team::new(rt.alloc(), 1, 2).expect(&rt, "no fault");
+    let answers = mail::<Brand, _>(&rt, &mut team).expect(&rt, "no fault");
     drop(team);
-    assert_eq!(rt; answers.as_slice(), [Ok(None), Ok(Some(5))].as_slice());
-    Ok(())
+    assert_same(
+        &rt,
+        &answers.as_slice(),
+        &[Ok(None), Ok(Some(5))].as_slice(),
+    );
 }

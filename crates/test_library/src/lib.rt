@@ -5,13 +5,19 @@
 #[cfg(test)]
 mod answers;
 #[cfg(test)]
-mod borrowed;
+mod asserts;
 #[cfg(test)]
 mod closed;
 #[cfg(test)]
 mod examples;
 #[cfg(test)]
+mod full;
+#[cfg(test)]
+mod in_place;
+#[cfg(test)]
 mod keys;
+#[cfg(test)]
+mod lending;
 #[cfg(test)]
 mod letters;
 #[cfg(test)]
@@ -19,7 +25,13 @@ mod live;
 #[cfg(test)]
 mod moments;
 #[cfg(test)]
-mod servers;
+mod owners;
+#[cfg(test)]
+mod places;
+#[cfg(test)]
+mod refused;
+#[cfg(test)]
+mod shared;
 #[cfg(test)]
 mod shown;
 #[cfg(test)]

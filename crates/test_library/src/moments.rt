@@ -1,11 +1,11 @@
 //! One client puts and answers its moment, and another that learned of it gets.
 ghost use Rattle.std.specs.Prelude.{◌≡◌, ◌<◌, length};
 
+use crate::asserts::assert_same;
 use facingberyl::{About, Add, Client, Fault, Letter, Loan, Team, Work};
 use std::alloc::Global;
 use std::marker::{Brand, PhantomData};
 use std::sync::Wait;
-use std::test::Fail;
 use std::thread::Threads;
 
 /// Client 0 puts 5 at 1. Each client answers its moment.
@@ -19,7 +19,7 @@ impl<B: About<u64, u64, Add>> Work<u64, u64, Add, Global> for PutAndTell<B> {
 
     type Out = Result<Letter<u64, u64, Add, B>, Fault>;
 
-    ghost fits = { λ _ id. (B.ledger ≡ id) × ((seen : _) → B.told seen) };
+    ghost fits = { λ _ ledger. (B.ledger ≡ ledger.id) × ((seen : _) → B.told seen) };
 
     fn work<L: Loan, R: Wait>(
         &self,
@@ -71,10 +71,13 @@ fn tell<B: About<u64, u64, Add> + Send + Sync, R: Threads + Wait + Sync>(
 
 /// Client 0 puts and answers its moment; client 1 learns of it, and gets what client 0 put.
 #[test]
-fn a_client_gets_what_another_told_it_of(rt: HostRuntime) -> Result<(), Fail> {
-    let mut team = Team::new(rt.alloc(), 1, 2)?;
-    let answers = tell::<Brand, _>(&rt, &mut team)?;
+fn a_client_gets_what_another_told_it_of(rt: HostRuntime) {
+    let mut team = Team::new(rt.alloc(), 1, 2).expect(&rt, "no fault");
+    let answers = tell::<Brand, _>(&rt, &mut team).expect(&rt, "no fault");
     drop(team);
-    assert_eq!(rt; answers.as_slice(), [Ok(Some(5)), Ok(Some(5))].as_slice());
-    Ok(())
+    assert_same(
+        &rt,
+        &answers.as_slice(),
+        &[Ok(Some(5)), Ok(Some(5))].as_slice(),
+    );
 }

@@ -1,13 +1,14 @@
 //! Keys of bytes that are looked for by slices, of which no key is made.
 ghost use Rattle.bin_history.specs.Copies.{IsExact};
 
+use crate::asserts::assert_same;
+use crate::closed::close_or_give_up;
 use facingberyl::{
     AsKey, ByteString, Bytes, Client, Fault, Form, HashKey, Loan, Map, NoFunction, Quiet, Team,
     Work,
 };
 use std::alloc::Global;
 use std::sync::Wait;
-use std::test::Fail;
 use test_support::{Alloc, Number, Refusing};
 
 /// A client of these tests. A copy of a value asks for memory once.
@@ -52,6 +53,21 @@ fn look<'a, L: Loan, R: Wait, K: HashKey, Q: AsKey<K>>(
     Ok(([looked_up, glanced], asked))
 }
 
+/// Looks for each of the queries. Answers the first for which something else is found than wanted.
+fn first_wrong<'a, L: Loan, R: Wait, K: HashKey, Q: AsKey<K> + Copy>(
+    rt: &R,
+    alloc: Alloc<'a>,
+    client: &mut Numbers<'_, 'a, L, K>,
+    queries: &[Q; 4],
+) -> Result<Option<usize>, Fault> {
+    for (line, (query, wanted)) in queries.iter().zip(&WANTED).enumerate() {
+        if look(rt, alloc, client, *query)? != *wanted {
+            return Ok(Some(line));
+        }
+    }
+    Ok(None)
+}
+
 /// Puts 5 at `one` and 6 at the key without bytes, and looks for each of the queries.
 #[derive(Clone, Copy)]
 struct Looks<'a> {
@@ -72,42 +88,30 @@ impl<'a> Looks<'a> {
 }
 
 impl<'a> Work<Bytes<'static>, Number<'a>, NoFunction, Alloc<'a>> for Looks<'a> {
-    type Out = Result<[Found; 4], Fault>;
+    type Out = Result<Option<usize>, Fault>;
 
     fn work<L: Loan, R: Wait>(
         &self,
         rt: &R,
         client: &mut Numbers<'_, 'a, L, Bytes<'static>>,
-    ) -> Result<[Found; 4], Fault> {
+    ) -> Result<Option<usize>, Fault> {
         client.put(rt, Bytes(b"one"), self.number(5))?;
         client.put(rt, Bytes(b""), self.number(6))?;
-        let [first, second, third, fourth] = QUERIES;
-        Ok([
-            look(rt, self.alloc, client, first)?,
-            look(rt, self.alloc, client, second)?,
-            look(rt, self.alloc, client, third)?,
-            look(rt, self.alloc, client, fourth)?,
-        ])
+        first_wrong(rt, self.alloc, client, &QUERIES)
     }
 }
 
 impl<'a> Work<ByteString<Alloc<'a>>, Number<'a>, NoFunction, Alloc<'a>> for Looks<'a> {
-    type Out = Result<[Found; 4], Fault>;
+    type Out = Result<Option<usize>, Fault>;
 
     fn work<L: Loan, R: Wait>(
         &self,
         rt: &R,
         client: &mut Numbers<'_, 'a, L, ByteString<Alloc<'a>>>,
-    ) -> Result<[Found; 4], Fault> {
+    ) -> Result<Option<usize>, Fault> {
         client.put(rt, self.text(b"one")?, self.number(5))?;
         client.put(rt, self.text(b"")?, self.number(6))?;
-        let [first, second, third, fourth] = QUERIES;
-        Ok([
-            look(rt, self.alloc, client, first)?,
-            look(rt, self.alloc, client, second)?,
-            look(rt, self.alloc, client, third)?,
-            look(rt, self.alloc, client, fourth)?,
-        ])
+        first_wrong(rt, self.alloc, client, &QUERIES)
     }
 }
 
@@ -134,49 +138,51 @@ fn team_of<'a, K: HashKey>(
     }
 }
 
-/// The number that the closed map has at the key that this stands for.
-fn number_left<'a, K: HashKey, Q: AsKey<K>>(
+/// The numbers that the closed map has at the keys that these stand for.
+fn numbers_left<'a, K: HashKey, Q: AsKey<K> + Copy>(
     closed: &Quiet<K, Number<'a>, NoFunction, Alloc<'a>>,
-    query: Q,
-) -> Option<u64> {
-    match closed.get_as(query) {
-        Some(value) => Some(value.number),
-        None => None,
+    queries: &[Q; 4],
+) -> [Option<u64>; 4] {
+    let mut numbers = [None; 4];
+    for (number, query) in numbers.iter_mut().zip(queries) {
+        *number = match closed.get_as(*query) {
+            Some(value) => Some(value.number),
+            None => None,
+        };
+    }
+    numbers
+}
+
+#[test]
+fn a_slice_finds_a_key_that_lies_elsewhere(rt: HostRuntime) {
+    for form in BOTH {
+        let alloc = Refusing::new(rt.alloc());
+        let mut team = team_of::<Bytes<'static>>(&alloc, form).expect(&rt, "no fault");
+        let answers = team
+            .work(&rt, &Looks { alloc: &alloc })
+            .expect(&rt, "no fault");
+        let closed = close_or_give_up(team).expect(&rt, "no fault");
+        let left = numbers_left(&closed, &QUERIES);
+        drop(closed);
+        assert_same(&rt, &answers.as_slice(), &[Ok(None)].as_slice());
+        assert_same(&rt, &left, &[Some(5), Some(6), None, None]);
     }
 }
 
 #[test]
-fn a_slice_finds_a_key_that_lies_elsewhere(rt: HostRuntime) -> Result<(), Fail> {
+fn a_slice_finds_a_key_that_owns_its_bytes(rt: HostRuntime) {
     for form in BOTH {
         let alloc = Refusing::new(rt.alloc());
-        let mut team = team_of::<Bytes<'static>>(&alloc, form)?;
-        let answers = team.work(&rt, &Looks { alloc: &alloc })?;
-        let closed = team.close()?;
-        let [one, empty, prefix, longer] = QUERIES;
-        assert_eq!(rt; answers.as_slice(), [Ok(WANTED)].as_slice());
-        assert_eq!(rt; number_left(&closed, one), Some(5));
-        assert_eq!(rt; number_left(&closed, empty), Some(6));
-        assert_eq!(rt; number_left(&closed, prefix), None);
-        assert_eq!(rt; number_left(&closed, longer), None);
+        let mut team = team_of::<ByteString<Alloc<'_>>>(&alloc, form).expect(&rt, "no fault");
+        let answers = team
+            .work(&rt, &Looks { alloc: &alloc })
+            .expect(&rt, "no fault");
+        let closed = close_or_give_up(team).expect(&rt, "no fault");
+        let left = numbers_left(&closed, &QUERIES);
+        drop(closed);
+        assert_same(&rt, &answers.as_slice(), &[Ok(None)].as_slice());
+        assert_same(&rt, &left, &[Some(5), Some(6), None, None]);
     }
-    Ok(())
-}
-
-#[test]
-fn a_slice_finds_a_key_that_owns_its_bytes(rt: HostRuntime) -> Result<(), Fail> {
-    for form in BOTH {
-        let alloc = Refusing::new(rt.alloc());
-        let mut team = team_of::<ByteString<Alloc<'_>>>(&alloc, form)?;
-        let answers = team.work(&rt, &Looks { alloc: &alloc })?;
-        let closed = team.close()?;
-        let [one, empty, prefix, longer] = QUERIES;
-        assert_eq!(rt; answers.as_slice(), [Ok(WANTED)].as_slice());
-        assert_eq!(rt; number_left(&closed, one), Some(5));
-        assert_eq!(rt; number_left(&closed, empty), Some(6));
-        assert_eq!(rt; number_left(&closed, prefix), None);
-        assert_eq!(rt; number_left(&closed, longer), None);
-    }
-    Ok(())
 }
 
 /// A client of the examples.
@@ -209,10 +215,9 @@ impl Work<Bytes<'static>, u64, NoFunction, Global> for Examples {
 }
 
 #[test]
-fn each_example_of_a_slice_is_as_it_says(rt: HostRuntime) -> Result<(), Fail> {
-    let mut team = Team::new(rt.alloc(), 1, 1)?;
-    let answers = team.work(&rt, &Examples)?;
+fn each_example_of_a_slice_is_as_it_says(rt: HostRuntime) {
+    let mut team = Team::new(rt.alloc(), 1, 1).expect(&rt, "no fault");
+    let answers = team.work(&rt, &Examples).expect(&rt, "no fault");
     drop(team);
-    assert_eq!(rt; answers.as_slice(), [[Ok(true); 2]].as_slice());
-    Ok(())
+    assert_same(&rt, &answers.as_slice(), &[[Ok(true); 2]].as_slice());
 }

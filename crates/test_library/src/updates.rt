@@ -1,8 +1,8 @@
 //! Functions of one's own, of the value alone.
+use crate::asserts::assert_same;
 use facingberyl::{ByValue, Client, Fault, Loan, Team, Update, Work};
 use std::alloc::Global;
 use std::sync::Wait;
-use std::test::Fail;
 
 /// Twice the value, and 1 where there is none.
 #[derive(Clone, Copy)]
@@ -36,7 +36,7 @@ impl Work<u64, u64, Doubling, Global> for UseIt {
         Ok([
             client.compute(rt, 1, ByValue(Double))?,
             client.compute(rt, 1, ByValue(Double))?,
-            client.compute_if_present(rt, 1, ByValue(Double))?.value,
+            client.compute_if_present(rt, &1, ByValue(Double))?.value,
             client.compute_if_absent(rt, 2, ByValue(Double))?.value,
             client.merge(rt, 1, 9, ByValue(Double))?.value,
         ])
@@ -44,11 +44,10 @@ impl Work<u64, u64, Doubling, Global> for UseIt {
 }
 
 #[test]
-fn a_function_of_the_value_alone_computes(rt: HostRuntime) -> Result<(), Fail> {
-    let mut team = Team::new(rt.alloc(), 16, 1)?;
-    let answers = team.work(&rt, &UseIt)?;
+fn a_function_of_the_value_alone_computes(rt: HostRuntime) {
+    let mut team = Team::new(rt.alloc(), 16, 1).expect(&rt, "no fault");
+    let answers = team.work(&rt, &UseIt).expect(&rt, "no fault");
     drop(team);
     let all = [Some(1), Some(2), Some(4), Some(1), Some(9)];
-    assert_eq!(rt; answers.as_slice(), [Ok(all)].as_slice());
-    Ok(())
+    assert_same(&rt, &answers.as_slice(), &[Ok(all)].as_slice());
 }

@@ -1,6 +1,7 @@
 //! Maps and the passes of their clients.
 ghost use Rattle.std.specs.Prelude.{◌≡◌, [], ◌∷◌, ◌++◌, All, IfOk, IfSome};
 ghost use Rattle.bin_history.specs.Copies.{IsExact};
+ghost use Rattle.bin_history.specs.Limits.{most_clients};
 ghost use Rattle.chm.specs.Opened.{IsLimited, IsNew};
 ghost use Rattle.chm.specs.Refusals.{IsCapacityOf};
 
@@ -46,7 +47,7 @@ pub fn open_salted<K: HashKey, V: Value, F: Remap<K, V>, A: Allocator + Clone>(
     requires keys { IsExact K.is_clone }
     requires values { IsExact V.is_clone }
     ensures new { IfOk result (λ r. IsNew form salt capacity clients r.0 r.1.items) }
-    ensures limits { IsLimited (IsCapacityOf form capacity) clients result }
+    ensures limits { IsLimited (IsCapacityOf form capacity) (most_clients form) clients result }
     ensures own { IfOk result (λ r. All (λ p. p.ledger ≡ r.0.ledger.id) r.1.items) }
 {
     match form {
@@ -65,7 +66,7 @@ pub fn open<K: HashKey, V: Value, F: Remap<K, V>, A: Allocator + Clone>(
     requires keys { IsExact K.is_clone }
     requires values { IsExact V.is_clone }
     ensures new { IfOk result (λ r. IsNew form (record { 0 = 0 }) capacity clients r.0 r.1.items) }
-    ensures limits { IsLimited (IsCapacityOf form capacity) clients result }
+    ensures limits { IsLimited (IsCapacityOf form capacity) (most_clients form) clients result }
     ensures own { IfOk result (λ r. All (λ p. p.ledger ≡ r.0.ledger.id) r.1.items) }
 {
     open_salted(alloc, form, Salt(0), capacity, clients)
@@ -133,6 +134,7 @@ pub fn put_back<K: HashKey, V: Value, F: Remap<K, V>, A: Allocator + Clone>(
     requires place { All (λ p. p.ledger ≡ map.now.ledger.id) place.old.items }
     ensures { All (λ p. p.ledger ≡ map.now.ledger.id) place.new.items }
 {
+    // read for the proof alone, which so has the map's ledger
     let _ = map;
     if let Err(failed) = place.push(pass) {
         failed.value.retire();

@@ -12,7 +12,6 @@ use std::process::Abort;
 use std::sync::Wait;
 use std::sync::atomic::AtomicU64;
 use std::sync::atomic::Ordering::SeqCst;
-use std::test::Fail;
 use std::thread::Threads;
 use steal_pool::OpenGate;
 
@@ -152,9 +151,9 @@ fn reduced_from_basis<Rt: Threads + Wait + Sync>(
 // Each pair is lifted once, and so many values are joined by one join less. A basis is asked for
 // once, and joined to what there is once.
 #[test]
-fn a_reducer_is_asked_once_a_pair(rt: HostRuntime) -> Result<(), Fail> {
+fn a_reducer_is_asked_once_a_pair(rt: HostRuntime) {
     for (count, workers, threshold) in PLANS {
-        let quiet = counted(&rt, rt.alloc(), count)?;
+        let quiet = counted(&rt, rt.alloc(), count).expect(&rt, "no fault");
         let plan = Plan::new(threshold, workers);
         let plain = reduced(&rt, rt.alloc(), &quiet, &plan);
         let based = reduced_from_basis(&rt, rt.alloc(), &quiet, &plan);
@@ -164,13 +163,12 @@ fn a_reducer_is_asked_once_a_pair(rt: HostRuntime) -> Result<(), Fail> {
         assert_same(&rt, &plain, &(Ok(some), (n, n.saturating_sub(1), 0)));
         assert_same(&rt, &based, &(Ok(()), (n, n, 1)));
     }
-    Ok(())
 }
 
 #[test]
-fn a_probe_that_finds_nothing_is_asked_once_a_pair(rt: HostRuntime) -> Result<(), Fail> {
+fn a_probe_that_finds_nothing_is_asked_once_a_pair(rt: HostRuntime) {
     for (count, workers, threshold) in PLANS {
-        let quiet = counted(&rt, rt.alloc(), count)?;
+        let quiet = counted(&rt, rt.alloc(), count).expect(&rt, "no fault");
         let probe = CountedNothing {
             calls: AtomicU64::new(0),
         };
@@ -180,7 +178,6 @@ fn a_probe_that_finds_nothing_is_asked_once_a_pair(rt: HostRuntime) -> Result<()
         let calls = probe.calls.load(SeqCst);
         assert_same(&rt, &(found, calls), &(Ok(None), u64::from(count)));
     }
-    Ok(())
 }
 
 /// Whether something is found where anything is, and how often the probe is asked.
@@ -201,8 +198,8 @@ fn found_anything<Rt: Threads + Wait + Sync>(
 // Each worker asks once at most, since each find of its own ends its task and it looks before the
 // next.
 #[test]
-fn a_worker_that_found_something_asks_no_more(rt: HostRuntime) -> Result<(), Fail> {
-    let quiet = counted(&rt, rt.alloc(), 64)?;
+fn a_worker_that_found_something_asks_no_more(rt: HostRuntime) {
+    let quiet = counted(&rt, rt.alloc(), 64).expect(&rt, "no fault");
     for workers in 1..=16 {
         let (is_found, calls) = found_anything(&rt, rt.alloc(), &quiet, workers);
         assert!(rt;
@@ -210,13 +207,12 @@ fn a_worker_that_found_something_asks_no_more(rt: HostRuntime) -> Result<(), Fai
             "{workers}: {calls}"
         );
     }
-    Ok(())
 }
 
 #[test]
-fn an_action_is_called_once_a_pair(rt: HostRuntime) -> Result<(), Fail> {
+fn an_action_is_called_once_a_pair(rt: HostRuntime) {
     for (count, workers, threshold) in PLANS {
-        let quiet = counted(&rt, rt.alloc(), count)?;
+        let quiet = counted(&rt, rt.alloc(), count).expect(&rt, "no fault");
         let action = CountedAction {
             calls: AtomicU64::new(0),
         };
@@ -231,5 +227,4 @@ fn an_action_is_called_once_a_pair(rt: HostRuntime) -> Result<(), Fail> {
             &(Some(count as usize), u64::from(count)),
         );
     }
-    Ok(())
 }

@@ -8,7 +8,6 @@ use std::process::Abort;
 use std::sync::Wait;
 use std::sync::atomic::AtomicU64;
 use std::sync::atomic::Ordering::SeqCst;
-use std::test::Fail;
 use std::thread::Threads;
 use steal_pool::{Gate, OpenGate};
 
@@ -111,27 +110,25 @@ fn answers<Rt: Threads + Wait + Sync>(
 }
 
 #[test]
-fn no_entries(rt: HostRuntime) -> Result<(), Fail> {
-    let quiet = quiet_of(&rt, rt.alloc(), 16, &[])?;
+fn no_entries(rt: HostRuntime) {
+    let quiet = quiet_of(&rt, rt.alloc(), 16, &[]).expect(&rt, "no fault");
     let found = answers(&rt, rt.alloc(), &quiet, &open_plan(1, 4));
     assert_same(&rt, &found, &(Ok(None), Ok(0), Ok(None), Some(0)));
-    Ok(())
 }
 
 #[test]
-fn bad_workers(rt: HostRuntime) -> Result<(), Fail> {
-    let quiet = quiet_of(&rt, rt.alloc(), 16, &[(b"a", 1)])?;
+fn bad_workers(rt: HostRuntime) {
+    let quiet = quiet_of(&rt, rt.alloc(), 16, &[(b"a", 1)]).expect(&rt, "no fault");
     let bad = BulkFault::BadWorkers;
     for workers in [0, 17] {
         let found = answers(&rt, rt.alloc(), &quiet, &open_plan(1, workers));
         assert_same(&rt, &found, &(Err(bad), Err(bad), Err(bad), None));
     }
-    Ok(())
 }
 
 #[test]
-fn the_sum_of_1_to_64(rt: HostRuntime) -> Result<(), Fail> {
-    let quiet = counted(&rt, rt.alloc(), 64)?;
+fn the_sum_of_1_to_64(rt: HostRuntime) {
+    let quiet = counted(&rt, rt.alloc(), 64).expect(&rt, "no fault");
     for workers in 1..=16 {
         for threshold in [0, 1, 7, 64, 65, u64::MAX] {
             let plan = open_plan(threshold, workers);
@@ -143,7 +140,6 @@ fn the_sum_of_1_to_64(rt: HostRuntime) -> Result<(), Fail> {
             assert_same(&rt, &found, &(Ok(Some(2080)), Ok(2080), Ok(Some(64))));
         }
     }
-    Ok(())
 }
 
 /// The sum of the values 1 to 64 of a map, whose work is divided as far as it can be.
@@ -206,20 +202,19 @@ fn tasks<Rt: Threads + Wait + Sync + Abort>(
 }
 
 #[test]
-fn tasks_by_threshold(rt: HostRuntime) -> Result<(), Fail> {
-    let quiet = quiet_of(&rt, rt.alloc(), 16, &[(b"a", 1), (b"q", 2)])?;
+fn tasks_by_threshold(rt: HostRuntime) {
+    let quiet = quiet_of(&rt, rt.alloc(), 16, &[(b"a", 1), (b"q", 2)]).expect(&rt, "no fault");
     assert_same(&rt, &quiet.bins().len(), &16);
     for (threshold, wanted) in [(0, 16), (1, 4), (2, 2), (3, 1), (u64::MAX, 1)] {
         let begun = tasks(&rt, rt.alloc(), &quiet, threshold);
         assert_same(&rt, &(threshold, begun), &(threshold, wanted));
     }
-    Ok(())
 }
 
 // One worker does the tasks in their order, and the first entry is a find: no other is asked.
 #[test]
-fn a_search_gives_up_after_a_find(rt: HostRuntime) -> Result<(), Fail> {
-    let quiet = counted(&rt, rt.alloc(), 64)?;
+fn a_search_gives_up_after_a_find(rt: HostRuntime) {
+    let quiet = counted(&rt, rt.alloc(), 64).expect(&rt, "no fault");
     let probe = CountedProbe {
         calls: AtomicU64::new(0),
     };
@@ -227,13 +222,12 @@ fn a_search_gives_up_after_a_find(rt: HostRuntime) -> Result<(), Fail> {
     drop(quiet);
     let is_found = found.ok().flatten().is_some();
     assert_same(&rt, &(is_found, probe.calls.load(SeqCst)), &(true, 1));
-    Ok(())
 }
 
 #[test]
-fn the_greatest_numbers(rt: HostRuntime) -> Result<(), Fail> {
+fn the_greatest_numbers(rt: HostRuntime) {
     let rows: [(&[u8], i64); 2] = [(b"a", 9223372036854775807), (b"b", 9223372036854775807)];
-    let quiet = quiet_of(&rt, rt.alloc(), 16, &rows)?;
+    let quiet = quiet_of(&rt, rt.alloc(), 16, &rows).expect(&rt, "no fault");
     let found = (
         reduce_based(&rt, rt.alloc(), &quiet, &open_plan(1, 4), &Sum),
         reduce(&rt, rt.alloc(), &quiet, &open_plan(0, 4), &Greatest),
@@ -241,12 +235,14 @@ fn the_greatest_numbers(rt: HostRuntime) -> Result<(), Fail> {
     drop(quiet);
     let wanted = (Ok(18446744073709551614), Ok(Some(9223372036854775807)));
     assert_same(&rt, &found, &wanted);
-    Ok(())
 }
 
 #[test]
-fn a_search_above_10(rt: HostRuntime) -> Result<(), Fail> {
-    let (ten, eleven) = (counted(&rt, rt.alloc(), 10)?, counted(&rt, rt.alloc(), 11)?);
+fn a_search_above_10(rt: HostRuntime) {
+    let (ten, eleven) = (
+        counted(&rt, rt.alloc(), 10).expect(&rt, "no fault"),
+        counted(&rt, rt.alloc(), 11).expect(&rt, "no fault"),
+    );
     for workers in 1..=16 {
         let plan = open_plan(1, workers);
         let found = (
@@ -255,7 +251,6 @@ fn a_search_above_10(rt: HostRuntime) -> Result<(), Fail> {
         );
         assert_same(&rt, &found, &(Ok(None), Ok(Some(11))));
     }
-    Ok(())
 }
 
 /// Asserts that a list of the first bytes of the keys and the values is this one.
@@ -272,22 +267,20 @@ fn assert_list<Rt: Threads + Wait + Sync + Abort>(
 }
 
 #[test]
-fn a_list_in_walk_order(rt: HostRuntime) -> Result<(), Fail> {
+fn a_list_in_walk_order(rt: HostRuntime) {
     let rows: [(&[u8], i64); 4] = [(b"q", 1), (b"a", 2), (b"Aa", 3), (b"zzzzzz", 4)];
-    let quiet = quiet_of(&rt, rt.alloc(), 16, &rows)?;
+    let quiet = quiet_of(&rt, rt.alloc(), 16, &rows).expect(&rt, "no fault");
     for _ in 0..100u32 {
         let wanted = [(b'A', 3), (b'q', 1), (b'a', 2), (b'z', 4)];
         assert_list(&rt, rt.alloc(), &quiet, &wanted);
     }
-    Ok(())
 }
 
 #[test]
-fn two_keys_of_one_hash(rt: HostRuntime) -> Result<(), Fail> {
+fn two_keys_of_one_hash(rt: HostRuntime) {
     let rows: [(&[u8], i64); 2] = [(b"Aa", 1), (b"BB", 2)];
-    let quiet = quiet_of(&rt, rt.alloc(), 4096, &rows)?;
+    let quiet = quiet_of(&rt, rt.alloc(), 4096, &rows).expect(&rt, "no fault");
     assert_list(&rt, rt.alloc(), &quiet, &[(b'A', 1), (b'B', 2)]);
-    Ok(())
 }
 
 /// The greatest value, and how many answers an action gives that is refused at this value.
@@ -304,8 +297,8 @@ fn greatest_and_count<Rt: Threads + Wait + Sync>(
 }
 
 #[test]
-fn what_was_refused_is_answered_the_next_time(rt: HostRuntime) -> Result<(), Fail> {
-    let quiet = counted(&rt, rt.alloc(), 64)?;
+fn what_was_refused_is_answered_the_next_time(rt: HostRuntime) {
+    let quiet = counted(&rt, rt.alloc(), 64).expect(&rt, "no fault");
     let greatest = ShortGreatest {
         short: AtomicU64::new(1),
     };
@@ -318,5 +311,4 @@ fn what_was_refused_is_answered_the_next_time(rt: HostRuntime) -> Result<(), Fai
         assert_same(&rt, &refused, &(Err(BulkFault::NoMemory), None));
         assert_same(&rt, &answered, &(Ok(Some(64)), Some(64)));
     }
-    Ok(())
 }

@@ -83,6 +83,7 @@ impl Body for Count {
         while let Some(x) = parts.take() {
             end = x.hi;
         }
+        // read here, so that the loop's invariant can name it
         let _ = hi;
         end - lo
     }

@@ -7,7 +7,6 @@ use bulk_tasks::{
 use hashkeys::Key;
 use std::alloc::{AllocError, Global};
 use std::sync::Wait;
-use std::test::Fail;
 use std::thread::Threads;
 
 /// Answers each value.
@@ -40,10 +39,9 @@ fn examples<Rt: Threads + Wait + Sync>(
 }
 
 #[test]
-fn each_operation_answers_as_its_example_says(rt: HostRuntime) -> Result<(), Fail> {
-    let quiet = quiet_of(&rt, rt.alloc(), 16, &[(b"a", 1), (b"b", 2)])?;
+fn each_operation_answers_as_its_example_says(rt: HostRuntime) {
+    let quiet = quiet_of(&rt, rt.alloc(), 16, &[(b"a", 1), (b"b", 2)]).expect(&rt, "no fault");
     let found = examples(&rt, rt.alloc(), &quiet);
     drop(quiet);
     assert!(rt; found == Ok([true; 5]), "{found:?}");
-    Ok(())
 }

@@ -8,7 +8,6 @@ use bulk_tasks::{BulkFault, Plan, Probe, Sum, reduce, search};
 use hashkeys::Key;
 use std::alloc::AllocError;
 use std::sync::atomic::Ordering::SeqCst;
-use std::test::Fail;
 
 /// Finds the value 7, and is refused at any other.
 struct Refusing;
@@ -32,10 +31,16 @@ impl Probe<Key, i64> for Refusing {
 
 // In a table of 16 bins p, x and o lie in the bins 0, 8 and 15, the first, a middle and the last.
 #[test]
-fn one_pair_of_three_is_found(rt: HostRuntime) -> Result<(), Fail> {
-    let first = quiet_of(&rt, rt.alloc(), 16, &[(b"p", 9), (b"x", 1), (b"o", 2)])?;
-    let middle = quiet_of(&rt, rt.alloc(), 16, &[(b"p", 1), (b"x", 9), (b"o", 2)])?;
-    let last = quiet_of(&rt, rt.alloc(), 16, &[(b"p", 1), (b"x", 2), (b"o", 9)])?;
+fn one_pair_of_three_is_found(rt: HostRuntime) {
+    let first = quiet_of(&rt, rt.alloc(), 16, &[(b"p", 9), (b"x", 1), (b"o", 2)]).expect(
+        &rt, "no fault",
+    );
+    let middle = quiet_of(&rt, rt.alloc(), 16, &[(b"p", 1), (b"x", 9), (b"o", 2)]).expect(
+        &rt, "no fault",
+    );
+    let last = quiet_of(&rt, rt.alloc(), 16, &[(b"p", 1), (b"x", 2), (b"o", 9)]).expect(
+        &rt, "no fault",
+    );
     for workers in [1, 4] {
         let plan = Plan::new(1, workers);
         let found = [
@@ -45,25 +50,23 @@ fn one_pair_of_three_is_found(rt: HostRuntime) -> Result<(), Fail> {
         ];
         assert_same(&rt, &found, &[Ok(Some(9)); 3]);
     }
-    Ok(())
 }
 
 #[test]
-fn a_refused_probe_is_no_memory(rt: HostRuntime) -> Result<(), Fail> {
-    let quiet = quiet_of(&rt, rt.alloc(), 16, &[(b"a", 1)])?;
+fn a_refused_probe_is_no_memory(rt: HostRuntime) {
+    let quiet = quiet_of(&rt, rt.alloc(), 16, &[(b"a", 1)]).expect(&rt, "no fault");
     let found = [
         search(&rt, rt.alloc(), &quiet, &Plan::new(1, 1), &Refusing),
         search(&rt, rt.alloc(), &quiet, &Plan::new(1, 4), &Refusing),
     ];
     drop(quiet);
     assert_same(&rt, &found, &[Err(BulkFault::NoMemory); 2]);
-    Ok(())
 }
 
 // The worker that calls does a task that is not divided.
 #[test]
-fn the_only_task_is_of_worker_0(rt: HostRuntime) -> Result<(), Fail> {
-    let quiet = counted(&rt, rt.alloc(), 64)?;
+fn the_only_task_is_of_worker_0(rt: HostRuntime) {
+    let quiet = counted(&rt, rt.alloc(), 64).expect(&rt, "no fault");
     let gate = all_workers(0b1);
     let plan = Plan {
         threshold: u64::MAX,
@@ -74,5 +77,4 @@ fn the_only_task_is_of_worker_0(rt: HostRuntime) -> Result<(), Fail> {
     drop(quiet);
     let found = (sum, gate.late.load(SeqCst), gate.seen.load(SeqCst));
     assert_same(&rt, &found, &(Ok(Some(2080)), 0, 0b1));
-    Ok(())
 }

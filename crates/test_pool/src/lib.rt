@@ -21,6 +21,8 @@ mod runs;
 #[cfg(test)]
 mod samples;
 #[cfg(test)]
+mod settling;
+#[cfg(test)]
 mod sizes;
 #[cfg(test)]
 mod trees;

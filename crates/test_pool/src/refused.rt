@@ -11,7 +11,6 @@ use std::alloc::{AllocError, Allocator, Global};
 use std::process::Abort;
 use std::sync::Wait;
 use std::sync::atomic::Ordering::SeqCst;
-use std::test::Fail;
 use std::thread::Threads;
 use steal_pool::{OpenGate, run};
 use test_support::Refusing;
@@ -183,16 +182,19 @@ fn search_refused<Rt: Threads + Wait + Sync + Abort, A: Allocator + Clone + Send
 // What one task is refused another may find first. By one worker each of the 64 that are asked for
 // a value that is the last is refused in turn.
 #[test]
-fn a_search_that_was_refused_is_answered_the_next_time(rt: HostRuntime) -> Result<(), Fail> {
+fn a_search_that_was_refused_is_answered_the_next_time(rt: HostRuntime) {
     let switch = Refusing::new(rt.alloc());
-    let quiet = counted(&rt, rt.alloc(), 64)?;
+    let quiet = counted(&rt, rt.alloc(), 64).expect(&rt, "no fault");
     for threshold in [1, u64::MAX] {
         let alone = Plan::new(threshold, 1);
-        let refusals = search_refused(&rt, &switch, &switch, &quiet, &alone)?;
+        let refusals = search_refused(&rt, &switch, &switch, &quiet, &alone).expect(
+            &rt, "no fault",
+        );
         assert!(rt; refusals > 0, "{threshold}: {refusals}");
-        search_refused(&rt, &switch, &switch, &quiet, &Plan::new(threshold, 4))?;
+        search_refused(&rt, &switch, &switch, &quiet, &Plan::new(threshold, 4)).expect(
+            &rt, "no fault",
+        );
     }
-    Ok(())
 }
 
 /// The sum, the sum over 0 and a value above 63, each with the request after so many refused, and
@@ -219,9 +221,9 @@ fn numbers_once<Rt: Threads + Wait + Sync, A: Allocator + Clone + Send + Sync>(
 }
 
 #[test]
-fn what_is_never_refused_is_answered_without_memory(rt: HostRuntime) -> Result<(), Fail> {
+fn what_is_never_refused_is_answered_without_memory(rt: HostRuntime) {
     let switch = Refusing::new(rt.alloc());
-    let quiet = counted(&rt, rt.alloc(), 64)?;
+    let quiet = counted(&rt, rt.alloc(), 64).expect(&rt, "no fault");
     let mut refusals = 0u64;
     for granted in 0..1000 {
         let found = numbers_once(&rt, &switch, &switch, &quiet, granted);
@@ -233,7 +235,6 @@ fn what_is_never_refused_is_answered_without_memory(rt: HostRuntime) -> Result<(
         refusals = refusals.wrapping_add(1);
     }
     assert!(rt; refusals > 0 && refusals < 1000, "{refusals}");
-    Ok(())
 }
 
 /// How many answers an action gives with the request after so many refused, the next time, and
@@ -255,9 +256,9 @@ fn list_twice<Rt: Threads + Wait + Sync, A: Allocator + Clone + Send + Sync>(
 }
 
 #[test]
-fn a_list_that_was_refused_is_answered_the_next_time(rt: HostRuntime) -> Result<(), Fail> {
+fn a_list_that_was_refused_is_answered_the_next_time(rt: HostRuntime) {
     let switch = Refusing::new(rt.alloc());
-    let quiet = counted(&rt, rt.alloc(), 64)?;
+    let quiet = counted(&rt, rt.alloc(), 64).expect(&rt, "no fault");
     let mut refusals = 0u64;
     for granted in 0..1000 {
         let found = list_twice(&rt, &switch, &switch, &quiet, granted);
@@ -274,5 +275,4 @@ fn a_list_that_was_refused_is_answered_the_next_time(rt: HostRuntime) -> Result<
         }
     }
     assert!(rt; refusals > 0 && refusals < 1000, "{refusals}");
-    Ok(())
 }

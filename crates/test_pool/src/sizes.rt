@@ -9,7 +9,6 @@ use completers::Tree;
 use std::alloc::{AllocError, Global};
 use std::process::Abort;
 use std::sync::Wait;
-use std::test::Fail;
 use std::thread::Threads;
 
 /// Makes trees of so many nodes, 2 to this level, with each number of slots.
@@ -27,16 +26,15 @@ fn make_trees(rt: &impl Abort, alloc: Global, nodes: usize, level: u32) -> Resul
 }
 
 #[test]
-fn trees_of_each_size_have_their_memory(rt: HostRuntime) -> Result<(), Fail> {
-    make_trees(&rt, rt.alloc(), 1, 0)?;
-    make_trees(&rt, rt.alloc(), 2, 1)?;
-    make_trees(&rt, rt.alloc(), 4, 2)?;
-    make_trees(&rt, rt.alloc(), 8, 3)?;
-    make_trees(&rt, rt.alloc(), 16, 4)?;
-    make_trees(&rt, rt.alloc(), 32, 5)?;
-    make_trees(&rt, rt.alloc(), 64, 6)?;
-    make_trees(&rt, rt.alloc(), 128, 7)?;
-    Ok(())
+fn trees_of_each_size_have_their_memory(rt: HostRuntime) {
+    make_trees(&rt, rt.alloc(), 1, 0).expect(&rt, "no fault");
+    make_trees(&rt, rt.alloc(), 2, 1).expect(&rt, "no fault");
+    make_trees(&rt, rt.alloc(), 4, 2).expect(&rt, "no fault");
+    make_trees(&rt, rt.alloc(), 8, 3).expect(&rt, "no fault");
+    make_trees(&rt, rt.alloc(), 16, 4).expect(&rt, "no fault");
+    make_trees(&rt, rt.alloc(), 32, 5).expect(&rt, "no fault");
+    make_trees(&rt, rt.alloc(), 64, 6).expect(&rt, "no fault");
+    make_trees(&rt, rt.alloc(), 128, 7).expect(&rt, "no fault");
 }
 
 /// The sum, the sum over 0, a value above the number, and how many answers an action gives.
@@ -58,10 +56,10 @@ fn answers_of<Rt: Threads + Wait + Sync>(
 
 // Of the values 1 to n the sum is n * (n + 1) / 2, and n alone is above n - 1.
 #[test]
-fn operations_on_each_number_of_entries_have_their_memory(rt: HostRuntime) -> Result<(), Fail> {
+fn operations_on_each_number_of_entries_have_their_memory(rt: HostRuntime) {
     for level in 0..17u32 {
         let count = 1u32 << level;
-        let quiet = counted(&rt, rt.alloc(), count)?;
+        let quiet = counted(&rt, rt.alloc(), count).expect(&rt, "no fault");
         let n = i64::from(count);
         let sum = i128::from(n) * (i128::from(n) + 1) / 2;
         for workers in [1, 4, 16] {
@@ -69,5 +67,4 @@ fn operations_on_each_number_of_entries_have_their_memory(rt: HostRuntime) -> Re
             assert_same(&rt, &found, &Ok((Some(sum), sum, Some(n), count as usize)));
         }
     }
-    Ok(())
 }

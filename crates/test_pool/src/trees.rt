@@ -7,7 +7,6 @@ use std::alloc::{AllocError, Global};
 use std::process::Abort;
 use std::sync::atomic::AtomicU64;
 use std::sync::atomic::Ordering::SeqCst;
-use std::test::Fail;
 use std::{hint, thread};
 
 /// A part is how many bins the range has, which the tests compare.
@@ -138,12 +137,11 @@ fn lasts_of_five(rt: &impl Abort, alloc: Global, order: usize) -> Result<(u64, u
 }
 
 #[test]
-fn four_leaves_arrive_in_every_order(rt: HostRuntime) -> Result<(), Fail> {
+fn four_leaves_arrive_in_every_order(rt: HostRuntime) {
     for order in 0..24usize {
-        let (child, root) = lasts_of_five(&rt, rt.alloc(), order)?;
+        let (child, root) = lasts_of_five(&rt, rt.alloc(), order).expect(&rt, "no fault");
         assert_same(&rt, &(order, child, root), &(order, 1, 1));
     }
-    Ok(())
 }
 
 /// Finds something at each index.
@@ -165,11 +163,11 @@ fn the_first_claim_is_found(rt: HostRuntime) {
 
 // Eight claim at once, each its own index.
 #[test]
-fn one_of_eight_claims_is_the_first(rt: HostRuntime) -> Result<(), Fail> {
+fn one_of_eight_claims_is_the_first(rt: HostRuntime) {
     for _ in 0..1000u32 {
         let found = Found::<Everywhere>::new();
         let claim = |index: usize| (index as u64, found.claim(index as u64), found.look());
-        let claims = thread::map_indices(&rt, rt.alloc(), 8, &claim)?;
+        let claims = thread::map_indices(&rt, rt.alloc(), 8, &claim).expect(&rt, "no fault");
         let first = found.look();
         let mut firsts = 0u64;
         for (index, is_first, seen) in claims.iter() {
@@ -181,7 +179,6 @@ fn one_of_eight_claims_is_the_first(rt: HostRuntime) -> Result<(), Fail> {
         }
         assert_same(&rt, &firsts, &1);
     }
-    Ok(())
 }
 
 // The leaves of a tree over eight bins, of one bin each, in an order in which that of 4-5 is the
@@ -217,10 +214,10 @@ fn leaves_of_eight(
 }
 
 #[test]
-fn a_node_forks_seven_times(rt: HostRuntime) -> Result<(), Fail> {
-    let (tree, supply) = Tree::new(rt.alloc(), &Bins, 128, 8, 8)?;
+fn a_node_forks_seven_times(rt: HostRuntime) {
+    let (tree, supply) = Tree::new(rt.alloc(), &Bins, 128, 8, 8).expect(&rt, "no fault");
     assert!(rt; supply.level() == 7);
-    let (mut leaves, level) = leaves_of_eight(rt.alloc(), &tree, supply)?;
+    let (mut leaves, level) = leaves_of_eight(rt.alloc(), &tree, supply).expect(&rt, "no fault");
     assert_same(&rt, &level, &0);
     let last = leaves.pop().expect(&rt, "a leaf");
     for leaf in leaves {
@@ -239,7 +236,6 @@ fn a_node_forks_seven_times(rt: HostRuntime) -> Result<(), Fail> {
         (7, 8),
     ];
     assert_parts(&rt, told.parts, &eight);
-    Ok(())
 }
 
 // The parts lie side by side. Where the first begins and the last ends.
@@ -301,14 +297,13 @@ fn fill(rt: &impl Abort, tree: &BinTree, mut node: Node<usize>, level: u32) -> (
 }
 
 #[test]
-fn a_tree_of_128_nodes_is_filled(rt: HostRuntime) -> Result<(), Fail> {
-    let (tree, supply) = Tree::new(rt.alloc(), &Bins, 128, 8, 256)?;
+fn a_tree_of_128_nodes_is_filled(rt: HostRuntime) {
+    let (tree, supply) = Tree::new(rt.alloc(), &Bins, 128, 8, 256).expect(&rt, "no fault");
     assert!(rt; supply.level() == 7);
     let root = tree.open(supply, None, 0, 256);
     let lasts = fill(&rt, &tree, root, 7);
     drop(tree);
     assert_same(&rt, &lasts, &(128, 1));
-    Ok(())
 }
 
 // Waits until the other thread is there too, at most so many turns, and arrives. Whether it was
@@ -325,10 +320,10 @@ fn meet(leaf: Leaf<'_>, there: &AtomicU64) -> bool {
 }
 
 #[test]
-fn two_threads_arrive_ten_thousand_times(rt: HostRuntime) -> Result<(), Fail> {
+fn two_threads_arrive_ten_thousand_times(rt: HostRuntime) {
     let mut lasts = 0u64;
     for _ in 0..10_000u32 {
-        let (tree, supply) = Tree::new(rt.alloc(), &Bins, 2, 2, 2)?;
+        let (tree, supply) = Tree::new(rt.alloc(), &Bins, 2, 2, 2).expect(&rt, "no fault");
         assert!(rt; supply.level() == 1);
         let mut node = tree.open(supply, None, 0, 2);
         let (ticket, _) = node.fork(&tree, 1);
@@ -340,5 +335,4 @@ fn two_threads_arrive_ten_thousand_times(rt: HostRuntime) -> Result<(), Fail> {
         lasts = lasts.wrapping_add(1);
     }
     assert_same(&rt, &lasts, &10_000);
-    Ok(())
 }

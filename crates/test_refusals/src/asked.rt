@@ -1,12 +1,11 @@
 //! How often a call asks its function.
 use crate::asserts::assert_same;
-use bin_history::{Bin, Call, Form, Given, Remap};
+use bin_history::{Bin, Call, Form, KeyArg, Remap};
 use hashkeys::{Class, Key, Salt};
 use std::alloc::{AllocError, Global};
 use std::process::Abort;
 use std::sync::atomic::AtomicU64;
 use std::sync::atomic::Ordering::SeqCst;
-use std::test::Fail;
 use test_support::{Alloc, Refusing};
 
 /// The function whose result is 7. It counts how often it is asked.
@@ -70,7 +69,7 @@ fn is_made<'a>(
     let hash = salt.hash_of(call.key());
     assert!(rt; class.covers(hash));
     let (key, op) = call.into_parts();
-    bin.make_on(&alloc, hash, Given::Owned(key), op, 0, 0)
+    bin.make_on(&alloc, hash, KeyArg::Owned(key), op, 0, 0)
         .is_ok()
 }
 
@@ -110,10 +109,9 @@ fn assert_asked_once(rt: &impl Abort, memory: Global, form: Form) -> Result<(), 
 }
 
 #[test]
-fn a_function_is_asked_once_where_its_answer_is_used(rt: HostRuntime) -> Result<(), Fail> {
-    assert_asked_once(&rt, rt.alloc(), Form::Recorded)?;
-    assert_asked_once(&rt, rt.alloc(), Form::Lean)?;
-    Ok(())
+fn a_function_is_asked_once_where_its_answer_is_used(rt: HostRuntime) {
+    assert_asked_once(&rt, rt.alloc(), Form::Recorded).expect(&rt, "memory");
+    assert_asked_once(&rt, rt.alloc(), Form::Lean).expect(&rt, "memory");
 }
 
 /// Refuses each of so many requests of the call of a kind, where `a` has none, and then none. Where
@@ -140,19 +138,17 @@ fn refuse_room(
 }
 
 #[test]
-fn a_recorded_bin_asks_once_there_is_room(rt: HostRuntime) -> Result<(), Fail> {
+fn a_recorded_bin_asks_once_there_is_room(rt: HostRuntime) {
     // Room for the entry and for the record.
     for kind in [0, 2] {
-        refuse_room(&rt, rt.alloc(), Form::Recorded, kind, 2, 0)?;
+        refuse_room(&rt, rt.alloc(), Form::Recorded, kind, 2, 0).expect(&rt, "memory");
     }
-    Ok(())
 }
 
 #[test]
-fn a_lean_bin_asks_before_it_makes_a_node(rt: HostRuntime) -> Result<(), Fail> {
+fn a_lean_bin_asks_before_it_makes_a_node(rt: HostRuntime) {
     // The node of the entry, which the value goes into.
     for kind in [0, 2] {
-        refuse_room(&rt, rt.alloc(), Form::Lean, kind, 1, 1)?;
+        refuse_room(&rt, rt.alloc(), Form::Lean, kind, 1, 1).expect(&rt, "memory");
     }
-    Ok(())
 }

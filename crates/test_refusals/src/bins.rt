@@ -1,10 +1,9 @@
 //! A bin, each request of its making and of a call refused in turn.
 use crate::asserts::assert_same;
-use bin_history::{Bin, Call, Form, Given, Kind, Reply};
+use bin_history::{Bin, Call, Form, KeyArg, Kind, Reply};
 use hashkeys::{Class, Key, Salt};
 use std::alloc::{AllocError, Global};
 use std::process::Abort;
-use std::test::Fail;
 use test_support::{Alloc, Answer, Number, Refusing};
 
 pub(crate) type Pair<'a> = (Key, Number<'a>);
@@ -55,7 +54,7 @@ fn make<'a>(
     let hash = salt.hash_of(call.key());
     assert!(rt; class.covers(hash));
     let (key, op) = call.into_parts();
-    Ok(bin.make_on(&alloc, hash, Given::Owned(key), op, 0, 0)?.0)
+    Ok(bin.make_on(&alloc, hash, KeyArg::Owned(key), op, 0, 0)?.0)
 }
 
 /// Makes a call, whose reply nobody asks for.
@@ -123,12 +122,11 @@ fn refuse_news(
 }
 
 #[test]
-fn a_new_bin_takes_its_base(rt: HostRuntime) -> Result<(), Fail> {
+fn a_new_bin_takes_its_base(rt: HostRuntime) {
     // Of a recorded bin a list, a copy, and the bin itself. A lean one makes a node of each pair,
     // which it moves.
-    refuse_news(&rt, rt.alloc(), Form::Recorded, 3)?;
-    refuse_news(&rt, rt.alloc(), Form::Lean, 1)?;
-    Ok(())
+    refuse_news(&rt, rt.alloc(), Form::Recorded, 3).expect(&rt, "memory");
+    refuse_news(&rt, rt.alloc(), Form::Lean, 1).expect(&rt, "memory");
 }
 
 /// A call of each kind on `a`.
@@ -318,9 +316,8 @@ fn refuse_calls(rt: &impl Abort, memory: Global, form: Form, first: u64) -> Resu
 }
 
 #[test]
-fn a_refused_call_leaves_the_bin(rt: HostRuntime) -> Result<(), Fail> {
+fn a_refused_call_leaves_the_bin(rt: HostRuntime) {
     // In a recorded bin the list of records, which has room for the second.
-    refuse_calls(&rt, rt.alloc(), Form::Recorded, 1)?;
-    refuse_calls(&rt, rt.alloc(), Form::Lean, 0)?;
-    Ok(())
+    refuse_calls(&rt, rt.alloc(), Form::Recorded, 1).expect(&rt, "memory");
+    refuse_calls(&rt, rt.alloc(), Form::Lean, 0).expect(&rt, "memory");
 }

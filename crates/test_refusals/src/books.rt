@@ -7,7 +7,6 @@ use count_ledger::{BinRole, Ledger, Pass};
 use hashkeys::{Key, Salt};
 use std::alloc::{AllocError, Global};
 use std::process::Abort;
-use std::test::Fail;
 use test_support::{Alloc, Answer, Number, Refusing, settled};
 use transfer::{Finish, Range, Strides};
 
@@ -61,18 +60,17 @@ fn refuse_ledger(rt: &impl Abort, alloc: Alloc<'_>, granted: u64) -> Result<bool
 }
 
 #[test]
-fn a_refused_ledger_is_made_again(rt: HostRuntime) -> Result<(), Fail> {
+fn a_refused_ledger_is_made_again(rt: HostRuntime) {
     let alloc = Refusing::new(rt.alloc());
     let mut refusals = 0u64;
     for granted in 0..MANY {
-        if !refuse_ledger(&rt, &alloc, granted)? {
+        if !refuse_ledger(&rt, &alloc, granted).expect(&rt, "memory") {
             break;
         }
         refusals = refusals.wrapping_add(1);
     }
     // The lists of bases, passes and roles, and the table's two blocks.
     assert_same(&rt, &refusals, &5);
-    Ok(())
 }
 
 /// Makes the move of one bin, again where a request was refused, and moves the bin. Answers its
@@ -86,12 +84,12 @@ fn move_one(rt: &impl Abort, alloc: Alloc<'_>) -> Result<(Range, Finish), AllocE
 }
 
 #[test]
-fn a_refused_move_is_made_again(rt: HostRuntime) -> Result<(), Fail> {
+fn a_refused_move_is_made_again(rt: HostRuntime) {
     let alloc = Refusing::new(rt.alloc());
     let mut refusals = 0u64;
     for granted in 0..MANY {
         alloc.refuse_after(granted);
-        let moved = move_one(&rt, &alloc)?;
+        let moved = move_one(&rt, &alloc).expect(&rt, "memory");
         assert_same(&rt, &moved, &(Range { lo: 0, hi: 1 }, Finish::Last));
         if !alloc.has_refused() {
             break;
@@ -100,5 +98,4 @@ fn a_refused_move_is_made_again(rt: HostRuntime) -> Result<(), Fail> {
     }
     // The list of spare movers, and the table's two blocks.
     assert_same(&rt, &refusals, &3);
-    Ok(())
 }

@@ -3,11 +3,10 @@ use crate::asserts::assert_same;
 use crate::bins::{
     MANY, NumberBin, NumberCall, assert_entries, assert_pairs, call_of_kind, empty, put,
 };
-use bin_history::{Call, Form, Given, Kind, RecordedBin};
+use bin_history::{Call, Form, KeyArg, Kind, RecordedBin};
 use hashkeys::{Class, Key, Salt};
 use std::alloc::{AllocError, Global};
 use std::process::Abort;
-use std::test::Fail;
 use test_support::{Alloc, Answer, Number, Refusing};
 
 type NumberLog<'a> = RecordedBin<Key, Number<'a>, Answer<'a>, Alloc<'a>>;
@@ -21,7 +20,7 @@ fn call<'a>(
     let (salt, class) = (bin.salt(), bin.class());
     assert!(rt; class.covers(salt.hash_of(call.key())));
     let (key, op) = call.into_parts();
-    drop(bin.make_on(Given::Owned(key), op, 0, 0)?);
+    drop(bin.make_on(KeyArg::Owned(key), op, 0, 0)?);
     Ok(())
 }
 
@@ -83,11 +82,11 @@ fn refuse_fold(rt: &impl Abort, alloc: Alloc<'_>, granted: u64) -> Result<bool, 
 }
 
 #[test]
-fn a_refused_fold_leaves_the_base(rt: HostRuntime) -> Result<(), Fail> {
+fn a_refused_fold_leaves_the_base(rt: HostRuntime) {
     let alloc = Refusing::new(rt.alloc());
     let mut refusals = 0u64;
     for granted in 0..MANY {
-        if !refuse_fold(&rt, &alloc, granted)? {
+        if !refuse_fold(&rt, &alloc, granted).expect(&rt, "memory") {
             break;
         }
         refusals = refusals.wrapping_add(1);
@@ -95,7 +94,6 @@ fn a_refused_fold_leaves_the_base(rt: HostRuntime) -> Result<(), Fail> {
     // Room in the base, and two copies of the value: the entries had two keys, and a list that is
     // folded has room for the record.
     assert_same(&rt, &refusals, &3);
-    Ok(())
 }
 
 /// Asserts that these are the bin's entries, and that a recorded bin has so many records.
@@ -154,10 +152,9 @@ fn refuse_splits(
 }
 
 #[test]
-fn a_refused_split_leaves_the_bin(rt: HostRuntime) -> Result<(), Fail> {
+fn a_refused_split_leaves_the_bin(rt: HostRuntime) {
     // Of entries two lists and two copies; in a recorded bin of records two lists and seven copies,
     // and the two bins. A lean bin's entries are moved.
-    refuse_splits(&rt, rt.alloc(), Form::Recorded, 15)?;
-    refuse_splits(&rt, rt.alloc(), Form::Lean, 0)?;
-    Ok(())
+    refuse_splits(&rt, rt.alloc(), Form::Recorded, 15).expect(&rt, "memory");
+    refuse_splits(&rt, rt.alloc(), Form::Lean, 0).expect(&rt, "memory");
 }

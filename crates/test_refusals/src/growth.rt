@@ -1,10 +1,9 @@
 //! How often the lists of a bin ask for memory as they grow.
 use crate::asserts::assert_same;
-use bin_history::{Bin, Call, Form, Given, Op, RecordedBin};
+use bin_history::{Bin, Call, Form, KeyArg, Op, RecordedBin};
 use hashkeys::{Class, Key, Salt};
 use std::alloc::AllocError;
 use std::process::Abort;
-use std::test::Fail;
 use test_support::{Alloc, Keep, Refusing};
 
 type PlainLog<'a> = RecordedBin<Key, u64, Keep, Alloc<'a>>;
@@ -45,16 +44,15 @@ fn put_often(rt: &impl Abort, bin: &mut PlainLog<'_>, times: u64, keys: u64) -> 
 }
 
 #[test]
-fn lists_of_a_thousand_ask_few_times(rt: HostRuntime) -> Result<(), Fail> {
+fn lists_of_a_thousand_ask_few_times(rt: HostRuntime) {
     // Two lists whose room at least doubles, from room for one on, have room for 1,000 each after
     // eleven requests.
     let alloc = Refusing::new(rt.alloc());
-    let mut bin = empty(&alloc)?;
+    let mut bin = empty(&alloc).expect(&rt, "memory");
     alloc.refuse_after(22);
     let made = put_often(&rt, &mut bin, 1000, 1000);
     assert_same(&rt, &(made, alloc.has_refused()), &(1000, false));
     assert_same(&rt, &bin.entries().len(), &1000);
-    Ok(())
 }
 
 /// Puts the keys of these numbers to a lean bin, in turn. Answers how many puts were made.
@@ -65,17 +63,19 @@ fn put_each<'a>(rt: &impl Abort, alloc: Alloc<'a>, bin: &mut PlainBin<'a>, keys:
         let (salt, class) = (bin.salt(), bin.class());
         let hash = salt.hash_of(&key);
         assert!(rt; class.covers(hash));
-        let put = bin.make_on(&alloc, hash, Given::Owned(key), Op::Put(number), 0, 0);
+        let put = bin.make_on(&alloc, hash, KeyArg::Owned(key), Op::Put(number), 0, 0);
         made = made.wrapping_add(if put.is_ok() { 1 } else { 0 });
     }
     made
 }
 
 #[test]
-fn a_lean_bin_asks_once_for_each_new_key(rt: HostRuntime) -> Result<(), Fail> {
+fn a_lean_bin_asks_once_for_each_new_key(rt: HostRuntime) {
     let alloc = Refusing::new(rt.alloc());
     let class = Class::new(1, 0);
-    let mut bin = Bin::new(&&alloc, Form::Lean, Salt(0), class, Vec::new(&alloc))?;
+    let mut bin = Bin::new(&&alloc, Form::Lean, Salt(0), class, Vec::new(&alloc)).expect(
+        &rt, "memory",
+    );
     alloc.refuse_after(200);
     let made = put_each(&rt, &alloc, &mut bin, 200);
     assert_same(&rt, &(made, alloc.has_refused()), &(200, false));
@@ -89,29 +89,27 @@ fn a_lean_bin_asks_once_for_each_new_key(rt: HostRuntime) -> Result<(), Fail> {
         entries = entries.wrapping_add(1);
     }
     assert_same(&rt, &entries, &200);
-    Ok(())
 }
 
 #[test]
-fn folds_of_one_key_ask_once(rt: HostRuntime) -> Result<(), Fail> {
+fn folds_of_one_key_ask_once(rt: HostRuntime) {
     // Room for the entry, eleven times at most for 1,024 records, and once in the base, which has
     // one pair.
     let alloc = Refusing::new(rt.alloc());
-    let mut bin = empty(&alloc)?;
+    let mut bin = empty(&alloc).expect(&rt, "memory");
     alloc.refuse_after(13);
     let made = put_often(&rt, &mut bin, 10_000, 1);
     assert_same(&rt, &(made, alloc.has_refused()), &(10_000, false));
     // 10,000 calls are 513 and 18 times 512, and 271 more.
     assert_same(&rt, &(bin.records().len(), bin.base().len()), &(784, 1));
-    Ok(())
 }
 
 #[test]
-fn a_fold_asks_for_room_for_new_keys_alone(rt: HostRuntime) -> Result<(), Fail> {
+fn a_fold_asks_for_room_for_new_keys_alone(rt: HostRuntime) {
     // The first 512 of 1,024 puts at four keys made all four present. No later one makes a key
     // present, so no later fold needs room.
     let alloc = Refusing::new(rt.alloc());
-    let mut bin = empty(&alloc)?;
+    let mut bin = empty(&alloc).expect(&rt, "memory");
     let first = put_often(&rt, &mut bin, 1025, 4);
     let before = (bin.records().len(), bin.base().len());
     alloc.refuse_after(0);
@@ -119,5 +117,4 @@ fn a_fold_asks_for_room_for_new_keys_alone(rt: HostRuntime) -> Result<(), Fail> 
     assert_same(&rt, &(first, before), &(1025, (513, 4)));
     assert_same(&rt, &(later, alloc.has_refused()), &(2048, false));
     assert_same(&rt, &bin.base().len(), &4);
-    Ok(())
 }

@@ -14,4 +14,6 @@ mod folds;
 #[cfg(test)]
 mod growth;
 #[cfg(test)]
+mod refused;
+#[cfg(test)]
 mod trees;

@@ -5,7 +5,6 @@ use crate::asserts::assert_same;
 use completers::{Arrival, Partial, Relation, Supply, Tree};
 use std::alloc::AllocError;
 use std::process::Abort;
-use std::test::Fail;
 use test_support::{Alloc, Refusing};
 
 /// More than any call's requests.
@@ -78,18 +77,17 @@ fn refuse_tree(rt: &impl Abort, alloc: Alloc<'_>, granted: u64) -> Result<bool, 
 }
 
 #[test]
-fn a_refused_tree_is_made_again(rt: HostRuntime) -> Result<(), Fail> {
+fn a_refused_tree_is_made_again(rt: HostRuntime) {
     let alloc = Refusing::new(rt.alloc());
     let mut refusals = 0u64;
     for granted in 0..MANY {
-        if !refuse_tree(&rt, &alloc, granted)? {
+        if !refuse_tree(&rt, &alloc, granted).expect(&rt, "memory") {
             break;
         }
         refusals = refusals.wrapping_add(1);
     }
     // The table's list of places, its words and its places.
     assert_same(&rt, &refusals, &3);
-    Ok(())
 }
 
 /// A root of five bins that forks once, at 2, and what is told of the arrivals of its own ticket and
@@ -117,9 +115,9 @@ fn fork_once(tree: &Tree<Bins, Alloc<'_>>, supply: Supply<usize>) -> [Option<See
 
 /// Nor does an arrival.
 #[test]
-fn a_fork_asks_for_no_memory(rt: HostRuntime) -> Result<(), Fail> {
+fn a_fork_asks_for_no_memory(rt: HostRuntime) {
     let alloc = Refusing::new(rt.alloc());
-    let (tree, supply) = make(&alloc)?;
+    let (tree, supply) = make(&alloc).expect(&rt, "memory");
     assert!(rt; supply.level() == 2);
     alloc.refuse_after(0);
     let told = fork_once(&tree, supply);
@@ -127,5 +125,4 @@ fn a_fork_asks_for_no_memory(rt: HostRuntime) -> Result<(), Fail> {
     drop(tree);
     let wanted = [None, Some(((2, 5, 3), false, true))];
     assert_same(&rt, &(told, refused), &(wanted, false));
-    Ok(())
 }

@@ -5,8 +5,6 @@
 
 mod books;
 mod functions;
-#[cfg(test)]
-mod refused;
 mod values;
 
 pub use books::settled;

@@ -1,13 +1,14 @@
 use Rattle.std.proofs.Common.{IfOk, sym, subst}
 use Rattle.std.proofs.lemmas.Result.{IfOk-weaker}
 use Rattle.bin_history.specs.declared.form.Form.{Form}
+use Rattle.bin_history.specs.Limits.{most_clients}
 use Rattle.chm.specs.Opened.{IsLimited, IsNew}
 use Rattle.chm.specs.Refusals.{IsCapacityOf}
 use Rattle.test_maps.proofs.samples.open_salted.Goals as goal
 
 pub returns-in-Recorded-clause-limits : goal.returns-in-Recorded-clause-limits
 returns-in-Recorded-clause-limits g c =
-    subst (λ (form : Form). IsLimited (IsCapacityOf form c.args.capacity) c.args.clients c.with_salt.result)
+    subst (λ (form : Form). IsLimited (IsCapacityOf form c.args.capacity) (most_clients form) c.args.clients c.with_salt.result)
     (sym c.in-Recorded.is) c.with_salt.ensures.limits
 
 pub returns-in-Recorded-clause-own : goal.returns-in-Recorded-clause-own
@@ -21,7 +22,7 @@ returns-in-Lean-clause-new g c =
 
 pub returns-in-Lean-clause-limits : goal.returns-in-Lean-clause-limits
 returns-in-Lean-clause-limits g c =
-    subst (λ (form : Form). IsLimited (IsCapacityOf form c.args.capacity) c.args.clients c.lean.result)
+    subst (λ (form : Form). IsLimited (IsCapacityOf form c.args.capacity) (most_clients form) c.args.clients c.lean.result)
     (sym c.in-Lean.is) c.lean.ensures.limits
 
 pub returns-in-Lean-clause-own : goal.returns-in-Lean-clause-own

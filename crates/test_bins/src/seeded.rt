@@ -1,0 +1,102 @@
+//! Codes of bytes under a seed, and keys that keep them. The codes are the lower halves of SipHash-1-3
+//! as Rust's and Python's libraries compute it.
+use hashkeys::{AsKey, ByteString, HashKey};
+use seeded_keys::{Hashed, Query, Seed};
+use std::alloc::Global;
+use std::process::Abort;
+
+/// How many of the bytes 0, 1, 2 and so on, and their code under the seed of the bytes 0 to 15.
+#[derive(Drop)]
+struct Row {
+    len: u8,
+    code: u32,
+}
+
+const ROWS: [Row; 8] = [
+    Row {
+        len: 0,
+        code: 84_919_516,
+    },
+    Row {
+        len: 1,
+        code: 2_102_905_491,
+    },
+    Row {
+        len: 7,
+        code: 2_612_072_768,
+    },
+    Row {
+        len: 8,
+        code: 2_368_313_998,
+    },
+    Row {
+        len: 9,
+        code: 1_812_348_388,
+    },
+    Row {
+        len: 15,
+        code: 709_990_742,
+    },
+    Row {
+        len: 16,
+        code: 2_106_624_870,
+    },
+    Row {
+        len: 63,
+        code: 3_082_531_752,
+    },
+];
+
+#[test]
+fn codes_under_a_seed_are_known(rt: HostRuntime) {
+    let seed = Seed::of(0x0706_0504_0302_0100, 0x0f0e_0d0c_0b0a_0908);
+    for row in &ROWS {
+        let mut bytes = Vec::new(rt.alloc());
+        for byte in 0..row.len {
+            bytes.push(byte).expect(&rt, "memory");
+        }
+        assert!(rt; seed.code(bytes.as_slice()) == row.code);
+        assert!(rt; code_of(seed.query(bytes.as_slice())) == row.code);
+        assert!(rt; seed.key(bytes).hash_code() == row.code);
+    }
+}
+
+/// The code of a query, as a map of byte strings asks for it.
+fn code_of(query: Query<'_>) -> u32 {
+    AsKey::<Hashed<ByteString<Global>>>::key_code(&query)
+}
+
+fn key(rt: &impl Abort, alloc: Global, seed: Seed, text: &[u8]) -> Hashed<ByteString<Global>> {
+    seed.key(Vec::from_slice(alloc, text).expect(rt, "memory"))
+}
+
+#[test]
+fn keys_that_share_a_plain_code_differ_under_a_seed(rt: HostRuntime) {
+    let (first, second) = (Seed::of(0, 0), Seed::of(1, 2));
+    assert!(rt; first.code(b"AaAaBB") == 1_627_611_258);
+    assert!(rt; first.code(b"BBAaBB") == 2_557_305_604);
+    assert!(rt; second.code(b"AaAaBB") == 3_774_494_831);
+    assert!(rt; second.code(b"BBAaBB") == 2_007_832_404);
+}
+
+#[test]
+fn a_query_finds_the_key_of_its_seed_alone(rt: HostRuntime) {
+    let (first, second) = (Seed::of(0, 0), Seed::of(1, 2));
+    let one = key(&rt, rt.alloc(), first, b"AaAaBB");
+    assert!(rt; first.query(b"AaAaBB").is_key(&one));
+    assert!(rt; !second.query(b"AaAaBB").is_key(&one));
+    assert!(rt; !first.query(b"BBAaBB").is_key(&one));
+    assert!(rt; one == one.clone().expect(&rt, "memory"));
+    assert!(rt; one != key(&rt, rt.alloc(), second, b"AaAaBB"));
+    assert!(rt; one.bytes().bytes() == b"AaAaBB".as_slice());
+    assert!(rt; one.into_bytes().into_bytes().as_slice() == b"AaAaBB".as_slice());
+}
+
+#[test]
+fn two_seeds_of_the_system_differ(rt: HostRuntime) {
+    let (first, second) = (
+        Seed::random(&rt).expect(&rt, "memory"),
+        Seed::random(&rt).expect(&rt, "memory"),
+    );
+    assert!(rt; first != second);
+}

@@ -1,0 +1,156 @@
+//! The examples of views, updates, cursors and retains, each as it stands with its call.
+ghost use Rattle.std.specs.Prelude.{◌≡◌};
+
+use crate::examples::{NumberPass, Numbers};
+use crate::maps::assert_same;
+use bin_history::{Form, KeyArg, Reply};
+use chm::{Change, Fault, PartWalk, Taker};
+use std::alloc::Global;
+use std::process::Abort;
+use std::sync::Wait;
+use test_maps::{BOTH, Single, close_single, open_single};
+
+fn view<R: Wait>(rt: &R, map: &Numbers, pass: &mut NumberPass) -> Result<bool, Fault>
+    requires { pass.old.ledger ≡ map.now.ledger.id }
+    ensures { pass.new.ledger ≡ map.now.ledger.id }
+{
+    let tried = map.try_view(pass, &1, |value| value.is_some()) == Some(false);
+    map.put(rt, pass, 1, 5)?;
+    let seen = map.view(rt, pass, &1, |value| value.copied()) == Some(5);
+    Ok(tried && seen)
+}
+
+fn update<R: Wait>(rt: &R, map: &Numbers, pass: &mut NumberPass) -> Result<bool, Fault>
+    requires { pass.old.ledger ≡ map.now.ledger.id }
+    ensures { pass.new.ledger ≡ map.now.ledger.id }
+{
+    map.put(rt, pass, 1, 5)?;
+    let set = map.update(rt, pass, 1, |value| (Change::Set(6), value.copied()))? == Some(5);
+    let after = map.get(rt, pass, 1)? == Reply::Value(Some(6));
+    Ok(set && after)
+}
+
+fn update_lent<R: Wait>(rt: &R, map: &Numbers, pass: &mut NumberPass) -> Result<bool, Fault>
+    requires { pass.old.ledger ≡ map.now.ledger.id }
+    ensures { pass.new.ledger ≡ map.now.ledger.id }
+{
+    map.put(rt, pass, 1, 5)?;
+    let removed = map.update_lent(rt, pass, &1, |value| (Change::Remove, value.copied()))?
+        == Some(5);
+    let kept = map.update_on(
+        rt,
+        pass,
+        KeyArg::Borrowed(&1),
+        |value| (Change::Keep, value.copied()),
+    )? == None;
+    let given = KeyArg::Owned(1);
+    let put = map.try_update(pass, given, |value| (Change::Set(5), value.copied()))
+        == Some(Ok(None));
+    Ok(removed && kept && put)
+}
+
+fn visit_next<R: Wait>(rt: &R, map: &Numbers, pass: &mut NumberPass) -> Result<bool, Fault>
+    requires { pass.old.ledger ≡ map.now.ledger.id }
+    ensures { pass.new.ledger ≡ map.now.ledger.id }
+{
+    map.put(rt, pass, 1, 5)?;
+    let mut cursor = map.cursor();
+    let tried = map.try_visit_next(pass, &mut cursor).is_some();
+    let mut shown = false;
+    let mut cursor = map.cursor();
+    for _ in rt.forever() {
+        let Some(visit) = map.visit_next(rt, pass, &mut cursor)? else {
+            break;
+        };
+        shown = shown || visit.entries.as_slice() == [(1, 5)].as_slice();
+    }
+    Ok(tried && shown)
+}
+
+fn show_next<R: Wait>(rt: &R, map: &Numbers, pass: &mut NumberPass) -> Result<bool, Fault>
+    requires { pass.old.ledger ≡ map.now.ledger.id }
+    ensures { pass.new.ledger ≡ map.now.ledger.id }
+{
+    map.put(rt, pass, 1, 5)?;
+    let mut cursor = map.cursor();
+    let mut most = 0;
+    let mut look = |_key: &u64, value: &u64| most = most.max(*value);
+    let some = map.show_next(rt, pass, &mut cursor, &mut look);
+    Ok(some && most <= 5)
+}
+
+/// Adds values up.
+#[derive(Drop)]
+struct Summing;
+
+impl Taker<u64, u64> for Summing {
+    type Part = u64;
+
+    ghost reached = { λ _ _ _. Unit {0} };
+
+    fn add(&self, part: u64, _key: &u64, value: &u64) -> u64 {
+        part.wrapping_add(*value)
+    }
+}
+
+fn show_part<R: Wait>(rt: &R, map: &Numbers, pass: &mut NumberPass) -> Result<bool, Fault>
+    requires { pass.old.ledger ≡ map.now.ledger.id }
+    ensures { pass.new.ledger ≡ map.now.ledger.id }
+{
+    map.put(rt, pass, 1, 5)?;
+    let is_sized = map.table_size() == 16;
+    let mut walk = PartWalk::new(map.table_size(), 0, 1);
+    if walk.is_at_end() {
+        return Ok(false);
+    }
+    let sum = map.show_part(rt, pass, &mut walk, &Summing, 0);
+    Ok(is_sized && sum <= 5 && walk.is_at_end())
+}
+
+fn retain<R: Wait>(rt: &R, map: &Numbers, pass: &mut NumberPass) -> Result<bool, Fault>
+    requires { pass.old.ledger ≡ map.now.ledger.id }
+    ensures { pass.new.ledger ≡ map.now.ledger.id }
+{
+    map.put(rt, pass, 1, 5)?;
+    map.retain(rt, pass, &|_key: &u64, value: &u64| *value > 5)?;
+    let gone = map.get(rt, pass, 1)? == Reply::Value(None);
+    map.put(rt, pass, 1, 6)?;
+    let mut cursor = map.cursor();
+    let some = map.retain_next(rt, pass, &mut cursor, &|_key: &u64, value: &u64| *value > 5)?;
+    let kept = map.get(rt, pass, 1)? == Reply::Value(Some(6));
+    Ok(gone && some && kept)
+}
+
+/// Runs the examples on a map without entries each. Answers how many are right.
+fn count_right<R: Wait + Abort>(rt: &R, alloc: Global, form: Form) -> u64 {
+    let Single {
+        map,
+        mut pass,
+        place,
+    } = open_single(alloc, form, 16).expect(rt, "a map");
+    let mut right = 0u64;
+    for number in 0..7u64 {
+        let is_clear = map.clear(rt, &mut pass).is_ok();
+        let is_right = match number {
+            0 => view(rt, &map, &mut pass),
+            1 => update(rt, &map, &mut pass),
+            2 => update_lent(rt, &map, &mut pass),
+            3 => visit_next(rt, &map, &mut pass),
+            4 => show_next(rt, &map, &mut pass),
+            5 => show_part(rt, &map, &mut pass),
+            _ => retain(rt, &map, &mut pass),
+        };
+        if is_clear && is_right == Ok(true) {
+            right = right.wrapping_add(1);
+        }
+    }
+    drop(close_single(map, pass, place).expect(rt, "a closed map"));
+    right
+}
+
+#[test]
+fn each_example_of_a_live_map_is_as_it_says(rt: HostRuntime) {
+    for form in BOTH {
+        assert_same(&rt, &count_right(&rt, rt.alloc(), form), &7);
+    }
+}

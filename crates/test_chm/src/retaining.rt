@@ -1,0 +1,144 @@
+//! Keeping some entries and removing the others.
+ghost use Rattle.std.specs.Prelude.{◌≡◌};
+
+use crate::maps::{KeyMap, KeyPass, assert_entries, assert_same, key, put_texts, records_of};
+use bin_history::Form;
+use chm::{Cursor, Fault};
+use hashkeys::Key;
+use std::alloc::{Allocator, Global};
+use std::process::Abort;
+use std::sync::Wait;
+use test_maps::{BOTH, Single, close_single, open, open_single, take_pass};
+use test_support::Refusing;
+
+/// Two keys of one bucket and one of another, each with its value.
+const THREE: [(&[u8], u64); 3] = [(b"q", 1), (b"a", 2), (b"Aa", 3)];
+
+/// One client puts, the other keeps what is above 1. Answers what the first sees of each key.
+fn keep_above_one<R: Wait + Abort>(
+    rt: &R,
+    map: &KeyMap<Global>,
+    first: &mut KeyPass,
+    second: &mut KeyPass,
+) -> [Option<u64>; 3]
+    requires first { first.old.ledger ≡ map.now.ledger.id }
+    requires second { second.old.ledger ≡ map.now.ledger.id }
+    ensures first { first.new.ledger ≡ map.now.ledger.id }
+    ensures second { second.new.ledger ≡ map.now.ledger.id }
+{
+    put_texts(rt, map, first, &THREE);
+    let kept = map.retain(rt, second, &|_key: &Key, value: &u64| *value > 1);
+    assert!(rt; kept.is_ok());
+    let q = map.view(rt, first, &key(rt, b"q"), |value| value.copied());
+    let a = map.view(rt, first, &key(rt, b"a"), |value| value.copied());
+    let aa = map.view(rt, first, &key(rt, b"Aa"), |value| value.copied());
+    [q, a, aa]
+}
+
+/// The same on a new map. Answers what was seen too, how many calls each client made, and how many
+/// records there are.
+fn keep_of_two<R: Wait + Abort>(
+    rt: &R,
+    alloc: Global,
+    form: Form,
+) -> ([Option<u64>; 3], [u64; 2], usize) {
+    let Single {
+        map,
+        mut pass,
+        mut place,
+    } = take_pass(open(alloc, form, 16, 2).expect(rt, "a map")).expect(rt, "a pass");
+    assert!(rt; place.len() == 1);
+    let seen = keep_above_one(rt, &map, &mut place[0], &mut pass);
+    let made = [place[0].made(), pass.made()];
+    let closed = close_single(map, pass, place).expect(rt, "a closed map");
+    assert_entries(rt, closed.entries(), &[(b"Aa", 3), (b"a", 2)]);
+    (seen, made, records_of(&closed))
+}
+
+#[test]
+fn each_entry_that_goes_is_a_remove(rt: HostRuntime) {
+    for (form, records) in [(Form::Recorded, 4), (Form::Lean, 0)] {
+        let (seen, made, told) = keep_of_two(&rt, rt.alloc(), form);
+        assert!(rt; seen == [None, Some(2), Some(3)]);
+        assert_same(&rt, &(made, told), &([3, 1], records));
+    }
+}
+
+/// Drops all entries of the buckets that are left of a walk, until a step fails. Answers how many
+/// steps were made, and what the last one failed with.
+fn drop_rest<R: Wait, A: Allocator + Clone>(
+    rt: &R,
+    map: &KeyMap<A>,
+    pass: &mut KeyPass,
+    cursor: &mut Cursor,
+) -> (u32, Option<Fault>)
+    requires pass { pass.old.ledger ≡ map.now.ledger.id }
+    requires cursor { cursor.old.n ≡ map.now.n }
+    ensures pass { pass.new.ledger ≡ map.now.ledger.id }
+    ensures cursor { cursor.new.n ≡ map.now.n }
+{
+    let none = |_key: &Key, _value: &u64| false;
+    let mut steps = 0u32;
+    for _ in rt.forever() {
+        match map.retain_next(rt, pass, cursor, &none) {
+            Ok(true) => steps = steps.saturating_add(1),
+            Ok(false) => return (steps, None),
+            Err(fault) => return (steps, Some(fault)),
+        }
+    }
+    unreachable!()
+}
+
+/// Drops all entries of a map, one of which was put twice, with so many requests granted, bucket by bucket, until a step fails,
+/// and then on from there. Answers how many calls were made before the fault, whether there was one,
+/// how many buckets were left behind it, and how many calls were made in all.
+fn drop_refused<R: Wait + Abort, A: Allocator + Clone>(
+    rt: &R,
+    switch: &Refusing<Global>,
+    alloc: A,
+    form: Form,
+    granted: u64,
+) -> (u64, Option<Fault>, u32, u64) {
+    let Single {
+        map,
+        mut pass,
+        place,
+    } = open_single(alloc, form, 16).expect(rt, "a map");
+    put_texts(rt, &map, &mut pass, &THREE);
+    assert!(rt; map.put(rt, &mut pass, key(rt, b"q"), 4).is_ok());
+    let mut cursor = map.cursor();
+    switch.refuse_after(granted);
+    let (_done, fault) = drop_rest(rt, &map, &mut pass, &mut cursor);
+    switch.refuse_after(u64::MAX);
+    let before = pass.made();
+    let (left, again) = drop_rest(rt, &map, &mut pass, &mut cursor);
+    assert!(rt; again.is_none());
+    let made = pass.made();
+    let closed = close_single(map, pass, place).expect(rt, "a closed map");
+    assert!(rt; closed.mapping_count() == 0);
+    (before, fault, left, made)
+}
+
+#[test]
+fn a_refused_remove_leaves_those_before_it(rt: HostRuntime) {
+    // A recorded bucket has room for four records at first. The one of "Aa" takes its remove, and the
+    // one of "q" and "a", with three puts, takes the first of its two.
+    let rows = [
+        (Form::Recorded, 0, (6, Some(Fault::NoMemory), 15, 7)),
+        (Form::Lean, 0, (7, None, 0, 7)),
+    ];
+    for (form, granted, wanted) in rows {
+        let alloc = Refusing::new(rt.alloc());
+        let told = drop_refused(&rt, &alloc, &alloc, form, granted);
+        assert_same(&rt, &told, &wanted);
+    }
+}
+
+#[test]
+fn nothing_is_kept_where_the_function_says_no(rt: HostRuntime) {
+    for form in BOTH {
+        let alloc = Refusing::new(rt.alloc());
+        let (before, fault, left, made) = drop_refused(&rt, &alloc, &alloc, form, u64::MAX);
+        assert_same(&rt, &(before, fault, left, made), &(7, None, 0, 7));
+    }
+}

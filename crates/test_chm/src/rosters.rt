@@ -1,0 +1,297 @@
+//! Clients that take their passes while a map lives, lanes, and closes with a roster.
+ghost use Rattle.std.specs.Prelude.{◌≡◌, All, IfOk, IfSome};
+
+use crate::examples::{NumberPass, NumberQuiet, Numbers, Plus};
+use crate::maps::assert_same;
+use bin_history::{Form, Reply};
+use chm::{Fault, Map, Moment, NotClosedWith, Roster, Started};
+use count_ledger::retire_all;
+use hashkeys::Salt;
+use std::alloc::Global;
+use std::process::Abort;
+use std::sync::Wait;
+use test_maps::{BOTH, Single, close_single, open, take_pass};
+use test_support::Refusing;
+
+/// A lean map of numbers, and its roster.
+type NumbersStarted = Started<u64, u64, Plus, Global>;
+
+type NumberRoster = Roster<u64, u64, Plus>;
+
+/// Clients 0 and 32, which count in one lane: the first adds two keys, the other adds one and takes
+/// one of the first's away. Returns both balances, and the live count.
+fn counted_in_one_lane<R: Wait>(
+    rt: &R,
+    map: &Numbers,
+    first: &mut NumberPass,
+    last: &mut NumberPass,
+) -> Result<(u64, u64, u64), Fault>
+    requires first { first.old.ledger ≡ map.now.ledger.id }
+    requires last { last.old.ledger ≡ map.now.ledger.id }
+    ensures first { first.new.ledger ≡ map.now.ledger.id }
+    ensures last { last.new.ledger ≡ map.now.ledger.id }
+{
+    map.put(rt, first, 1, 5)?;
+    map.put(rt, first, 2, 5)?;
+    map.put(rt, first, 2, 6)?;
+    map.put(rt, last, 3, 5)?;
+    map.remove(rt, last, 1)?;
+    map.get(rt, last, 2)?;
+    Ok((map.balance(first), map.balance(last), map.mapping_count()))
+}
+
+/// Clients 0 and 32 of a new map count in one lane. Answers their numbers, what they told, and how many
+/// keys there are in the end.
+fn of_one_lane<R: Wait + Abort>(
+    rt: &R,
+    alloc: Global,
+) -> ((u32, u32), Result<(u64, u64, u64), Fault>, u64) {
+    let Single {
+        map,
+        mut pass,
+        mut place,
+    } = take_pass(open(alloc, Form::Lean, 16, 33).expect(rt, "a map")).expect(rt, "a pass");
+    assert!(rt; place.len() == 32);
+    let told = counted_in_one_lane(rt, &map, &mut place[0], &mut pass);
+    let clients = (place[0].client(), pass.client());
+    let closed = close_single(map, pass, place).expect(rt, "a closed map");
+    (clients, told, closed.mapping_count())
+}
+
+#[test]
+fn two_clients_of_one_lane_count_each_its_own(rt: HostRuntime) {
+    let (clients, told, keys) = of_one_lane(&rt, rt.alloc());
+    assert_same(&rt, &clients, &(0, 32));
+    assert_same(&rt, &told.expect(&rt, "memory"), &(2, 0, 2));
+    assert_same(&rt, &keys, &2);
+}
+
+/// Whether the roster has no pass left.
+fn is_empty(map: &Numbers, roster: &mut NumberRoster) -> bool
+    requires { roster.old.ledger ≡ map.now.ledger.id }
+    ensures ledger { roster.new.ledger ≡ roster.old.ledger }
+    ensures clients { roster.new.clients ≡ roster.old.clients }
+{
+    match map.join(roster) {
+        None => true,
+        Some(pass) => {
+            pass.retire();
+            false
+        }
+    }
+}
+
+#[test]
+fn a_roster_gives_each_client_its_pass_once(rt: HostRuntime) {
+    let (map, mut roster): NumbersStarted = Map::lean_with(rt.alloc(), 16, 2, Salt(0)).expect(
+        &rt, "a map",
+    );
+    let first = map.join(&mut roster).expect(&rt, "a pass");
+    let second = map.join(&mut roster).expect(&rt, "a pass");
+    let clients = (first.client(), second.client());
+    let taken = (roster.taken(), roster.clients());
+    let empty = is_empty(&map, &mut roster);
+    let bytes = size_of::<NumberRoster>();
+    first.retire();
+    second.retire();
+    assert_same(&rt, &(clients, taken), &((0, 1), (2, 2)));
+    assert!(rt; empty && bytes == 8);
+}
+
+/// A client that comes and puts 5 at 1.
+fn joined<R: Wait>(rt: &R, map: &Numbers, roster: &mut NumberRoster) -> Option<NumberPass>
+    requires { roster.old.ledger ≡ map.now.ledger.id }
+    ensures ledger { roster.new.ledger ≡ roster.old.ledger }
+    ensures clients { roster.new.clients ≡ roster.old.clients }
+    ensures pass { IfSome result (λ p. p.ledger ≡ map.now.ledger.id) }
+{
+    let mut pass = map.join(roster)?;
+    let put = map.put(rt, &mut pass, 1, 5);
+    if put.is_ok() {
+        Some(pass)
+    } else {
+        pass.retire();
+        None
+    }
+}
+
+/// A lean map of 65,536 clients, none of which has come.
+fn started(alloc: Global) -> Result<NumbersStarted, Fault>
+    ensures id { IfOk result (λ r. r.1.ledger ≡ r.0.ledger.id) }
+    ensures clients { IfOk result (λ r. r.1.clients ≡ r.0.ledger.clients) }
+{
+    let (map, roster): Started<u64, u64, Plus, Global> = Map::lean_with(
+        alloc,
+        16,
+        65_536,
+        Salt(0),
+    )?;
+    Ok((map, roster))
+}
+
+fn closed_with(
+    map: Numbers,
+    roster: NumberRoster,
+    passes: Vec<NumberPass, Global>,
+) -> Result<NumberQuiet, Fault>
+    requires roster { roster.ledger ≡ map.ledger.id }
+    requires clients { roster.clients ≡ map.ledger.clients }
+    requires own { All (λ p. p.ledger ≡ map.ledger.id) passes.items }
+{
+    map.close_with(roster, passes)
+        .map_err(|refused| refused.give_up())
+}
+
+/// One client of 65,536 puts a key; it and another hand their passes in, one by one. Returns the
+/// fault of the close without the second pass, and the keys at last.
+fn closed_by_two<R: Wait + Abort>(rt: &R, alloc: Global) -> (Fault, u64) {
+    let (map, mut roster) = started(alloc).expect(rt, "a map");
+    assert!(rt; map.clients() == 65_536 && roster.taken() == 0);
+    let first = joined(rt, &map, &mut roster).expect(rt, "a pass");
+    let second = map.join(&mut roster).expect(rt, "a pass");
+    let mut passes = Vec::with_capacity(alloc, 2).expect(rt, "memory");
+    passes.push_reserved(first);
+    match map.close_with(roster, passes) {
+        Ok(_) => {
+            assert!(rt; false, "a pass is missing");
+            unreachable!()
+        }
+        Err(refused) => {
+            let NotClosedWith {
+                fault,
+                map,
+                roster,
+                known: _,
+                mut passes,
+            } = refused;
+            passes.push(second).expect(rt, "memory");
+            let map = map.expect(rt, "the map comes back");
+            let closed = closed_with(map, roster, passes).expect(rt, "a closed map");
+            (fault, closed.mapping_count())
+        }
+    }
+}
+
+#[test]
+fn a_map_closes_with_the_passes_that_were_taken(rt: HostRuntime) {
+    let told = closed_by_two(&rt, rt.alloc());
+    assert_same(&rt, &told, &(Fault::PassMissing, 1));
+}
+
+fn closed_by_a_moment(
+    map: Numbers,
+    roster: NumberRoster,
+    moment: Moment<u64, u64, Plus>,
+    passes: Vec<NumberPass, Global>,
+) -> Result<NumberQuiet, Fault>
+    requires roster { roster.ledger ≡ map.ledger.id }
+    requires clients { roster.clients ≡ map.ledger.clients }
+    requires moment { moment.ledger ≡ map.ledger.id }
+    requires own { All (λ p. p.ledger ≡ map.ledger.id) passes.items }
+{
+    map.close_knowing(roster, moment, passes)
+        .map_err(|refused| refused.give_up())
+}
+
+/// One client puts and hands over its moment, with which the map is closed. Returns what the closed
+/// map has at the key.
+fn closed_knowing<R: Wait + Abort>(rt: &R, alloc: Global) -> Option<u64> {
+    let (map, mut roster) = started(alloc).expect(rt, "a map");
+    let mut pass = joined(rt, &map, &mut roster).expect(rt, "a pass");
+    let moment = map.moment(&mut pass);
+    let mut passes = Vec::with_capacity(alloc, 1).expect(rt, "memory");
+    passes.push_reserved(pass);
+    let closed = closed_by_a_moment(map, roster, moment, passes).expect(rt, "a closed map");
+    closed.get(&1).copied()
+}
+
+/// A closed map is opened again for two clients.
+fn restarted(quiet: &NumberQuiet) -> Result<bool, Fault> {
+    let (map, roster) = quiet.restart(2, Salt(7))?;
+    Ok(map.clients() == 2 && roster.taken() == 0)
+}
+
+#[test]
+fn a_closed_map_starts_again_with_a_roster(rt: HostRuntime) {
+    let (map, mut roster) = started(rt.alloc()).expect(&rt, "a map");
+    let pass = joined(&rt, &map, &mut roster).expect(&rt, "a pass");
+    let mut passes = Vec::with_capacity(rt.alloc(), 1).expect(&rt, "memory");
+    passes.push_reserved(pass);
+    let closed = closed_with(map, roster, passes).expect(&rt, "a closed map");
+    assert!(rt; restarted(&closed) == Ok(true));
+}
+
+#[test]
+fn a_map_closes_with_a_moment(rt: HostRuntime) {
+    let value = closed_knowing(&rt, rt.alloc());
+    assert_same(&rt, &value, &Some(5));
+}
+
+#[test]
+fn too_many_clients_ask_for_no_memory(rt: HostRuntime) {
+    for clients in [0, 65_537] {
+        let alloc = Refusing::new(rt.alloc());
+        let made: Result<Started<u64, u64, Plus, _>, Fault> = Map::lean_with(
+            &alloc,
+            16,
+            clients,
+            Salt(0),
+        );
+        assert_same(
+            &rt,
+            &(made.err(), alloc.requests()),
+            &(Some(Fault::BadClients), 0),
+        );
+    }
+}
+
+/// The first client puts, both learn of each other, and the second gets.
+fn all_learn<R: Wait>(rt: &R, map: &Numbers, passes: &mut [NumberPass]) -> Result<bool, Fault>
+    requires { All (λ p. p.ledger ≡ map.now.ledger.id) passes.old }
+{
+    if passes.len() < 2 {
+        return Ok(false);
+    }
+    map.put(rt, &mut passes[0], 1, 5)?;
+    map.learn_all(passes);
+    Ok(map.get(rt, &mut passes[1], 1)? == Reply::Value(Some(5)))
+}
+
+#[test]
+fn all_clients_learn_what_one_put(rt: HostRuntime) {
+    for form in BOTH {
+        let (map, mut passes) = open(rt.alloc(), form, 16, 2).expect(&rt, "a map");
+        let right = all_learn(&rt, &map, &mut passes);
+        assert!(rt; right == Ok(true));
+        retire_all(passes);
+    }
+}
+
+fn seen_together(map: &Numbers, first: &mut NumberPass, second: &mut NumberPass)
+    requires first { first.old.ledger ≡ map.now.ledger.id }
+    requires second { second.old.ledger ≡ map.now.ledger.id }
+    ensures first { first.new ≡ first.old }
+    ensures second { second.new ≡ second.old }
+{
+    map.together(first, second);
+}
+
+#[test]
+fn two_clients_see_one_order(rt: HostRuntime) {
+    for form in BOTH {
+        let Single {
+            map,
+            mut pass,
+            mut place,
+        } = take_pass(open(rt.alloc(), form, 16, 2).expect(&rt, "a map")).expect(&rt, "a pass");
+        assert!(rt; place.len() == 1);
+        let put = map.put(&rt, &mut pass, 1, 5);
+        seen_together(&map, &mut place[0], &mut pass);
+        let made = (place[0].made(), pass.made());
+        let closed: Result<chm::Quiet<u64, u64, Plus, Global>, Fault> = close_single(
+            map, pass, place,
+        );
+        assert!(rt; put.is_ok() && closed.is_ok());
+        assert_same(&rt, &made, &(0, 1));
+    }
+}

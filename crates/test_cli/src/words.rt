@@ -1,0 +1,270 @@
+//! Command lines, and how the ends of runs are told.
+use hashkeys::Salt;
+use mapcli_core::{Fault, Options, Writer, line, status, tell, words};
+use script::Kind;
+use std::alloc::{AllocError, Global};
+use std::process::Abort;
+
+fn strings(alloc: Global, given: &[&str]) -> Result<Vec<String>, AllocError> {
+    let mut strings = Vec::new(alloc);
+    for word in given {
+        strings.push(String::from_str(alloc, word)?)?;
+    }
+    Ok(strings)
+}
+
+/// What words are read as: workers, capacity, salt and file; none where they are refused.
+fn read(alloc: Global, given: &[&str]) -> Result<Option<(usize, usize, Salt, String)>, AllocError> {
+    let given = strings(alloc, given)?;
+    match words(alloc, &given) {
+        Ok((options, file)) => {
+            let (workers, capacity) = (options.workers(), options.capacity());
+            Ok(Some((workers, capacity, options.salt(), file)))
+        }
+        Err(_) => Ok(None),
+    }
+}
+
+/// Asserts the status and the line of a fault.
+fn assert_fault(rt: &impl Abort, alloc: Global, fault: &Fault, wanted_status: u8, wanted: &str) {
+    let found = status(fault);
+    let text = line(alloc, fault).expect(rt, "memory");
+    let is_same = found == wanted_status && text.as_str() == wanted;
+    assert!(rt; is_same, "{found}: {text}");
+}
+
+/// Asserts that words are refused, with this status and this text.
+fn assert_refusal(rt: &impl Abort, alloc: Global, given: &[&str], wanted_status: u8, wanted: &str) {
+    let given = strings(alloc, given).expect(rt, "memory");
+    let Err(fault) = words(alloc, &given) else {
+        panic!(rt; "{given:?} were taken");
+    };
+    assert_fault(rt, alloc, &fault, wanted_status, wanted);
+}
+
+#[test]
+fn words_are_taken(rt: HostRuntime) {
+    let rows: [(&[&str], usize, usize, u32, &str); 5] = [
+        (&["f"], 4, 16, 0, "f"),
+        (&["-"], 4, 16, 0, "-"),
+        (&["--salt", "04", "--workers=+5", "f"], 5, 16, 4, "f"),
+        (
+            &[
+                "--workers",
+                "16",
+                "--capacity",
+                "4096",
+                "--salt",
+                "4294967295",
+                "a b",
+            ],
+            16,
+            4096,
+            4294967295,
+            "a b",
+        ),
+        (
+            &["f", "--workers=1", "--capacity=1", "--salt=7"],
+            1,
+            1,
+            7,
+            "f",
+        ),
+    ];
+    for (given, workers, capacity, salt, wanted) in rows {
+        let found = read(rt.alloc(), given).expect(&rt, "memory");
+        let is_same = match &found {
+            Some((w, c, s, file)) => {
+                (*w, *c, *s) == (workers, capacity, Salt(salt)) && file.as_str() == wanted
+            }
+            None => false,
+        };
+        assert!(rt; is_same, "{given:?}: {found:?}");
+    }
+}
+
+#[test]
+fn wrong_words_are_told_with_their_usage(rt: HostRuntime) {
+    let rows: [(&[&str], &str); 9] = [
+        (
+            &["--salt=-1", "f"],
+            "error: invalid value '-1' for '--salt <N>': -1 is not in 0..=4294967295\n\nFor more information, try '--help'.\n",
+        ),
+        (
+            &["--salt", "x", "f"],
+            "error: invalid value 'x' for '--salt <N>': invalid digit found in string\n\nFor more information, try '--help'.\n",
+        ),
+        (
+            &["--salt=", "f"],
+            "error: invalid value '' for '--salt <N>': cannot parse integer from empty string\n\nFor more information, try '--help'.\n",
+        ),
+        (
+            &["--workers", "17", "f"],
+            "error: invalid value '17' for '--workers <N>': 17 is not in 1..=16\n\nFor more information, try '--help'.\n",
+        ),
+        (
+            &["--workers", "0", "f"],
+            "error: invalid value '0' for '--workers <N>': 0 is not in 1..=16\n\nFor more information, try '--help'.\n",
+        ),
+        (
+            &["--capacity", "4097", "f"],
+            "error: invalid value '4097' for '--capacity <N>': 4097 is not in 1..=4096\n\nFor more information, try '--help'.\n",
+        ),
+        (
+            &["--salt", "4294967296", "f"],
+            "error: invalid value '4294967296' for '--salt <N>': 4294967296 is not in 0..=4294967295\n\nFor more information, try '--help'.\n",
+        ),
+        (
+            &[],
+            "error: the following required arguments were not provided:\n  <FILE>\n\nUsage: mapcli <FILE>\n\nFor more information, try '--help'.\n",
+        ),
+        (
+            &["f", "g"],
+            "error: unexpected argument 'g' found\n\nUsage: mapcli [OPTIONS] <FILE>\n\nFor more information, try '--help'.\n",
+        ),
+    ];
+    for (given, wanted) in rows {
+        assert_refusal(&rt, rt.alloc(), given, 2, wanted);
+    }
+}
+
+const HELP: &str =
+    "Runs a script of client blocks over a concurrent hash map, and answers its queries
+
+Usage: mapcli [OPTIONS] <FILE>
+
+Arguments:
+  <FILE>  The script, or - for standard input
+
+Options:
+      --workers <N>   How many workers answer the queries, 1 to 16 [default: 4]
+      --capacity <N>  How many bins the map opens with at least, 1 to 4096 [default: 16]
+      --salt <N>      What the hashes of keys are mixed with, 0 to 4294967295 [default: 0]
+  -h, --help          Print help
+  -V, --version       Print version
+
+A script has a block for each client: the line `client`, then a line for each of
+its calls. After the blocks come the line `query` and a line for each query. An
+example, with what its lines print beside them:
+
+  client           client 0
+  put a 1          none
+  merge a 2 sum    some 3
+  query
+  count            1
+  list 1           a 3
+
+Calls:    get K, contains K, put K V, put_if_absent K V, remove K,
+          remove_if K V, replace K V, replace_if K V V, compute_if_absent K F,
+          compute_if_present K F, compute K F, merge K V M
+Queries:  count, reduce sum T, reduce max T, search above V T, list T
+
+K is a key: 1 to 32 letters, digits or _. V is a signed number of 64 bits. F is
+sum V, max V, set V or drop; M is sum, max, set or drop. T says from how many
+keys on the work may be divided, and changes no answer.
+
+The exit status is 0; or 1 for a bad line of the script, 2 for wrong words, and 3
+where memory ran out or a file could not be opened, read or written.
+";
+
+/// The first request decides, whatever stands behind it.
+#[test]
+fn what_is_asked_for_is_no_fault(rt: HostRuntime) {
+    for asked in ["--help", "-h"] {
+        assert_refusal(&rt, rt.alloc(), &[asked, "--version"], 0, HELP);
+    }
+    for asked in ["--version", "-V"] {
+        assert_refusal(
+            &rt,
+            rt.alloc(),
+            &[asked, "--workers", "0"],
+            0,
+            "mapcli 0.1.0\n",
+        );
+    }
+}
+
+/// The capacity is looked at before the workers.
+#[test]
+fn options_have_ranges(rt: HostRuntime) {
+    for (workers, capacity) in [(1, 1), (16, 4096)] {
+        let options = Options::new(workers, capacity).expect(&rt, "options");
+        let found = (options.workers(), options.capacity(), options.salt());
+        assert!(rt; found == (workers, capacity, Salt(0)), "{found:?}");
+    }
+    let bad_capacity = "mapcli: the capacity is not 1 to 4096\n";
+    let bad_workers = "mapcli: the workers are not 1 to 16\n";
+    let rows = [
+        (1, 0, bad_capacity),
+        (1, 4097, bad_capacity),
+        (0, 0, bad_capacity),
+        (0, 1, bad_workers),
+        (17, 4096, bad_workers),
+    ];
+    for (workers, capacity, wanted) in rows {
+        let Err(fault) = Options::new(workers, capacity) else {
+            panic!(rt; "{workers} workers and capacity {capacity} were taken");
+        };
+        assert_fault(&rt, rt.alloc(), &fault, 2, wanted);
+    }
+}
+
+/// Every end of a run that is no success, with its status and its text.
+fn ends(alloc: Global) -> Result<[(Fault, u8, &'static str); 8], AllocError> {
+    let missing = Fault::ScriptFault {
+        line: 1,
+        kind: Kind::Missing,
+    };
+    let limit = Fault::ScriptFault {
+        line: 1000002,
+        kind: Kind::Limit,
+    };
+    let usage = Fault::Usage(String::from_str(alloc, "a wrong word\n")?);
+    Ok([
+        (Fault::NoMemory, 3, "mapcli: no memory\n"),
+        (Fault::Device, 3, "mapcli: device\n"),
+        (Fault::BinMissing, 3, "mapcli: bins missing\n"),
+        (missing, 1, "mapcli: line 1: missing\n"),
+        (limit, 1, "mapcli: line 1000002: limit\n"),
+        (
+            Fault::BadCapacity,
+            2,
+            "mapcli: the capacity is not 1 to 4096\n",
+        ),
+        (
+            Fault::BadWorkers,
+            2,
+            "mapcli: the workers are not 1 to 16\n",
+        ),
+        (usage, 2, "a wrong word\n"),
+    ])
+}
+
+#[test]
+fn each_fault_has_its_status_and_its_line(rt: HostRuntime) {
+    for (fault, wanted_status, wanted) in ends(rt.alloc()).expect(&rt, "memory") {
+        assert_fault(&rt, rt.alloc(), &fault, wanted_status, wanted);
+    }
+}
+
+/// Asserts what is told of an end: to the first writer, and to the second.
+fn assert_told(rt: &impl Abort, alloc: Global, fault: &Fault, wanted: [&str; 2]) {
+    let mut output = Writer::new(Vec::new(alloc));
+    let mut errors = Writer::new(Vec::new(alloc));
+    let told = tell(&mut output, &mut errors, fault).is_ok();
+    let [first, second] = wanted;
+    let is_same = told
+        && output.inner.as_slice() == first.as_bytes()
+        && errors.inner.as_slice() == second.as_bytes();
+    assert!(rt; is_same, "{second}");
+}
+
+/// Help goes to the first writer, each other end to the second.
+#[test]
+fn help_is_told_apart_from_faults(rt: HostRuntime) {
+    let help = Fault::Help(String::from_str(rt.alloc(), "asked\n").expect(&rt, "memory"));
+    assert_told(&rt, rt.alloc(), &help, ["asked\n", ""]);
+    for (fault, _status, wanted) in ends(rt.alloc()).expect(&rt, "memory") {
+        assert_told(&rt, rt.alloc(), &fault, ["", wanted]);
+    }
+}

@@ -1,5 +1,0 @@
-use Rattle.std.proofs.Common.{refl, arith}
-use Rattle.test_generations.proofs.tries.tried.Goals as goal
-
-pub new-requires : goal.new-requires
-new-requires g c = ((1, omega arith, refl), omega arith)

@@ -1,0 +1,108 @@
+//! What follows when a client has made all the calls that it may: 1,000,000 in a recorded map.
+use crate::asserts::assert_same;
+use facingberyl::{Add, Change, Fault, KeyArg, Map, Op, OwnedClient, SharedMap};
+use std::alloc::Global;
+use std::sync::Wait;
+
+/// A shared map of these tests.
+type Numbers = SharedMap<u64, u64, Add, Global>;
+
+/// A client of it.
+type Owned = OwnedClient<u64, u64, Add, Global>;
+
+/// A recorded map without entries, for two clients.
+fn share_recorded(alloc: Global) -> Result<Numbers, Fault> {
+    let (map, passes) = Map::new(alloc, 1, 1)?;
+    let closed = map.close(passes).map_err(|refused| refused.give_up())?;
+    SharedMap::reopen(&closed, 2)
+}
+
+/// The client puts 5 at 1, and makes all other calls that it may.
+fn use_up<R: Wait>(rt: &R, client: &mut Owned) -> Result<(), Fault> {
+    client.put(rt, 1, 5)?;
+    for _ in 1..1_000_000u64 {
+        client.contains_key(rt, &1)?;
+    }
+    Ok(())
+}
+
+/// Why some calls of the client are refused, and whether a function of its update was called.
+fn refusals<R: Wait>(rt: &R, client: &mut Owned) -> ([Option<Fault>; 6], bool) {
+    let mut called = false;
+    let updated = client.update(rt, 1, |_value| {
+        called = true;
+        (Change::Set(6), ())
+    });
+    let faults = [
+        client.put(rt, 1, 6).err(),
+        client.put(rt, 2, 6).err(),
+        client.get(rt, &1).err(),
+        client.remove(rt, &1).err(),
+        client
+            .try_call(KeyArg::Owned(1), Op::Put(6))
+            .and_then(|tried| tried.err()),
+        updated.err(),
+    ];
+    (faults, called)
+}
+
+/// What the client reads without a call: the values at 1 and 2, how many keys there are, and how
+/// many its calls added.
+fn reads<R: Wait>(rt: &R, client: &mut Owned) -> (Option<u64>, Option<u64>, u64, u64) {
+    let first = client.view(rt, &1, |value| value.copied());
+    let second = client.view(rt, &2, |value| value.copied());
+    (
+        first,
+        second,
+        client.map().mapping_count(),
+        client.balance(),
+    )
+}
+
+/// A full client's calls are refused, its function is not called, nothing is changed, and it still
+/// reads.
+#[test]
+fn a_full_client_makes_no_more_calls(rt: HostRuntime) {
+    let map = share_recorded(rt.alloc()).expect(&rt, "no fault");
+    let mut client = map.client().expect(&rt, "a client");
+    let used = use_up(&rt, &mut client);
+    let refused = refusals(&rt, &mut client);
+    let read = reads(&rt, &mut client);
+    drop(client);
+    drop(map);
+    assert_same(&rt, &used, &Ok(()));
+    assert_same(&rt, &refused, &([Some(Fault::PassFull); 6], false));
+    assert_same(&rt, &read, &(Some(5), None, 1, 1));
+}
+
+/// The numbers of the clients that a map gives after the first one is full: one that nobody had; the
+/// same, when it came back; and none while it is out, since the full one is not given again.
+fn next_clients<R: Wait>(
+    rt: &R,
+    map: &Numbers,
+) -> Result<([usize; 2], Option<Fault>, Option<u64>), Fault> {
+    let mut client = map.client()?;
+    use_up(rt, &mut client)?;
+    drop(client);
+    let next = map.client()?;
+    let first = next.number();
+    drop(next);
+    let mut next = map.client()?;
+    let none = map.client().err();
+    Ok(([first, next.number()], none, next.put(rt, 1, 6)?))
+}
+
+/// A client that comes back full is followed by the next one; the map is closed with both.
+#[test]
+fn a_full_client_is_followed_by_the_next(rt: HostRuntime) {
+    let map = share_recorded(rt.alloc()).expect(&rt, "no fault");
+    let told = next_clients(&rt, &map);
+    let closed = map
+        .close()
+        .map_err(|refused| refused.give_up())
+        .expect(&rt, "a closed map");
+    let left = closed.get(&1).copied();
+    drop(closed);
+    assert_same(&rt, &told, &Ok(([1, 1], Some(Fault::NoClient), Some(5))));
+    assert_same(&rt, &left, &Some(6));
+}

@@ -1,0 +1,11 @@
+use denote.Param.Send.{sendable}
+use Rattle.std.proofs.Crossing.{crosses}
+use Rattle.std.proofs.sync.atomic.AtomicU64.TheSendSync as atomic
+use Rattle.facingberyl.proofs.Crossing.{shared_sync}
+use Rattle.test_live.proofs.growing.one_worker_is_shown_what_was_put_before_it_began.Goals as goal
+
+pub live_reduce-requires-sync-G : goal.live_reduce-requires-sync-G
+live_reduce-requires-sync-G g c = search (sendable, crosses, atomic.the_sync, shared_sync) depth 60 fits 60000
+
+pub live_search-requires-sync-G : goal.live_search-requires-sync-G
+live_search-requires-sync-G g c = search (sendable, crosses, atomic.the_sync, shared_sync) depth 60 fits 60000

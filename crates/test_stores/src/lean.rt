@@ -1,0 +1,5 @@
+//! Tests of lean homes.
+mod maps;
+mod moves;
+mod sizes;
+mod threads;

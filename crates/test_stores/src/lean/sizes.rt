@@ -1,0 +1,93 @@
+//! Tables that are made before bins are moved to them.
+ghost use Rattle.std.specs.Prelude.{◌≤◌};
+
+use crate::lean::maps::{assert_same, open_quiet};
+use bin_layout::{Moved, Refused};
+use hashkeys::Class;
+use std::alloc::{AllocError, Global};
+use test_support::Refusing;
+
+/// How many requests two tries to make the table of two bins make, and the move after them.
+fn requests_of_a_table(alloc: &Refusing<Global>) -> Result<[u64; 3], AllocError> {
+    let (map, ledger) = open_quiet(alloc, 1)?;
+    let opened = alloc.requests();
+    let made = map.try_widen(2);
+    let widened = alloc.requests();
+    let again = map.try_widen(2);
+    let asked = alloc.requests();
+    let moved = map.try_forward(&ledger, Class::new(1, 0));
+    let done = alloc.requests();
+    drop(map);
+    drop(ledger);
+    if (made, again, moved) != (Ok(()), Ok(()), Ok(Moved::Yes)) {
+        return Err(AllocError);
+    }
+    Ok([
+        widened.wrapping_sub(opened),
+        asked.wrapping_sub(widened),
+        done.wrapping_sub(asked),
+    ])
+}
+
+#[test]
+fn a_table_is_made_once_before_its_move(rt: HostRuntime) {
+    // The table asks for the slots of its parts. The move asks for the one part: for a list of its
+    // places and one of their words, and for each once more.
+    let alloc = Refusing::new(rt.alloc());
+    assert_same(
+        &rt,
+        &requests_of_a_table(&alloc).expect(&rt, "memory"),
+        &[1, 0, 4],
+    );
+}
+
+/// What a try to make a table without memory answers, and the next one with memory.
+fn widened(alloc: &Refusing<Global>) -> Result<[Result<(), Refused>; 2], AllocError> {
+    let (map, ledger) = open_quiet(alloc, 1)?;
+    alloc.refuse_after(0);
+    let refused = map.try_widen(2);
+    alloc.refuse_after(u64::MAX);
+    let made = map.try_widen(2);
+    drop(map);
+    drop(ledger);
+    Ok([refused, made])
+}
+
+#[test]
+fn a_refused_table_is_made_at_the_next_try(rt: HostRuntime) {
+    let alloc = Refusing::new(rt.alloc());
+    assert_same(
+        &rt,
+        &widened(&alloc).expect(&rt, "memory"),
+        &[Err(Refused::NoMemory), Ok(())],
+    );
+}
+
+/// How many bytes a map has that opens with 2 to the exponent bins, its ledger's left out.
+fn bytes_of(alloc: &Refusing<Global>, exponent: u32) -> Result<u64, AllocError>
+    requires { exponent ≤ 26 }
+{
+    let before = alloc.bytes_out();
+    let (map, ledger) = open_quiet(alloc, 1u32 << exponent)?;
+    drop(ledger);
+    let bytes = alloc.bytes_out().wrapping_sub(before);
+    drop(map);
+    Ok(bytes)
+}
+
+#[test]
+fn up_to_1024_opening_bins_have_a_cache_line_each(rt: HostRuntime) {
+    // A bin's place takes 24 bytes, the head of its chain: whether it has a node, where that lies, and
+    // where its allocator does. Its word takes 64 bytes or 8. The rest is of the map whatever its size.
+    let alloc = Refusing::new(rt.alloc());
+    let rest = bytes_of(&alloc, 0).expect(&rt, "memory").wrapping_sub(88);
+    for exponent in 0..13u32 {
+        let each = if exponent <= 10 { 88u64 } else { 32 };
+        let wanted = (1u64 << exponent).wrapping_mul(each).wrapping_add(rest);
+        assert_same(
+            &rt,
+            &bytes_of(&alloc, exponent).expect(&rt, "memory"),
+            &wanted,
+        );
+    }
+}

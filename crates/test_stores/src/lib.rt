@@ -1,0 +1,7 @@
+//! Tests of the two stores of bins: places for recorded bins, and homes of lean ones.
+#![tactic(auto)]
+
+#[cfg(test)]
+mod lean;
+#[cfg(test)]
+mod recorded;
