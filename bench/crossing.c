@@ -1,7 +1,7 @@
-/* Measures what the way into the static library facing_c and out of it costs: a call that is refused at once, since its handle is a
+/* Measures what the way into the static library and out of it costs: a call that is refused at once, since its handle is a
  * map's, and for comparison a get of a key that is there. Nanoseconds of processor time for each call, the least of ten rounds.
  *
- * cc -O2 -Iinclude bench/crossing.c crates/facing_c/out/libfacing_c.a KIT/c/liblibc_c.a -o bench/out/crossing */
+ * cc -O2 -Iinclude bench/crossing.c packaging/heap.c crates/facing/out/libfacing.a -o bench/out/crossing */
 #include "facing.h"
 #include <stdio.h>
 #include <time.h>

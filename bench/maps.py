@@ -17,10 +17,18 @@ SECONDS = 900
 
 # The forms of this repository's own map: the name of a form, and the words that map_bench takes for it.
 OWN_FORMS = [("facingberyl", ["--form", "lean"]), ("facingberyl, recorded", ["--form", "recorded"])]
-# The crates of its static libraries, by the kind of the map.
-OWN_LIBRARIES = {"numbers": "facing_c", "bytes": "facing_c_bytes"}
-# This repository's map lends each caller one of at most 32 passes, and one caller fills it.
-OWN_THREADS = 31
+# The peers that call it from C, by the kind of the map; the crate of its static library.
+FROM_C, OWN_LIBRARY = {"numbers": "numbers_from_c", "counts": "counts_from_c", "bytes": "bytes_from_c"}, "facing"
+# A team has at most 32 passes, and one caller fills the map; a map that is called from C is opened for so many clients.
+OWN_THREADS, OWN_CLIENTS = 31, 1023
+# The crates that a peer in Rust is built with.
+WITH_RAYON = "dashmap, rayon"
+RUST_CRATES = {"dashmap": ["dashmap"], WITH_RAYON: ["dashmap", "rayon"]}
+
+# The modes that all maps have; a map may have some more.
+COMMON_MODES = ["get", "mix", "merge", "fill", "stall"]
+# These are of maps that lend a value, or change it by a function, where it lies; and a walk shows all entries.
+IN_PLACE_MODES = ["view", "update", "walk"]
 
 # What a run is of.
 Workload = namedtuple("Workload", "mode keys threads calls choice")
@@ -35,10 +43,14 @@ class Failed(Exception):
 
 
 class Map:
-    """One map to measure. `words` gives the command for a workload."""
+    """One map to measure. `words` gives the command for a workload; `more_modes` are those that not all maps have."""
 
-    def __init__(self, name, words, is_own=False, most_threads=None):
-        self.name, self.words, self.is_own, self.most_threads = name, words, is_own, most_threads
+    def __init__(self, name, words, is_own=False, most_threads=None, more_modes=()):
+        self.name, self.words, self.is_own = name, words, is_own
+        self.most_threads, self.modes = most_threads, [*COMMON_MODES, *more_modes]
+
+    def takes(self, workload):
+        return workload.mode in self.modes and (not self.most_threads or workload.threads <= self.most_threads)
 
     def run(self, workload):
         """Returns how many million calls a second the map made, or in mode stall how many milliseconds its longest call took."""
@@ -83,7 +95,25 @@ def jdk(_kind):
     need("java")
     build("JdkMap.java", ["javac", "-d", f"{OUT}/jdk", f"{PEERS}/JdkMap.java"])
     words = lambda kind: lambda it: ["java", "-cp", f"{OUT}/jdk", "JdkMap", kind, it.mode, it.threads, it.calls, it.keys, it.choice]
-    return [Map("JDK, recorded", words("recorded")), Map("JDK", words("plain"))]
+    return [Map("JDK, recorded", words("recorded")), Map("JDK", words("plain"), more_modes=IN_PLACE_MODES)]
+
+
+def bulk_of_jdk(_):
+    build("JdkBulk.java", ["javac", "-d", f"{OUT}/jdk", f"{PEERS}/JdkBulk.java"])
+    need("java")
+    return [("JDK", ["java", "-cp", f"{OUT}/jdk", "JdkBulk"], False)]
+
+
+def bulk_of_dashmap(_):
+    return [(WITH_RAYON, [f"{of_rust('dashmap_bulk')}/dashmap_bulk"], False)]
+
+
+def own_bulk(binary):
+    """This repository's bulk operations, by the given live_bench, or else by the proved one."""
+    binary = binary or f"{TOP}/crates/live_bench/out/live_bench"
+    if not os.access(binary, os.X_OK):
+        raise Lacking(f"{binary} is not there: make it with `rt run` in crates/live_bench")
+    return [("facingberyl", [binary], True)]
 
 
 def peer(name, program, kind=None, **more):
@@ -92,16 +122,22 @@ def peer(name, program, kind=None, **more):
     return Map(name, lambda it: [program, it.mode, it.threads, it.calls, it.keys, it.choice, *kinds], **more)
 
 
-def dashmap(kind):
+def of_rust(name):
+    """Builds a peer in Rust over the crates that Debian packages, and returns the program's path up to its name."""
     if not os.path.isdir(f"{DEBIAN_CRATES}/"):
         raise Lacking("librust-dashmap-dev is not installed")
     # (a copy, since cargo writes a file beside Cargo.toml)
-    shutil.copytree(f"{PEERS}/dashmap", f"{OUT}/dashmap", dirs_exist_ok=True)
+    shutil.copytree(f"{PEERS}/{name}", f"{OUT}/{name}", dirs_exist_ok=True)
     words = ["cargo", "build", "--release", "--offline", "--target-dir", "target"]
     words += ["--config", 'source.crates-io.replace-with="debian"', "--config", f'source.debian.directory="{DEBIAN_CRATES}"']
-    build("dashmap", words, cwd=f"{OUT}/dashmap")
-    program = f"{OUT}/dashmap/target/release/dashmap_peer"
-    return [peer("dashmap", program, kind), *([peer("dashmap, hash as ours", program, "spread")] if kind == "numbers" else [])]
+    build(name, words, cwd=f"{OUT}/{name}")
+    return f"{OUT}/{name}/target/release"
+
+
+def dashmap(kind):
+    program = f"{of_rust('dashmap')}/dashmap_peer"
+    spread = [peer("dashmap, hash as ours", program, "spread")] if kind == "numbers" else []
+    return [peer("dashmap", program, kind, more_modes=IN_PLACE_MODES), *spread]
 
 
 def of_cpp(name, libraries):
@@ -120,13 +156,13 @@ def libcuckoo(kind):
 
 def called_from_c(library, kind):
     """This repository's map of this kind, through the given static library, or else the proved one."""
-    crate = OWN_LIBRARIES[kind]
-    library = library or f"{TOP}/crates/{crate}/out/lib{crate}.a"
+    library = library or f"{TOP}/crates/{OWN_LIBRARY}/out/lib{OWN_LIBRARY}.a"
     if not os.path.exists(library):
-        raise Lacking(f"{library} is not there: make it with `rt lib` in crates/{crate}")
-    heap = f"{os.path.dirname(first_line('rt', 'doc'))}/c/liblibc_c.a"
-    program = of_cpp(crate, [library, heap])
-    return [peer("facingberyl, from C", program, kind, is_own=True, most_threads=OWN_THREADS)]
+        raise Lacking(f"{library} is not there: make it with `rt lib` in crates/{OWN_LIBRARY}")
+    heap = f"{OUT}/heap.o"
+    build("heap.c", ["cc", "-O2", "-c", f"{TOP}/packaging/heap.c", "-o", heap])
+    program = of_cpp(FROM_C[kind], [library, heap])
+    return [peer("facingberyl, from C", program, kind, is_own=True, most_threads=OWN_CLIENTS)]
 
 
 def own(binary):
@@ -141,26 +177,35 @@ def own(binary):
         *[binary, "--mode", it.mode, "--threads", it.threads, "--calls", it.calls, "--keys", it.keys, "--choice", it.choice],
         *more,
     ]
-    return [Map(name, words(more), is_own=True, most_threads=OWN_THREADS) for name, more in OWN_FORMS]
+    modes = [*IN_PLACE_MODES, "copies", "list", "churn"]
+    return [Map(name, words(more), is_own=True, most_threads=OWN_THREADS, more_modes=modes) for name, more in OWN_FORMS]
 
 
+OWN_NAME = "this repository's map"
 JDK_BUILD, PEER_BUILDS = ("the JDK's map", jdk), [("dashmap", dashmap), ("TBB", tbb), ("libcuckoo", libcuckoo)]
+# Of bulk operations: what builds gives a name, the first words of a command, and whether it is this repository's.
+BULK_BUILDS = [(OWN_NAME, own_bulk), ("the JDK's map", bulk_of_jdk), (WITH_RAYON, bulk_of_dashmap)]
 
 
-def build_all(given, kind=None):
-    """Builds what this machine can build: maps of texts, or with the word `numbers` or `bytes` those of numbers or of byte strings,
-    this repository's called from C. A program or static library that is given is this repository's. Returns the maps, and a line on
-    each that is left out."""
+def built(builds, given):
+    """Builds what this machine can build. Returns what each gives, and a line on each that is left out."""
     os.makedirs(OUT, exist_ok=True)
     found, lacking = [], []
-    ours = ("this repository's map", lambda _: called_from_c(given, kind) if kind else own(given))
-    for name, make in [ours, *([] if kind else [JDK_BUILD]), *PEER_BUILDS]:
+    for name, make in builds:
         try:
-            found += make(kind)
+            found += make(given)
         except Lacking as why:
             lacking.append(f"{name}: {why}")
             print(f"bench: left out {name}: {why}", file=sys.stderr)
     return found, lacking
+
+
+def build_all(given, kind=None):
+    """Builds what this machine can build: maps of texts, or with the word `numbers`, `counts` or `bytes` those of numbers, of numbers
+    by byte strings or of byte strings, this repository's called from C. A program or static library that is given is this repository's. Returns the maps, and a line on
+    each that is left out."""
+    ours = (OWN_NAME, lambda _: called_from_c(given, kind) if kind else own(given))
+    return built([ours, *([] if kind else [JDK_BUILD]), *PEER_BUILDS], kind)
 
 
 def versions(maps):
@@ -170,8 +215,8 @@ def versions(maps):
         found.append(first_line("rt", "version"))
     if "JDK" in names:
         found.append(first_line("java", "-version"))
-    if "dashmap" in names:
-        found += [it for it in sorted(os.listdir(DEBIAN_CRATES)) if re.fullmatch(r"dashmap-[\d.]+", it)]
+    if crates := {it for name in names for it in RUST_CRATES.get(name, ())}:
+        found += [it for it in sorted(os.listdir(DEBIAN_CRATES)) if it.rpartition("-")[0] in crates]
         found.append(first_line("rustc", "--version"))
     packages = [package for name, package in (("TBB", "libtbb-dev"), ("libcuckoo", "libcuckoo-dev")) if name in names]
     found += [first_line("dpkg-query", "-W", "-f", "${Package} ${Version}", it) for it in packages]

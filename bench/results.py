@@ -1,4 +1,5 @@
-"""What the two measurements share: rounds of runs, the machine that they were made on, and the files that tell of them."""
+"""What the measurements share: rounds of runs, the machine that they were made on, and the files that report them."""
+import csv
 import json
 import os
 import platform
@@ -11,7 +12,8 @@ import time
 
 from maps import OUT, TOP, Failed, versions
 
-FIGURES = f"{TOP}/docs/FIGURES.md"
+# With --docs each measurement leaves a table here, NAME.csv, and NAME.txt, which says when, where and with what it was made.
+MEASURED = f"{TOP}/bench/measured"
 
 
 def processors():
@@ -43,7 +45,7 @@ def machine():
 def measure(maps, workloads, rounds):
     """Runs each map on each workload, round after round: in a round, all maps on one workload stand side by side in time, and the
     next round goes through them backwards. Returns rates by (map, workload) and a line on each that failed."""
-    runs = [(it, workload) for workload in workloads for it in maps if not it.most_threads or workload.threads <= it.most_threads]
+    runs = [(it, workload) for workload in workloads for it in maps if it.takes(workload)]
     rates, failed, start, done = {}, {}, time.monotonic(), 0
     for number in range(rounds):
         for it, workload in reversed(runs) if number % 2 else runs:
@@ -74,16 +76,16 @@ def told(workload):
     return f"{workload.mode}, {workload.choice}, {workload.keys:,} keys, {threads}"
 
 
-def heading(maps, given):
-    """Returns the lines that say on what and how a table is made. (Asked before the runs, which are a load themselves.)"""
+def heading(maps, given, what=None):
+    """Returns the lines that say on what and how a table is made, and of what the rounds are. (Asked before the runs, which are a load themselves.)"""
     lines = [f"- The machine: {machine()[0]}.", f"- When: {machine()[1]}."]
     words = sys.argv[1:]
     words = ["PATH" if before == "--binary" else it for before, it in zip(["", *words], words) if it != "--docs"]
     lines += [f"- The command: `{shlex.join([f'bench/{os.path.basename(sys.argv[0])}', *words])}`."]
-    lines += [f"- {given.rounds} round{'s' * (given.rounds > 1)} of runs, {given.calls:,} calls a thread."]
+    lines += [f"- {given.rounds} round{'s' * (given.rounds > 1)} of runs, {what or f'{given.calls:,} calls a thread'}."]
     lines += [f"- Built with: {'; '.join(versions(maps))}."]
     if any(it.is_own for it in maps):
-        whose = "a program that was given by `--binary`, of which this page knows nothing" if given.binary else "the proved program"
+        whose = "a program that was given by `--binary`" if given.binary else "the proved program"
         lines.append(f"- This repository's map was measured by {whose}.")
     return wrapped(lines)
 
@@ -120,12 +122,12 @@ def write(file, text):
     print(f"bench: wrote {os.path.relpath(file)}", file=sys.stderr)
 
 
-def put_between(name, text):
-    """Puts the text into docs/FIGURES.md, between the two lines that mark its place."""
-    begin, end = f"<!-- {name}: begin -->\n", f"<!-- {name}: end -->\n"
-    with open(FIGURES, encoding="utf-8") as it:
-        page = it.read()
-    if page.count(begin) != 1 or page.count(end) != 1 or page.index(end) < page.index(begin):
-        sys.exit(f"bench: docs/FIGURES.md lacks the lines {begin.strip()} and {end.strip()}, between which the figures stand")
-    before, _, rest = page.partition(begin)
-    write(FIGURES, f"{before}{begin}\n{text}\n{end}{rest.partition(end)[2]}")
+def keep(name, heading, columns, rows):
+    """Writes a measurement's table and heading into bench/measured/."""
+    os.makedirs(MEASURED, exist_ok=True)
+    with open(f"{MEASURED}/{name}.csv", "w", encoding="utf-8", newline="") as it:
+        table = csv.writer(it, lineterminator="\n")
+        table.writerow(columns)
+        table.writerows(rows)
+    print(f"bench: wrote {os.path.relpath(f'{MEASURED}/{name}.csv')}", file=sys.stderr)
+    write(f"{MEASURED}/{name}.txt", "\n".join(heading) + "\n")

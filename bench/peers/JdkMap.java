@@ -1,12 +1,15 @@
 import java.util.ArrayList;
 import java.util.Arrays;
 import java.util.Locale;
+import java.util.Map;
 import java.util.concurrent.ConcurrentHashMap;
 
 /**
  * Measures the JDK's ConcurrentHashMap on the workload that docs/SPEED.md describes.
  *
- * <p>usage: JdkMap plain|recorded mix|get|merge|fill|stall THREADS CALLS KEYS uniform|zipf
+ * <p>usage: JdkMap plain|recorded mix|get|merge|view|update|walk|fill|stall THREADS CALLS KEYS uniform|zipf
+ *
+ * <p>A view is a get, an update a compute with a lambda, and a walk goes by the iterator of the entries.
  *
  * <p>"plain" is the map as it comes. Under "recorded" each call, a get too, is kept with who made it, what it found and
  * what it left, in a list of its key that is written under the lock of the key's bin. A list holds at most 1,024 records: then
@@ -16,9 +19,9 @@ public final class JdkMap {
     /** How often the run is made. */
     private static final int RUNS = 3;
 
-    private enum Mode { MIX, GET, MERGE, FILL, STALL }
+    private enum Mode { MIX, GET, MERGE, VIEW, UPDATE, WALK, FILL, STALL }
 
-    private enum Call { GET, PUT, REMOVE, MERGE }
+    private enum Call { GET, PUT, REMOVE, MERGE, UPDATE }
 
     /** The generator splitmix64. */
     private static final class Random {
@@ -94,6 +97,9 @@ public final class JdkMap {
     private interface Client {
         /** Makes the call, and returns the value that a get found, else 0. */
         long make(Call call, String key, long value);
+
+        /** Goes over the map, and returns the sum of the values. */
+        long walk();
     }
 
     /** A map that gives each thread its way in. */
@@ -106,17 +112,30 @@ public final class JdkMap {
 
         @Override
         public Client client(int number) {
-            return (call, key, value) -> {
-                switch (call) {
-                    case GET -> {
-                        Long found = entries.get(key);
-                        return found == null ? 0 : found;
+            return new Client() {
+                @Override
+                public long make(Call call, String key, long value) {
+                    switch (call) {
+                        case GET -> {
+                            Long found = entries.get(key);
+                            return found == null ? 0 : found;
+                        }
+                        case PUT -> entries.put(key, value);
+                        case REMOVE -> entries.remove(key);
+                        case MERGE -> entries.merge(key, value, Long::sum);
+                        case UPDATE -> entries.compute(key, (same, old) -> old == null ? value : old + value);
                     }
-                    case PUT -> entries.put(key, value);
-                    case REMOVE -> entries.remove(key);
-                    case MERGE -> entries.merge(key, value, Long::sum);
+                    return 0;
                 }
-                return 0;
+
+                @Override
+                public long walk() {
+                    long sum = 0;
+                    for (Map.Entry<String, Long> entry : entries.entrySet()) {
+                        sum += entry.getValue();
+                    }
+                    return sum;
+                }
             };
         }
     }
@@ -159,7 +178,7 @@ public final class JdkMap {
                             case GET -> before;
                             case PUT -> (Long) value;
                             case REMOVE -> null;
-                            case MERGE -> before == null ? (Long) value : (Long) (before + value);
+                            case MERGE, UPDATE -> before == null ? (Long) value : (Long) (before + value);
                         };
                         cell.value = after;
                         cell.keep(new Made(number, ordinal, call, key, value, before, after));
@@ -168,12 +187,29 @@ public final class JdkMap {
                     });
                     return found[0];
                 }
+
+                @Override
+                public long walk() {
+                    long sum = 0;
+                    for (Cell cell : cells.values()) {
+                        sum += cell.value == null ? 0 : cell.value;
+                    }
+                    return sum;
+                }
             };
         }
     }
 
     /** Where results go, so that no get can be left out by the compiler. */
     private static volatile long kept;
+
+    private static void walk(Client client, long calls) {
+        long sum = 0;
+        for (long i = 0; i < calls; i++) {
+            sum += client.walk();
+        }
+        kept = sum;
+    }
 
     private static void work(Client client, Mode mode, long seed, long calls, String[] names, Choice choice) {
         Random random = new Random(seed);
@@ -184,7 +220,9 @@ public final class JdkMap {
             long part = Long.remainderUnsigned(drawn, 100);
             if (mode == Mode.MERGE) {
                 client.make(Call.MERGE, name, 1);
-            } else if (mode == Mode.GET || part < 80) {
+            } else if (mode == Mode.UPDATE) {
+                client.make(Call.UPDATE, name, 1);
+            } else if (mode == Mode.GET || mode == Mode.VIEW || part < 80) {
                 sum += client.make(Call.GET, name, 0);
             } else if (part < 95) {
                 client.make(Call.PUT, name, i);
@@ -244,14 +282,22 @@ public final class JdkMap {
         for (int i = 0; i < threads; i++) {
             Client client = map.client(i);
             long seed = i + 1;
-            started[i] = new Thread(() -> work(client, mode, seed, calls, names, choice));
+            started[i] = new Thread(() -> {
+                if (mode == Mode.WALK) {
+                    walk(client, calls);
+                } else {
+                    work(client, mode, seed, calls, names, choice);
+                }
+            });
             started[i].start();
         }
         for (Thread thread : started) {
             thread.join();
         }
         double seconds = (System.nanoTime() - start) / 1e9;
-        return threads * calls / seconds / 1e6;
+        // (Of walks the entries that they show.)
+        long each = mode == Mode.WALK ? (names.length + 1) / 2 : 1;
+        return threads * calls * each / seconds / 1e6;
     }
 
     public static void main(String[] words) throws InterruptedException {

@@ -40,16 +40,21 @@ struct Numbers {
     }
 };
 
-// or its 16 digits of base 16.
-struct Bytes {
+// or its 16 digits of base 16, which have numbers as values
+struct Counts {
     using Key = std::string;
-    using Value = std::string;
+    using Value = Number;
 
     static Key key_of(std::uint64_t number) {
         char digits[17];
         std::snprintf(digits, sizeof digits, "%016llx", static_cast<unsigned long long>(number));
         return digits;
     }
+};
+
+// or byte strings.
+struct Bytes : Counts {
+    using Value = std::string;
 };
 
 // Makes the value that of a number: the bytes are the number's eight, twice.
@@ -263,7 +268,7 @@ template <class Map> int measure_one(const char *map, char **words) {
 }
 
 inline int tell_usage(const char *program) {
-    std::fprintf(stderr, "usage: %s mix|get|merge|fill|stall THREADS CALLS KEYS uniform|zipf [numbers|bytes]\n", program);
+    std::fprintf(stderr, "usage: %s mix|get|merge|fill|stall THREADS CALLS KEYS uniform|zipf [numbers|counts|bytes]\n", program);
     return 2;
 }
 
@@ -274,6 +279,9 @@ template <template <class> class Map> int measure(const char *map, int count, ch
     }
     if (count == 7 && !std::strcmp(words[6], "numbers")) {
         return measure_one<Map<Numbers>>(map, words);
+    }
+    if (count == 7 && !std::strcmp(words[6], "counts")) {
+        return measure_one<Map<Counts>>(map, words);
     }
     return count == 7 && !std::strcmp(words[6], "bytes") ? measure_one<Map<Bytes>>(map, words) : tell_usage(words[0]);
 }

@@ -36,7 +36,7 @@ add_sync : IsSync Add.the_row
 add_sync = search (sendable, crosses) depth 20
 
 settings_sync : IsSync Settings.the_row
-settings_sync = search sendable depth 20
+settings_sync = search sendable depth 40
 
 pub run_sync : (a : NamedLft) → IsSync (Run.the_row a)
 run_sync a = search (sendable, crosses, key_sync, settings_sync, atomic.the_sync) depth 30

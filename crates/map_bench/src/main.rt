@@ -9,6 +9,7 @@ mod name;
 mod random;
 mod run;
 mod settings;
+mod walks;
 mod work;
 
 use anyhow::Result;

@@ -32,7 +32,7 @@ fn time_calls<R: Threads + Wait + Clock + Sync>(
     ensures filler { filler.new.ledger ≡ map.now.ledger.id }
     ensures callers { All (λ p. p.ledger ≡ map.now.ledger.id) callers.new }
 {
-    if !run.settings.mode.fills() {
+    if !run.settings.mode.begins_empty() {
         fill(rt, map, run.names, filler)?;
     }
     let start = Instant::now(rt)?;
@@ -42,6 +42,9 @@ fn time_calls<R: Threads + Wait + Clock + Sync>(
         if pass.made() != run.settings.posts(number) {
             bail!("a call was refused");
         }
+    }
+    if run.settings.mode.walks() && run.shown.load(SeqCst) != run.settings.sum() {
+        bail!("a walk did not show all entries");
     }
     Ok(taken)
 }
@@ -101,14 +104,15 @@ pub(crate) fn measure<R: Threads + Wait + Clock + Sync>(
         Choice::Uniform => [].as_slice(),
         Choice::Zipf => steps(alloc, settings.keys)?,
     };
-    let clients = u32::from(settings.threads) + 1;
-    let (map, mut passes) = open(alloc, settings, clients)?;
+    let (map, mut passes) = open(alloc, settings, settings.clients())?;
     let longest = AtomicU64::new(0);
+    let shown = AtomicU64::new(0);
     let run = Run {
         names,
         starts,
         settings,
         longest: &longest,
+        shown: &shown,
     };
     let taken = time_passes(rt, &map, &run, &mut passes);
     match map.close(passes) {

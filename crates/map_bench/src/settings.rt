@@ -1,5 +1,5 @@
 //! What a run of the benchmark is told.
-ghost use Rattle.std.specs.Prelude.{◌<◌};
+ghost use Rattle.std.specs.Prelude.{◌<◌, ◌≤◌};
 
 use crate::choice::Choice;
 use bin_history::Form;
@@ -17,6 +17,20 @@ pub(crate) enum Mode {
     Merge,
     /// Glances, which are no calls: nothing is posted.
     Glance,
+    /// Look-ups, which copy the value.
+    Look,
+    /// Views, which do not.
+    View,
+    /// Updates that add 1.
+    Update,
+    /// Walks that show each entry where it lies.
+    Walk,
+    /// Walks that copy the entries of one bucket at a time.
+    Copies,
+    /// Walks that copy all entries into one list.
+    List,
+    /// Puts and removes of keys that are the thread's own, in turn, from an empty map on.
+    Churn,
     /// Puts that fill an empty map.
     Fill,
     /// Puts that fill an empty map, each timed.
@@ -31,14 +45,31 @@ impl Mode {
             Mode::Get => "get",
             Mode::Merge => "merge",
             Mode::Glance => "glance",
+            Mode::Look => "look",
+            Mode::View => "view",
+            Mode::Update => "update",
+            Mode::Walk => "walk",
+            Mode::Copies => "copies",
+            Mode::List => "list",
+            Mode::Churn => "churn",
             Mode::Fill => "fill",
             Mode::Stall => "stall",
         }
     }
 
-    /// Whether the calls fill a map that is empty at first.
+    /// Whether the calls put all keys.
     pub(crate) fn fills(&self) -> bool {
         matches!(self, Mode::Fill | Mode::Stall)
+    }
+
+    /// Whether the map is empty at first.
+    pub(crate) fn begins_empty(&self) -> bool {
+        matches!(self, Mode::Fill | Mode::Stall | Mode::Churn)
+    }
+
+    /// Whether each call goes over the map.
+    pub(crate) fn walks(&self) -> bool {
+        matches!(self, Mode::Walk | Mode::Copies | Mode::List)
     }
 
     fn named(name: &str) -> Mode {
@@ -46,11 +77,28 @@ impl Mode {
             "get" => Mode::Get,
             "merge" => Mode::Merge,
             "glance" => Mode::Glance,
+            "look" => Mode::Look,
+            "view" => Mode::View,
+            "update" => Mode::Update,
+            "walk" => Mode::Walk,
+            "copies" => Mode::Copies,
+            "list" => Mode::List,
+            "churn" => Mode::Churn,
             "fill" => Mode::Fill,
             "stall" => Mode::Stall,
             _ => Mode::Mix,
         }
     }
+}
+
+/// Into which words of the count the threads add, which are called lanes: the client with number c adds
+/// into lane c modulo 32.
+#[derive(Clone, Copy, PartialEq, Eq, Debug)]
+pub(crate) enum Lanes {
+    /// Each into one of its own.
+    Own,
+    /// All into the first.
+    One,
 }
 
 /// The workload: each of the threads makes so many calls on so many keys, of which every second one
@@ -64,6 +112,7 @@ pub(crate) struct Settings {
     pub(crate) mode: Mode,
     pub(crate) form: Form,
     pub(crate) choice: Choice,
+    pub(crate) lanes: Lanes,
 }
 
 /// The run that is made without words.
@@ -75,6 +124,7 @@ pub(crate) const SMALL: Settings = Settings {
     mode: Mode::Mix,
     form: Form::Lean,
     choice: Choice::Uniform,
+    lanes: Lanes::Own,
 };
 
 impl Settings {
@@ -94,15 +144,38 @@ impl Settings {
                 "zipf" => Choice::Zipf,
                 _ => Choice::Uniform,
             },
+            lanes: match matches.get_str("lanes").unwrap_or("own") {
+                "one" => Lanes::One,
+                _ => Lanes::Own,
+            },
         }
     }
 
-    /// How many calls the pass of the thread with this number posts.
-    pub(crate) fn posts(&self, number: usize) -> u64 {
+    /// How far the numbers of the clients lie apart that make calls.
+    pub(crate) fn apart(&self) -> usize
+        ensures some { 0 < result }
+        ensures few { result ≤ 32 }
+    {
+        match self.lanes {
+            Lanes::Own => 1,
+            Lanes::One => 32,
+        }
+    }
+
+    /// How many clients the map has: those that make calls, those between them, and one that fills it.
+    pub(crate) fn clients(&self) -> u32 {
+        u32::from(self.threads) * self.apart() as u32 + 1
+    }
+
+    /// How many calls the pass of the client with this number posts.
+    pub(crate) fn posts(&self, client: usize) -> u64 {
+        if client % self.apart() != 0 || self.mode.walks() {
+            return 0;
+        }
         match self.mode {
-            Mode::Glance => 0,
+            Mode::Glance | Mode::Look | Mode::View => 0,
             Mode::Fill | Mode::Stall => {
-                let others = (number % 256) as u32;
+                let others = (client / self.apart() % 256) as u32;
                 u64::from(self.keys.saturating_sub(others).div_ceil(self.step()))
             }
             _ => u64::from(self.calls),
@@ -116,12 +189,26 @@ impl Settings {
         u32::from(self.threads).max(1)
     }
 
-    /// How many calls the threads make together.
+    /// How many keys are there at first, unless the map is empty then.
+    pub(crate) fn present(&self) -> u64 {
+        u64::from(self.keys.div_ceil(2))
+    }
+
+    /// The sum of the values that all walks of a run show, modulo 2^64: the keys' numbers, 0, 2, 4 ..
+    pub(crate) fn sum(&self) -> u64 {
+        let one = self.present().wrapping_mul(self.present().wrapping_sub(1));
+        one.wrapping_mul(u64::from(self.threads) * u64::from(self.calls))
+    }
+
+    /// How many calls the threads make together, or how many entries their walks show.
     pub(crate) fn all_calls(&self) -> u64 {
+        let calls = u64::from(self.threads) * u64::from(self.calls);
         if self.mode.fills() {
             u64::from(self.keys)
+        } else if self.mode.walks() {
+            calls.saturating_mul(self.present())
         } else {
-            u64::from(self.threads) * u64::from(self.calls)
+            calls
         }
     }
 }
@@ -171,16 +258,34 @@ fn capacity_arg<'a>(alloc: Global) -> Arg<'a> {
     .value_parser(clap::value_parser!(u16).range(1..=4096))
 }
 
+/// The words that name modes.
+const MODES: [&'static str; 13] = [
+    "mix", "get", "merge", "glance", "look", "view", "update", "walk", "copies", "list", "churn",
+    "fill", "stall",
+];
+
+/// What they are.
+const MODES_HELP: &'static str =
+    "mix: 80 gets, 15 puts, 5 removes; get; merge; glance; look; view; update; walk, copies or list: go over all; churn: put, remove; fill an empty map; stall: its longest call";
+
 fn mode_arg<'a>(alloc: Global) -> Arg<'a> {
     Arg::new(alloc, "mode")
         .long("mode")
         .value_name("MODE")
-        .help(
-            "mix: 80 gets, 15 puts, 5 removes; get; merge; glance; fill an empty map; stall: its longest call",
-        )
+        .help(MODES_HELP)
         .action(ArgAction::Set)
-        .value_parser(["mix", "get", "merge", "glance", "fill", "stall"].as_slice())
+        .value_parser(MODES.as_slice())
         .default_value("mix")
+}
+
+fn lanes_arg<'a>(alloc: Global) -> Arg<'a> {
+    Arg::new(alloc, "lanes")
+        .long("lanes")
+        .value_name("LANES")
+        .help("own, or one: all threads add into one word of the count")
+        .action(ArgAction::Set)
+        .value_parser(["own", "one"].as_slice())
+        .default_value("own")
 }
 
 fn form_arg<'a>(alloc: Global) -> Arg<'a> {
@@ -213,5 +318,6 @@ pub(crate) fn command<'a>(alloc: Global) -> Result<Command<'a>, AllocError> {
         .arg(capacity_arg(alloc))?
         .arg(mode_arg(alloc))?
         .arg(form_arg(alloc))?
-        .arg(choice_arg(alloc))
+        .arg(choice_arg(alloc))?
+        .arg(lanes_arg(alloc))
 }

@@ -5,7 +5,8 @@ use crate::choice::chosen;
 use crate::name::Name;
 use crate::random::Random;
 use crate::settings::{Mode, Settings};
-use chm::{Fault, Map};
+use crate::walks::go_over;
+use chm::{Change, Fault, KeyArg, Map, Op};
 use count_ledger::Pass;
 use functions::Add;
 use hashkeys::Key;
@@ -22,9 +23,6 @@ pub(crate) type BenchMap = Map<Name, i64, Add, Global>;
 
 /// The right of one thread to make calls of it.
 pub(crate) type BenchPass = Pass<Name, i64, Add>;
-
-/// How many threads make calls at most, beside the one that fills the map.
-const MOST_CALLERS: usize = 31;
 
 /// The keys `k0`, `k1` and so on, which live as long as the program.
 pub(crate) fn names(alloc: Global, count: u32) -> Result<&'static [Key], AllocError> {
@@ -65,6 +63,8 @@ pub(crate) struct Run<'a> {
     pub(crate) settings: &'a Settings,
     /// The longest call so far, in nanoseconds, where calls are timed.
     pub(crate) longest: &'a AtomicU64,
+    /// The sum of the values that walks showed.
+    pub(crate) shown: &'a AtomicU64,
 }
 
 /// Makes a call on the key: of a hundred that are mixed 80 get, 15 put this value and 5 remove, as
@@ -83,10 +83,20 @@ fn make<R: Wait>(
 {
     match (mode, drawn % 100) {
         (Mode::Glance, _) => drop(map.glance(rt, &key)?),
+        (Mode::Look, _) => drop(map.look_up(rt, pass, &key)?),
+        (Mode::View, _) => drop(map.view(rt, pass, &key, |value| value.copied())),
+        (Mode::Update, _) => {
+            map.update(rt, pass, key, |value| {
+                (
+                    Change::Set(value.map_or(1, |value| value.saturating_add(1))),
+                    (),
+                )
+            })?;
+        }
         (Mode::Merge, _) => drop(map.merge(rt, pass, key, 1, Add)?),
         (Mode::Mix, 80..95) => drop(map.put(rt, pass, key, value)?),
-        (Mode::Mix, 95..) => drop(map.remove_by(rt, pass, &key)?),
-        _ => drop(map.get_by(rt, pass, &key)?),
+        (Mode::Mix, 95..) => drop(map.call_on(rt, pass, KeyArg::Borrowed(&key), Op::Remove)?),
+        _ => drop(map.call_on(rt, pass, KeyArg::Borrowed(&key), Op::Get)?),
     }
     Ok(())
 }
@@ -164,20 +174,51 @@ fn put_part<R: Wait + Clock>(
     }
 }
 
-/// Makes the calls of the thread with this number.
-fn work<R: Wait + Clock>(rt: &R, map: &BenchMap, run: &Run<'_>, number: usize, pass: &mut BenchPass)
+/// Puts and removes the keys of the thread with this number in turn, up to a call that is refused.
+fn churn<R: Wait>(rt: &R, map: &BenchMap, run: &Run<'_>, number: usize, pass: &mut BenchPass)
     requires names { 0 < length run.now.names.now }
     requires pass { pass.old.ledger ≡ map.now.ledger.id }
     ensures { pass.new.ledger ≡ pass.old.ledger }
 {
-    if run.settings.mode.fills() {
-        put_part(rt, map, run, number, pass);
-    } else {
-        call_at_random(rt, map, run, number, pass);
+    let step = run.settings.step() as usize;
+    let own = (run.names.len() / step).max(1);
+    for i in 0..run.settings.calls {
+        let place = ((i / 2) as usize % own)
+            .wrapping_mul(step)
+            .wrapping_add(number);
+        let key = Name(&run.names[place % run.names.len()]);
+        let made = if i % 2 == 0 {
+            map.put(rt, pass, key, i64::from(i)).is_ok()
+        } else {
+            map.call_on(rt, pass, KeyArg::Borrowed(&key), Op::Remove)
+                .is_ok()
+        };
+        if !made {
+            return;
+        }
     }
 }
 
-/// All passes make their calls at the same time, each in a thread of its own.
+/// Makes the calls of the client with this number, if it makes any.
+fn work<R: Wait + Clock>(rt: &R, map: &BenchMap, run: &Run<'_>, client: usize, pass: &mut BenchPass)
+    requires names { 0 < length run.now.names.now }
+    requires pass { pass.old.ledger ≡ map.now.ledger.id }
+    ensures { pass.new.ledger ≡ pass.old.ledger }
+{
+    let apart = run.settings.apart();
+    if client % apart != 0 {
+        return;
+    }
+    let number = client / apart;
+    match run.settings.mode {
+        Mode::Fill | Mode::Stall => put_part(rt, map, run, number, pass),
+        Mode::Churn => churn(rt, map, run, number, pass),
+        Mode::Walk | Mode::Copies | Mode::List => go_over(rt, map, run, pass),
+        _ => call_at_random(rt, map, run, number, pass),
+    }
+}
+
+/// All passes make their calls at the same time, each that makes any in a thread of its own.
 pub(crate) fn work_together<R: Threads + Wait + Clock + Sync>(
     rt: &R,
     map: &BenchMap,
@@ -191,7 +232,7 @@ pub(crate) fn work_together<R: Threads + Wait + Clock + Sync>(
     thread::for_each_mut(
         rt,
         passes,
-        MOST_CALLERS,
-        &|number, pass| { work(rt, map, run, number, pass) },
+        run.settings.step() as usize,
+        &|client, pass| { work(rt, map, run, client, pass) },
     );
 }

@@ -23,18 +23,22 @@ WordPass = PassView (List ℕ) ℕ Add
 abbrev pub same_word : List ℕ → List ℕ → Bool
 same_word = pointwise nat_eq
 
--- calls that count these words, in order, which are 2^57 at most
-pub record HasCounted (words : List (List ℕ)) (made : List WordRecord) : Type 0 where
+-- calls that count these words, in order, of which there are at most so many
+pub record HasCounted (most : ℕ) (words : List (List ℕ)) (made : List WordRecord) : Type 0 where
   pub keys : map (λ r. key_of r.call) made ≡ words
   pub ones : All AddsOne made
-  pub few : length words ≤ most_calls Lean
+  pub few : length words ≤ most
+
+-- a client counts at most so many words where each client of a lean map counts one of the parts
+abbrev pub most_words : {A : Type 0} → List (Vec (List ℕ) A) → ℕ
+most_words parts = most_calls Lean (length parts)
 
 -- a client that had made nothing counted the words of its part, or was refused
 pub record HasWorked {A : Type 0} (parts : List (Vec (List ℕ) A)) (old new : WordPass)
     (answer : Result (Unit {0}) Fault) : Type 0 where
   pub client : new.client ≡ old.client
   pub counted : OnOk answer (old.made ≡ [] → (v : Vec (List ℕ) A) → old.client < length parts →
-      HasCounted (slice_index_or parts old.client v).items new.made)
+      HasCounted (most_words parts) (slice_index_or parts old.client v).items new.made)
 
 -- each word stands once, with how often it stands in the parts
 pub record AreCounts (parts : List (List (List ℕ))) (counts : List (List ℕ × ℕ)) : Type 0 where

@@ -1,5 +1,6 @@
 //! Counting words by many clients in one map.
 ghost use Rattle.std.specs.Prelude.{◌≡◌, [], map, All, IfOk, IsOk, OnOk};
+ghost use Rattle.bin_history.specs.Limits.{most_calls};
 ghost use Rattle.word_count.specs.Counted.{AreCounts, HasCounted};
 
 use anyhow::bail;
@@ -25,7 +26,8 @@ fn count_part<'a, L: Loan, R: Wait>(
 ) -> Result<(), Fault>
     ensures client { client.new.pass.now.client ≡ client.old.pass.now.client }
     ensures counted { OnOk result
-        (client.old.pass.now.made ≡ [] → HasCounted part.now client.new.pass.now.made) }
+        (client.old.pass.now.made ≡ [] → HasCounted (most_calls client.old.map.now.ledger.form
+        client.old.map.now.ledger.clients) part.now client.new.pass.now.made) }
 {
     for word in part {
         client.merge(rt, Bytes(word.0), 1, Add)?;
@@ -34,9 +36,14 @@ fn count_part<'a, L: Loan, R: Wait>(
 }
 
 impl<'a> Work<Bytes<'a>, u64, Add, Global> for Counting<'a, '_> {
+    ghost use Rattle.std.specs.Prelude.{◌≡◌, length};
+    ghost use Rattle.bin_history.specs.declared.form.Form.TheVariants.{Lean};
     ghost use Rattle.word_count.specs.Counted.{HasWorked};
 
     type Out = Result<(), Fault>;
+
+    ghost fits = { λ counting ledger. (ledger.form ≡ Lean)
+        × (ledger.clients ≡ length counting.parts.now) };
 
     ghost does = { λ counting old new answer. HasWorked counting.parts.now old new answer };
 

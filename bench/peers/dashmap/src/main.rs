@@ -1,6 +1,6 @@
 //! Measures dashmap on the workload that docs/SPEED.md describes.
 //!
-//! usage: dashmap_peer mix|get|merge|fill|stall THREADS CALLS KEYS uniform|zipf [numbers|spread|bytes]
+//! usage: dashmap_peer mix|get|merge|view|update|walk|fill|stall THREADS CALLS KEYS uniform|zipf [numbers|spread|counts|bytes]
 //!
 //! Keys are texts, or numbers under dashmap's own hash or under the one of this repository's map, or byte strings, as their
 //! values then are, too.
@@ -18,6 +18,9 @@ enum Mode {
     Mix,
     Get,
     Merge,
+    View,
+    Update,
+    Walk,
     Fill,
     Stall,
 }
@@ -28,6 +31,9 @@ impl Mode {
             "mix" => Some(Mode::Mix),
             "get" => Some(Mode::Get),
             "merge" => Some(Mode::Merge),
+            "view" => Some(Mode::View),
+            "update" => Some(Mode::Update),
+            "walk" => Some(Mode::Walk),
             "fill" => Some(Mode::Fill),
             "stall" => Some(Mode::Stall),
             _ => None,
@@ -171,7 +177,14 @@ fn work<K: Clone + Eq + Hash, V: Value, S: BuildHasher + Clone>(
         let name = &names[choice.number(drawn)];
         match (mode, drawn % 100) {
             (Mode::Merge, _) => map.entry(name.clone()).or_insert(V::of(0)).add_one(),
-            (Mode::Get | Mode::Fill | Mode::Stall, _) | (Mode::Mix, 0..=79) => {
+            (Mode::View, _) => {
+                let seen = map.view(name, |_, value| value.number());
+                sum = sum.wrapping_add(seen.unwrap_or(0));
+            }
+            (Mode::Update, _) => {
+                map.entry(name.clone()).and_modify(V::add_one).or_insert_with(|| V::of(1));
+            }
+            (Mode::Get | Mode::Walk | Mode::Fill | Mode::Stall, _) | (Mode::Mix, 0..=79) => {
                 if let Some(value) = map.get(name) {
                     found.clone_from(&value);
                     sum = sum.wrapping_add(found.number());
@@ -183,6 +196,17 @@ fn work<K: Clone + Eq + Hash, V: Value, S: BuildHasher + Clone>(
             (Mode::Mix, _) => {
                 map.remove(name);
             }
+        }
+    }
+    sum
+}
+
+/// Goes over the map so often, and returns the sum of the values that were shown.
+fn walk<K: Eq + Hash, V: Value, S: BuildHasher + Clone>(map: &DashMap<K, V, S>, calls: u64) -> i64 {
+    let mut sum = 0_i64;
+    for _ in 0..calls {
+        for entry in map.iter() {
+            sum = sum.wrapping_add(entry.value().number());
         }
     }
     sum
@@ -253,10 +277,17 @@ where
     thread::scope(|scope| {
         for i in 0..threads {
             let (map, choice) = (&map, &choice);
-            scope.spawn(move || black_box(work(map, mode, i + 1, calls, names, choice)));
+            scope.spawn(move || {
+                black_box(match mode {
+                    Mode::Walk => walk(map, calls),
+                    _ => work(map, mode, i + 1, calls, names, choice),
+                })
+            });
         }
     });
-    (threads * calls) as f64 / start.elapsed().as_secs_f64() / 1e6
+    // (of walks the entries that they show)
+    let each = if mode == Mode::Walk { names.len().div_ceil(2) as u64 } else { 1 };
+    (threads * calls * each) as f64 / start.elapsed().as_secs_f64() / 1e6
 }
 
 fn measure(words: &[String]) -> Option<()> {
@@ -276,6 +307,10 @@ fn measure(words: &[String]) -> Option<()> {
         [kind] if kind == "spread" => {
             run::<_, i64, _>(its_mode, threads, calls, &numbers, is_zipf, BuildHasherDefault::<Spread>::default())
         }
+        [kind] if kind == "counts" => {
+            let names: Vec<Box<[u8]>> = numbers.iter().map(|i| format!("{i:016x}").into_bytes().into()).collect();
+            run::<_, i64, _>(its_mode, threads, calls, &names, is_zipf, RandomState::new())
+        }
         [kind] if kind == "bytes" => {
             let names: Vec<Box<[u8]>> = numbers.iter().map(|i| format!("{i:016x}").into_bytes().into()).collect();
             run::<_, Box<[u8]>, _>(its_mode, threads, calls, &names, is_zipf, RandomState::new())
@@ -289,7 +324,7 @@ fn measure(words: &[String]) -> Option<()> {
 fn main() -> ExitCode {
     let words: Vec<String> = env::args().skip(1).collect();
     if measure(&words).is_none() {
-        eprintln!("usage: dashmap_peer mix|get|merge|fill|stall THREADS CALLS KEYS uniform|zipf [numbers|spread|bytes]");
+        eprintln!("usage: dashmap_peer mix|get|merge|view|update|walk|fill|stall THREADS CALLS KEYS uniform|zipf [numbers|spread|counts|bytes]");
         return ExitCode::from(2);
     }
     ExitCode::SUCCESS

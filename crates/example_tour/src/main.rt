@@ -1,0 +1,28 @@
+//! `example_tour` runs six short programs over the library, one after the other: a cache that clients
+//! share, a key of its own, a value and a function of its own, one client that tells another, a
+//! reducer of its own, and a call that is refused memory.
+#![tactic(auto)]
+
+mod cache;
+mod key;
+mod limiter;
+mod moment;
+mod reducer;
+mod refused;
+
+use anyhow::Result;
+
+fn main(rt: HostRuntime) -> Result<()> {
+    println!(rt; "cache")?;
+    cache::run(&rt, rt.alloc())?;
+    println!(rt; "key")?;
+    key::run(&rt, rt.alloc())?;
+    println!(rt; "limiter")?;
+    limiter::run(&rt, rt.alloc())?;
+    println!(rt; "moment")?;
+    moment::run(&rt, rt.alloc())?;
+    println!(rt; "reducer")?;
+    reducer::run(&rt, rt.alloc())?;
+    println!(rt; "refused")?;
+    refused::run(&rt, rt.alloc())
+}
