@@ -247,7 +247,8 @@ MAPCLI = Command(
     file="The script, or - for standard input",
     after=SCRIPTS,
 )
-MODES = "mix: 80 gets, 15 puts, 5 removes; get; merge; glance; fill an empty map; stall: its longest call"
+MODES = "mix: 80 gets, 15 puts, 5 removes; get; merge; glance; look; view; update; walk, copies or list: go over all; churn: put, remove; fill an empty map; stall: its longest call"
+MODE_NAMES = ("mix", "get", "merge", "glance", "look", "view", "update", "walk", "copies", "list", "churn", "fill", "stall")
 MAP_BENCH = Command(
     "map_bench",
     "Measures how many million calls a second threads make of one map",
@@ -256,7 +257,7 @@ MAP_BENCH = Command(
         Option("calls", "How many calls each makes, 1 to 100000000; of a recorded map 1000000", "1000000", 1, 10**8),
         Option("keys", "On how many keys, 1 to 10000000", "20000", 1, 10**7),
         Option("capacity", "How many bins the map opens with at least, 1 to 4096", "16", 1, 4096),
-        Option("mode", MODES, "mix", names=("mix", "get", "merge", "glance", "fill", "stall"), value="MODE"),
+        Option("mode", MODES, "mix", names=MODE_NAMES, value="MODE"),
         Option("form", "lean, or recorded: a map that stores a record of each call", "lean", names=("lean", "recorded"), value="FORM"),
         Option(
             "choice",
@@ -265,6 +266,7 @@ MAP_BENCH = Command(
             names=("uniform", "zipf"),
             value="CHOICE",
         ),
+        Option("lanes", "own, or one: all threads add into one word of the count", "own", names=("own", "one"), value="LANES"),
     ],
     help_status=2,
 )

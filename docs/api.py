@@ -2,11 +2,9 @@
 
 usage: python3 docs/api.py
 
-Of each `pub fn` of the crates and files in PARTS: a link to it, its signature, the first sentence of its comment, and the
-names of its clauses, which are its promise. Errors (the section `# Errors` of the comment, else the type of its error),
-waiting and memory (what its comment says with these words, else what its signature says: a call without `Wait` waits for
-nobody, one that returns no `Result` takes no memory) stand once for a file where most of its calls share them, and with a
-call where it has others."""
+Of each `pub fn` of the crates and files in PARTS: its signature with a link to it, the first sentence of its comment, and
+the names of its clauses, which are its promise. Errors are the names in the section `# Errors` of its comment, else the
+type of its error. What most calls of a file share stands once below its heading, and a call says where it differs."""
 import collections
 import os
 import re
@@ -17,20 +15,31 @@ import sources
 PATH = "docs/API.md"
 HEAD = """# The library's calls
 
-Made by `python3 docs/api.py` from the sources; [check.py](check.py) compares. [USE.md](USE.md) explains how the calls go
-together, and an example stands with each call in its source. `rt` is the runtime handle. A call whose `R` has `Wait` may
-wait for a lock. *Promise* names the clauses of a call, which stand with it in the source. Below a heading stands what most
-of its calls share; a call says where it differs.
+`python3 docs/api.py` makes this page from the sources, and [check.py](check.py) compares it with them. [USE](USE.md)
+explains how the calls go together. An entry has the signature, with a link to the source; what the call does; and in
+parentheses the names of its clauses, which are its promise. The source also says what a call locks, costs and
+allocates, and most calls have an example there. `rt` is the runtime handle.
+
+- **Errors.** The errors of most calls of a group are below its heading. An entry names its errors if they are others. A
+  call that fails has changed nothing, unless its source says what it leaves. `Fault` stands for `PassFull` and
+  `NoMemory`.
+- **Waiting.** Only a call whose `R` is bound by `Wait` may wait: for the lock of a bucket, or for what its entry names.
+- **Memory.** A call that cannot fail needs no memory. Any call may also begin to grow the table, or help with it, which
+  allocates; if that fails, the call still succeeds.
 """
 CLOSED = ("quiet.rt", "single.rt", "taken.rt", "reopen.rt")
 # What is listed: the crate, a heading, the files, and those that are left out; no files for all of the crate.
 PARTS = (
     ("facingberyl", "The library", (), ()),
     ("bulk_tasks", "Bulk operations (`facingberyl::bulk`)", ("operations.rt", "reducing.rt", "searching.rt", "acting.rt", "plan.rt"), ()),
+    ("live_maps", "Bulk operations on a live map (`live_maps`)", (), ()),
     ("chm", "The closed map (`facingberyl::Quiet`)", CLOSED, ()),
     ("chm", "The map and its passes apart (`facingberyl::Map`)", (), CLOSED + ("debug.rt", "fault.rt", "laws.rt")),
     ("count_ledger", "Passes (`facingberyl::Pass`)", ("tokens.rt",), ()),
+    ("functions", "Values with several owners (`facingberyl::Shared`)", ("shared.rt",), ()),
 )
+# A type whose calls are those of another, which are listed: its folder, and what is said of it.
+ALIKE = ("crates/facingberyl/src/owned/", "An `OwnedClient` has all calls of a `Client` besides, with the same promises ([owned](../crates/facingberyl/src/owned)).")
 
 
 def comment_before(lines, index):
@@ -68,8 +77,19 @@ def owner_of(lines, index):
             for letter in head:
                 depth += (letter == "<") - (letter == ">")
                 flat += letter if not depth and letter not in "<>" else ""
-            return re.findall(r"\w+", flat.partition(" where ")[0])[-1]
+            flat = flat.partition(" where ")[0]
+            if "trait " in flat:
+                flat = flat.partition(":")[0]
+            return re.findall(r"\w+", flat)[-1]
     return ""
+
+
+def head_of(text):
+    """Returns a function's head without its brace, and without what follows where a function without clauses opens its body in the line."""
+    opened = re.match(r"(?s)(.*?) \{\n", text)
+    if opened and not re.search(r"\b(?:requires|ensures)\b", opened[1]):
+        text = opened[1]
+    return text.rstrip("{; \n")
 
 
 def signature_of(head):
@@ -85,60 +105,73 @@ def signature_of(head):
     return flat, flat[end + 1 :].removeprefix(" -> ")
 
 
-def sentences_with(text, word):
-    return " ".join(it for it in re.split(r"(?<=\.)\s+", text) if re.search(rf"\b{word}", it))
-
-
-def wait_of(parts, head):
-    if said := parts.get("Waits") or sentences_with(parts[""], "wait"):
-        return said
-    return "waits for the bins that it needs." if re.search(r"\bWait\b", head) else "waits for nobody."
-
-
-def memory_of(parts, answer):
-    if said := parts.get("Memory") or sentences_with(parts[""], "memory"):
-        return said
-    return "may take memory." if answer.startswith("Result") else "takes no memory."
+def last_parameter(text):
+    """Returns the name of the last parameter of a type, of which the text begins behind its first bracket."""
+    depth, last = 0, ""
+    for number, letter in enumerate(text):
+        depth += (letter in "(<") - (letter in ")>" and text[number - 1] != "-")
+        if depth < 0:
+            break
+        last = "" if letter == "," and not depth else last + letter
+    return last.partition("<")[0].strip()
 
 
 def errors_of(parts, answer):
+    """Returns the names of the errors of a call, or what is said of them where no name is."""
+    own = f"`{last_parameter(answer[answer.index('Result<') + 7 :])}`" if re.search(r"\bResult<", answer) else "none"
     if said := parts.get("Errors"):
-        return said
-    if not answer.startswith("Result"):
-        return "none."
-    return f"`{answer.removesuffix('>').rpartition(',')[2].strip()}`."
+        first = re.split(r"(?<=\.)\s", said, maxsplit=1)[0].rstrip(".")
+        names = ", ".join(dict.fromkeys(re.findall(r"`[A-Z]\w+`", said)))
+        why = first[0].lower() + first[1:]
+        return names or (f"{own}, {why}" if first.startswith(("Where ", "For ", "Out of ")) else why)
+    return own
 
 
 class Call:
     """A public function: where it stands, and what is said of it."""
 
     def __init__(self, path, lines, index):
-        name = re.search(r"fn (\w+)", lines[index])[1]
-        head = (sources.heads_of(name, "\n".join(lines[index:])) or [""])[0].rstrip("{; \n")
+        self.name = re.search(r"fn (\w+)", lines[index])[1]
+        head = head_of((sources.heads_of(self.name, "\n".join(lines[index:])) or [""])[0])
         signature, answer = signature_of(head)
         parts = sections(comment_before(lines, index))
         clauses = re.findall(r"(?m)^\s*ensures (\w+) \{", head)
-        owner = owner_of(lines, index) if lines[index].startswith(" ") else ""
-        self.link = f"[`{owner}::{name}`](../{path}#L{index + 1})" if owner else f"[`{name}`](../{path}#L{index + 1})"
-        self.signature, self.first = signature, re.split(r"(?<=\.)\s", parts[""], maxsplit=1)[0]
-        self.promise = ", ".join(f"`{it}`" for it in clauses) or ("its one clause" if re.search(r"(?m)^\s*ensures \{", head) else "its type alone")
-        self.said = {"Errors": errors_of(parts, answer), "Waiting": wait_of(parts, head), "Memory": memory_of(parts, answer)}
+        self.owner = owner_of(lines, index) if lines[index].startswith(" ") else ""
+        shown = f"{self.owner}::{self.name}" if self.owner else self.name
+        self.link = f"[`{shown}`](../{path}#L{index + 1})"
+        self.signature = re.sub(r"^(?:pub )?fn \w+", "", signature).replace("< ", "<").replace(", >", ">")
+        self.first = re.split(r"(?<=\.)\s", parts[""], maxsplit=1)[0]
+        self.promise = ", ".join(f"`{it}`" for it in clauses)
+        self.errors = errors_of(parts, answer)
 
     def entry(self, shared):
-        own = [f"{key}: {it}" for key, it in self.said.items() if it != shared.get(key)]
-        signature = re.sub(r"^(?:pub )?fn \w+", "", self.signature)
-        text = " ".join([f"- {self.link} `{signature}`.", f"{self.first} Promise: {self.promise}.", *own])
-        return "\n".join(textwrap.wrap(text, 120, subsequent_indent="  ", break_long_words=False, break_on_hyphens=False))
+        own = f" Errors: {self.errors}." if self.errors != shared else ""
+        promise = f" ({self.promise})" if self.promise else ""
+        text = f"- {self.link} `{self.signature}`. {self.first.rstrip('.')}{promise}.{own}"
+        return wrapped(text, "  ")
+
+
+def wrapped(text, indent=""):
+    return "\n".join(textwrap.wrap(text, 120, subsequent_indent=indent, break_long_words=False, break_on_hyphens=False))
 
 
 def shared_by(calls):
-    """Returns what most of the calls say alike."""
-    shared = {}
-    for key in ("Errors", "Waiting", "Memory"):
-        said, count = collections.Counter(it.said[key] for it in calls).most_common(1)[0]
-        if count > 1 and 2 * count >= len(calls):
-            shared[key] = said
-    return shared
+    """Returns the errors that most of the calls share."""
+    said, count = collections.Counter(it.errors for it in calls).most_common(1)[0]
+    return said if 2 * count >= len(calls) else ""
+
+
+def calls_in(path):
+    """Returns the public calls of a source. The calls of a trait that users write are its own; those of `impl Trait for` are not listed."""
+    lines = sources.text_of(path).splitlines()
+    inside = [it for it, line in enumerate(lines) if re.match(r"    (?:pub )?fn \w+|pub fn \w+", line)]
+    return [Call(path, lines, it) for it in inside if "pub fn" in lines[it] or in_public_trait(lines, it)]
+
+
+def unlisted(path):
+    """Returns the names of calls in the folder of ALIKE that the other type does not have."""
+    others = {it.name for it in calls_in(path.replace(ALIKE[0], ALIKE[0].removesuffix("owned/")))}
+    return [it for it in calls_in(path) if it.name not in others]
 
 
 def page():
@@ -148,16 +181,14 @@ def page():
         for path in sources.sources_of(crate):
             if files and os.path.basename(path) not in files or os.path.basename(path) in without:
                 continue
-            lines = sources.text_of(path).splitlines()
-            # The calls of a trait that users write are its own; those of `impl Trait for` are not listed.
-            inside = [it for it, line in enumerate(lines) if re.match(r"    (?:pub )?fn \w+|pub fn \w+", line)]
-            calls = [Call(path, lines, it) for it in inside if "pub fn" in lines[it] or in_public_trait(lines, it)]
+            calls = unlisted(path) if path.startswith(ALIKE[0]) else calls_in(path)
             if calls:
                 shared = shared_by(calls)
                 out.append(f"### {sources.sentence(sources.module_comment(path))}\n")
+                if path == ALIKE[0].removesuffix("/") + ".rt":
+                    out += [wrapped(ALIKE[1]), ""]
                 if shared:
-                    said = " ".join(f"{key}: {it}" for key, it in shared.items())
-                    out += ["\n".join(textwrap.wrap(said, 120, break_long_words=False, break_on_hyphens=False)), ""]
+                    out += [wrapped(f"Errors: {shared}."), ""]
                 out += [it.entry(shared) for it in calls]
                 out.append("")
     return "\n".join(out).rstrip() + "\n"

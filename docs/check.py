@@ -2,22 +2,24 @@
 
 usage: python3 docs/check.py [--fix]
 
-It proves nothing. It looks whether
+It proves nothing. It checks that
   a line of a page has at most 200 characters;
-  a link leads to a file, a folder or a heading that is there, and each page is reached from the top README;
-  a link whose text is one name in backticks, as [`IsFront`](..), leads to a file that defines it, and where it names a
-    line (`#L12`) to that line; clauses in parentheses behind it, as (`called`, `refused`), are clauses of that function;
-  what stands in a block `antt` stands so, but for line breaks, in the file that the last comment with a path names;
-  each other block is told of by a comment before it, as `<!-- crates/example_cache/stdout -->`: its parts stand so, but
-    for line breaks and indents where they are code, in that file; or by `<!-- typed -->`: it is a command, or a form;
-  each line of an example that stands with a call of the library stands in the tests that run it;
-  each crate of crates.txt has a README and a link in ARCHITECTURE.md;
-  the rows of wrong_bodies.csv name clauses and tests that are there; each stored edit has its row, and changes the sources;
-  API.md and TESTS.md are what api.py and tests.py make of the sources, and refusals.csv what refusals.py finds;
-  VERSION has the version that mapcli tells, and bin/words.py the texts, names and ranges that the programs tell;
-  KIT names the toolchain that is here, and the top README names it too.
-It prints a line for each fault, and ends with status 1 where there is one. With --fix it first writes the generated pages
-anew and mends the lines that links name, and the file where another of the same crate defines the name."""
+  a link leads to a file, a folder or a heading that exists, and each page but a stub is reached from the top README;
+  a link whose text is one name in backticks, such as [`IsFront`](..), leads to a file that defines it, and if it names a
+    line (`#L12`) to that line; clauses in parentheses after it, such as (`called`, `refused`), are clauses of that function;
+  the text of a block `antt` is, but for line breaks, in the file that the last comment with a path names;
+  each other block has a comment before it, such as `<!-- crates/example_tour/stdout -->`: its parts are, but for line
+    breaks and indents where they are code, in that file; or `<!-- typed -->`: it is a command, whose program and options
+    exist, or a form; or `<!-- drawn -->`: it is a figure;
+  each line of an example in the comment of a call of the library is in the tests that run it;
+  each crate of crates.txt has a README;
+  the rows of wrong_bodies.csv name clauses and tests that exist; each stored edit has its row, and changes the sources;
+  API.md, TESTS.md and crates/README.md are what api.py, tests.py and crates.py make of the sources, and refusals.csv what
+    refusals.py finds; SPEED.md has the figures of bench/measured;
+  VERSION has the version that mapcli prints, and bin/words.py the texts, names and ranges that the programs print;
+  KIT names the toolchain of this machine, and the top README names it too.
+It prints a line for each fault, and ends with status 1 if there is one. With --fix it first writes the generated pages
+and mends the lines that links name, and the file if another of the same crate defines the name."""
 import csv
 import os
 import posixpath
@@ -27,19 +29,26 @@ import subprocess
 import sys
 
 import api
+import crates
+import figures
 import sources
 import tests
 from sources import is_file, text_of
 
 COLUMNS = 200
-ANTT_PATH = r"[a-z_]+/(?:src|specs)/\w+\.(?:rt|antt)"
+# A stub has as many lines: it says where a page went.
+STUB = 3
+ANTT_PATH = r"[a-z_]+/(?:src|specs)/(?:\w+/)?\w+\.(?:rt|antt)"
 BODIES = "docs/wrong_bodies.csv"
 COLUMNS_OF_BODIES = ["crate", "body", "function", "clauses", "test", "edit"]
 LINK = r"\[((?:[^\[\]]|\[[^\]]*\])+)\]\(([^()\s]+)\)"
 EXAMPLES = {
     "crates/facingberyl/src/*.rt": "crates/test_library/src/*.rt",
     "crates/chm/src/*.rt": "crates/test_c[ho]*/src/*.rt",
+    "crates/chm/src/*/*.rt": "crates/test_c[ho]*/src/*.rt",
     "crates/bulk_tasks/src/*.rt": "crates/test_pool/src/*.rt",
+    "crates/functions/src/*.rt": "crates/test_library/src/*.rt",
+    "crates/live_maps/src/*.rt": "crates/test_live/src/*.rt",
 }
 
 
@@ -78,7 +87,7 @@ def links_in(page):
 
 
 def headings_of(page):
-    found = re.findall(r"(?m)^#+ (.*)$", without_code(text_of(page)))
+    found = re.findall(r"(?m)^#+ (.*)$", re.sub(r"<!--.*?-->", "", without_code(text_of(page))))
     return {re.sub(r"[^\w\- ]", "", re.sub(LINK, r"\1", it).lower()).strip().replace(" ", "-") for it in found}
 
 
@@ -122,14 +131,14 @@ def lost_clauses(where, name, path, after):
 
 
 def unreached(pages):
-    """Pages that no way of links from the top README leads to."""
+    """Pages that no way of links from the top README leads to, but for stubs, which links from outside may lead to."""
     reached, ahead = set(), ["README.md"]
     while ahead:
         page = ahead.pop()
         if page not in reached:
             reached.add(page)
             ahead += [path for _, path, _, _ in links_in(page) if path.endswith(".md") and is_file(path)]
-    return [f"{it}: no link leads here" for it in pages if it not in reached]
+    return [f"{it}: no link leads here" for it in pages if it not in reached and len(text_of(it).splitlines()) > STUB]
 
 
 def mended(page):
@@ -211,6 +220,27 @@ def wrong_examples(page, text):
                     yield f"{page}:{number}: {named[1]} has not: {' '.join(part.split())[:90]}"
 
 
+def wrong_commands(page, text):
+    """Commands of typed blocks that name a program which is not here, or an option that no text of its folder has."""
+    for number, before, block in blocks_of(text):
+        if "<!-- typed -->" in before:
+            for line in block.splitlines():
+                words = re.split(r" {3,}", line.strip())[0].split()
+                while words and (re.fullmatch(r"[A-Z_]+=\S*", words[0]) or words[0] == "python3"):
+                    del words[0]
+                program = words[0] if words else ""
+                if re.match(r"(?:bin|tools|bench|docs|examples|\.ci)/", program):
+                    if not is_file(program):
+                        yield f"{page}:{number}: there is no program {program}"
+                        continue
+                    known = text_of(program) + "".join(text_of(it) for it in sources.below_top(f"{posixpath.dirname(program)}/*.py"))
+                    yield from (f"{page}:{number}: {program} has no option {it}" for it in words[1:] if it.startswith("--") and it not in known)
+
+
+# What a test expects, where an example passes its fault on.
+EXPECTED = re.compile(r'\.expect\(rt,"[^"]*"\)')
+
+
 def squeezed(code):
     """Returns code without white space, last commas, and whether what it is given is lent there or was lent before."""
     lent = "".join(code.replace("&mut ", "").split())
@@ -231,6 +261,7 @@ def wrong_call_examples():
     """Examples in the comments of calls, each of which the tests of EXAMPLES run."""
     for shown_in, run_by in EXAMPLES.items():
         run = squeezed("\n".join(text_of(it) for it in sources.below_top(run_by)))
+        run = f"{run}\n{EXPECTED.sub('?', run)}"
         for path in sources.below_top(shown_in):
             for number, line in enumerate(text_of(path).splitlines(), 1):
                 shown = re.match(r"\s*///     (.*)$", line)
@@ -242,12 +273,9 @@ def wrong_call_examples():
 
 
 def lost_crates():
-    overview = text_of("docs/ARCHITECTURE.md")
     for crate in sources.crates():
         if not is_file(f"crates/{crate}/README.md"):
             yield f"crates/{crate} has no README.md"
-        if f"](../crates/{crate}/README.md)" not in overview:
-            yield f"docs/ARCHITECTURE.md: no link to {crate}"
 
 
 def wrong_bodies():
@@ -325,10 +353,12 @@ def other_words():
 
 
 def old_pages():
-    for made in (api, tests):
+    for made in (api, crates, tests):
         if not is_file(made.PATH) or text_of(made.PATH) != made.page():
             yield f"{made.PATH}: the sources say something else; python3 docs/check.py --fix"
     yield from (f"docs/tests.py: there is no test {name}" for name in tests.lost(list(tests.all_tests())))
+    if text_of(figures.PATH) != figures.page():
+        yield f"{figures.PATH}: {figures.DATA} has other figures; python3 docs/check.py --fix"
 
 
 def other_refusals():
@@ -351,8 +381,9 @@ def other_kit():
 
 
 def fix(pages):
-    fixed = {made.PATH: made.page() for made in (api, tests)}
-    fixed |= {it: mended(it) for it in pages if it not in sources.GENERATED}
+    fixed = {made.PATH: made.page() for made in (api, crates, tests)}
+    fixed |= {it: mended(it) for it in pages if it not in (*sources.GENERATED, figures.PATH)}
+    fixed[figures.PATH] = figures.page()
     for page, text in fixed.items():
         if not is_file(page) or text != text_of(page):
             with open(f"{sources.TOP}/{page}", "w", encoding="utf-8") as it:
@@ -362,6 +393,9 @@ def fix(pages):
 
 
 def main():
+    if {"-h", "--help"} & set(sys.argv[1:]):
+        print(__doc__)
+        return 0
     pages = sources.pages()
     if "--fix" in sys.argv[1:]:
         fix(pages)
@@ -369,7 +403,7 @@ def main():
     faults = []
     for page in pages:
         text = text_of(page)
-        for look in (wide_lines, wrong_quotes, wrong_examples):
+        for look in (wide_lines, wrong_quotes, wrong_examples, wrong_commands):
             faults += look(page, text)
         faults += wrong_links(page)
     faults += unreached(pages)

@@ -1,14 +1,14 @@
-"""Types the commands of the pages, and compares what they do with what the pages say.
+"""Runs the commands of the pages, and compares what they do with what the pages say.
 
 usage: python3 docs/check_commands.py [MAPCLI]
 
-It proves nothing, builds nothing, and takes half a minute.
-  The launchers of bin/, bin/vendor and tools/build_unproved are started in a folder of their own, over small crates and with a
-    stub for the kit; the gate over parts that stand in for its own; bin/test and others are given wrong words.
-  MAPCLI, the program, is given the examples of the pages and wrong words, files and devices. Where no word names it,
-    the one that was proved and built last is taken, or what `bin/mapcli --unproved` kept of the sources of now; where there is
-    none, this part is left out. What the launchers tell of words in the programs' place is compared with what these tell.
-It prints a line for each test that failed, and ends with status 1 where one did."""
+It proves nothing, builds nothing, and takes a minute.
+  It starts the launchers of bin/, bin/vendor and tools/build_unproved in a folder of their own, over small crates and a stub
+    for the kit, the gate over stubs of its parts, and bin/test and others with wrong words.
+  It gives MAPCLI, the program, the examples of the pages, and wrong words, files and devices. Without MAPCLI, it uses the one
+    that was proved and built last, or what `bin/mapcli --unproved` built of the present sources; if there is none, this part is
+    left out. It compares what the launchers print of wrong words in the programs' place with what the programs print.
+It prints a line for each test that failed, and ends with status 1 if one did."""
 import contextlib
 import os
 import random
@@ -176,6 +176,9 @@ def built(name):
 
 
 def main(program=None):
+    if program in ("-h", "--help"):
+        print(__doc__)
+        return 0
     tests = Tests()
     with tempfile.TemporaryDirectory() as top:
         repository = Repository(os.path.realpath(top))

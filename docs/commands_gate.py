@@ -1,4 +1,4 @@
-"""Types bin/test, tools/try_edits and .ci/run: the first two with wrong words, the gate over parts that stand in for its own."""
+"""Tests of bin/test, tools/try_edits and .ci/run: the first two with wrong words, the gate over stubs of its parts."""
 import os
 import re
 import shutil
@@ -6,7 +6,7 @@ import subprocess
 import sys
 
 TOP = os.path.dirname(os.path.dirname(os.path.realpath(__file__)))
-# What stands in for a part of the gate: it says what a file beside it has, with the words that it was given, and has its status.
+# A stub of a part of the gate: it prints what a file beside it has, with the words that it was given, and has its status.
 PART = """import os, sys
 with open(os.path.realpath(__file__) + ".says", encoding="utf-8") as it:
     print(it.read().replace("WORDS", " ".join(sys.argv[1:])), end="")
@@ -15,6 +15,7 @@ sys.exit(os.path.exists(os.path.realpath(__file__) + ".fails"))
 SCRIPTS = {
     "docs/check.py": "60 pages, 0 faults\n",
     "bin/rt": "rt: ok\n57 passed, 0 failed\n",
+    "tools/histories": "500 histories of 90000 calls\n",
     "examples/run.py": "words: WORDS\n26 passed, 0 failed, 2 left out\n",
     "docs/check_refusals.py": "0 faults\n",
 }
@@ -28,6 +29,7 @@ class Gate:
         for path in ("tools/gate", "tools/gate_cost", ".ci/run"):
             os.makedirs(os.path.dirname(f"{top}/{path}"), exist_ok=True)
             shutil.copy(f"{TOP}/{path}", f"{top}/{path}")
+        shutil.copytree(f"{TOP}/tools/unproved", f"{top}/tools/unproved", ignore=shutil.ignore_patterns("__pycache__"))
         for path, says in SCRIPTS.items():
             self.write(path, f"#!{sys.executable}\n{PART}" if path == "bin/rt" else PART)
             self.write(f"{path}.says", says)
@@ -51,17 +53,18 @@ def test_gate(tests, top):
     gate = Gate(top)
     status, lines = gate.run()
     tests.want("the gate: its status", status == 0, status)
-    tests.want("the gate: the sum of what its parts count", lines[-1:] == ["85 passed, 0 failed"], lines)
+    tests.want("the gate: the sum of what its parts count", lines[-1:] == ["86 passed, 0 failed"], lines)
     alone = [it for it in lines if re.fullmatch(r"\d+ passed, \d+ failed", it)]
     tests.want("the gate: only one line counts all", len(alone) == 1, alone)
     tests.want("the gate: what is left out is told", "2 parts were left out, as told above" in lines, lines)
     status, lines = gate.run("--all")
-    tests.want("the gate --all: what is left out fails", status == 1 and lines[-1:] == ["85 passed, 2 failed"], lines)
+    tests.want("the gate --all: what is left out fails", status == 1 and lines[-1:] == ["86 passed, 2 failed"], lines)
     tests.want("the gate --all: the tests in C are told", "words: --all" in lines, lines)
     gate.write("bin/rt.says", "56 passed, 1 failed\n")
     gate.write("bin/rt.fails", "")
+    gate.write("tools/histories.fails", "")
     status, lines = gate.run()
-    tests.want("the gate: what fails is counted", status == 1 and lines[-1:] == ["84 passed, 1 failed"], lines)
+    tests.want("the gate: what fails is counted", status == 1 and lines[-1:] == ["84 passed, 2 failed"], lines)
     os.remove(f"{gate.top}/crates/mapcli/out/mapcli")
     tests.want("the gate: a program that is not there is told", any("there is no crates/mapcli/out/mapcli" in it for it in gate.run()[1]))
 

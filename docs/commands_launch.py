@@ -1,4 +1,4 @@
-"""Tests of the launchers of bin/ and of tools/build_unproved: what they build, when, and what they tell, over small crates and a stub for the kit."""
+"""Tests of the launchers of bin/ and of tools/build_unproved: what they build, when, and what they print, over small crates and a stub for the kit."""
 import os
 import signal
 import subprocess

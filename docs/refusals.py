@@ -1,13 +1,13 @@
-"""Lists the places of the code where a refusal is made, and compares them with docs/refusals.csv.
+"""Lists the places of the code where a failure of memory begins, and compares them with docs/refusals.csv.
 
 usage: python3 docs/refusals.py [--list]
 
-A call that may take memory answers `Err(AllocError)` or `NoMemory` where memory is refused, and no clause can tell that
-memory was short. So each place that makes such an answer, rather than passes on one that it was given, is listed in
-docs/refusals.csv with its reason: its file, its function, how many there are in it, and why it may refuse.
-A refusal is made where `Err(AllocError)` or a `NoMemory` is written as a value, and where `remap` or `merge` answers an
-`Err`. It is passed on by `?`, by a `From`, and by an arm of a `match` on the same refusal. Tests are left out.
-It prints a line for each place that is not listed, and for each that is listed and not there, and ends with status 1 where
+A call that allocates returns `Err(AllocError)` or `NoMemory` if an allocation fails, and no clause can say that memory was
+short. So each place that makes such an error, and does not only pass one on, is listed in docs/refusals.csv: its file, its
+function, how many there are in it, and why it may fail.
+A failure begins where `Err(AllocError)` or a `NoMemory` is written as a value, and where `remap` or `merge` returns an
+`Err`. It is passed on by `?`, by a `From`, and by an arm of a `match` on the same error. Tests are left out.
+It prints a line for each place that is not listed, and for each that is listed and does not exist, and ends with status 1 if
 there is one. With --list it prints all places as rows of the list, without reasons."""
 import collections
 import csv

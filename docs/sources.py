@@ -1,12 +1,12 @@
-"""What the scripts of this folder read of the repository: its pages, its sources, and what these define."""
+"""What the scripts of this folder read of the repository: its pages, its sources, and what the sources define."""
 import functools
 import glob
 import os
 import re
 
 TOP = os.path.dirname(os.path.dirname(os.path.realpath(__file__)))
-# Pages that a script of docs/ or bench/ writes.
-GENERATED = ("docs/API.md", "docs/FIGURES.md", "docs/TESTS.md")
+# Pages that a script of docs/ writes.
+GENERATED = ("crates/README.md", "docs/API.md", "docs/TESTS.md")
 
 
 @functools.cache
@@ -25,7 +25,7 @@ def below_top(pattern):
 
 def pages():
     """Returns all pages, the top ones first."""
-    return [*below_top("*.md"), *below_top("docs/*.md"), *below_top("docs/history/*.md"), *below_top("crates/*/README.md")]
+    return [*below_top("*.md"), *below_top("docs/*.md"), *below_top("docs/history/*.md"), *below_top("crates/README.md"), *below_top("bench/*/README.md"), *below_top("crates/*/README.md")]
 
 
 def crates():

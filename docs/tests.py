@@ -1,48 +1,67 @@
-"""Writes docs/TESTS.md, the list of all tests, from the sources.
+"""Writes docs/TESTS.md, which lists the things that tests assert, with links to the tests.
 
-usage: python3 docs/tests.py
+usage: python3 docs/tests.py            writes the page: the things of THINGS, with the tests that assert them
+       python3 docs/tests.py --all      prints all tests instead, by crate and file"""
+import sys
 
-First things that readers look for, by the tests that assert them, as THINGS has them; then each crate with tests, each of
-its files (what it is about, by the comment at its head), and its tests: a link to each, with its comment's first sentence
-where it has one. Else its name says what it asserts."""
 import sources
 
 PATH = "docs/TESTS.md"
-HEAD = """# Tests: the thing, the file, what is asserted
+HEAD = """# Tests
 
-Made by `python3 docs/tests.py` from the sources; [check.py](check.py) compares. `rt ci` runs them all. A test's name says
-what it asserts; expected values are written by hand, from the rules.
+`bin/test` runs all {count} tests without proofs, and `rt ci` runs them as they were proved. A test's name says what it
+asserts. Expected values are written by hand, from the rules, and never taken from the program's output. The tests
+include *fault injection*: each request for memory of a call fails in turn.
 
-## By the thing
+Other kinds of tests have pages of their own: [mutation testing](TRIED.md),
+[recorded histories of real runs](THEOREM.md#real-time-is-tested-not-proved), and the
+[tests of the C library](C.md#what-is-proved-and-what-a-program-must-keep).
+
+`python3 docs/tests.py` writes this page, and `python3 docs/tests.py --all` prints all tests by crate and file.
+
+## Which test asserts what
 """
 # What a reader looks for, and the tests that assert it.
 THINGS = (
-    ("each of the twelve calls: its reply and what it leaves, as of `merge` on an absent key", "each_call_replies_and_leaves_what_its_row_says", "each_call_replies_as_its_row_says"),
-    ("typed calls of a client, and the example that stands with each", "each_typed_call_answers", "each_example_of_a_call_is_as_it_says"),
+    ("each of the twelve calls: what it returns and what it leaves, such as `merge` on an absent key", "each_call_replies_and_leaves_what_its_row_says", "each_call_replies_as_its_row_says"),
+    ("typed calls of a client, and the example in the documentation of each", "each_typed_call_answers", "each_example_of_a_call_is_as_it_says"),
     ("calls that borrow their key", "each_call_that_borrows_its_key_answers", "calls_that_borrow_their_key_reply_as_those_that_take_it"),
+    ("calls by a slice, which make no key", "calls_by_a_slice_ask_for_a_copy_of_the_value_alone", "a_slice_finds_the_key_of_its_bytes_and_makes_none"),
+    ("`view`: what it shows, what it copies, and what it locks", "a_view_sees_what_the_call_before_it_left", "a_view_copies_nothing_and_a_look_up_a_value", "a_function_that_calls_the_map_finds_its_own_bucket_locked"),
+    ("`update`: which call it is, and what it allocates", "an_update_is_the_call_for_its_change", "a_lean_update_asks_for_memory_where_it_makes_an_entry", "a_refused_update_of_a_recorded_map_changes_nothing"),
+    ("`retain`", "each_entry_that_goes_is_a_remove", "a_refused_remove_leaves_those_before_it"),
+    ("walks by a cursor, one bucket at a time", "a_client_calls_between_two_steps_of_its_walk", "a_walk_shows_each_key_once_whatever_was_divided"),
     ("codes, hashes, salts", "known_codes_spreads_and_slots", "known_hashes_under_salts", "numbers_have_known_codes"),
-    ("functions ready to use: `Add`, `Greatest`, `Set`", "functions_merge"),
-    ("a bin's fold and split", "the_oldest_records_are_folded", "a_salted_bin_is_split_by_salted_hashes"),
+    ("seeds: known codes, and keys that collide without one", "codes_under_a_seed_are_known", "keys_that_share_a_plain_code_differ_under_a_seed"),
+    ("the functions `Add`, `Greatest`, `Set`", "functions_merge"),
+    ("how a bin folds its records and splits", "the_oldest_records_are_folded", "a_salted_bin_is_split_by_salted_hashes"),
     ("many keys of one hash", "a_million_entries_under_one_hash"),
-    ("growth: at which counts, and to how many bins", "a_recorded_table_grows_at_three_keys_to_four_bins", "a_recorded_table_grows_at_three_quarters_of_its_bins", "a_lean_table_grows_at_three_keys_to_two_bins"),
-    ("moves: each bin once, and help", "two_threads_forward_one_class_once", "a_call_helps_with_a_stride"),
-    ("a bin that a move skips, since it is held", "what_was_skipped_is_moved_later", "a_bin_that_a_move_skipped_is_moved_by_the_next_call_on_it"),
-    ("a call that is tried", "a_call_that_is_tried_is_not_made_where_its_bin_is_held"),
-    ("a refused move", "a_refused_move_leaves_the_bin", "a_later_call_goes_on_with_a_refused_move"),
-    ("calls refused for want of memory, each request in turn", "a_refused_call_leaves_the_bin", "each_request_is_refused_in_turn"),
-    ("which calls of a lean map ask for memory", "calls_on_a_lean_map_ask_for_memory_for_new_keys_alone", "changes_of_a_lean_map_move_their_values"),
-    ("how often keys and functions are asked", "each_call_asks_its_key_and_its_function_so_often"),
-    ("how many requests for memory, and that all comes back", "an_opening_asks_once_for_each_of_its_lists", "calls_of_each_kind_give_all_back", "a_refused_put_or_move_gives_all_back"),
+    ("growth: at which counts, and to how many buckets", "a_recorded_table_grows_at_three_keys_to_four_bins", "a_recorded_table_grows_at_three_quarters_of_its_bins", "a_narrow_lean_table_grows_at_a_key_to_four_bins", "a_lean_table_of_256_bins_grows_at_three_keys_to_two_bins"),
+    ("moves: each bucket moves once, and other calls help", "two_threads_forward_one_class_once", "a_call_helps_with_a_stride"),
+    ("a locked bucket, which a move skips", "what_was_skipped_is_moved_later", "a_bin_that_a_move_skipped_is_moved_by_the_next_call_on_it"),
+    ("tried calls on a locked bucket", "a_call_that_is_tried_is_not_made_where_its_bin_is_held"),
+    ("what a waiting call waits for", "a_function_waits_for_a_put_on_another_bin", "two_glances_copy_one_value_at_once"),
+    ("a move that fails", "a_refused_move_leaves_the_bin", "a_later_call_goes_on_with_a_refused_move"),
+    ("out of memory in a call: each request fails in turn", "a_refused_call_leaves_the_bin", "each_request_is_refused_in_turn"),
+    ("which calls of a lean map allocate", "calls_on_a_lean_map_ask_for_memory_for_new_keys_alone", "changes_of_a_lean_map_move_their_values"),
+    ("how often keys and functions are called", "each_call_asks_its_key_and_its_function_so_often"),
+    ("how many requests for memory there are, and that all memory is freed", "an_opening_asks_once_for_each_of_its_lists", "calls_of_each_kind_give_all_back", "a_refused_put_or_move_gives_all_back"),
     ("a full pass", "a_full_pass_makes_no_more_calls", "a_full_pass_clears_where_nothing_is_left"),
-    ("walks, looks, glances, clears", "a_walk_shows_each_bin_in_turn", "a_clear_removes_each_entry_by_a_call", "a_glance_shows_the_value_before_and_after_a_move"),
-    ("one client tells another", "a_client_gets_what_another_told_it_of", "a_client_learns_what_another_put", "a_moment_is_learned_in_another_thread"),
-    ("clients that come and go", "a_server_is_closed_when_all_clients_are_back", "a_client_comes_back_and_is_taken_out_again"),
-    ("a close: a missing pass, settling", "a_map_closes_with_the_passes_of_all_clients", "settling_needs_each_pass"),
-    ("what clients answer", "answers_stand_in_the_order_of_the_clients"),
-    ("clients at the same time", "one_of_32_clients_finds_no_value", "clients_call_at_the_same_time_each_after_its_gate"),
+    ("walks, look-ups, glances, clears", "a_walk_shows_each_bin_in_turn", "a_clear_removes_each_entry_by_a_call", "a_glance_shows_the_value_before_and_after_a_move"),
+    ("moments: one client is ordered after another", "a_client_gets_what_another_told_it_of", "a_client_learns_what_another_put", "a_moment_is_learned_in_another_thread"),
+    ("moments in letters, through a channel and under a lock", "a_client_finds_each_key_that_it_hears_of", "a_letter_is_left_under_a_lock"),
+    ("clients that come and go", "a_shared_map_is_closed_when_all_clients_are_back", "a_client_comes_back_and_is_taken_out_again"),
+    ("threads that borrow a shared map", "each_thread_makes_its_clients"),
+    ("a full client", "a_full_client_makes_no_more_calls", "a_full_client_is_followed_by_the_next"),
+    ("closing: a missing pass, and the settlement", "a_map_closes_with_the_passes_of_all_clients", "settling_needs_each_pass"),
+    ("a close that fails", "a_failed_close_leaves_all_clients", "a_map_closes_after_each_refused_close", "a_team_that_cannot_be_closed_comes_back"),
+    ("opening: capacity and number of clients", "capacity_and_clients_have_their_limits"),
+    ("values with several owners", "a_page_with_several_owners_is_never_copied"),
+    ("what clients' work returns", "answers_stand_in_the_order_of_the_clients"),
+    ("clients that call at the same time", "one_of_32_clients_finds_no_value", "clients_call_at_the_same_time_each_after_its_gate"),
     ("bulk operations", "the_sum_of_1_to_64", "a_search_gives_up_after_a_find", "a_list_in_walk_order"),
-    ("want of memory in bulk operations", "a_run_that_is_refused_a_request_does_all_bins", "a_search_that_was_refused_is_answered_the_next_time"),
-    ("work that is stolen", "a_thief_takes_the_oldest_task", "four_workers_do_leaves_at_once"),
+    ("out of memory in bulk operations", "a_run_that_is_refused_a_request_does_all_bins", "a_search_that_was_refused_is_answered_the_next_time"),
+    ("work stealing", "a_thief_takes_the_oldest_task", "four_workers_do_leaves_at_once"),
     ("the script language", "every_form_of_a_query", "the_first_bad_line_decides"),
     ("the command line", "words_are_taken", "help_is_told_apart_from_faults"),
 )
@@ -77,15 +96,25 @@ def index(tests):
 def page():
     tests = list(all_tests())
     count = sum(len(found) for _, files in tests for _, _, found in files)
-    parts = [HEAD, *index(tests), f"\n## All {count}, by crate and file"]
-    for crate, files in tests:
-        parts.append(f"\n### [{crate}](../crates/{crate}/README.md)")
+    return "\n".join([HEAD.format(count=count), *index(tests)]) + "\n"
+
+
+def whole_list():
+    for crate, files in all_tests():
+        yield f"{crate}"
         for path, about, found in files:
-            parts.append(f"\n[{path.split('/src/')[1]}](../{path}): {about}\n")
-            parts += [f"- {link(name, path, line)}" + (f": {sources.sentence(comment)}" if comment else "") for name, line, comment in found]
-    return "\n".join(parts) + "\n"
+            yield f"  {path}: {about}"
+            for name, line, comment in found:
+                yield f"    {line:4} {name}" + (f": {sources.sentence(comment)}" if comment else "")
+
+
+def main():
+    if "--all" in sys.argv[1:]:
+        print("\n".join(whole_list()))
+    else:
+        with open(f"{sources.TOP}/{PATH}", "w", encoding="utf-8") as it:
+            it.write(page())
 
 
 if __name__ == "__main__":
-    with open(f"{sources.TOP}/{PATH}", "w", encoding="utf-8") as it:
-        it.write(page())
+    main()
