@@ -212,7 +212,7 @@ fn a_page_is_shared_by_four_clients(rt: HostRuntime) {
     assert_same(&rt, &copies, &Some(0));
 }
 
-/// Whether the example at `Shared` is as it says, with a page in place of a text.
+/// Whether the example at `Shared` is as it says.
 fn example<R: Wait>(rt: &R, alloc: Global) -> Result<bool, Fault> {
     let map: SharedMap<u64, Pages, NoFunction, Global> = SharedMap::new(alloc, 16)?;
     let mut client = map.client()?;
