@@ -29,7 +29,7 @@ use std::marker::Model;
 
 /// A bin by its form.
 #[derive(Drop)]
-pub enum Kind<K: HashKey, V: Value, F: Remap<K, V>, A: Allocator> {
+pub enum BinKind<K: HashKey, V: Value, F: Remap<K, V>, A: Allocator> {
     Lean(LeanBin<K, V, A>),
     Recorded(Box<RecordedBin<K, V, F, A>, A>),
 }
@@ -40,7 +40,7 @@ pub enum Kind<K: HashKey, V: Value, F: Remap<K, V>, A: Allocator> {
 /// entries.
 #[derive(Drop)]
 pub struct Bin<K: HashKey, V: Value, F: Remap<K, V>, A: Allocator> {
-    kind: Kind<K, V, F, A>,
+    kind: BinKind<K, V, F, A>,
 }
 
 impl<K: HashKey, V: Value, F: Remap<K, V>, A: Allocator> Model for Bin<K, V, F, A> {
@@ -84,14 +84,14 @@ impl<K: HashKey, V: Value, F: Remap<K, V>, A: Allocator + Clone> Bin<K, V, F, A>
             Form::Lean => {
                 let chain = chain_of(alloc, salt, base)?;
                 Ok(Bin {
-                    kind: Kind::Lean(LeanBin::of_chain(salt, class, chain)),
+                    kind: BinKind::Lean(LeanBin::of_chain(salt, class, chain)),
                 })
             }
             Form::Recorded => {
                 let bin = RecordedBin::new(alloc.clone()?, salt, class, base)?;
                 match Box::new(alloc.clone()?, bin) {
                     Ok(boxed) => Ok(Bin {
-                        kind: Kind::Recorded(boxed),
+                        kind: BinKind::Recorded(boxed),
                     }),
                     Err(failed) => {
                         drop(failed);
@@ -103,22 +103,22 @@ impl<K: HashKey, V: Value, F: Remap<K, V>, A: Allocator + Clone> Bin<K, V, F, A>
     }
 
     /// A bin of the kind.
-    pub fn of_kind(kind: Kind<K, V, F, A>) -> Bin<K, V, F, A>
+    pub fn of_kind(kind: BinKind<K, V, F, A>) -> Bin<K, V, F, A>
         ensures { result ≡ bin_of kind }
     {
         Bin { kind }
     }
 
     /// The bin by its form.
-    pub fn into_kind(self) -> Kind<K, V, F, A>
+    pub fn into_kind(self) -> BinKind<K, V, F, A>
         ensures bin { bin_of result ≡ self }
         ensures form { form_of result ≡ self.form }
     {
         match self.kind {
-            Kind::Lean(bin) => Kind::Lean(bin),
-            Kind::Recorded(bin) => {
+            BinKind::Lean(bin) => BinKind::Lean(bin),
+            BinKind::Recorded(bin) => {
                 bin.lawful();
-                Kind::Recorded(bin)
+                BinKind::Recorded(bin)
             }
         }
     }
@@ -129,8 +129,8 @@ impl<K: HashKey, V: Value, F: Remap<K, V>, A: Allocator + Clone> Bin<K, V, F, A>
             (λ bin. (bin.now ≡ self.now) × (self.now.form ≡ Recorded)) }
     {
         match &self.kind {
-            Kind::Lean(_) => None,
-            Kind::Recorded(bin) => {
+            BinKind::Lean(_) => None,
+            BinKind::Recorded(bin) => {
                 bin.lawful();
                 Some(bin)
             }
@@ -142,8 +142,8 @@ impl<K: HashKey, V: Value, F: Remap<K, V>, A: Allocator + Clone> Bin<K, V, F, A>
         ensures { result ≡ self.now.form }
     {
         match &self.kind {
-            Kind::Lean(_) => Form::Lean,
-            Kind::Recorded(bin) => {
+            BinKind::Lean(_) => Form::Lean,
+            BinKind::Recorded(bin) => {
                 bin.lawful();
                 Form::Recorded
             }
@@ -155,8 +155,8 @@ impl<K: HashKey, V: Value, F: Remap<K, V>, A: Allocator + Clone> Bin<K, V, F, A>
         ensures { result ≡ self.now.class }
     {
         match &self.kind {
-            Kind::Lean(bin) => bin.class(),
-            Kind::Recorded(bin) => bin.class(),
+            BinKind::Lean(bin) => bin.class(),
+            BinKind::Recorded(bin) => bin.class(),
         }
     }
 
@@ -165,8 +165,8 @@ impl<K: HashKey, V: Value, F: Remap<K, V>, A: Allocator + Clone> Bin<K, V, F, A>
         ensures { result ≡ self.now.salt }
     {
         match &self.kind {
-            Kind::Lean(bin) => bin.salt(),
-            Kind::Recorded(bin) => bin.salt(),
+            BinKind::Lean(bin) => bin.salt(),
+            BinKind::Recorded(bin) => bin.salt(),
         }
     }
 
@@ -176,8 +176,8 @@ impl<K: HashKey, V: Value, F: Remap<K, V>, A: Allocator + Clone> Bin<K, V, F, A>
         ensures { option_copied result ≡ lookup K.eq self.now.entries (Q.stands_for query) }
     {
         match &self.kind {
-            Kind::Lean(bin) => bin.get_as(hash, query),
-            Kind::Recorded(bin) => bin.get_as(query),
+            BinKind::Lean(bin) => bin.get_as(hash, query),
+            BinKind::Recorded(bin) => bin.get_as(query),
         }
     }
 
@@ -195,8 +195,8 @@ impl<K: HashKey, V: Value, F: Remap<K, V>, A: Allocator + Clone> Bin<K, V, F, A>
         ensures replayed { self.now.entries ≡ replay K.eq self.now.base self.now.records }
     {
         match &self.kind {
-            Kind::Lean(bin) => bin.lawful::<F>(),
-            Kind::Recorded(bin) => bin.lawful(),
+            BinKind::Lean(bin) => bin.lawful::<F>(),
+            BinKind::Recorded(bin) => bin.lawful(),
         }
     }
 
@@ -235,8 +235,8 @@ impl<K: HashKey, V: Value, F: Remap<K, V>, A: Allocator + Clone> Bin<K, V, F, A>
         ensures salt { self.new.salt ≡ self.old.salt }
     {
         match &mut self.kind {
-            Kind::Lean(bin) => bin.make_on(alloc, hash, key, op, client, ordinal),
-            Kind::Recorded(bin) => {
+            BinKind::Lean(bin) => bin.make_on(alloc, hash, key, op, client, ordinal),
+            BinKind::Recorded(bin) => {
                 bin.lawful();
                 bin.make_on(key, op, client, ordinal)
             }
@@ -263,8 +263,8 @@ impl<K: HashKey, V: Value, F: Remap<K, V>, A: Allocator + Clone> Bin<K, V, F, A>
         ensures { result ≡ self.now.entries }
     {
         match &self.kind {
-            Kind::Lean(bin) => bin.walk(),
-            Kind::Recorded(bin) => Walk::of_list(bin.entries()),
+            BinKind::Lean(bin) => bin.walk(),
+            BinKind::Recorded(bin) => Walk::of_list(bin.entries()),
         }
     }
 
@@ -283,8 +283,8 @@ impl<K: HashKey, V: Value, F: Remap<K, V>, A: Allocator + Clone> Bin<K, V, F, A>
         ensures { IfOk result (λ copy. copy.items ≡ self.now.entries) }
     {
         match &self.kind {
-            Kind::Lean(bin) => bin.copies(alloc.clone()?),
-            Kind::Recorded(bin) => bin.copy_entries(),
+            BinKind::Lean(bin) => bin.copies(alloc.clone()?),
+            BinKind::Recorded(bin) => bin.copy_entries(),
         }
     }
 
@@ -295,8 +295,8 @@ impl<K: HashKey, V: Value, F: Remap<K, V>, A: Allocator + Clone> Bin<K, V, F, A>
         ensures capacity { vec_capacity list ≤ vec_capacity result }
     {
         match self.kind {
-            Kind::Lean(bin) => bin.pour(list),
-            Kind::Recorded(bin) => {
+            BinKind::Lean(bin) => bin.pour(list),
+            BinKind::Recorded(bin) => {
                 let mut own = Box::into_inner(bin).into_entries();
                 match list.append(&mut own) {
                     Ok(()) => list,
@@ -325,10 +325,10 @@ impl<K: HashKey, V: Value, F: Remap<K, V>, A: Allocator + Clone> Bin<K, V, F, A>
         let high = boxed(alloc, high)?;
         Ok((
             Bin {
-                kind: Kind::Recorded(low),
+                kind: BinKind::Recorded(low),
             },
             Bin {
-                kind: Kind::Recorded(high),
+                kind: BinKind::Recorded(high),
             },
         ))
     }
@@ -352,24 +352,24 @@ impl<K: HashKey, V: Value, F: Remap<K, V>, A: Allocator + Clone> Bin<K, V, F, A>
         ensures refused { IfErr result (λ e. e.0 ≡ self) }
     {
         match self.kind {
-            Kind::Lean(bin) => {
+            BinKind::Lean(bin) => {
                 let (low, high) = bin.split();
                 Ok((
                     Bin {
-                        kind: Kind::Lean(low),
+                        kind: BinKind::Lean(low),
                     },
                     Bin {
-                        kind: Kind::Lean(high),
+                        kind: BinKind::Lean(high),
                     },
                 ))
             }
-            Kind::Recorded(bin) => {
+            BinKind::Recorded(bin) => {
                 bin.lawful();
                 match Bin::boxed_halves(alloc, &bin) {
                     Ok(halves) => Ok(halves),
                     Err(error) => Err((
                         Bin {
-                            kind: Kind::Recorded(bin),
+                            kind: BinKind::Recorded(bin),
                         },
                         error,
                     )),

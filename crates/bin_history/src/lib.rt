@@ -26,7 +26,7 @@ mod seen_key;
 mod split;
 mod work;
 
-pub use bin::{Bin, Kind};
+pub use bin::{Bin, BinKind};
 pub use bin_entries::{Chain, KeyArg, LeanEntries, Node, Walk};
 pub use call::{Call, Remap, Reply, Value};
 pub use change::Change;

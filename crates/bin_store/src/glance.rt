@@ -6,7 +6,7 @@ ghost use Rattle.bin_history.specs.Copies.{IsExact};
 ghost use Rattle.bin_history.specs.Hashes.{hash_by};
 ghost use Rattle.bin_store.specs.Glances.{IsGlanced};
 
-use crate::store::{BinStore, Kind};
+use crate::store::{BinStore, StoreKind};
 use bin_entries::copy_of_option;
 use bin_history::{Remap, Value, lawful_entries};
 use generations::Generations;
@@ -83,8 +83,8 @@ impl<K: HashKey, V: Value, F: Remap<K, V>, A: Allocator + Clone> BinStore<K, V, 
         ensures succeeds { IsNeverRefused V.is_infallible → IsOk result }
     {
         match &self.kind {
-            Kind::Recorded(home) => glance_recorded(rt, home, hash, query),
-            Kind::Lean(home) => glance_lean(rt, home, hash, query),
+            StoreKind::Recorded(home) => glance_recorded(rt, home, hash, query),
+            StoreKind::Lean(home) => glance_lean(rt, home, hash, query),
         }
     }
 }

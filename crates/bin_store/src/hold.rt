@@ -9,7 +9,7 @@ ghost use Rattle.bin_layout.specs.Places.{AreAt};
 ghost use Rattle.bin_layout.specs.Views.{IsPlaceOf};
 ghost use Rattle.bin_store.specs.Places.{home_of, tag_of};
 
-use crate::store::{BinStore, Kind};
+use crate::store::{BinStore, StoreKind};
 use bin_history::{Bin, Remap, Value};
 use bin_layout::Refused;
 use count_ledger::{BinRole, Ledger};
@@ -43,7 +43,7 @@ impl<K: HashKey, V: Value, F: Remap<K, V>, A: Allocator + Clone> BinStore<K, V, 
         ensures home { home_of result.place ≡ self.now }
     {
         match &self.kind {
-            Kind::Recorded(home) => {
+            StoreKind::Recorded(home) => {
                 let generations::Held { bin, role, place } = home.hold(rt, hash);
                 Held {
                     bin,
@@ -51,7 +51,7 @@ impl<K: HashKey, V: Value, F: Remap<K, V>, A: Allocator + Clone> BinStore<K, V, 
                     place: Place::Recorded(place),
                 }
             }
-            Kind::Lean(home) => {
+            StoreKind::Lean(home) => {
                 let lean_bins::Held { bin, role, place } = home.hold(rt, hash);
                 Held {
                     bin,
@@ -74,7 +74,7 @@ impl<K: HashKey, V: Value, F: Remap<K, V>, A: Allocator + Clone> BinStore<K, V, 
         ensures home { IfSome result (λ h. home_of h.place ≡ self.now) }
     {
         match &self.kind {
-            Kind::Recorded(home) => {
+            StoreKind::Recorded(home) => {
                 let generations::Held { bin, role, place } = home.try_hold(hash)?;
                 Some(Held {
                     bin,
@@ -82,7 +82,7 @@ impl<K: HashKey, V: Value, F: Remap<K, V>, A: Allocator + Clone> BinStore<K, V, 
                     place: Place::Recorded(place),
                 })
             }
-            Kind::Lean(home) => {
+            StoreKind::Lean(home) => {
                 let lean_bins::Held { bin, role, place } = home.try_hold(hash)?;
                 Some(Held {
                     bin,

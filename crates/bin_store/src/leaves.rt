@@ -5,7 +5,7 @@ ghost use Rattle.count_ledger.specs.Books.{classes_of_roles};
 ghost use Rattle.bin_layout.specs.BinsWithRoles.{AreBinsWithRoles, classes_of_bins};
 ghost use Rattle.bin_layout.specs.Walks.{IsWalk};
 
-use crate::store::{BinStore, Kind};
+use crate::store::{BinStore, StoreKind};
 use bin_history::{Bin, Remap, Value};
 use bin_layout::Room;
 use count_ledger::BinRole;
@@ -20,8 +20,8 @@ impl<K: HashKey, V: Value, F: Remap<K, V>, A: Allocator + Clone> BinStore<K, V, 
     /// `AllocError` when out of memory.
     pub fn room_for_leaves(&self) -> Result<Room<K, V, F, A>, AllocError> {
         match &self.kind {
-            Kind::Recorded(home) => home.room_for_leaves(),
-            Kind::Lean(home) => home.room_for_leaves(),
+            StoreKind::Recorded(home) => home.room_for_leaves(),
+            StoreKind::Lean(home) => home.room_for_leaves(),
         }
     }
 
@@ -41,8 +41,8 @@ impl<K: HashKey, V: Value, F: Remap<K, V>, A: Allocator + Clone> BinStore<K, V, 
             (λ p. classes_of_roles p.1.items ≡ classes_of_bins p.0.items) }
     {
         match self.kind {
-            Kind::Recorded(home) => home.into_leaves(room),
-            Kind::Lean(home) => home.into_leaves(room),
+            StoreKind::Recorded(home) => home.into_leaves(room),
+            StoreKind::Lean(home) => home.into_leaves(room),
         }
     }
 }

@@ -13,4 +13,4 @@ mod moving;
 mod store;
 
 pub use hold::{Held, Place};
-pub use store::{BinStore, Kind};
+pub use store::{BinStore, StoreKind};

@@ -6,7 +6,7 @@ ghost use Rattle.bin_history.specs.Copies.{IsExact};
 ghost use Rattle.bin_history.specs.Limits.{most_recorded_bins};
 ghost use Rattle.bin_history.specs.declared.form.Form.TheVariants.{Recorded};
 
-use crate::store::{BinStore, Kind};
+use crate::store::{BinStore, StoreKind};
 use bin_history::{Remap, Value};
 use bin_layout::{Moved, Refused};
 use count_ledger::Ledger;
@@ -28,8 +28,8 @@ impl<K: HashKey, V: Value, F: Remap<K, V>, A: Allocator + Clone> BinStore<K, V, 
         requires size { class.n < most_bins }
     {
         match &self.kind {
-            Kind::Recorded(home) => home.try_forward(ledger, class),
-            Kind::Lean(home) => home.try_forward(ledger, class),
+            StoreKind::Recorded(home) => home.try_forward(ledger, class),
+            StoreKind::Lean(home) => home.try_forward(ledger, class),
         }
     }
 
@@ -46,8 +46,8 @@ impl<K: HashKey, V: Value, F: Remap<K, V>, A: Allocator + Clone> BinStore<K, V, 
         requires least { self.now.n ≤ size }
     {
         match &self.kind {
-            Kind::Recorded(home) => home.try_widen(size),
-            Kind::Lean(home) => home.try_widen(size),
+            StoreKind::Recorded(home) => home.try_widen(size),
+            StoreKind::Lean(home) => home.try_widen(size),
         }
     }
 }

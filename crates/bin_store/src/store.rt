@@ -16,7 +16,7 @@ use std::marker::Model;
 
 /// The bins of a map by their form.
 #[derive(Drop)]
-pub enum Kind<K: HashKey, V: Value, F: Remap<K, V>, A: Allocator> {
+pub enum StoreKind<K: HashKey, V: Value, F: Remap<K, V>, A: Allocator> {
     Recorded(Generations<K, V, F, A>),
     Lean(LeanBins<K, V, F, A>),
 }
@@ -25,7 +25,7 @@ pub enum Kind<K: HashKey, V: Value, F: Remap<K, V>, A: Allocator> {
 /// number of its opening bins.
 #[derive(Drop)]
 pub struct BinStore<K: HashKey, V: Value, F: Remap<K, V>, A: Allocator> {
-    pub kind: Kind<K, V, F, A>,
+    pub kind: StoreKind<K, V, F, A>,
 }
 
 impl<K: HashKey, V: Value, F: Remap<K, V>, A: Allocator> Model for BinStore<K, V, F, A> {
@@ -46,8 +46,8 @@ impl<K: HashKey, V: Value, F: Remap<K, V>, A: Allocator> BinStore<K, V, F, A> {
         ensures size { IsTableSize self.now.n }
     {
         match &self.kind {
-            Kind::Recorded(home) => home.n(),
-            Kind::Lean(home) => home.n(),
+            StoreKind::Recorded(home) => home.n(),
+            StoreKind::Lean(home) => home.n(),
         }
     }
 
@@ -56,8 +56,8 @@ impl<K: HashKey, V: Value, F: Remap<K, V>, A: Allocator> BinStore<K, V, F, A> {
         ensures { result ≡ self.now.salt }
     {
         match &self.kind {
-            Kind::Recorded(home) => home.salt(),
-            Kind::Lean(home) => home.salt(),
+            StoreKind::Recorded(home) => home.salt(),
+            StoreKind::Lean(home) => home.salt(),
         }
     }
 }
@@ -91,13 +91,13 @@ impl<K: HashKey, V: Value, F: Remap<K, V>, A: Allocator + Clone> BinStore<K, V, 
             Form::Recorded => {
                 let home = Generations::new(alloc, form, salt, n, bases, roles)?;
                 Ok(BinStore {
-                    kind: Kind::Recorded(home),
+                    kind: StoreKind::Recorded(home),
                 })
             }
             Form::Lean => {
                 let home = LeanBins::new(alloc, salt, n, bases, roles)?;
                 Ok(BinStore {
-                    kind: Kind::Lean(home),
+                    kind: StoreKind::Lean(home),
                 })
             }
         }

@@ -26,7 +26,7 @@ use std::sync::Wait;
 /// Nobody else has either until it is released.
 pub struct BinGuard<'a, K: HashKey, V: Value, F: Remap<K, V>, A: Allocator> {
     /// What lies there is lent by its `value`.
-    pub inner: lock_table::Held<'a, BinSlot<K, V, F, A>, A>,
+    pub inner: lock_table::SlotGuard<'a, BinSlot<K, V, F, A>, A>,
     /// The class of the bin's keys.
     pub class: Class,
     pub(crate) exponent: u32,
@@ -252,7 +252,7 @@ impl<'a, K: HashKey, V: Value, F: Remap<K, V>, A: Allocator + Clone> BinGuard<'a
 /// Puts a bin and its role at a place that is held, as one of 2 to the exponent.
 #[inline(always)]
 pub(crate) fn give_back<K: HashKey, V: Value, F: Remap<K, V>, A: Allocator + Clone>(
-    inner: lock_table::Held<'_, BinSlot<K, V, F, A>, A>,
+    inner: lock_table::SlotGuard<'_, BinSlot<K, V, F, A>, A>,
     exponent: u32,
     bin: Bin<K, V, F, A>,
     role: BinRole<K, V, F>,

@@ -3,7 +3,7 @@ ghost use Rattle.std.specs.Prelude.{◌≡◌, Some, IsSomeAnd};
 ghost use Rattle.bin_history.specs.declared.form.Form.TheVariants.{Lean};
 ghost use Rattle.lean_bins.specs.BinSlot.{bin_in};
 
-use bin_history::{Bin, Kind, LeanBin, LeanEntries, Remap, Value};
+use bin_history::{Bin, BinKind, LeanBin, LeanEntries, Remap, Value};
 use count_ledger::{BinRole, LedgerName, RoleBook};
 use hashkeys::{Class, HashKey, Salt};
 use lock_table::Fits;
@@ -53,7 +53,7 @@ impl<K: HashKey, V: Value, F: Remap<K, V>, A: Allocator + Clone> BinSlot<K, V, F
         ensures role { result.role ≡ Some role }
         ensures bin { bin_in result ≡ bin }
     {
-        let Kind::Lean(lean) = bin.into_kind() else {
+        let BinKind::Lean(lean) = bin.into_kind() else {
             unreachable!()
         };
         BinSlot {
@@ -72,7 +72,7 @@ impl<K: HashKey, V: Value, F: Remap<K, V>, A: Allocator + Clone> BinSlot<K, V, F
         ensures role { self.role ≡ Some result.1 }
     {
         let BinSlot { entries, role } = self;
-        let bin = Bin::of_kind(Kind::Lean(LeanBin::of_entries(salt, class, entries)));
+        let bin = Bin::of_kind(BinKind::Lean(LeanBin::of_entries(salt, class, entries)));
         (bin, role.into_role(class))
     }
 

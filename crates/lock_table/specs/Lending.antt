@@ -1,9 +1,9 @@
 -- A value that is lent.
 use Rattle.atomic_table.specs.Lent.{seat_with}
 use Rattle.lock_table.specs.Taken.{still_one}
-use Rattle.lock_table.specs.declared.held.Held.{Held}
+use Rattle.lock_table.specs.declared.held.SlotGuard.{SlotGuard}
 
-abbrev pub with_value : {X A T : Type 0} → Held X A T → X → Held X A T
+abbrev pub with_value : {X A T : Type 0} → SlotGuard X A T → X → SlotGuard X A T
 with_value h w = record {
   rows = h.rows;
   at = h.at;

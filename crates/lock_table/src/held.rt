@@ -10,7 +10,7 @@ use std::alloc::Allocator;
 use std::mem;
 
 /// A value that is held. Nobody else has it until it is released.
-pub struct Held<'a, X: Fits, A: Allocator> {
+pub struct SlotGuard<'a, X: Fits, A: Allocator> {
     pub rows: &'a LockedSlots<X, A>,
     pub at: usize,
     /// Where the word of the place lies, so that giving the value back computes nothing.
@@ -23,12 +23,12 @@ pub struct Held<'a, X: Fits, A: Allocator> {
     ghost below: { word < rows.now.table.shared.table_id.words },
 }
 
-impl<'a, X: Fits, A: Allocator> Held<'a, X, A> {
+impl<'a, X: Fits, A: Allocator> SlotGuard<'a, X, A> {
     ghost use Rattle.std.specs.Prelude.{Some};
     ghost use Rattle.std.specs.Borrow.{sem, Lends};
     ghost use mir.Syntax.{named};
     ghost use Rattle.lock_table.specs.Lending.{with_value};
-    ghost use Rattle.lock_table.specs.contracts.held.Held.{the_row};
+    ghost use Rattle.lock_table.specs.contracts.held.SlotGuard.{the_row};
 
     /// The value. When the borrow ends, what was left there is held.
     #[inline(always)]
@@ -60,7 +60,7 @@ impl<'a, X: Fits, A: Allocator> Held<'a, X, A> {
     pub fn release(self, kind: u32)
         requires { IsSomeAnd (taken self.seat.me.1) (X.fits self.rows.now.table.shared.key.tag self.at kind) }
     {
-        let Held {
+        let SlotGuard {
             rows,
             at: _,
             word,
@@ -75,7 +75,7 @@ impl<'a, X: Fits, A: Allocator> Held<'a, X, A> {
     pub fn take(self, blank: X) -> X
         ensures { IsSomeAnd (taken self.entry.seat.me.1) (λ x. result ≡ x) }
     {
-        let Held {
+        let SlotGuard {
             rows,
             at,
             word,

@@ -5,6 +5,6 @@ mod held;
 mod locked_slots;
 mod terms;
 
-pub use held::Held;
+pub use held::SlotGuard;
 pub use locked_slots::{Glance, LockedSlots};
 pub use terms::{Fits, Terms};

@@ -5,7 +5,7 @@ ghost use Rattle.lock_table.specs.Taken.{taken};
 ghost use lib.ListN.{get_elem?};
 ghost use mathlib.Core.Option.{some};
 
-use crate::held::Held;
+use crate::held::SlotGuard;
 use crate::terms::{Fits, OfPlaces, Sitting, Taking, Terms};
 use atomic_table::{Refused, Table};
 use std::alloc::{AllocError, Allocator};
@@ -51,7 +51,7 @@ impl<X: Fits, A: Allocator> LockedSlots<X, A> {
 
     /// One try for the value under a word.
     #[inline(always)]
-    fn try_word(&self, at: usize, expected: u64) -> Option<Held<'_, X, A>>
+    fn try_word(&self, at: usize, expected: u64) -> Option<SlotGuard<'_, X, A>>
         requires at { at < self.now.table.shared.table_id.slots }
         requires word { expected ≢ 2 }
         ensures rows { IfSome result (λ h. h.rows.now ≡ self.now) }
@@ -69,7 +69,7 @@ impl<X: Fits, A: Allocator> LockedSlots<X, A> {
         if found != expected {
             return None;
         }
-        Some(Held {
+        Some(SlotGuard {
             rows: self,
             at,
             word,
@@ -79,7 +79,7 @@ impl<X: Fits, A: Allocator> LockedSlots<X, A> {
 
     /// One try for the value of a kind at a place.
     #[inline(always)]
-    pub fn try_hold(&self, at: usize, kind: u32) -> Option<Held<'_, X, A>>
+    pub fn try_hold(&self, at: usize, kind: u32) -> Option<SlotGuard<'_, X, A>>
         requires { at < self.now.table.shared.table_id.slots }
         ensures rows { IfSome result (λ h. h.rows.now ≡ self.now) }
         ensures at { IfSome result (λ h. h.at ≡ at) }
@@ -90,7 +90,7 @@ impl<X: Fits, A: Allocator> LockedSlots<X, A> {
     }
 
     /// One try for a place where nothing stands. What it holds is what was left there.
-    pub fn try_begin(&self, at: usize) -> Option<Held<'_, X, A>>
+    pub fn try_begin(&self, at: usize) -> Option<SlotGuard<'_, X, A>>
         requires { at < self.now.table.shared.table_id.slots }
         ensures rows { IfSome result (λ h. h.rows.now ≡ self.now) }
         ensures at { IfSome result (λ h. h.at ≡ at) }

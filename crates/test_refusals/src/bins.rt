@@ -1,6 +1,6 @@
 //! A bin, each request of its making and of a call refused in turn.
 use crate::asserts::assert_same;
-use bin_history::{Bin, Call, Form, KeyArg, Kind, Reply};
+use bin_history::{Bin, BinKind, Call, Form, KeyArg, Reply};
 use hashkeys::{Class, Key, Salt};
 use std::alloc::{AllocError, Global};
 use std::process::Abort;
@@ -187,7 +187,7 @@ fn assert_value<'a>(
         None => assert!(rt; bin.first().is_none()),
     }
     let kind = bin.into_kind();
-    if let Kind::Recorded(own) = &kind {
+    if let BinKind::Recorded(own) = &kind {
         assert_same(rt, &(own.records().len(), own.base().len()), &(calls, 0));
     }
     Bin::of_kind(kind)

@@ -3,7 +3,7 @@ use crate::asserts::assert_same;
 use crate::bins::{
     MANY, NumberBin, NumberCall, assert_entries, assert_pairs, call_of_kind, empty, put,
 };
-use bin_history::{Call, Form, KeyArg, Kind, RecordedBin};
+use bin_history::{BinKind, Call, Form, KeyArg, RecordedBin};
 use hashkeys::{Class, Key, Salt};
 use std::alloc::{AllocError, Global};
 use std::process::Abort;
@@ -99,7 +99,7 @@ fn a_refused_fold_leaves_the_base(rt: HostRuntime) {
 /// Asserts that these are the bin's entries, and that a recorded bin has so many records.
 fn assert_stores(rt: &impl Abort, bin: NumberBin<'_>, entries: &[(&[u8], u64)], records: usize) {
     assert_entries(rt, &bin, entries);
-    if let Kind::Recorded(own) = bin.into_kind() {
+    if let BinKind::Recorded(own) = bin.into_kind() {
         assert_same(rt, &own.records().len(), &records);
     }
 }

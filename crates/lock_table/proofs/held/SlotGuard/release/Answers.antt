@@ -1,6 +1,6 @@
 use Rattle.std.proofs.Common.{rules, subst, arith, ◌≡◌, ◌∙◌, sym}
 use Rattle.lock_table.proofs.Steps.{gives_it, one_taken, some_taken}
-use Rattle.lock_table.proofs.held.Held.release.Goals as goal
+use Rattle.lock_table.proofs.held.SlotGuard.release.Goals as goal
 
 pub store-requires : goal.store-requires
 store-requires g c = let t = one_taken _ _ c.args.self.holds in (
