@@ -1,4 +1,4 @@
 mod FromBehind
 mod JoinedParts
 mod Parting
-mod Taking
+pub mod Taking

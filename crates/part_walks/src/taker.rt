@@ -62,8 +62,10 @@ fn add_some<K: HashKey, V: Value, F: Remap<K, V>, A: Allocator + Clone, T: Taker
     part
 }
 
-fn is_same(class: Class, other: Class) -> bool
-    ensures { result ≡ true → class ≡ other }
+/// Returns whether the two are one class.
+pub fn is_same(class: Class, other: Class) -> bool
+    ensures of { result ≡ true → class ≡ other }
+    ensures told { class ≡ other → result ≡ true }
 {
     class.n() == other.n() && class.index() == other.index()
 }

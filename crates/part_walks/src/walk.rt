@@ -1,5 +1,5 @@
 //! A walk from one index of a table to another.
-ghost use Rattle.std.specs.Prelude.{◌≡◌, ℕ, true};
+ghost use Rattle.std.specs.Prelude.{◌≡◌, ◌⊎◌, ℕ, true};
 ghost use Rattle.hashkeys.specs.Classes.{covers};
 ghost use Rattle.part_walks.specs.Parts.{IsFirstOf};
 
@@ -28,17 +28,19 @@ impl Model for PartWalk {
     ghost invariant = { λ w. IsPart (record { n = w.n; lo = w.lo; hi = w.hi; next = w.next }) };
 }
 
-/// The narrower of two classes, the one that is next and that of the bucket in which it lies.
-fn narrower(next: Class, class: Class) -> Class
+/// Returns the narrower of two classes: the one that is next in a walk, and that of the bucket in
+/// which it lies.
+pub fn narrower(next: Class, class: Class) -> Class
     requires covers { covers class next.index ≡ true }
     ensures first { IsFirstOf next result }
     ensures within { (hash : ℕ) → covers result hash ≡ true → covers class hash ≡ true }
+    ensures one { (result ≡ next) ⊎ (result ≡ class) }
 {
     if next.n() <= class.n() { class } else { next }
 }
 
 impl PartWalk {
-    ghost use Rattle.std.specs.Prelude.{◌≡◌, ◌≤◌, ◌++◌, [], ◌∷◌, ℕ, List, Some, true, false, IsSomeAnd};
+    ghost use Rattle.std.specs.Prelude.{◌≡◌, ◌≤◌, ◌⊎◌, ◌++◌, [], ◌∷◌, ℕ, List, Some, true, false, IsSomeAnd};
     ghost use Rattle.hashkeys.specs.Classes.{ClassView, IsTableSize, covers};
     ghost use Rattle.part_walks.specs.Parts.{HasWalked, IsFirstOf, IsWalkFrom, class_at, is_at_end};
 
@@ -90,6 +92,7 @@ impl PartWalk {
         requires covers { IsSomeAnd self.now.next (λ next. covers class next.index ≡ true) }
         ensures first { IsSomeAnd self.now.next (λ next. IsFirstOf next result) }
         ensures within { (hash : ℕ) → covers result hash ≡ true → covers class hash ≡ true }
+        ensures one { IsSomeAnd self.now.next (λ next. (result ≡ next) ⊎ (result ≡ class)) }
     {
         narrower(self.next(), class)
     }

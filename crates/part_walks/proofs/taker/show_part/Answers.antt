@@ -7,7 +7,7 @@ pub returns-then-is_same : goal.returns-then-is_same
 returns-then-is_same g c = λ es h.
     let bin = c.args.bin.now in
     let code = g.K.HashKey.code in
-    let own : bin.class ≡ c.args.class = sym (c.is_same.ensures c.if-is_same.true ∙ c.class.ensures) in
+    let own : bin.class ≡ c.args.class = sym (c.is_same.ensures.of c.if-is_same.true ∙ c.class.ensures) in
     let all = subst (λ (k : ClassView). All (λ e. is_of code bin.salt k e.0 ≡ true) bin.entries) own
     c.lawful.ensures.lawful.of_class in
     let test : g.row.K.Denot × g.row.V.Denot → Bool = λ x. is_of code bin.salt c.args.class x.0 in
