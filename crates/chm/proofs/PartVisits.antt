@@ -27,6 +27,17 @@ module _ {X : Type 0} (p q : X → Bool) (narrow : (x : X) → p x ≡ true → 
   filter-within [] = refl
   filter-within (x ∷ xs) = within-at x xs (filter-within xs) (p x) (q x) refl refl
 
+-- of the part of some entries in a class, those of a class within it are those of all
+pub part-of-part : {K V : Type 0} (code : K → ℕ) (ledger : LedgerView K V) (whole class : ClassView)
+    (entries all : List (K × V)) → entries ≡ part_of_entries (is_of code ledger.salt whole) all →
+    ((hash : ℕ) → covers class hash ≡ true → covers whole hash ≡ true) →
+    part_of_entries (is_of code ledger.salt class) entries ≡ part_of_entries (is_of code ledger.salt class) all
+part-of-part {K} {V} code ledger whole class entries all is narrow =
+    let p : K × V → Bool = λ e. is_of code ledger.salt class e.0 in
+    let q : K × V → Bool = λ e. is_of code ledger.salt whole e.0 in
+    ap (λ (es : List (K × V)). filter p es) is
+    ∙ filter-within p q (λ e of. narrow (hash_of ledger.salt (code e.0)) of) all
+
 module _ {K V F : Type 0} (same : K → K → Bool) (tells : (x y : K) → Decides (same x y) (x ≡ y)) (code : K → ℕ)
     (ledger : LedgerView K V) (front : List (RecordView K V F)) where
   pub IsVisit-part : (whole class : ClassView) (entries : List (K × V)) → HasDistinctKeys same entries →
@@ -35,11 +46,8 @@ module _ {K V F : Type 0} (same : K → K → Bool) (tells : (x y : K) → Decid
       IsVisit same code ledger front
       (record { class = class; entries = part_of_entries (is_of code ledger.salt class) entries })
   IsVisit-part whole class entries distinct is narrow =
-      let p : K × V → Bool = λ e. is_of code ledger.salt class e.0 in
-      let q : K × V → Bool = λ e. is_of code ledger.salt whole e.0 in
       record {
         distinct = HasDistinctKeys-part same tells (is_of code ledger.salt class) entries distinct;
-        of_class = filter_passes p entries;
-        entries = ap (λ (es : List (K × V)). filter p es) is
-            ∙ filter-within p q (λ e of. narrow (hash_of ledger.salt (code e.0)) of) (replay same ledger.opening front);
+        of_class = filter_passes (λ (e : K × V). is_of code ledger.salt class e.0) entries;
+        entries = part-of-part code ledger whole class entries (replay same ledger.opening front) is narrow;
       }

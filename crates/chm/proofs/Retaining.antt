@@ -1,8 +1,8 @@
 -- What a retain takes away and what it keeps.
-use Rattle.std.proofs.Common.{◌≡◌, ◌≢◌, ℕ, ◌<◌, Bool, true, false, Decides, cond, Option, Some, None, List, []}
+use Rattle.std.proofs.Common.{◌≡◌, ◌≢◌, ℕ, ◌<◌, Bool, true, false, Decides, cond, filter, Option, Some, None, List, []}
 use Rattle.std.proofs.Common.{◌∷◌, ◌++◌, length, IsSomeAnd, All, refl, sym, ap, subst, ◌∙◌, arith}
 use Rattle.std.proofs.lemmas.Option.{none-some}
-use Rattle.std.proofs.lemmas.List.Elements.{All-nil, All-cons, All-head, All-tail, All-append, All-weaker}
+use Rattle.std.proofs.lemmas.List.Elements.{All-nil, All-cons, All-head, All-tail, All-append, All-weaker, filter-append}
 use Rattle.hashkeys.specs.Classes.{ClassView, is_of}
 use Rattle.hashkeys.specs.declared.hashing.Salt.{Salt}
 use Rattle.bin_history.specs.Calls.{key_of}
@@ -16,6 +16,7 @@ use Rattle.bin_history.specs.Records.{RecordView}
 use Rattle.count_ledger.specs.Fronts.{BeginsWith, HasSeenMore, IsFront}
 use Rattle.count_ledger.specs.Views.{LedgerView, PassView}
 use Rattle.count_ledger.proofs.Fronts.{BeginsWith-push}
+use Rattle.part_walks.proofs.Taking.{filter-kept, filter-left}
 use Rattle.chm.specs.Cleared.{AreCleared, HasLeft, HasMade, HasRemoved, HasRemovedIn, IsEmptyIn, IsRemoval}
 use Rattle.chm.specs.Headline.{IsMade}
 use Rattle.chm.specs.Retained.{AreKept, HasDropLeft, HasDropped, HasDroppedIn, HasEntry, HasStoppedAt, IsDrop}
@@ -110,6 +111,25 @@ entry_of {E} P es e (fore, rest, parts) each = go fore (subst (λ (xs : List E).
   go : (fs : List E) → All P (fs ++ e ∷ rest) → P e
   go [] all = All-head P e rest all
   go (f ∷ fs) all = go fs (All-tail P f (fs ++ e ∷ rest) all)
+
+-- one entry more, of which this holds where a test passes it
+pub All-of-class : {E : Type 0} (p : E → Bool) (P : E → Type 0) (es : List E) (e : E) → All P (filter p es) →
+    (p e ≡ true → P e) → All P (filter p (es ++ e ∷ []))
+All-of-class {E} p P es e each its = go (p e) refl where
+  go : (b : Bool) → p e ≡ b → All P (filter p (es ++ e ∷ []))
+  go true is = subst (λ (xs : List E). All P xs) (sym (filter-kept p es e is))
+      (All-append P (filter p es) (e ∷ []) each (All-cons P e [] (its is) (All-nil P)))
+  go false is = subst (λ (xs : List E). All P xs) (sym (filter-left p es e is)) each
+
+-- an entry that passes a test is one of those that pass it
+pub entry_of_class : {E : Type 0} (p : E → Bool) (es : List E) (e : E) → HasEntry es e → p e ≡ true →
+    HasEntry (filter p es) e
+entry_of_class {E} p es e (fore, rest, parts) is = (
+  filter p fore,
+  filter p rest,
+  ap (λ (xs : List E). filter p xs) parts ∙ filter-append p fore (e ∷ rest)
+      ∙ ap (λ (b : Bool). filter p fore ++ cond b (e ∷ filter p rest) (filter p rest)) is,
+)
 
 module _ {K V F : Type 0} (says : K × V → Bool → Type 0) where
   pub none_dropped : (old new : PassView K V F) → new ≡ old → HasDropped says old new

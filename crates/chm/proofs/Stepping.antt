@@ -2,9 +2,10 @@
 use Rattle.std.proofs.Common.{◌≡◌, ℕ, ◌<◌, ◌⊎◌, Option, Some, None, List, All, refl, sym, subst, ◌∙◌, arith}
 use Rattle.hashkeys.specs.Classes.{ClassView, IsClass, covering}
 use Rattle.bin_layout.specs.Walks.{IsWalkTo, Precedes}
+use Rattle.part_walks.specs.Parts.{IsFirstOf}
 use Rattle.chm.specs.Cursors.{CursorView, HasCome}
 use Rattle.chm.specs.Numbered.{HasComeAt, number_of}
-use Rattle.chm.specs.Visits.{VisitView, IsFirstOf}
+use Rattle.chm.specs.Visits.{VisitView}
 use Rattle.chm.proofs.Searching.{covers-own}
 
 -- a class is the first of its own

@@ -11,8 +11,9 @@ use Rattle.bin_history.specs.Records.{RecordView}
 use Rattle.count_ledger.specs.Fronts.{IsFront}
 use Rattle.count_ledger.specs.Views.{LedgerView, PassView}
 use Rattle.bin_layout.specs.Walks.{IsWalk}
+use Rattle.part_walks.specs.Parts.{IsFirstOf}
 use Rattle.chm.specs.Cleared.{HasMade, IsRemoval}
-use Rattle.chm.specs.Visits.{VisitView, IsFirstOf, IsVisit}
+use Rattle.chm.specs.Visits.{VisitView, IsVisit}
 
 -- a function may return this for references to the key and the value of an entry
 abbrev pub SaysAt : {K V : Type 0} → (Bor K → Bor V → Bool → Type 0) → K × V → Bool → Type 0
@@ -55,9 +56,13 @@ module _ {K V F : Type 0} (same_key : K → K → Bool) (code : K → ℕ) (afte
   AreKept ledger old (c ∷ cs) new = (mid : PassView K V F) × HasDroppedIn says code ledger.salt c old mid
       × IsKeptIn ledger mid c × AreKept ledger mid cs new
 
-  -- the same of all bins of a table, in walk order
-  abbrev pub IsRetained : ℕ → LedgerView K V → PassView K V F → PassView K V F → Type 0
-  IsRetained n ledger old new = (classes : List ClassView) × IsWalk n classes × AreKept ledger old classes new
+  -- the same of all bins of a table of n, in walk order
+  abbrev pub IsRetainedBy : ℕ → LedgerView K V → PassView K V F → PassView K V F → Type 0
+  IsRetainedBy n ledger old new = (classes : List ClassView) × IsWalk n classes × AreKept ledger old classes new
+
+  -- the same of a table of some size
+  abbrev pub IsRetained : LedgerView K V → PassView K V F → PassView K V F → Type 0
+  IsRetained ledger old new = (n : ℕ) × IsRetainedBy n ledger old new
 
   -- a bin that was met has an entry left for which the function returned false
   abbrev pub HasDropLeft : LedgerView K V → PassView K V F → Type 0

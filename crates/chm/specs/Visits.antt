@@ -1,6 +1,6 @@
 -- What a walk shows: the entries of each bin, one bin after the other.
 use Rattle.std.specs.Prelude.{◌≡◌, ℕ, ◌≤◌, Bool, true, Option, List, [], ◌∷◌, All, map, flat_map}
-use Rattle.hashkeys.specs.Classes.{ClassView, IsClass, covers, is_of}
+use Rattle.hashkeys.specs.Classes.{ClassView, is_of}
 use Rattle.bin_history.specs.Entries.{lookup, HasDistinctKeys, replay}
 use Rattle.bin_history.specs.Lawful.{BinView}
 use Rattle.bin_history.specs.Part.{part_of_entries, part_of_records}
@@ -23,13 +23,6 @@ classes_of_visits visits = map (λ v. v.class) visits
 -- all that visits show
 abbrev pub shown_by : {K V : Type 0} → List (VisitView K V) → List (K × V)
 shown_by visits = flat_map (λ v. v.entries) visits
-
--- a bin's class is the first, in walk order, of those that a class has become
-pub record IsFirstOf (next class : ClassView) : Type 0 where
-  pub next_is : IsClass next
-  pub class_is : IsClass class
-  pub covers : covers class next.index ≡ true
-  pub narrow : next.n ≤ class.n
 
 module _ {K V F : Type 0} (same_key : K → K → Bool) (code : K → ℕ) where
   -- the entries are of keys of the class, each once, and are the part in the class of what the calls of a front made of

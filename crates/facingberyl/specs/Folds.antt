@@ -24,9 +24,10 @@ abbrev pub UsesPairs : {G E : Type 0} → (G → E → Unit {0} → G → Type 0
 UsesPairs {G} step f pairs = (last : G) × FoldsTo (use_on step) f pairs last
 
 module _ {K V F : Type 0} (same_key : K → K → Bool) (code : K → ℕ) (after : Call K V F → Option V → Option V) where
-  -- visits of a whole table, which no key comes twice in; with one client they show the map
+  -- visits of a whole table of some size, which no key comes twice in; with one client they show the map
   pub record AreWhole (map : MapView K V) (old new : PassView K V F) (visits : List (VisitView K V)) : Type 0 where
-    pub whole : AreVisits same_key code after map.n map.ledger old visits new
+    pub size : ℕ
+    pub whole : AreVisits same_key code after size map.ledger old visits new
     pub distinct : HasDistinctKeys same_key (shown_by visits)
     pub own : map.ledger.clients ≡ 1 → All (IsOwn same_key code map.ledger old) visits
 

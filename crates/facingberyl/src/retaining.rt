@@ -28,10 +28,10 @@ impl<L: Loan, K: HashKey, V: Value, F: Remap<K, V>, A: Allocator + Clone> Client
     F,
     A,
 > {
-    /// Removes each entry to which the function returns false, bucket by bucket in walk order, each
-    /// bucket under one lock. Each entry that goes is a remove in the order of calls. Others may put
-    /// new entries into buckets that were left. It waits for each bucket in turn, and does in each
-    /// what `retain_next` does.
+    /// Removes each entry to which the function returns false, bucket by bucket as a walk by a cursor
+    /// goes, each bucket under one lock. Each entry that goes is a remove in the order of calls. Others
+    /// may put new entries into buckets that were left. It waits for each bucket in turn, and does in
+    /// each what `retain_next` does.
     ///
     ///     client.put(rt, 1, 5)?;
     ///     client.retain(rt, &|_key: &u64, value: &u64| *value > 5)?;
@@ -47,7 +47,7 @@ impl<L: Loan, K: HashKey, V: Value, F: Remap<K, V>, A: Allocator + Clone> Client
         requires values { IsExact V.is_clone }
         requires callable { G.IsAlwaysCallable keeps.now }
         ensures retained { OnOk result (IsRetained K.eq K.code (after V.eq F.remapped F.merged)
-            (SaysAt (G.post keeps.now)) self.old.map.now.n self.old.map.now.ledger self.old.pass.now self.new.pass.now) }
+            (SaysAt (G.post keeps.now)) self.old.map.now.ledger self.old.pass.now self.new.pass.now) }
         ensures dropped { HasDropped (SaysAt (G.post keeps.now)) self.old.pass.now self.new.pass.now }
         ensures full { IsErrOf result Fault.PassFull →
             most_calls self.old.map.now.ledger.form self.old.map.now.ledger.clients ≤ length self.new.pass.now.made }
@@ -90,7 +90,6 @@ impl<L: Loan, K: HashKey, V: Value, F: Remap<K, V>, A: Allocator + Clone> Client
         requires keys { IsExact K.is_clone }
         requires values { IsExact V.is_clone }
         requires callable { G.IsAlwaysCallable keeps.now }
-        requires cursor { cursor.old.n ≡ self.old.map.now.n }
         ensures dropped { HasDropped (SaysAt (G.post keeps.now)) self.old.pass.now self.new.pass.now }
         ensures kept { IfOk result (λ some. some ≡ true → (class : ClassView)
             × HasDroppedIn (SaysAt (G.post keeps.now)) K.code self.old.map.now.ledger.salt class self.old.pass.now

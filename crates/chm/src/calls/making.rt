@@ -22,7 +22,7 @@ ghost use Rattle.chm.specs.Views.{bins_of};
 use crate::map::Map;
 use crate::resize::moving::CallEffect;
 use bin_history::{KeyArg, Op, Remap, Reply, Value};
-use bin_store::{Held, Kind};
+use bin_store::{Held, StoreKind};
 use count_ledger::Pass;
 use hashkeys::HashKey;
 use lean_bins::BinGuard;
@@ -128,12 +128,12 @@ impl<K: HashKey, V: Value, F: Remap<K, V>, A: Allocator + Clone> Map<K, V, F, A>
         ensures refused { OnErr result (pass.new ≡ pass.old) }
     {
         match &self.bins.kind {
-            Kind::Recorded(_) => {
+            StoreKind::Recorded(_) => {
                 let hash = self.salt().hash_of(key.get());
                 let held = self.bins.hold(rt, hash);
                 self.make_by_value(held, pass, hash, key, op)
             }
-            Kind::Lean(home) => {
+            StoreKind::Lean(home) => {
                 let hash = home.salt().hash_of(key.get());
                 let held = home.hold_in_place(rt, hash);
                 self.make_in_place(held, pass, hash, key, op)
@@ -163,12 +163,12 @@ impl<K: HashKey, V: Value, F: Remap<K, V>, A: Allocator + Clone> Map<K, V, F, A>
         ensures busy { IfNone result (pass.new ≡ pass.old) }
     {
         match &self.bins.kind {
-            Kind::Recorded(_) => {
+            StoreKind::Recorded(_) => {
                 let hash = self.salt().hash_of(key.get());
                 let held = self.bins.try_hold(hash)?;
                 Some(self.make_by_value(held, pass, hash, key, op))
             }
-            Kind::Lean(home) => {
+            StoreKind::Lean(home) => {
                 let hash = home.salt().hash_of(key.get());
                 let held = home.try_hold_in_place(hash)?;
                 Some(self.make_in_place(held, pass, hash, key, op))

@@ -24,7 +24,7 @@ use crate::fault::Fault;
 use crate::map::Map;
 use crate::resize::moving::CallEffect;
 use bin_history::{Remap, Reply, Seek, Value, lawful_entries};
-use bin_store::Kind;
+use bin_store::StoreKind;
 use count_ledger::Pass;
 use hashkeys::{AsKey, Class, HashKey};
 use lean_bins::{BinGuard, BinSlot};
@@ -134,8 +134,8 @@ impl<K: HashKey, V: Value, F: Remap<K, V>, A: Allocator + Clone> Map<K, V, F, A>
             return Err(Fault::PassFull);
         }
         match &self.bins.kind {
-            Kind::Recorded(_) => unreachable!(),
-            Kind::Lean(home) => {
+            StoreKind::Recorded(_) => unreachable!(),
+            StoreKind::Lean(home) => {
                 let hash = home.salt().hash_of_as::<K, Q>(query);
                 let held = home.hold_in_place(rt, hash);
                 let (reply, effect) = self.seek_guarded(held, pass, hash, query, seek)?;

@@ -21,7 +21,7 @@ use crate::fault::Fault;
 use crate::map::Map;
 use crate::resize::moving::CallEffect;
 use bin_history::{KeyArg, Op, Remap, Value};
-use bin_store::{Held, Kind};
+use bin_store::{Held, StoreKind};
 use count_ledger::Pass;
 use hashkeys::{Class, HashKey};
 use lean_bins::{BinGuard, BinSlot};
@@ -212,11 +212,11 @@ impl<K: HashKey, V: Value, F: Remap<K, V>, A: Allocator + Clone> Map<K, V, F, A>
     {
         let hash = self.salt().hash_of(key.get());
         match &self.bins.kind {
-            Kind::Recorded(_) => {
+            StoreKind::Recorded(_) => {
                 let held = self.bins.hold(rt, hash);
                 self.update_by_value(held, pass, hash, key, f)
             }
-            Kind::Lean(home) => {
+            StoreKind::Lean(home) => {
                 let held = home.hold_in_place(rt, hash);
                 self.update_guarded(held, pass, hash, key, f)
             }
@@ -249,11 +249,11 @@ impl<K: HashKey, V: Value, F: Remap<K, V>, A: Allocator + Clone> Map<K, V, F, A>
     {
         let hash = self.salt().hash_of(key.get());
         match &self.bins.kind {
-            Kind::Recorded(_) => {
+            StoreKind::Recorded(_) => {
                 let held = self.bins.try_hold(hash)?;
                 Some(self.update_by_value(held, pass, hash, key, f))
             }
-            Kind::Lean(home) => {
+            StoreKind::Lean(home) => {
                 let held = home.try_hold_in_place(hash)?;
                 Some(self.update_guarded(held, pass, hash, key, f))
             }

@@ -21,7 +21,7 @@ ghost use Rattle.chm.specs.Visits.{IsShown};
 use crate::fault::Fault;
 use crate::map::Map;
 use bin_history::{Remap, Value, lawful_entries};
-use bin_store::{Held, Kind};
+use bin_store::{Held, StoreKind};
 use count_ledger::Pass;
 use hashkeys::{AsKey, Class, HashKey};
 use lean_bins::{BinGuard, BinSlot};
@@ -80,11 +80,11 @@ impl<K: HashKey, V: Value, F: Remap<K, V>, A: Allocator + Clone> Map<K, V, F, A>
     {
         let hash = self.salt().hash_of_as::<K, Q>(query);
         match &self.bins.kind {
-            Kind::Recorded(_) => {
+            StoreKind::Recorded(_) => {
                 let held = self.bins.hold(rt, hash);
                 self.view_by_value(held, pass, hash, query, f)
             }
-            Kind::Lean(home) => {
+            StoreKind::Lean(home) => {
                 let held = home.hold_in_place(rt, hash);
                 self.view_guarded(held, pass, hash, query, f)
             }
@@ -138,11 +138,11 @@ impl<K: HashKey, V: Value, F: Remap<K, V>, A: Allocator + Clone> Map<K, V, F, A>
     {
         let hash = self.salt().hash_of_as::<K, Q>(query);
         match &self.bins.kind {
-            Kind::Recorded(_) => {
+            StoreKind::Recorded(_) => {
                 let held = self.bins.try_hold(hash)?;
                 Some(self.view_by_value(held, pass, hash, query, f))
             }
-            Kind::Lean(home) => {
+            StoreKind::Lean(home) => {
                 let held = home.try_hold_in_place(hash)?;
                 Some(self.view_guarded(held, pass, hash, query, f))
             }

@@ -49,7 +49,7 @@ impl<K: HashKey, V: Value, F: Remap<K, V>, A: Allocator + Clone> Map<K, V, F, A>
         let none = |_key: &K, _value: &V|
             ensures { result ≡ false }
         { false };
-        self.retain(rt, pass, &none)?;
+        self.retain_from(rt, pass, self.opening_cursor(), &none)?;
         Ok(())
     }
 }

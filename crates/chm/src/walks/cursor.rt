@@ -1,22 +1,21 @@
 //! A walk that goes a bucket at a time, in the memory of one bucket or in none. The pass's client may
 //! make calls between two buckets, and may stop early.
-ghost use Rattle.std.specs.Prelude.{◌≡◌, ◌++◌, [], ◌∷◌, List};
-ghost use Rattle.std.specs.List.{FoldsTo};
-ghost use Rattle.chm.specs.Cursors.{IsUsedAt};
-
 use crate::fault::Fault;
 use crate::map::Map;
+use crate::walks::of_class::{copies_of_class, use_at_class};
 use crate::walks::visit::Visit;
-use bin_history::{Bin, Remap, Value};
+use bin_history::{Remap, Value};
 use bin_layout::{next_in_walk, walk_laws};
 use bin_store::Held;
 use count_ledger::Pass;
 use hashkeys::{Class, HashKey};
+use part_walks::narrower;
 use std::alloc::{AllocError, Allocator};
 use std::marker::Model;
 use std::sync::Wait;
 
-/// Where a walk has come to. It is of no map, but of all maps that opened with as many buckets.
+/// Where a walk has come to: the buckets of a table of `n` that it has passed, and what is next. It
+/// is of no map, so a step may go on in another one.
 #[derive(Drop)]
 pub struct Cursor {
     pub(crate) n: u32,
@@ -36,10 +35,24 @@ impl Model for Cursor {
 }
 
 impl Cursor {
-    ghost use Rattle.std.specs.Prelude.{IsSomeAnd, is_none};
-    ghost use Rattle.hashkeys.specs.Classes.{ClassView};
+    ghost use Rattle.std.specs.Prelude.{◌≡◌, ◌++◌, [], ◌∷◌, List, Some, true, IsSomeAnd, is_none};
+    ghost use Rattle.hashkeys.specs.Classes.{ClassView, IsTableSize, covers};
+    ghost use Rattle.part_walks.specs.Parts.{IsFirstOf};
     ghost use Rattle.chm.specs.Cursors.{HasPassed};
-    ghost use Rattle.chm.specs.Visits.{IsFirstOf};
+
+    /// Returns a cursor at the beginning of a walk over a table of `n` buckets.
+    pub(crate) fn of_table(n: u32) -> Cursor
+        requires size { IsTableSize n }
+        ensures n { result.n ≡ n }
+        ensures first { result.next ≡ Some (record { n = n; index = 0 }) }
+        ensures begun { HasPassed result [] }
+    {
+        walk_laws();
+        Cursor {
+            n,
+            next: Some(Class::new(n, 0)),
+        }
+    }
 
     /// Returns whether the walk has come to its end.
     pub fn is_at_end(&self) -> bool
@@ -48,7 +61,7 @@ impl Cursor {
         self.next.is_none()
     }
 
-    /// Goes past a bucket, which is the first of the class that was next.
+    /// Goes past what was met: the first of the class that was next.
     pub(crate) fn go_past(&mut self, class: Class)
         requires first { IsSomeAnd self.old.next (λ next. IsFirstOf next class) }
         ensures n { self.new.n ≡ self.old.n }
@@ -61,39 +74,46 @@ impl Cursor {
 }
 
 impl<K: HashKey, V: Value, F: Remap<K, V>, A: Allocator + Clone> Map<K, V, F, A> {
-    ghost use Rattle.std.specs.Prelude.{◌≡◌, ◌++◌, [], ◌∷◌, List, Some, None, true, false, IfOk, IfSome, IfNone};
+    ghost use Rattle.std.specs.Prelude.{◌≡◌, ◌++◌, [], ◌∷◌, ℕ, List, Some, None, true, false, IfOk, IfSome, IfNone};
     ghost use Rattle.std.specs.Prelude.{IfErr, IsOk, IsSomeAnd, OnErr};
     ghost use Rattle.std.specs.List.{FoldsTo};
+    ghost use Rattle.hashkeys.specs.Classes.{covers};
     ghost use Rattle.bin_history.specs.Calls.{after};
     ghost use Rattle.bin_history.specs.Copies.{IsExact};
     ghost use Rattle.count_ledger.specs.Fronts.{HasSeen, HasSeenMore};
     ghost use Rattle.count_ledger.specs.Views.{PassView};
     ghost use Rattle.bin_store.specs.Places.{tag_of};
     ghost use Rattle.bin_layout.specs.Places.{AreAt};
+    ghost use Rattle.part_walks.specs.Parts.{IsFirstOf};
     ghost use Rattle.chm.specs.Cursors.{AreShown, HasCome, IsUsedAt, list_of};
-    ghost use Rattle.chm.specs.Visits.{IsFirstOf, IsVisit, VisitView};
+    ghost use Rattle.chm.specs.Visits.{IsVisit, VisitView};
 
-    /// Returns a cursor at the beginning of a walk.
+    /// Returns a cursor at the beginning of a walk in the order in which buckets lie in the table
+    /// that calls go by just now. Where a bucket is divided meanwhile, the walk goes over what it
+    /// became; where one of a smaller table has not been moved yet, it shows the part that is next.
     ///
     ///     let mut cursor = map.cursor();
     pub fn cursor(&self) -> Cursor
+        ensures first { result.next ≡ Some (record { n = result.n; index = 0 }) }
+        ensures begun { (none : List (VisitView K V)) → none ≡ [] → HasCome result none }
+    {
+        Cursor::of_table(self.table_size())
+    }
+
+    /// Returns a cursor at the beginning of a walk in walk order: by the buckets that the map opened
+    /// with.
+    pub(crate) fn opening_cursor(&self) -> Cursor
         ensures n { result.n ≡ self.now.n }
         ensures first { result.next ≡ Some (record { n = self.now.n; index = 0 }) }
         ensures begun { (none : List (VisitView K V)) → none ≡ [] → HasCome result none }
     {
-        walk_laws();
-        let n = self.bins.n();
-        Cursor {
-            n,
-            next: Some(Class::new(n, 0)),
-        }
+        Cursor::of_table(self.bins.n())
     }
 
     /// Returns the next bucket of a walk, by copies of its entries in order, as all calls before had
-    /// left it, which the pass has then seen; none at the end of the walk. What the steps of a walk
-    /// return stands in walk order, no key comes twice, and at the end every key has come. Calls of
-    /// others, and of the pass's own client, may be made between two steps, and a program may stop
-    /// before the end.
+    /// left it, which the pass has then seen; none at the end of the walk. No key comes twice, and at
+    /// the end every key has come. Calls of others, and of the pass's own client, may be made between
+    /// two steps, and a program may stop before the end.
     ///
     /// It waits for the bucket, and takes memory for the copies of its entries alone.
     ///
@@ -117,7 +137,6 @@ impl<K: HashKey, V: Value, F: Remap<K, V>, A: Allocator + Clone> Map<K, V, F, A>
         requires keys { IsExact K.is_clone }
         requires values { IsExact V.is_clone }
         requires pass { pass.old.ledger ≡ self.now.ledger.id }
-        requires cursor { cursor.old.n ≡ self.now.n }
         ensures visit { IfOk result (λ v. IfSome v (λ v.
             HasSeen K.eq (after V.eq F.remapped F.merged) self.now.ledger pass.old pass.new
             × IsVisit K.eq K.code self.now.ledger pass.new.seen v)) }
@@ -136,8 +155,9 @@ impl<K: HashKey, V: Value, F: Remap<K, V>, A: Allocator + Clone> Map<K, V, F, A>
     {
         match cursor.next {
             Some(next) => {
-                let held = self.hold_first(rt, next);
-                Ok(Some(self.visit_held(held, pass, cursor)?))
+                let held = self.bins.hold(rt, next.index());
+                let class = narrower(next, held.bin.class());
+                Ok(Some(self.visit_held(held, pass, cursor, class)?))
             }
             None => Ok(None),
         }
@@ -160,7 +180,6 @@ impl<K: HashKey, V: Value, F: Remap<K, V>, A: Allocator + Clone> Map<K, V, F, A>
         requires keys { IsExact K.is_clone }
         requires values { IsExact V.is_clone }
         requires pass { pass.old.ledger ≡ self.now.ledger.id }
-        requires cursor { cursor.old.n ≡ self.now.n }
         ensures visit { IfSome result (λ tried. IfOk tried (λ v. IfSome v (λ v.
             HasSeen K.eq (after V.eq F.remapped F.merged) self.now.ledger pass.old pass.new
             × IsVisit K.eq K.code self.now.ledger pass.new.seen v))) }
@@ -183,24 +202,28 @@ impl<K: HashKey, V: Value, F: Remap<K, V>, A: Allocator + Clone> Map<K, V, F, A>
         let Some(next) = cursor.next else {
             return Some(Ok(None));
         };
-        let held = self.try_hold_first(next)?;
-        match self.visit_held(held, pass, cursor) {
+        let held = self.bins.try_hold(next.index())?;
+        let class = narrower(next, held.bin.class());
+        match self.visit_held(held, pass, cursor, class) {
             Ok(visit) => Some(Ok(Some(visit))),
             Err(AllocError) => Some(Err(Fault::NoMemory)),
         }
     }
 
-    /// Copies the entries of the next bucket, which is locked, goes past it and unlocks it.
+    /// Copies those entries of a locked bucket that are of the class, goes past them and unlocks the
+    /// bucket.
     pub(crate) fn visit_held(
         &self,
         mut held: Held<'_, K, V, F, A>,
         pass: &mut Pass<K, V, F>,
         cursor: &mut Cursor,
+        class: Class,
     ) -> Result<Visit<K, V, A>, AllocError>
         requires keys { IsExact K.is_clone }
         requires values { IsExact V.is_clone }
         requires pass { pass.old.ledger ≡ self.now.ledger.id }
-        requires first { IsSomeAnd cursor.old.next (λ next. IsFirstOf next held.bin.class) }
+        requires first { IsSomeAnd cursor.old.next (λ next. IsFirstOf next class) }
+        requires within { (hash : ℕ) → covers class hash ≡ true → covers held.bin.class hash ≡ true }
         requires at { AreAt K.eq (after V.eq F.remapped F.merged) (tag_of held.place) held.bin
             held.role }
         requires ledger { held.role.ledger ≡ self.now.ledger.id }
@@ -208,7 +231,7 @@ impl<K: HashKey, V: Value, F: Remap<K, V>, A: Allocator + Clone> Map<K, V, F, A>
         ensures seen { HasSeen K.eq (after V.eq F.remapped F.merged) self.now.ledger pass.old
             pass.new }
         ensures visit { IfOk result (IsVisit K.eq K.code self.now.ledger pass.new.seen) }
-        ensures class { IfOk result (λ v. v.class ≡ held.entry.bin.class) }
+        ensures class { IfOk result (λ v. v.class ≡ class) }
         ensures come { (shown : List (VisitView K V)) → HasCome cursor.old shown →
             IfOk result (λ v. HasCome cursor.new (shown ++ v ∷ [])) }
         ensures n { cursor.new.n ≡ cursor.old.n }
@@ -217,8 +240,7 @@ impl<K: HashKey, V: Value, F: Remap<K, V>, A: Allocator + Clone> Map<K, V, F, A>
         let lent = &mut held;
         let bin = &lent.bin;
         bin.lawful();
-        let class = bin.class();
-        let copies = bin.copy_entries(self.resizer.allocator());
+        let copies = copies_of_class(self.resizer.allocator(), bin, class);
         self.meet_under(pass, bin, &mut lent.role);
         held.release();
         let entries = copies?;
@@ -249,7 +271,6 @@ impl<K: HashKey, V: Value, F: Remap<K, V>, A: Allocator + Clone> Map<K, V, F, A>
     ) -> bool
         requires callable { G.IsAlwaysCallable f.old }
         requires pass { pass.old.ledger ≡ self.now.ledger.id }
-        requires cursor { cursor.old.n ≡ self.now.n }
         ensures shown { result ≡ true → (v : VisitView K V)
             × HasSeen K.eq (after V.eq F.remapped F.merged) self.now.ledger pass.old pass.new
             × IsVisit K.eq K.code self.now.ledger pass.new.seen v
@@ -264,23 +285,26 @@ impl<K: HashKey, V: Value, F: Remap<K, V>, A: Allocator + Clone> Map<K, V, F, A>
         let Some(next) = cursor.next else {
             return false;
         };
-        let held = self.hold_first(rt, next);
-        self.show_held(held, pass, cursor, f);
+        let held = self.bins.hold(rt, next.index());
+        let class = narrower(next, held.bin.class());
+        self.show_held(held, pass, cursor, class, f);
         true
     }
 
-    /// Gives the function each entry of the next bucket, which is locked, goes past it and unlocks
-    /// it.
+    /// Gives the function those entries of a locked bucket that are of the class, goes past them and
+    /// unlocks the bucket.
     fn show_held<G: FnMut(&K, &V)>(
         &self,
         mut held: Held<'_, K, V, F, A>,
         pass: &mut Pass<K, V, F>,
         cursor: &mut Cursor,
+        class: Class,
         f: &mut G,
     )
         requires callable { G.IsAlwaysCallable f.old }
         requires pass { pass.old.ledger ≡ self.now.ledger.id }
-        requires first { IsSomeAnd cursor.old.next (λ next. IsFirstOf next held.bin.class) }
+        requires first { IsSomeAnd cursor.old.next (λ next. IsFirstOf next class) }
+        requires within { (hash : ℕ) → covers class hash ≡ true → covers held.bin.class hash ≡ true }
         requires at { AreAt K.eq (after V.eq F.remapped F.merged) (tag_of held.place) held.bin
             held.role }
         requires ledger { held.role.ledger ≡ self.now.ledger.id }
@@ -297,25 +321,9 @@ impl<K: HashKey, V: Value, F: Remap<K, V>, A: Allocator + Clone> Map<K, V, F, A>
         let lent = &mut held;
         let bin = &lent.bin;
         bin.lawful();
-        let class = bin.class();
-        use_at_each(bin, f);
+        use_at_class(bin, class, f);
         self.meet_under(pass, bin, &mut lent.role);
         held.release();
         cursor.go_past(class);
-    }
-}
-
-/// Gives the function each entry of a bucket, in order.
-fn use_at_each<K: HashKey, V: Value, F: Remap<K, V>, A: Allocator + Clone, G: FnMut(&K, &V)>(
-    bin: &Bin<K, V, F, A>,
-    f: &mut G,
-)
-    requires { G.IsAlwaysCallable f.old }
-    ensures used { FoldsTo (IsUsedAt G.step) f.old bin.now.entries f.new }
-    ensures callable { G.IsAlwaysCallable f.new }
-{
-    let mut left = bin.walk();
-    while let Some(entry) = left.next() {
-        f(&entry.0, &entry.1);
     }
 }

@@ -98,7 +98,7 @@ impl<K: HashKey, V: Value, F: Remap<K, V>, A: Allocator + Clone> Map<K, V, F, A>
             n,
             next: Some(class),
         };
-        match self.visit_held(held, pass, &mut cursor) {
+        match self.visit_held(held, pass, &mut cursor, class) {
             Ok(visit) => Some(Ok((Some(visit), cursor.number()))),
             Err(AllocError) => Some(Err(Fault::NoMemory)),
         }

@@ -1,6 +1,8 @@
 //! Keeping the entries of a map that a function says are to stay, and removing the others, bucket by
-//! bucket in walk order.
+//! bucket.
 ghost use Rattle.std.specs.Prelude.{◌≡◌, true, false, All, IfNone, IfSome};
+ghost use Rattle.hashkeys.specs.Classes.{is_of};
+ghost use Rattle.bin_history.specs.Part.{part_of_entries};
 ghost use Rattle.chm.specs.Retained.{HasEntry, SaysAt};
 
 use crate::fault::Fault;
@@ -9,11 +11,33 @@ use crate::walks::cursor::Cursor;
 use bin_history::{Bin, KeyArg, Op, Remap, Value};
 use bin_store::Held;
 use count_ledger::{BinRole, Pass};
-use hashkeys::{Class, HashKey};
+use hashkeys::{Class, HashKey, Salt};
+use part_walks::{is_same, narrower};
 use std::alloc::Allocator;
 use std::sync::Wait;
 
-/// The first entry of a bucket to which the function returns false.
+/// Whether an entry is to be taken away: its key is of the class, and the function returns false.
+/// The key's hash is not looked at where all are of the class.
+fn is_dropped<K: HashKey, V, G: Fn(&K, &V) -> bool>(
+    entry: &(K, V),
+    salt: Salt,
+    class: Class,
+    whole: bool,
+    keeps: &G,
+) -> bool
+    requires { G.IsAlwaysCallable keeps.now }
+    ensures of { result ≡ true → whole ≡ false → is_of K.code salt class entry.now.0 ≡ true }
+    ensures dropped { result ≡ true → SaysAt (G.post keeps.now) entry.now false }
+    ensures kept { result ≡ false → is_of K.code salt class entry.now.0 ≡ true →
+        SaysAt (G.post keeps.now) entry.now true }
+{
+    if !whole && !class.covers(salt.hash_of(&entry.0)) {
+        return false;
+    }
+    !keeps(&entry.0, &entry.1)
+}
+
+/// The first entry of a bucket whose key is of the class and to which the function returns false.
 fn first_dropped<
     'a,
     K: HashKey,
@@ -21,15 +45,20 @@ fn first_dropped<
     F: Remap<K, V>,
     A: Allocator + Clone,
     G: Fn(&K, &V) -> bool,
->(bin: &'a Bin<K, V, F, A>, keeps: &G) -> Option<&'a (K, V)>
+>(bin: &'a Bin<K, V, F, A>, class: Class, keeps: &G) -> Option<&'a (K, V)>
     requires { G.IsAlwaysCallable keeps.now }
     ensures found { IfSome result (λ e. HasEntry bin.now.entries e.now) }
+    ensures of { IfSome result (λ e. is_of K.code bin.now.salt class e.now.0 ≡ true) }
     ensures dropped { IfSome result (λ e. SaysAt (G.post keeps.now) e.now false) }
-    ensures none { IfNone result (All (λ e. SaysAt (G.post keeps.now) e true) bin.now.entries) }
+    ensures none { IfNone result (All (λ e. SaysAt (G.post keeps.now) e true)
+        (part_of_entries (is_of K.code bin.now.salt class) bin.now.entries)) }
 {
+    bin.lawful();
+    let salt = bin.salt();
+    let whole = is_same(class, bin.class());
     let mut left = bin.walk();
     while let Some(entry) = left.next() {
-        if !keeps(&entry.0, &entry.1) {
+        if is_dropped(entry, salt, class, whole, keeps) {
             return Some(entry);
         }
     }
@@ -37,31 +66,33 @@ fn first_dropped<
 }
 
 impl<K: HashKey, V: Value, F: Remap<K, V>, A: Allocator + Clone> Map<K, V, F, A> {
-    ghost use Rattle.std.specs.Prelude.{◌≡◌, ◌<◌, ◌≤◌, ◌++◌, [], ◌∷◌, List, length, None, true, false, All};
+    ghost use Rattle.std.specs.Prelude.{◌≡◌, ◌<◌, ◌≤◌, ◌++◌, [], ◌∷◌, ℕ, List, length, None, true, false, All};
     ghost use Rattle.std.specs.Prelude.{IfOk, IfErr, IsErrOf, IsOk, IsSomeAnd, OnOk, OnErr};
-    ghost use Rattle.hashkeys.specs.Classes.{ClassView};
+    ghost use Rattle.hashkeys.specs.Classes.{ClassView, covers, is_of};
     ghost use Rattle.bin_history.specs.Calls.{after};
     ghost use Rattle.bin_history.specs.Copies.{IsExact};
+    ghost use Rattle.bin_history.specs.Part.{part_of_entries};
     ghost use Rattle.bin_history.specs.Sure.{IsNeverRefused};
     ghost use Rattle.bin_history.specs.declared.form.Form.TheVariants.{Lean};
     ghost use Rattle.count_ledger.specs.Agreement.{BinAgrees};
     ghost use Rattle.count_ledger.specs.Limits.{most_calls};
     ghost use Rattle.bin_store.specs.Places.{tag_of};
     ghost use Rattle.bin_layout.specs.Places.{AreAt};
+    ghost use Rattle.part_walks.specs.Parts.{IsFirstOf};
     ghost use Rattle.chm.specs.Cursors.{HasPassed};
     ghost use Rattle.chm.specs.Refusals.{IsOfCall};
     ghost use Rattle.chm.specs.Retained.{HasDropLeft, HasDropped, HasDroppedIn, HasEntry, HasStoppedAt};
-    ghost use Rattle.chm.specs.Retained.{IsKeptIn, IsRetained, SaysAt};
+    ghost use Rattle.chm.specs.Retained.{IsKeptIn, IsRetained, IsRetainedBy, SaysAt};
     ghost use Rattle.chm.specs.Sure.{IsMadeOrFull};
-    ghost use Rattle.chm.specs.Visits.{IsFirstOf};
 
-    /// Takes the first entry of a locked bucket away to which the function returns false, by a call
-    /// of the pass's client. Returns whether there was one.
+    /// Takes the first entry of a locked bucket away that is of the class and to which the function
+    /// returns false, by a call of the pass's client. Returns whether there was one.
     fn drop_first<'a, G: Fn(&K, &V) -> bool>(
         &'a self,
         pass: &mut Pass<K, V, F>,
         bin: &mut Bin<K, V, F, A>,
         role: &mut BinRole<K, V, F>,
+        class: Class,
         keeps: &G,
     ) -> Result<bool, Fault>
         requires keys { IsExact K.is_clone }
@@ -71,12 +102,13 @@ impl<K: HashKey, V: Value, F: Remap<K, V>, A: Allocator + Clone> Map<K, V, F, A>
         requires role { role.old.ledger ≡ self.now.ledger.id }
         requires form { bin.old.form ≡ self.now.ledger.form }
         requires agree { BinAgrees K.eq (after V.eq F.remapped F.merged) bin.old role.old }
-        ensures dropped { HasDroppedIn (SaysAt (G.post keeps.now)) K.code bin.old.salt bin.old.class
+        ensures dropped { HasDroppedIn (SaysAt (G.post keeps.now)) K.code bin.old.salt class
             pass.old pass.new }
         ensures fewer { IfOk result (λ more. more ≡ true →
             length bin.new.entries < length bin.old.entries) }
         ensures kept { IfOk result (λ more. more ≡ false →
-            All (λ e. SaysAt (G.post keeps.now) e true) bin.new.entries) }
+            All (λ e. SaysAt (G.post keeps.now) e true)
+            (part_of_entries (is_of K.code bin.new.salt class) bin.new.entries)) }
         ensures form { bin.new.form ≡ bin.old.form }
         ensures class { bin.new.class ≡ bin.old.class }
         ensures salt { bin.new.salt ≡ bin.old.salt }
@@ -84,14 +116,15 @@ impl<K: HashKey, V: Value, F: Remap<K, V>, A: Allocator + Clone> Map<K, V, F, A>
         ensures agree { BinAgrees K.eq (after V.eq F.remapped F.merged) bin.new role.new }
         ensures full { IsErrOf result Fault.PassFull →
             most_calls self.now.ledger.form self.now.ledger.clients ≤ length pass.new.made }
-        ensures left { OnErr result
-            ((e : K × V) × HasEntry bin.new.entries e × SaysAt (G.post keeps.now) e false) }
+        ensures left { OnErr result ((e : K × V)
+            × HasEntry (part_of_entries (is_of K.code bin.new.salt class) bin.new.entries) e
+            × SaysAt (G.post keeps.now) e false) }
         ensures sure { self.now.ledger.form ≡ Lean → IsNeverRefused K.is_infallible →
             IsNeverRefused V.is_infallible → IsMadeOrFull result }
         ensures faults { IfErr result IsOfCall }
     {
         bin.lawful();
-        let Some(entry) = first_dropped(bin, keeps) else {
+        let Some(entry) = first_dropped(bin, class, keeps) else {
             return Ok(false);
         };
         if pass.made() >= self.ledger.most_calls() {
@@ -104,13 +137,14 @@ impl<K: HashKey, V: Value, F: Remap<K, V>, A: Allocator + Clone> Map<K, V, F, A>
         Ok(true)
     }
 
-    /// Takes all entries of a locked bucket away to which the function returns false, the first one
-    /// first, until a call fails.
+    /// Takes all entries of a locked bucket away that are of the class and to which the function
+    /// returns false, the first one first, until a call fails.
     fn drop_all<G: Fn(&K, &V) -> bool>(
         &self,
         pass: &mut Pass<K, V, F>,
         bin: &mut Bin<K, V, F, A>,
         role: &mut BinRole<K, V, F>,
+        class: Class,
         keeps: &G,
     ) -> Result<(), Fault>
         requires keys { IsExact K.is_clone }
@@ -120,9 +154,10 @@ impl<K: HashKey, V: Value, F: Remap<K, V>, A: Allocator + Clone> Map<K, V, F, A>
         requires role { role.old.ledger ≡ self.now.ledger.id }
         requires form { bin.old.form ≡ self.now.ledger.form }
         requires agree { BinAgrees K.eq (after V.eq F.remapped F.merged) bin.old role.old }
-        ensures dropped { HasDroppedIn (SaysAt (G.post keeps.now)) K.code bin.old.salt bin.old.class
+        ensures dropped { HasDroppedIn (SaysAt (G.post keeps.now)) K.code bin.old.salt class
             pass.old pass.new }
-        ensures kept { OnOk result (All (λ e. SaysAt (G.post keeps.now) e true) bin.new.entries) }
+        ensures kept { OnOk result (All (λ e. SaysAt (G.post keeps.now) e true)
+            (part_of_entries (is_of K.code bin.new.salt class) bin.new.entries)) }
         ensures form { bin.new.form ≡ bin.old.form }
         ensures class { bin.new.class ≡ bin.old.class }
         ensures salt { bin.new.salt ≡ bin.old.salt }
@@ -130,38 +165,41 @@ impl<K: HashKey, V: Value, F: Remap<K, V>, A: Allocator + Clone> Map<K, V, F, A>
         ensures agree { BinAgrees K.eq (after V.eq F.remapped F.merged) bin.new role.new }
         ensures full { IsErrOf result Fault.PassFull →
             most_calls self.now.ledger.form self.now.ledger.clients ≤ length pass.new.made }
-        ensures left { OnErr result
-            ((e : K × V) × HasEntry bin.new.entries e × SaysAt (G.post keeps.now) e false) }
+        ensures left { OnErr result ((e : K × V)
+            × HasEntry (part_of_entries (is_of K.code bin.new.salt class) bin.new.entries) e
+            × SaysAt (G.post keeps.now) e false) }
         ensures sure { self.now.ledger.form ≡ Lean → IsNeverRefused K.is_infallible →
             IsNeverRefused V.is_infallible → IsMadeOrFull result }
         ensures faults { IfErr result IsOfCall }
     {
-        while self.drop_first(pass, bin, role, keeps)? {}
+        while self.drop_first(pass, bin, role, class, keeps)? {}
         Ok(())
     }
 
-    /// Goes through the next bucket, which is locked: takes entries away to which the function
-    /// returns false, unlocks the bucket and, where no call failed, goes past it.
+    /// Goes through those entries of a locked bucket that are of the class: takes those away to which
+    /// the function returns false, unlocks the bucket and, where no call failed, goes past them.
     fn retain_held<G: Fn(&K, &V) -> bool>(
         &self,
         mut held: Held<'_, K, V, F, A>,
         pass: &mut Pass<K, V, F>,
         cursor: &mut Cursor,
+        class: Class,
         keeps: &G,
     ) -> Result<(), Fault>
         requires keys { IsExact K.is_clone }
         requires values { IsExact V.is_clone }
         requires callable { G.IsAlwaysCallable keeps.now }
         requires pass { pass.old.ledger ≡ self.now.ledger.id }
-        requires first { IsSomeAnd cursor.old.next (λ next. IsFirstOf next held.bin.class) }
+        requires first { IsSomeAnd cursor.old.next (λ next. IsFirstOf next class) }
+        requires within { (hash : ℕ) → covers class hash ≡ true → covers held.bin.class hash ≡ true }
         requires at { AreAt K.eq (after V.eq F.remapped F.merged) (tag_of held.place) held.bin
             held.role }
         requires ledger { held.role.ledger ≡ self.now.ledger.id }
         requires form { held.bin.form ≡ self.now.ledger.form }
         requires salt { held.bin.salt ≡ self.now.ledger.salt }
         ensures dropped { HasDropped (SaysAt (G.post keeps.now)) pass.old pass.new }
-        ensures kept { OnOk result ((class : ClassView)
-            × HasDroppedIn (SaysAt (G.post keeps.now)) K.code self.now.ledger.salt class pass.old
+        ensures kept { OnOk result (
+            HasDroppedIn (SaysAt (G.post keeps.now)) K.code self.now.ledger.salt class pass.old
             pass.new
             × IsKeptIn K.eq K.code (after V.eq F.remapped F.merged) (SaysAt (G.post keeps.now))
             self.now.ledger pass.new class
@@ -180,8 +218,7 @@ impl<K: HashKey, V: Value, F: Remap<K, V>, A: Allocator + Clone> Map<K, V, F, A>
     {
         let lent = &mut held;
         let bin = &mut lent.bin;
-        let class = bin.class();
-        let done = self.drop_all(pass, bin, &mut lent.role, keeps);
+        let done = self.drop_all(pass, bin, &mut lent.role, class, keeps);
         bin.lawful();
         self.meet_under(pass, bin, &mut lent.role);
         held.release();
@@ -220,7 +257,6 @@ impl<K: HashKey, V: Value, F: Remap<K, V>, A: Allocator + Clone> Map<K, V, F, A>
         requires values { IsExact V.is_clone }
         requires callable { G.IsAlwaysCallable keeps.now }
         requires pass { pass.old.ledger ≡ self.now.ledger.id }
-        requires cursor { cursor.old.n ≡ self.now.n }
         ensures dropped { HasDropped (SaysAt (G.post keeps.now)) pass.old pass.new }
         ensures kept { IfOk result (λ some. some ≡ true → (class : ClassView)
             × HasDroppedIn (SaysAt (G.post keeps.now)) K.code self.now.ledger.salt class pass.old
@@ -246,15 +282,52 @@ impl<K: HashKey, V: Value, F: Remap<K, V>, A: Allocator + Clone> Map<K, V, F, A>
         let Some(next) = cursor.next else {
             return Ok(false);
         };
-        let held = self.hold_first(rt, next);
-        self.retain_held(held, pass, cursor, keeps)?;
+        let held = self.bins.hold(rt, next.index());
+        let class = narrower(next, held.bin.class());
+        self.retain_held(held, pass, cursor, class, keeps)?;
         Ok(true)
     }
 
-    /// Removes each entry to which the function returns false, bucket by bucket in walk order, each
-    /// bucket under one lock. Each entry that goes is a remove in the order of calls. Others may put
-    /// new entries into buckets that were left. It waits for each bucket in turn, and does in each
-    /// what `retain_next` does.
+    /// Removes each entry to which the function returns false, bucket by bucket of a walk from its
+    /// beginning.
+    pub(crate) fn retain_from<R: Wait, G: Fn(&K, &V) -> bool>(
+        &self,
+        rt: &R,
+        pass: &mut Pass<K, V, F>,
+        start: Cursor,
+        keeps: &G,
+    ) -> Result<(), Fault>
+        requires keys { IsExact K.is_clone }
+        requires values { IsExact V.is_clone }
+        requires callable { G.IsAlwaysCallable keeps.now }
+        requires pass { pass.old.ledger ≡ self.now.ledger.id }
+        requires begun { HasPassed start [] }
+        ensures retained { OnOk result (IsRetainedBy K.eq K.code (after V.eq F.remapped F.merged)
+            (SaysAt (G.post keeps.now)) start.n self.now.ledger pass.old pass.new) }
+        ensures dropped { HasDropped (SaysAt (G.post keeps.now)) pass.old pass.new }
+        ensures full { IsErrOf result Fault.PassFull →
+            most_calls self.now.ledger.form self.now.ledger.clients ≤ length pass.new.made }
+        ensures left { OnErr result
+            (HasDropLeft K.eq K.code (after V.eq F.remapped F.merged) (SaysAt (G.post keeps.now))
+            self.now.ledger pass.new) }
+        ensures sure { self.now.ledger.form ≡ Lean → IsNeverRefused K.is_infallible →
+            IsNeverRefused V.is_infallible → IsMadeOrFull result }
+        ensures faults { IfErr result IsOfCall }
+    {
+        let mut cursor = start;
+        for _ in rt.forever() {
+            let more = self.retain_next(rt, pass, &mut cursor, keeps)?;
+            if !more {
+                return Ok(());
+            }
+        }
+        unreachable!()
+    }
+
+    /// Removes each entry to which the function returns false, bucket by bucket as a walk by a cursor
+    /// goes, each bucket under one lock. Each entry that goes is a remove in the order of calls. Others
+    /// may put new entries into buckets that were left. It waits for each bucket in turn, and does in
+    /// each what `retain_next` does.
     ///
     ///     map.put(rt, pass, 1, 5)?;
     ///     map.retain(rt, pass, &|_key: &u64, value: &u64| *value > 5)?;
@@ -276,7 +349,7 @@ impl<K: HashKey, V: Value, F: Remap<K, V>, A: Allocator + Clone> Map<K, V, F, A>
         requires callable { G.IsAlwaysCallable keeps.now }
         requires pass { pass.old.ledger ≡ self.now.ledger.id }
         ensures retained { OnOk result (IsRetained K.eq K.code (after V.eq F.remapped F.merged)
-            (SaysAt (G.post keeps.now)) self.now.n self.now.ledger pass.old pass.new) }
+            (SaysAt (G.post keeps.now)) self.now.ledger pass.old pass.new) }
         ensures dropped { HasDropped (SaysAt (G.post keeps.now)) pass.old pass.new }
         ensures full { IsErrOf result Fault.PassFull →
             most_calls self.now.ledger.form self.now.ledger.clients ≤ length pass.new.made }
@@ -287,13 +360,6 @@ impl<K: HashKey, V: Value, F: Remap<K, V>, A: Allocator + Clone> Map<K, V, F, A>
             IsNeverRefused V.is_infallible → IsMadeOrFull result }
         ensures faults { IfErr result IsOfCall }
     {
-        let mut cursor = self.cursor();
-        for _ in rt.forever() {
-            let more = self.retain_next(rt, pass, &mut cursor, keeps)?;
-            if !more {
-                return Ok(());
-            }
-        }
-        unreachable!()
+        self.retain_from(rt, pass, self.cursor(), keeps)
     }
 }

@@ -1,21 +1,17 @@
 //! Walks over a map that others write, bin by bin in walk order.
-ghost use Rattle.std.specs.Prelude.{◌≡◌, All, IfOk, IfErr, IfSome};
+ghost use Rattle.std.specs.Prelude.{◌≡◌, All, IfOk, IfErr};
 ghost use Rattle.bin_history.specs.Calls.{after};
 ghost use Rattle.bin_history.specs.Copies.{IsExact};
-ghost use Rattle.bin_store.specs.Places.{tag_of};
-ghost use Rattle.bin_layout.specs.Places.{AreAt};
 ghost use Rattle.bin_history.specs.Entries.{HasDistinctKeys};
-ghost use Rattle.count_ledger.specs.Fronts.{HasSeen, HasSeenMore};
-ghost use Rattle.chm.specs.Visits.{AreVisits, IsFirstOf, IsOwn, IsVisit, shown_by};
+ghost use Rattle.count_ledger.specs.Fronts.{HasSeenMore};
+ghost use Rattle.chm.specs.Visits.{AreVisits, IsOwn, shown_by};
 
 use crate::fault::Fault;
 use crate::map::Map;
 use bin_history::{Remap, Value};
-use bin_store::Held;
 use count_ledger::Pass;
-use crossbeam_utils::Backoff;
 use hashkeys::{Class, HashKey};
-use std::alloc::{AllocError, Allocator};
+use std::alloc::Allocator;
 use std::marker::Model;
 use std::sync::Wait;
 
@@ -35,46 +31,6 @@ impl<K, V, A: Allocator> Model for Visit<K, V, A> {
 }
 
 impl<K: HashKey, V: Value, F: Remap<K, V>, A: Allocator + Clone> Map<K, V, F, A> {
-    /// Waits for the first of the bins of a class. A bin of a wider class has hashes that were
-    /// passed before, so it is given back and asked for again.
-    pub(crate) fn hold_first<R: Wait>(&self, rt: &R, class: Class) -> Held<'_, K, V, F, A>
-        ensures at { AreAt K.eq (after V.eq F.remapped F.merged) (tag_of result.place)
-            result.bin result.role }
-        ensures first { IsFirstOf class result.bin.class }
-        ensures ledger { result.role.ledger ≡ self.now.ledger.id }
-        ensures form { result.bin.form ≡ self.now.ledger.form }
-        ensures salt { result.bin.salt ≡ self.now.ledger.salt }
-    {
-        let backoff = Backoff::new();
-        for _ in rt.forever() {
-            let held = self.bins.hold(rt, class.index());
-            if class.n() <= held.bin.class().n() {
-                return held;
-            }
-            held.release();
-            backoff.snooze();
-        }
-        unreachable!()
-    }
-
-    /// Locks the first of the buckets of a class, or returns none where another thread has it just
-    /// then. It waits for nobody.
-    pub(crate) fn try_hold_first(&self, class: Class) -> Option<Held<'_, K, V, F, A>>
-        ensures at { IfSome result (λ h. AreAt K.eq (after V.eq F.remapped F.merged)
-            (tag_of h.place) h.bin h.role) }
-        ensures first { IfSome result (λ h. IsFirstOf class h.bin.class) }
-        ensures ledger { IfSome result (λ h. h.role.ledger ≡ self.now.ledger.id) }
-        ensures form { IfSome result (λ h. h.bin.form ≡ self.now.ledger.form) }
-        ensures salt { IfSome result (λ h. h.bin.salt ≡ self.now.ledger.salt) }
-    {
-        let held = self.bins.try_hold(class.index())?;
-        if class.n() <= held.bin.class().n() {
-            return Some(held);
-        }
-        held.release();
-        None
-    }
-
     /// Shows the entries of each bin in walk order, one bin after the other, each as all calls
     /// before that had left it: those that the pass had seen when the walk began, and others that
     /// were made meanwhile. No key comes twice. Calls of others may come between two bins; calls of
@@ -102,7 +58,7 @@ impl<K: HashKey, V: Value, F: Remap<K, V>, A: Allocator + Clone> Map<K, V, F, A>
         ensures faults { IfErr result (λ fault. fault ≡ Fault.NoMemory) }
     {
         let mut visits = Vec::new(self.resizer.allocator().clone()?);
-        let mut cursor = self.cursor();
+        let mut cursor = self.opening_cursor();
         for _ in rt.forever() {
             let shown = self.visit_next(rt, pass, &mut cursor)?;
             let Some(visit) = shown else {

@@ -16,7 +16,7 @@ use std::alloc::Allocator;
 use std::sync::Wait;
 
 impl<K: HashKey, V: Value, F: Remap<K, V>, A: Allocator + Clone> OwnedClient<K, V, F, A> {
-    /// Goes over the entries of a walk, in walk order, from a first total on: the function makes of
+    /// Goes over the entries of a walk, in its order, from a first total on: the function makes of
     /// the total so far and a copy of an entry the next total. Returns the last total. Each entry
     /// is shown as its bucket had it when the walk came by; no key comes twice. The function runs
     /// when no bucket is locked, so it may wait. The walk waits for each bucket in turn, and
@@ -49,7 +49,7 @@ impl<K: HashKey, V: Value, F: Remap<K, V>, A: Allocator + Clone> OwnedClient<K, 
         Ok(total)
     }
 
-    /// Gives the function a copy of each entry of a walk, in walk order. Each entry is shown as its
+    /// Gives the function a copy of each entry of a walk, in its order. Each entry is shown as its
     /// bucket had it when the walk came by; no key comes twice. The function runs when no bucket is
     /// locked, so it may wait. The walk waits for each bucket in turn, and allocates copies of the
     /// entries of one bucket at a time.
@@ -83,7 +83,7 @@ impl<K: HashKey, V: Value, F: Remap<K, V>, A: Allocator + Clone> OwnedClient<K, 
         Ok(())
     }
 
-    /// Gives the function each entry of a walk, in walk order, where it lies. Each entry is shown as
+    /// Gives the function each entry of a walk, in its order, where it lies. Each entry is shown as
     /// its bucket has it when the walk comes by; no key comes twice. Nothing is copied, posted or
     /// allocated, so nothing can fail.
     ///

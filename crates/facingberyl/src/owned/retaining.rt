@@ -21,10 +21,10 @@ use std::alloc::Allocator;
 use std::sync::Wait;
 
 impl<K: HashKey, V: Value, F: Remap<K, V>, A: Allocator + Clone> OwnedClient<K, V, F, A> {
-    /// Removes each entry to which the function returns false, bucket by bucket in walk order, each
-    /// bucket under one lock. Each entry that goes is a remove in the order of calls. Others may put
-    /// new entries into buckets that were left. It waits for each bucket in turn, and does in each
-    /// what `retain_next` does.
+    /// Removes each entry to which the function returns false, bucket by bucket as a walk by a cursor
+    /// goes, each bucket under one lock. Each entry that goes is a remove in the order of calls. Others
+    /// may put new entries into buckets that were left. It waits for each bucket in turn, and does in
+    /// each what `retain_next` does.
     ///
     ///     client.put(rt, 1, 5)?;
     ///     client.retain(rt, &|_key: &u64, value: &u64| *value > 5)?;
@@ -40,7 +40,7 @@ impl<K: HashKey, V: Value, F: Remap<K, V>, A: Allocator + Clone> OwnedClient<K, 
         requires values { IsExact V.is_clone }
         requires callable { G.IsAlwaysCallable keeps.now }
         ensures retained { OnOk result (IsRetained K.eq K.code (after V.eq F.remapped F.merged)
-            (SaysAt (G.post keeps.now)) self.old.map.n self.old.map.ledger self.old.pass self.new.pass) }
+            (SaysAt (G.post keeps.now)) self.old.map.ledger self.old.pass self.new.pass) }
         ensures dropped { HasDropped (SaysAt (G.post keeps.now)) self.old.pass self.new.pass }
         ensures full { IsErrOf result Fault.PassFull →
             most_calls self.old.map.ledger.form self.old.map.ledger.clients ≤ length self.new.pass.made }
@@ -83,7 +83,6 @@ impl<K: HashKey, V: Value, F: Remap<K, V>, A: Allocator + Clone> OwnedClient<K, 
         requires keys { IsExact K.is_clone }
         requires values { IsExact V.is_clone }
         requires callable { G.IsAlwaysCallable keeps.now }
-        requires cursor { cursor.old.n ≡ self.old.map.n }
         ensures dropped { HasDropped (SaysAt (G.post keeps.now)) self.old.pass self.new.pass }
         ensures kept { IfOk result (λ some. some ≡ true → (class : ClassView)
             × HasDroppedIn (SaysAt (G.post keeps.now)) K.code self.old.map.ledger.salt class self.old.pass

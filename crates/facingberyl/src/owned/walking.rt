@@ -20,22 +20,22 @@ use std::alloc::Allocator;
 use std::sync::Wait;
 
 impl<K: HashKey, V: Value, F: Remap<K, V>, A: Allocator + Clone> OwnedClient<K, V, F, A> {
-    /// Returns a cursor at the beginning of a walk.
+    /// Returns a cursor at the beginning of a walk in the order in which buckets lie in the table
+    /// that calls go by just now. Where a bucket is divided meanwhile, the walk goes over what it
+    /// became; where one of a smaller table has not been moved yet, it shows the part that is next.
     ///
     ///     let mut cursor = client.cursor();
     pub fn cursor(&self) -> Cursor
-        ensures n { result.n ≡ self.now.map.n }
-        ensures first { result.next ≡ Some (record { n = self.now.map.n; index = 0 }) }
+        ensures first { result.next ≡ Some (record { n = result.n; index = 0 }) }
         ensures begun { (none : List (VisitView K V)) → none ≡ [] → HasCome result none }
     {
         self.pass_pool.map().cursor()
     }
 
     /// Returns the next bucket of a walk, by copies of its entries in order, as all calls before had
-    /// left it, which the client has then seen; none at the end of the walk. What the steps of a walk
-    /// return stands in walk order, no key comes twice, and at the end every key has come. Calls of
-    /// others, and of the client itself, may be made between two steps, and a program may stop
-    /// before the end.
+    /// left it, which the client has then seen; none at the end of the walk. No key comes twice, and
+    /// at the end every key has come. Calls of others, and of the client itself, may be made between
+    /// two steps, and a program may stop before the end.
     ///
     /// It waits for the bucket, and takes memory for the copies of its entries alone.
     ///
@@ -52,7 +52,6 @@ impl<K: HashKey, V: Value, F: Remap<K, V>, A: Allocator + Clone> OwnedClient<K, 
     ) -> Result<Option<Visit<K, V, A>>, Fault>
         requires keys { IsExact K.is_clone }
         requires values { IsExact V.is_clone }
-        requires cursor { cursor.old.n ≡ self.old.map.n }
         ensures visit { IfOk result (λ v. IfSome v (λ v.
             HasSeen K.eq (after V.eq F.remapped F.merged) self.old.map.ledger self.old.pass self.new.pass
             × IsVisit K.eq K.code self.old.map.ledger self.new.pass.seen v)) }
@@ -88,7 +87,6 @@ impl<K: HashKey, V: Value, F: Remap<K, V>, A: Allocator + Clone> OwnedClient<K, 
     ) -> Option<Result<Option<Visit<K, V, A>>, Fault>>
         requires keys { IsExact K.is_clone }
         requires values { IsExact V.is_clone }
-        requires cursor { cursor.old.n ≡ self.old.map.n }
         ensures visit { IfSome result (λ tried. IfOk tried (λ v. IfSome v (λ v.
             HasSeen K.eq (after V.eq F.remapped F.merged) self.old.map.ledger self.old.pass self.new.pass
             × IsVisit K.eq K.code self.old.map.ledger self.new.pass.seen v))) }
@@ -131,7 +129,6 @@ impl<K: HashKey, V: Value, F: Remap<K, V>, A: Allocator + Clone> OwnedClient<K, 
         f: &mut G,
     ) -> bool
         requires callable { G.IsAlwaysCallable f.old }
-        requires cursor { cursor.old.n ≡ self.old.map.n }
         ensures shown { result ≡ true → (v : VisitView K V)
             × HasSeen K.eq (after V.eq F.remapped F.merged) self.old.map.ledger self.old.pass self.new.pass
             × IsVisit K.eq K.code self.old.map.ledger self.new.pass.seen v

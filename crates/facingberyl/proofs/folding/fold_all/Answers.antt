@@ -1,4 +1,4 @@
-use Rattle.std.proofs.Common.{◌≡◌, ℕ, Option, None, ◌∷◌, ◌++◌, [], refl, sym, subst, ap, ◌∙◌}
+use Rattle.std.proofs.Common.{◌≡◌, Option, ◌∷◌, ◌++◌, [], refl, sym, subst, ap, ◌∙◌}
 use Rattle.hashkeys.specs.Classes.{ClassView}
 use Rattle.bin_history.specs.Calls.{after}
 use Rattle.bin_history.proofs.Keys.{key_tells}
@@ -14,7 +14,6 @@ pub loop-init : goal.loop-init
 loop-init g c = record {
   can = c.requires.callable;
   shown = ([], c.cursor-cursor.ensures.begun [] refl, refl, refl);
-  n = c.cursor-cursor.ensures.n;
   ledger = c.requires.pass;
 }
 
@@ -37,7 +36,6 @@ loop-preserved g c =
             (FoldsTo-append _ (shown_by visits) visit.entries _ _ _ folds
             (rw same at c.fold_entries-next.ensures.folded)),
       );
-      n = c.visit_next.ensures.n ∙ c.loop.invariant.n;
       ledger = ap (λ (p : PassView _ _ _). p.ledger) c.visit_next.ensures.seen.pass ∙ c.loop.invariant.ledger;
     }
 
@@ -48,12 +46,11 @@ returns-in_default-clause-folded g c =
     let its_after = after g.V.PartialEq.eq g.F.Remap.remapped g.F.Remap.merged in (
       visits,
       whole-walk g.K.PartialEq.eq its_after (key_tells g.met.K.Eq.laws g.met.K.HashKey.equal_is_same) g.K.HashKey.code
-          c.args.map.now c.args.pass.now c.visit_next.new.pass visits
+          c.loop.cursor.n c.args.map.now c.args.pass.now c.visit_next.new.pass visits
           (subst
           (λ (p : PassView _ _ _). AreVisited g.K.PartialEq.eq g.K.HashKey.code its_after c.args.map.now.ledger
           c.args.pass.now visits p) (sym same) visited)
-          (subst (λ (n : ℕ). HasComeTo n None (classes_of_visits visits)) c.loop.invariant.n
-          (subst (λ (next : Option ClassView). HasComeTo c.loop.cursor.n next (classes_of_visits visits)) at_end come)),
+          (subst (λ (next : Option ClassView). HasComeTo c.loop.cursor.n next (classes_of_visits visits)) at_end come),
       folds,
     )
 

@@ -15,6 +15,5 @@ invariant-loop g l =
           × AreVisited g.K.PartialEq.eq g.K.HashKey.code
           (after g.V.PartialEq.eq g.F.Remap.remapped g.F.Remap.merged) l.map.ledger l.initial.pass visits l.pass
           × FoldsTo (turn (goal.G-step g)) (l.fn.f, l.fn.init) (shown_by visits) (l.left, l.total);
-      n : l.cursor.n ≡ l.map.n;
       ledger : l.pass.ledger ≡ l.map.ledger.id;
     }

@@ -1,4 +1,4 @@
-use Rattle.std.proofs.Common.{◌≡◌, ℕ, true, false, Option, None, List, ◌∷◌, ◌++◌, [], rules, refl, sym, subst, ap, ◌∙◌}
+use Rattle.std.proofs.Common.{◌≡◌, true, false, Option, List, ◌∷◌, ◌++◌, [], rules, refl, sym, subst, ap, ◌∙◌}
 use Rattle.std.specs.List.{FoldsTo}
 use Rattle.bin_history.specs.Calls.{after}
 use Rattle.bin_history.proofs.Keys.{key_tells}
@@ -15,7 +15,6 @@ pub loop-init : goal.loop-init
 loop-init g c = record {
   can = c.requires.callable;
   shown = ([], c.cursor-cursor.ensures.begun [] refl, refl, refl);
-  n = c.cursor-cursor.ensures.n;
   ledger = c.requires.pass;
 }
 
@@ -36,7 +35,6 @@ loop-preserved g c =
             (sym (shown_by-push visits visit))
             (FoldsTo-append (IsUsedAt (goal.G-step g)) (shown_by visits) visit.entries _ _ _ folds uses),
       );
-      n = c.show_next.ensures.n ∙ c.loop.invariant.n;
       ledger = ap (λ (p : PassView _ _ _). p.ledger) seen.pass ∙ c.loop.invariant.ledger;
     }
 
@@ -48,12 +46,11 @@ returns-then-not-show_next-clause-shown g c =
     let its_after = after g.V.PartialEq.eq g.F.Remap.remapped g.F.Remap.merged in (
       visits,
       whole-walk g.K.PartialEq.eq its_after (key_tells g.met.K.Eq.laws g.met.K.HashKey.equal_is_same) g.K.HashKey.code
-          c.args.map.now c.args.pass.now c.show_next.new.pass visits
+          c.loop.cursor.n c.args.map.now c.args.pass.now c.show_next.new.pass visits
           (subst
           (λ (p : PassView _ _ _). AreVisited g.K.PartialEq.eq g.K.HashKey.code its_after c.args.map.now.ledger
           c.args.pass.now visits p) (sym same) visited)
-          (subst (λ (n : ℕ). HasComeTo n None (classes_of_visits visits)) c.loop.invariant.n
-          (subst (λ (next : Option _). HasComeTo c.loop.cursor.n next (classes_of_visits visits)) at_end come)),
+          (subst (λ (next : Option _). HasComeTo c.loop.cursor.n next (classes_of_visits visits)) at_end come),
       subst (λ (f : _). FoldsTo (IsUsedAt (goal.G-step g)) c.args.f.now (shown_by visits) f) (sym as_was) folds,
     )
 

@@ -2,4 +2,4 @@ use Rattle.std.proofs.Common.{◌≡◌}
 use Rattle.map_bench.proofs.walks.show.Given as goal
 
 abbrev pub invariant-loop : goal.invariant-loop
-invariant-loop g l = (l.pass.ledger ≡ l.initial.pass.ledger) × (l.cursor.n ≡ l.map.n)
+invariant-loop g l = l.pass.ledger ≡ l.initial.pass.ledger

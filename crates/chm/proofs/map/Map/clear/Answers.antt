@@ -1,7 +1,8 @@
-use Rattle.std.proofs.Common.{◌≡◌, arith}
+use Rattle.std.proofs.Common.{◌≡◌, ℕ, [], refl, subst, arith}
 use Rattle.std.proofs.lemmas.Bool.{true≢false}
 use Rattle.std.proofs.lemmas.Result.{on_err_weaker}
 use Rattle.bin_history.specs.Calls.{after}
+use Rattle.bin_layout.specs.Walks.{IsWalk}
 use Rattle.bin_history.proofs.Keys.{key_tells}
 use Rattle.chm.proofs.Clearing.{emptied, own_left}
 use Rattle.chm.proofs.InPlace.{OnErr-of}
@@ -11,11 +12,11 @@ use Rattle.chm.proofs.map.Map.clear.Goals as goal
 
 pub returns-clause-cleared : goal.returns-clause-cleared
 returns-clause-cleared g c =
-    let (classes, walk, kept) = c.in_ok-retain.ensures.retained in (
+    let (classes, walk, kept) = c.in_ok-retain_from.ensures.retained in (
       classes,
-      walk,
+      subst (λ (n : ℕ). IsWalk n classes) c.opening_cursor.ensures.n walk,
       cleared_of _ g.K.PartialEq.eq g.K.HashKey.code (after g.V.PartialEq.eq g.F.Remap.remapped g.F.Remap.merged)
-          c.args.self.now.ledger (λ e said. true≢false said.4) c.args.pass.now c.retain.new.pass classes kept,
+          c.args.self.now.ledger (λ e said. true≢false said.4) c.args.pass.now c.retain_from.new.pass classes kept,
     )
 
 pub returns-clause-emptied : goal.returns-clause-emptied
@@ -25,29 +26,32 @@ returns-clause-emptied g c one =
       walk,
       emptied g.K.PartialEq.eq (after g.V.PartialEq.eq g.F.Remap.remapped g.F.Remap.merged)
           c.args.self.now.ledger g.K.HashKey.code (key_tells g.met.K.Eq.laws g.met.K.HashKey.equal_is_same)
-          c.args.pass.now c.retain.new.pass classes one
+          c.args.pass.now c.retain_from.new.pass classes one
           (λ hash. (let e = walk.each_hash hash in omega arith)) cleared,
     )
 
 pub returns-clause-removed : goal.returns-clause-removed
-returns-clause-removed g c = removed_of _ c.args.pass.now c.retain.new.pass c.retain.ensures.dropped
+returns-clause-removed g c = removed_of _ c.args.pass.now c.retain_from.new.pass c.retain_from.ensures.dropped
 
-pub returns-in_err-retain-clause-removed : goal.returns-in_err-retain-clause-removed
-returns-in_err-retain-clause-removed g c = removed_of _ c.args.pass.now c.retain.new.pass c.retain.ensures.dropped
+pub returns-in_err-retain_from-clause-removed : goal.returns-in_err-retain_from-clause-removed
+returns-in_err-retain_from-clause-removed g c = removed_of _ c.args.pass.now c.retain_from.new.pass c.retain_from.ensures.dropped
 
-pub returns-in_err-retain-clause-left : goal.returns-in_err-retain-clause-left
-returns-in_err-retain-clause-left g c = OnErr-of c.from_residual.result
+pub returns-in_err-retain_from-clause-left : goal.returns-in_err-retain_from-clause-left
+returns-in_err-retain_from-clause-left g c = OnErr-of c.from_residual.result
     (left_of g.K.PartialEq.eq g.K.HashKey.code (after g.V.PartialEq.eq g.F.Remap.remapped g.F.Remap.merged)
-    c.args.self.now.ledger _ c.retain.new.pass c.in_err-retain.ensures.left)
+    c.args.self.now.ledger _ c.retain_from.new.pass c.in_err-retain_from.ensures.left)
 
-pub returns-in_err-retain-clause-own_left : goal.returns-in_err-retain-clause-own_left
-returns-in_err-retain-clause-own_left g c = λ one.
+pub returns-in_err-retain_from-clause-own_left : goal.returns-in_err-retain_from-clause-own_left
+returns-in_err-retain_from-clause-own_left g c = λ one.
     on_err_weaker c.from_residual.result
     (own_left g.K.PartialEq.eq (after g.V.PartialEq.eq g.F.Remap.remapped g.F.Remap.merged)
     c.args.self.now.ledger g.K.HashKey.code (key_tells g.met.K.Eq.laws g.met.K.HashKey.equal_is_same)
-    c.retain.new.pass one) (returns-in_err-retain-clause-left g c)
+    c.retain_from.new.pass one) (returns-in_err-retain_from-clause-left g c)
 
-pub returns-in_err-retain-clause-sure : goal.returns-in_err-retain-clause-sure
-returns-in_err-retain-clause-sure g c = λ lean keys values.
+pub returns-in_err-retain_from-clause-sure : goal.returns-in_err-retain_from-clause-sure
+returns-in_err-retain_from-clause-sure g c = λ lean keys values.
     IsMadeOrFull-of c.from_residual.result _ c.from_residual.ensures.1
-    (c.in_err-retain.ensures.sure lean keys values)
+    (c.in_err-retain_from.ensures.sure lean keys values)
+
+pub retain_from-requires-clause-begun : goal.retain_from-requires-clause-begun
+retain_from-requires-clause-begun g c = c.opening_cursor.ensures.begun [] refl

@@ -1,5 +1,4 @@
 use Rattle.std.proofs.Common.{refl, subst, ◌∙◌}
-use Rattle.hashkeys.specs.Classes.{ClassView}
 use Rattle.hashkeys.specs.declared.hashing.Salt.{Salt}
 use Rattle.chm.specs.Retained.{HasDroppedIn, SaysAt}
 use Rattle.chm.proofs.InPlace.{OnErr-of}
@@ -11,7 +10,7 @@ pub loop-init : goal.loop-init
 loop-init g c =
     record {
       dropped = none_dropped_in (SaysAt (goal.G-post g c.args.keeps.now)) g.K.HashKey.code c.args.bin.now.salt
-          c.args.bin.now.class c.args.pass.now c.args.pass.now refl;
+          c.args.class c.args.pass.now c.args.pass.now refl;
       class = refl;
       form = refl;
       salt = refl;
@@ -24,13 +23,10 @@ loop-preserved g c =
     let inv = c.loop.invariant in
     let says = SaysAt (goal.G-post g c.args.keeps.now) in
     let more =
-    subst (λ (s : Salt). HasDroppedIn says g.K.HashKey.code s c.args.bin.now.class c.loop.pass
-    c.drop_first.new.pass) inv.salt
-    (subst (λ (k : ClassView). HasDroppedIn says g.K.HashKey.code c.loop.bin.salt k c.loop.pass
-    c.drop_first.new.pass) inv.class
-    c.drop_first.ensures.dropped) in
+    subst (λ (s : Salt). HasDroppedIn says g.K.HashKey.code s c.args.class c.loop.pass
+    c.drop_first.new.pass) inv.salt c.drop_first.ensures.dropped in
     record {
-      dropped = dropped_in-more says g.K.HashKey.code c.args.bin.now.salt c.args.bin.now.class c.args.pass.now
+      dropped = dropped_in-more says g.K.HashKey.code c.args.bin.now.salt c.args.class c.args.pass.now
           c.loop.pass c.drop_first.new.pass inv.dropped more;
       class = c.drop_first.ensures.class ∙ inv.class;
       form = c.drop_first.ensures.form ∙ inv.form;
@@ -44,12 +40,9 @@ returns-clause-dropped g c =
     let inv = c.loop.invariant in
     let says = SaysAt (goal.G-post g c.args.keeps.now) in
     let more =
-    subst (λ (s : Salt). HasDroppedIn says g.K.HashKey.code s c.args.bin.now.class c.loop.pass
-    c.drop_first.new.pass) inv.salt
-    (subst (λ (k : ClassView). HasDroppedIn says g.K.HashKey.code c.loop.bin.salt k c.loop.pass
-    c.drop_first.new.pass) inv.class
-    c.drop_first.ensures.dropped) in
-    dropped_in-more says g.K.HashKey.code c.args.bin.now.salt c.args.bin.now.class c.args.pass.now c.loop.pass
+    subst (λ (s : Salt). HasDroppedIn says g.K.HashKey.code s c.args.class c.loop.pass
+    c.drop_first.new.pass) inv.salt c.drop_first.ensures.dropped in
+    dropped_in-more says g.K.HashKey.code c.args.bin.now.salt c.args.class c.args.pass.now c.loop.pass
     c.drop_first.new.pass inv.dropped more
 
 pub returns-in_err-drop_first-clause-dropped : goal.returns-in_err-drop_first-clause-dropped
@@ -57,12 +50,9 @@ returns-in_err-drop_first-clause-dropped g c =
     let inv = c.loop.invariant in
     let says = SaysAt (goal.G-post g c.args.keeps.now) in
     let more =
-    subst (λ (s : Salt). HasDroppedIn says g.K.HashKey.code s c.args.bin.now.class c.loop.pass
-    c.drop_first.new.pass) inv.salt
-    (subst (λ (k : ClassView). HasDroppedIn says g.K.HashKey.code c.loop.bin.salt k c.loop.pass
-    c.drop_first.new.pass) inv.class
-    c.drop_first.ensures.dropped) in
-    dropped_in-more says g.K.HashKey.code c.args.bin.now.salt c.args.bin.now.class c.args.pass.now c.loop.pass
+    subst (λ (s : Salt). HasDroppedIn says g.K.HashKey.code s c.args.class c.loop.pass
+    c.drop_first.new.pass) inv.salt c.drop_first.ensures.dropped in
+    dropped_in-more says g.K.HashKey.code c.args.bin.now.salt c.args.class c.args.pass.now c.loop.pass
     c.drop_first.new.pass inv.dropped more
 
 pub returns-in_err-drop_first-clause-left : goal.returns-in_err-drop_first-clause-left

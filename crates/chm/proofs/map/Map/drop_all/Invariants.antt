@@ -8,7 +8,7 @@ abbrev pub invariant-loop : goal.invariant-loop
 invariant-loop g l =
     record {
       dropped : HasDroppedIn (SaysAt (goal.G-post g l.fn.keeps)) g.K.HashKey.code l.initial.bin.salt
-          l.initial.bin.class l.initial.pass l.pass;
+          l.fn.class l.initial.pass l.pass;
       class : l.bin.class ≡ l.initial.bin.class;
       form : l.bin.form ≡ l.initial.bin.form;
       salt : l.bin.salt ≡ l.initial.bin.salt;

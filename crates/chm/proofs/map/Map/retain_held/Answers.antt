@@ -1,13 +1,17 @@
-use Rattle.std.proofs.Common.{◌≡◌, true, Option, IsSomeAnd, All, sym, subst, ap, ◌∙◌}
-use Rattle.hashkeys.specs.Classes.{ClassView, is_of}
+use Rattle.std.proofs.Common.{◌≡◌, ℕ, true, Option, List, IsSomeAnd, All, sym, subst, ap, ◌∙◌}
+use Rattle.hashkeys.specs.Classes.{ClassView, covers, is_of}
 use Rattle.hashkeys.specs.declared.hashing.Salt.{Salt}
 use Rattle.bin_history.specs.Calls.{after}
+use Rattle.bin_history.specs.Entries.{replay}
+use Rattle.bin_history.specs.Part.{part_of_entries}
+use Rattle.bin_history.proofs.Keys.{key_tells}
 use Rattle.count_ledger.specs.Agreement.{BinAgrees}
 use Rattle.count_ledger.specs.Views.{RoleView}
-use Rattle.chm.specs.Retained.{HasDroppedIn, HasStoppedAt, IsKeptIn, SaysAt}
-use Rattle.chm.specs.Visits.{IsFirstOf}
+use Rattle.chm.specs.Retained.{HasDroppedIn, HasEntry, HasStoppedAt, SaysAt}
+use Rattle.part_walks.specs.Parts.{IsFirstOf}
 use Rattle.chm.proofs.Clearing.{IsFront-seen}
 use Rattle.chm.proofs.InPlace.{OnErr-of, some_and}
+use Rattle.chm.proofs.PartVisits.{IsVisit-part, part-of-part}
 use Rattle.chm.proofs.Retaining.{dropped_in, dropped_in-seen}
 use Rattle.chm.proofs.Visiting.{HasSeenMore-seen}
 use Rattle.chm.proofs.Sure.{IsMadeOrFull-of}
@@ -31,9 +35,10 @@ release-requires g c =
 pub returns-clause-dropped : goal.returns-clause-dropped
 returns-clause-dropped g c =
     let says = SaysAt (goal.G-post g c.args.keeps.now) in
-    let bin = c.args.held.bin in
-    dropped_in says g.K.HashKey.code bin.salt bin.class c.args.pass.now c.meet_under.new.pass
-    (dropped_in-seen says g.K.HashKey.code bin.salt bin.class c.args.pass.now c.drop_all-done.new.pass
+    let salt = c.args.held.bin.salt in
+    let class = c.args.class in
+    dropped_in says g.K.HashKey.code salt class c.args.pass.now c.meet_under.new.pass
+    (dropped_in-seen says g.K.HashKey.code salt class c.args.pass.now c.drop_all-done.new.pass
     c.meet_under.new.pass c.drop_all-done.ensures.dropped
     (HasSeenMore-seen g.K.PartialEq.eq (after g.V.PartialEq.eq g.F.Remap.remapped g.F.Remap.merged)
     c.args.self.now.ledger c.drop_all-done.new.pass c.meet_under.new.pass c.meet_under.ensures.seen))
@@ -41,77 +46,76 @@ returns-clause-dropped g c =
 pub returns-in_err-done-clause-dropped : goal.returns-in_err-done-clause-dropped
 returns-in_err-done-clause-dropped g c =
     let says = SaysAt (goal.G-post g c.args.keeps.now) in
-    let bin = c.args.held.bin in
-    dropped_in says g.K.HashKey.code bin.salt bin.class c.args.pass.now c.meet_under.new.pass
-    (dropped_in-seen says g.K.HashKey.code bin.salt bin.class c.args.pass.now c.drop_all-done.new.pass
+    let salt = c.args.held.bin.salt in
+    let class = c.args.class in
+    dropped_in says g.K.HashKey.code salt class c.args.pass.now c.meet_under.new.pass
+    (dropped_in-seen says g.K.HashKey.code salt class c.args.pass.now c.drop_all-done.new.pass
     c.meet_under.new.pass c.drop_all-done.ensures.dropped
     (HasSeenMore-seen g.K.PartialEq.eq (after g.V.PartialEq.eq g.F.Remap.remapped g.F.Remap.merged)
     c.args.self.now.ledger c.drop_all-done.new.pass c.meet_under.new.pass c.meet_under.ensures.seen))
 
 pub returns-clause-kept : goal.returns-clause-kept
 returns-clause-kept g c =
+    let code = g.K.HashKey.code in
     let says = SaysAt (goal.G-post g c.args.keeps.now) in
     let its_after = after g.V.PartialEq.eq g.F.Remap.remapped g.F.Remap.merged in
     let ledger = c.args.self.now.ledger in
-    let bin = c.args.held.bin in
-    let class = c.class-class.result in (
-      class,
-      dropped_in-seen says g.K.HashKey.code ledger.salt class c.args.pass.now c.drop_all-done.new.pass
-          c.meet_under.new.pass
-          (subst (λ (k : ClassView). HasDroppedIn says g.K.HashKey.code ledger.salt k c.args.pass.now
-          c.drop_all-done.new.pass) (sym c.class-class.ensures)
-          (subst (λ (s : Salt). HasDroppedIn says g.K.HashKey.code s bin.class c.args.pass.now
-          c.drop_all-done.new.pass) c.requires.salt c.drop_all-done.ensures.dropped))
+    let bin = c.drop_all-done.new.bin in
+    let class = c.args.class in
+    let salt : bin.salt ≡ ledger.salt = c.drop_all-done.ensures.salt ∙ c.requires.salt in
+    let whole = c.drop_all-done.ensures.class in (
+      dropped_in-seen says code ledger.salt class c.args.pass.now c.drop_all-done.new.pass c.meet_under.new.pass
+          (subst (λ (s : Salt). HasDroppedIn says code s class c.args.pass.now c.drop_all-done.new.pass)
+          c.requires.salt c.drop_all-done.ensures.dropped)
           (HasSeenMore-seen g.K.PartialEq.eq its_after ledger c.drop_all-done.new.pass c.meet_under.new.pass
           c.meet_under.ensures.seen),
-      subst (λ (k : ClassView). IsKeptIn g.K.PartialEq.eq g.K.HashKey.code its_after says ledger
-          c.meet_under.new.pass k)
-          (sym (c.class-class.ensures ∙ sym c.drop_all-done.ensures.class))
-          (record {
-            front = IsFront-seen g.K.PartialEq.eq its_after ledger c.drop_all-done.new.pass c.meet_under.new.pass
-                c.meet_under.ensures.seen;
-            kept = subst (λ es. All (λ e. says e true) es) c.meet_under.ensures.met.entries c.in_ok-done.ensures.kept;
-          }),
+      record {
+        front = IsFront-seen g.K.PartialEq.eq its_after ledger c.drop_all-done.new.pass c.meet_under.new.pass
+            c.meet_under.ensures.seen;
+        kept = subst (λ (es : List (_ × _)). All (λ e. says e true) es)
+            (part-of-part code ledger bin.class class bin.entries
+            (replay g.K.PartialEq.eq ledger.opening c.meet_under.new.pass.seen) c.meet_under.ensures.met.entries
+            (subst (λ (k : ClassView). (hash : ℕ) → covers class hash ≡ true → covers k hash ≡ true) (sym whole)
+            c.requires.within))
+            (subst (λ (s : Salt). All (λ e. says e true) (part_of_entries (is_of code s class) bin.entries)) salt
+            c.in_ok-done.ensures.kept);
+      },
       c.go_past.ensures.passed,
     )
 
 pub returns-in_err-done-clause-left : goal.returns-in_err-done-clause-left
 returns-in_err-done-clause-left g c =
+    let code = g.K.HashKey.code in
     let says = SaysAt (goal.G-post g c.args.keeps.now) in
     let its_after = after g.V.PartialEq.eq g.F.Remap.remapped g.F.Remap.merged in
     let ledger = c.args.self.now.ledger in
-    let lawful = c.lawful.ensures.lawful in
     let bin = c.drop_all-done.new.bin in
-    let class = c.drop_all-done.ensures.class in
-    let salt = c.drop_all-done.ensures.salt ∙ c.requires.salt in
+    let class = c.args.class in
+    let salt : bin.salt ≡ ledger.salt = c.drop_all-done.ensures.salt ∙ c.requires.salt in
+    let whole = c.drop_all-done.ensures.class in
     let (e, entry, said) = c.in_err-done.ensures.left in
     let (next, next_is, is_first) =
-    some_and (λ (k : ClassView). IsFirstOf k c.args.held.bin.class) c.args.cursor.now.next c.requires.first in
+    some_and (λ (k : ClassView). IsFirstOf k class) c.args.cursor.now.next c.requires.first in
     OnErr-of c.from_residual.result
     (subst
-    (λ (o : Option ClassView). IsSomeAnd o (λ (k : ClassView). HasStoppedAt g.K.PartialEq.eq g.K.HashKey.code its_after
+    (λ (o : Option ClassView). IsSomeAnd o (λ (k : ClassView). HasStoppedAt g.K.PartialEq.eq code its_after
     says ledger k c.args.pass.now c.meet_under.new.pass)) (sym next_is) (
-      record { class = bin.class; entries = bin.entries },
-      subst (λ (k : ClassView). IsFirstOf next k) (sym class) is_first,
-      dropped_in-seen says g.K.HashKey.code ledger.salt bin.class c.args.pass.now c.drop_all-done.new.pass
-          c.meet_under.new.pass
-          (subst (λ (k : ClassView). HasDroppedIn says g.K.HashKey.code ledger.salt k c.args.pass.now
-          c.drop_all-done.new.pass) (sym class)
-          (subst (λ (s : Salt). HasDroppedIn says g.K.HashKey.code s c.args.held.bin.class c.args.pass.now
-          c.drop_all-done.new.pass) c.requires.salt c.drop_all-done.ensures.dropped))
+      record { class = class; entries = part_of_entries (is_of code ledger.salt class) bin.entries },
+      is_first,
+      dropped_in-seen says code ledger.salt class c.args.pass.now c.drop_all-done.new.pass c.meet_under.new.pass
+          (subst (λ (s : Salt). HasDroppedIn says code s class c.args.pass.now c.drop_all-done.new.pass)
+          c.requires.salt c.drop_all-done.ensures.dropped)
           (HasSeenMore-seen g.K.PartialEq.eq its_after ledger c.drop_all-done.new.pass c.meet_under.new.pass
           c.meet_under.ensures.seen),
       IsFront-seen g.K.PartialEq.eq its_after ledger c.drop_all-done.new.pass c.meet_under.new.pass
           c.meet_under.ensures.seen,
-      record {
-        distinct = lawful.distinct;
-        of_class =
-            subst (λ (s : Salt). All (λ (e : _ × _). is_of g.K.HashKey.code s bin.class e.0 ≡ true) bin.entries) salt
-            lawful.of_class;
-        entries = c.meet_under.ensures.met.entries;
-      },
+      IsVisit-part g.K.PartialEq.eq (key_tells g.met.K.Eq.laws g.met.K.HashKey.equal_is_same) code ledger
+          c.meet_under.new.pass.seen bin.class class bin.entries c.lawful.ensures.lawful.distinct
+          c.meet_under.ensures.met.entries
+          (subst (λ (k : ClassView). (hash : ℕ) → covers class hash ≡ true → covers k hash ≡ true) (sym whole)
+          c.requires.within),
       e,
-      entry,
+      subst (λ (s : Salt). HasEntry (part_of_entries (is_of code s class) bin.entries) e) salt entry,
       said,
     ))
 

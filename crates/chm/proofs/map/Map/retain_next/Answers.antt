@@ -16,3 +16,6 @@ returns-in_err-retain_held-clause-sure g c = λ lean keys values.
 
 pub returns-in_err-retain_held-clause-left : goal.returns-in_err-retain_held-clause-left
 returns-in_err-retain_held-clause-left g c = OnErr-of c.from_residual.result c.in_err-retain_held.ensures.left
+
+pub retain_held-requires-clause-within : goal.retain_held-requires-clause-within
+retain_held-requires-clause-within g c = λ hash of. rw c.class.ensures at (c.narrower-class.ensures.within hash of)

@@ -1,12 +1,17 @@
-use Rattle.std.proofs.Common.{◌≡◌, true, List, All, sym, subst, ◌∙◌}
+use Rattle.std.proofs.Common.{◌≡◌, List, sym, subst}
+use Rattle.std.specs.List.{FoldsTo}
 use Rattle.hashkeys.specs.Classes.{is_of}
 use Rattle.hashkeys.specs.declared.hashing.Salt.{Salt}
 use Rattle.bin_history.specs.Calls.{after}
+use Rattle.bin_history.specs.Part.{part_of_entries}
+use Rattle.bin_history.proofs.Keys.{key_tells}
 use Rattle.count_ledger.specs.Views.{RoleView}
 use Rattle.bin_store.specs.Places.{tag_of}
 use Rattle.bin_layout.specs.Places.{AreAt}
+use Rattle.chm.specs.Cursors.{IsUsedAt}
 use Rattle.chm.specs.Visits.{VisitView, classes_of_visits}
 use Rattle.chm.proofs.Cursors.{HasCome-push}
+use Rattle.chm.proofs.PartVisits.{IsVisit-part}
 use Rattle.chm.proofs.map.Map.show_held.Goals as goal
 
 pub release-requires : goal.release-requires
@@ -17,19 +22,18 @@ release-requires g c =
 
 pub returns-clause-shown : goal.returns-clause-shown
 returns-clause-shown g c =
-    let lawful = c.lawful.ensures.lawful in
+    let code = g.K.HashKey.code in
     let bin = c.args.held.bin in
-    let Of : Salt → Type 0 =
-    λ salt. All (λ e. is_of g.K.HashKey.code salt bin.class e.0 ≡ true) bin.entries in
-    let v : VisitView _ _ = record { class = bin.class; entries = bin.entries } in (
+    let ledger = c.args.self.now.ledger in
+    let class = c.args.class in
+    let v : VisitView _ _ = record { class = class; entries = part_of_entries (is_of code ledger.salt class) bin.entries } in (
       v,
       c.meet_under.ensures.seen,
-      record {
-        distinct = lawful.distinct;
-        of_class = subst Of c.requires.salt lawful.of_class;
-        entries = c.meet_under.ensures.met.entries;
-      },
-      c.use_at_each.ensures.used,
-      λ shown come. HasCome-push c.go_past.new.self shown v
-          (rw c.class-class.ensures at (c.go_past.ensures.passed (classes_of_visits shown) come)),
+      IsVisit-part g.K.PartialEq.eq (key_tells g.met.K.Eq.laws g.met.K.HashKey.equal_is_same) code ledger
+          c.meet_under.new.pass.seen bin.class class bin.entries c.lawful.ensures.lawful.distinct
+          c.meet_under.ensures.met.entries c.requires.within,
+      subst (λ (s : Salt). FoldsTo (IsUsedAt (goal.G-step g)) c.args.f.now
+          (part_of_entries (is_of code s class) bin.entries) c.use_at_class.new.f) c.requires.salt
+          c.use_at_class.ensures.used,
+      λ shown come. HasCome-push c.go_past.new.self shown v (c.go_past.ensures.passed (classes_of_visits shown) come),
     )

@@ -1,15 +1,18 @@
-use Rattle.std.proofs.Common.{◌≡◌, ℕ, rules, Some, ◌∷◌, [], ◌++◌, sym, ap, subst, ◌∙◌, arith}
+use Rattle.std.proofs.Common.{◌≡◌, ℕ, rules, Some, ◌∷◌, [], ◌++◌, refl, sym, ap, subst, ◌∙◌, arith}
 use Rattle.hashkeys.specs.Classes.{ClassView, covers}
 use Rattle.chm.specs.Cursors.{HasCome}
 use Rattle.chm.proofs.Stepping.{HasCome-at, HasComeAt-of, first-own}
 use Rattle.chm.proofs.map.Map.try_visit_at.Goals as goal
 
 pub visit_held-requires-clause-first : goal.visit_held-requires-clause-first
-visit_held-requires-clause-first g c = first-own c.class-class.result _ c.class-class.ensures c.n.ensures.class
+visit_held-requires-clause-first g c = first-own c.class-class.result _ refl c.n.ensures.class
+
+pub visit_held-requires-clause-within : goal.visit_held-requires-clause-within
+visit_held-requires-clause-within g c = λ hash of. rw c.class-class.ensures at of
 
 pub returns-in-Ok-clause-visit : goal.returns-in-Ok-clause-visit
 returns-in-Ok-clause-visit g c = (
-  ap (λ (k : ClassView). covers k c.args.number) c.in-Ok.ensures.class
+  ap (λ (k : ClassView). covers k c.args.number) (c.in-Ok.ensures.class ∙ c.class-class.ensures)
       ∙ c.in_ok-held.ensures.covers,
   c.visit_held.ensures.seen,
   c.in-Ok.ensures.visit,
@@ -19,7 +22,7 @@ pub returns-in-Ok-clause-come : goal.returns-in-Ok-clause-come
 returns-in-Ok-clause-come g c shown came begins =
     let n : c.n-n.result ≡ c.args.self.now.n = search rules in
     let at : c.class-class.result.index ≡ c.args.number =
-    ap (λ (k : ClassView). k.index) (c.class-class.ensures ∙ sym c.in-Ok.ensures.class) ∙ begins in
+    ap (λ (k : ClassView). k.index) (sym c.in-Ok.ensures.class) ∙ begins in
     let k : ClassView = c.class-class.result in
     let came' : HasCome (record { n = c.n-n.result; next = Some k }) shown =
     subst (λ (m : ℕ). HasCome (record { n = m; next = Some k }) shown) (sym n)
@@ -31,7 +34,7 @@ pub returns-in-Ok-clause-behind : goal.returns-in-Ok-clause-behind
 returns-in-Ok-clause-behind g c shown came =
     let n : c.n-n.result ≡ c.args.self.now.n = search rules in
     let k : ClassView = c.class-class.result in
-    let same : c.in-Ok.visit.class ≡ k = c.in-Ok.ensures.class ∙ sym c.class-class.ensures in
+    let same : c.in-Ok.visit.class ≡ k = c.in-Ok.ensures.class in
     let of_class : HasCome (record { n = c.args.self.now.n; next = Some k }) shown =
     subst (λ (x : ClassView). HasCome (record { n = c.args.self.now.n; next = Some x }) shown) same came in
     let came' : HasCome (record { n = c.n-n.result; next = Some k }) shown =

@@ -1,13 +1,15 @@
-use Rattle.std.proofs.Common.{◌≡◌, true, List, All, sym, subst, ◌∙◌}
-use Rattle.hashkeys.specs.Classes.{ClassView, is_of}
+use Rattle.std.proofs.Common.{◌≡◌, List, sym, subst}
+use Rattle.hashkeys.specs.Classes.{is_of}
 use Rattle.hashkeys.specs.declared.hashing.Salt.{Salt}
 use Rattle.bin_history.specs.Calls.{after}
-use Rattle.bin_history.specs.Entries.{HasDistinctKeys}
+use Rattle.bin_history.specs.Part.{part_of_entries}
+use Rattle.bin_history.proofs.Keys.{key_tells}
 use Rattle.count_ledger.specs.Views.{RoleView}
 use Rattle.bin_store.specs.Places.{tag_of}
 use Rattle.bin_layout.specs.Places.{AreAt}
 use Rattle.chm.specs.Visits.{IsVisit, classes_of_visits}
 use Rattle.chm.proofs.Cursors.{HasCome-push}
+use Rattle.chm.proofs.PartVisits.{IsVisit-part}
 use Rattle.chm.proofs.map.Map.visit_held.Goals as goal
 
 pub release-requires : goal.release-requires
@@ -18,20 +20,21 @@ release-requires g c =
 
 pub returns-clause-visit : goal.returns-clause-visit
 returns-clause-visit g c =
-    let Visited : ClassView → Type 0 = λ class. IsVisit g.K.PartialEq.eq g.K.HashKey.code
-    c.args.self.now.ledger c.meet_under.new.pass.seen (record { class = class; entries = c.in_ok-entries.entries.items }) in
-    let lawful = c.lawful.ensures.lawful in
+    let code = g.K.HashKey.code in
     let bin = c.args.held.bin in
-    let Of : Salt → List (_ × _) → Type 0 =
-    λ salt entries. All (λ e. is_of g.K.HashKey.code salt bin.class e.0 ≡ true) entries in
-    subst Visited (sym c.class-class.ensures) (record {
-      distinct = subst (HasDistinctKeys g.K.PartialEq.eq) (sym c.in_ok-entries.ensures) lawful.distinct;
-      of_class = subst (λ (s : Salt). Of s c.in_ok-entries.entries.items) c.requires.salt
-          (subst (Of bin.salt) (sym c.in_ok-entries.ensures) lawful.of_class);
-      entries = c.in_ok-entries.ensures ∙ c.meet_under.ensures.met.entries;
-    })
+    let ledger = c.args.self.now.ledger in
+    let class = c.args.class in
+    let copies = c.in_ok-entries.entries.items in
+    let is : copies ≡ part_of_entries (is_of code ledger.salt class) bin.entries =
+    subst (λ (s : Salt). copies ≡ part_of_entries (is_of code s class) bin.entries) c.requires.salt
+    c.in_ok-entries.ensures in
+    subst (λ (es : List (_ × _)). IsVisit g.K.PartialEq.eq code ledger c.meet_under.new.pass.seen
+    (record { class = class; entries = es })) (sym is)
+    (IsVisit-part g.K.PartialEq.eq (key_tells g.met.K.Eq.laws g.met.K.HashKey.equal_is_same) code ledger
+    c.meet_under.new.pass.seen bin.class class bin.entries c.lawful.ensures.lawful.distinct
+    c.meet_under.ensures.met.entries c.requires.within)
 
 pub returns-clause-come : goal.returns-clause-come
 returns-clause-come g c = λ shown come.
-    HasCome-push c.go_past.new.self shown (record { class = c.class-class.result; entries = c.in_ok-entries.entries.items })
+    HasCome-push c.go_past.new.self shown (record { class = c.args.class; entries = c.in_ok-entries.entries.items })
     (c.go_past.ensures.passed (classes_of_visits shown) come)

@@ -2,7 +2,7 @@ use Rattle.std.proofs.Common.{◌≡◌, ◌≤◌, ap, sym, subst, arith}
 use Rattle.std.specs.Option.{IsSomeAnd}
 use Rattle.hashkeys.specs.Classes.{ClassView}
 use Rattle.chm.specs.Cursors.{CursorView}
-use Rattle.chm.specs.Visits.{IsFirstOf}
+use Rattle.part_walks.specs.Parts.{IsFirstOf}
 use Rattle.chm.proofs.Cursors.{HasComeTo-past}
 use Rattle.chm.proofs.InPlace.{some_and}
 use Rattle.chm.proofs.walks.cursor.Cursor.go_past.Goals as goal

@@ -1,7 +1,7 @@
 use denote.Param.Always.{always_mut}
 use Rattle.std.specs.List.{FoldsTo}
 use Rattle.chm.specs.Cursors.{IsUsedAt}
-use Rattle.chm.proofs.walks.cursor.use_at_each.Given as goal
+use Rattle.chm.proofs.walks.of_class.use_at_each.Given as goal
 
 -- what is left to go over goes on from what the function has become
 abbrev pub invariant-loop-entry : goal.invariant-loop-entry

@@ -1,7 +1,7 @@
 use Rattle.std.proofs.Common.{List, refl, sym, subst, of_calls}
 use Rattle.std.specs.List.{FoldsTo}
 use Rattle.chm.specs.Cursors.{IsUsedAt}
-use Rattle.chm.proofs.walks.cursor.use_at_each.Goals as goal
+use Rattle.chm.proofs.walks.of_class.use_at_each.Goals as goal
 
 pub loop-entry-preserved : goal.loop-entry-preserved
 loop-entry-preserved g c =

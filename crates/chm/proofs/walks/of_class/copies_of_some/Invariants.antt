@@ -1,0 +1,12 @@
+-- The copies are those of the class up to here.
+use Rattle.std.proofs.Common.{◌≡◌, ◌++◌, List}
+use Rattle.hashkeys.specs.Classes.{is_of}
+use Rattle.bin_history.specs.Part.{part_of_entries}
+use Rattle.chm.proofs.walks.of_class.copies_of_some.Given as goal
+
+abbrev pub invariant-loop-key : goal.invariant-loop-key
+invariant-loop-key g l =
+    (goal.iterator-loop-key g).can_next l.key-iterator
+    × (goal.iterator-loop-key g).is_finite l.key-iterator
+    × ((done : List (g.row.K.Denot × g.row.V.Denot)) × (done ++ l.key-iterator ≡ l.fn.bin.entries)
+    × (l.copies.items ≡ part_of_entries (is_of g.K.HashKey.code l.fn.bin.salt l.fn.class) done))
