@@ -1,6 +1,6 @@
 -- What clients that share the bins of a live map are shown.
 use Rattle.std.specs.Prelude.{◌≡◌, ℕ, ◌+◌, ◌*◌, ◌/◌, ◌⊎◌, Bool, Option, Some, None, List, [], ◌∷◌, flat_map}
-use Rattle.std.specs.Prelude.{◌<◌, length, map, slice_index_or, IsSomeAnd}
+use Rattle.std.specs.Prelude.{◌<◌, ◌≤◌, ◌^◌, length, map, slice_index_or, IsSomeAnd}
 use Rattle.std.specs.List.{AllZip}
 use Rattle.bin_history.specs.declared.call.Call.{Call}
 use Rattle.std.specs.List.Sorted.{IsPermutation}
@@ -46,6 +46,11 @@ module _ {K V F : Type 0} (same_key : K → K → Bool) (code : K → ℕ) (afte
   IsReduced {A} lift join ledger olds news value = (parts : List (List (VisitView K V))) × AreShared ledger olds parts news
       × (value ≡ plain_fold lift join (all_shown parts))
       × ((es : List (K × V)) → IsPermutation (all_shown parts) es → value ≡ plain_fold lift join es)
+
+  -- 2^64 pairs or more were shown
+  abbrev pub AreTooMany : LedgerView K V → List (PassView K V F) → List (PassView K V F) → Type 0
+  AreTooMany ledger olds news = (parts : List (List (VisitView K V))) × HaveVisited ledger olds parts news
+      × (2 ^ 64 ≤ length (all_shown parts))
 
   -- what an action returned for all that is shown of a whole table, in the same order
   abbrev pub IsActed : {R : Type 0} → (K → V → R) → LedgerView K V → List (PassView K V F) → List (PassView K V F) →

@@ -1,5 +1,5 @@
 //! What an action returns for all that a live map shows.
-ghost use Rattle.std.specs.Prelude.{◌≡◌, ◌≤◌, length, All, IfOk};
+ghost use Rattle.std.specs.Prelude.{◌≡◌, ◌≤◌, [], length, All, IfOk, IsErrOf};
 ghost use Rattle.std.specs.List.{AllZip};
 ghost use Rattle.bin_history.specs.Calls.{after};
 ghost use Rattle.count_ledger.specs.Fronts.{HasSeenMore};
@@ -124,6 +124,8 @@ where
     ensures answers { IfOk result (λ list. IsActed K.eq K.code (after V.eq F.remapped F.merged)
         (X.acted action.now) map.now.ledger passes.old.items passes.new.items list.items) }
     ensures workers { IsPlanned plan.now.workers result }
+    ensures no_client { IsErrOf result LiveFault.NoClient → passes.old.items ≡ [] }
+    ensures few_enough { IsErrOf result LiveFault.TooMany → ⊥ }
 {
     let _clients = clients_for(map, plan)?;
     let acting = Acting {

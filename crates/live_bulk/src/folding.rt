@@ -1,11 +1,11 @@
 //! Reductions of what a live map shows.
-ghost use Rattle.std.specs.Prelude.{◌≡◌, ◌≤◌, length, All, IfOk};
+ghost use Rattle.std.specs.Prelude.{◌≡◌, ◌≤◌, [], length, All, IfOk, IsErrOf};
 ghost use Rattle.std.specs.List.{AllZip};
 ghost use Rattle.bin_history.specs.Calls.{after};
 ghost use Rattle.count_ledger.specs.Fronts.{HasSeenMore};
 ghost use Rattle.bulk_tasks.specs.Folds.{FoldsInAnyOrder};
 ghost use Rattle.chm.specs.Shares.{AreSameClients};
-ghost use Rattle.live_bulk.specs.Shared.{IsReduced};
+ghost use Rattle.live_bulk.specs.Shared.{AreTooMany, IsReduced};
 ghost use Rattle.live_bulk.specs.Plans.{IsPlanned};
 ghost use Rattle.part_walks.specs.Parts.{most_shares};
 
@@ -166,6 +166,9 @@ where
         (T.lifted reducer.now) (T.joined reducer.now) map.now.ledger passes.old.items
         passes.new.items) }
     ensures workers { IsPlanned plan.now.workers result }
+    ensures no_client { IsErrOf result LiveFault.NoClient → passes.old.items ≡ [] }
+    ensures too_many { IsErrOf result LiveFault.TooMany → AreTooMany K.eq K.code
+        (after V.eq F.remapped F.merged) map.now.ledger passes.old.items passes.new.items }
 {
     any_order(reducer);
     let part = gather(rt, map, passes, plan, &Folding { reducer })?;

@@ -1,5 +1,5 @@
 //! A search of what a live map shows.
-ghost use Rattle.std.specs.Prelude.{◌≡◌, ◌≤◌, length, All, IfOk, OnErr, IsTrue};
+ghost use Rattle.std.specs.Prelude.{◌≡◌, ◌≤◌, [], length, All, IfOk, OnErr, IsErrOf, IsTrue};
 ghost use Rattle.std.specs.List.{AllZip};
 ghost use Rattle.bin_history.specs.Calls.{after};
 ghost use Rattle.count_ledger.specs.Fronts.{HasSeenMore};
@@ -138,6 +138,8 @@ where
         passes.old.items passes.new.items) }
     ensures refused { OnErr result (passes.new.items ≡ passes.old.items) }
     ensures workers { IsPlanned plan.now.workers result }
+    ensures no_client { IsErrOf result LiveFault.NoClient → passes.old.items ≡ [] }
+    ensures few_enough { IsErrOf result LiveFault.TooMany → ⊥ }
 {
     let found = AtomicBool::new(false);
     let searching = Searching {
@@ -175,6 +177,8 @@ where
     ensures sought { IfOk result (IsSought K.eq K.code (after V.eq F.remapped F.merged)
         (P.probed probe.now) map.now.ledger passes.old.items passes.new.items) }
     ensures workers { IsPlanned plan.now.workers result }
+    ensures no_client { IsErrOf result LiveFault.NoClient → passes.old.items ≡ [] }
+    ensures few_enough { IsErrOf result LiveFault.TooMany → ⊥ }
 {
     let part = search_once(rt, map, passes, plan, probe, false)?;
     match part {
@@ -229,6 +233,8 @@ where
     ensures found { IfOk result (IsFound K.eq K.code (after V.eq F.remapped F.merged)
         (P.probed probe.now) map.now.ledger passes.old.items passes.new.items) }
     ensures workers { IsPlanned plan.now.workers result }
+    ensures no_client { IsErrOf result LiveFault.NoClient → passes.old.items ≡ [] }
+    ensures few_enough { IsErrOf result LiveFault.TooMany → ⊥ }
 {
     let part = search_once(rt, map, passes, plan, probe, true)?;
     match part {

@@ -1,5 +1,5 @@
 -- Passes that come back to a team.
-use Rattle.std.proofs.Common.{◌≡◌, ℕ, List, length, ◌∙◌, arith}
+use Rattle.std.proofs.Common.{◌≡◌, List, length, ◌∙◌, arith}
 use Rattle.count_ledger.specs.Views.{PassView}
 use Rattle.chm.specs.Shares.{AreSameClients}
 use Rattle.facingberyl.specs.Teams.{AreInOrder}

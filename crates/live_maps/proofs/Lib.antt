@@ -1,2 +1,3 @@
+mod Clients
 mod InOrder
 mod Ended

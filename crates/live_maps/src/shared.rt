@@ -1,9 +1,9 @@
 //! Bulk operations on a shared map that others call meanwhile.
-ghost use Rattle.std.specs.Prelude.{◌≡◌, ◌≤◌, List, All, IfErr, IfOk, length};
+ghost use Rattle.std.specs.Prelude.{◌≡◌, ◌≤◌, List, All, IfErr, IfOk, IsErrOf, length};
 ghost use Rattle.bin_history.specs.Calls.{after};
 ghost use Rattle.count_ledger.specs.Views.{PassView};
 ghost use Rattle.live_bulk.specs.Plans.{IsPlanned};
-ghost use Rattle.live_bulk.specs.Shared.{IsActed, IsFound, IsReduced};
+ghost use Rattle.live_bulk.specs.Shared.{AreTooMany, IsActed, IsFound, IsReduced};
 
 use bin_history::{Remap, Value};
 use bulk_tasks::{Action, Gate, Plan, Probe, Reducer};
@@ -67,6 +67,9 @@ where
         × IsReduced K.eq K.code (after V.eq F.remapped F.merged) (T.lifted reducer.now)
         (T.joined reducer.now) map.now.ledger olds news a) }
     ensures workers { IsPlanned plan.now.workers result }
+    ensures too_many { IsErrOf result LiveFault.TooMany → (olds : List (PassView K V F))
+        × (news : List (PassView K V F)) × AreTooMany K.eq K.code (after V.eq F.remapped F.merged)
+        map.now.ledger olds news }
 {
     let wanted = live_bulk::clients_for(map.map(), plan)?;
     let mut passes = take_some(map, wanted)?;
@@ -111,6 +114,7 @@ where
         × IsFound K.eq K.code (after V.eq F.remapped F.merged) (P.probed probe.now) map.now.ledger
         olds news u) }
     ensures workers { IsPlanned plan.now.workers result }
+    ensures few_enough { IsErrOf result LiveFault.TooMany → ⊥ }
 {
     let wanted = live_bulk::clients_for(map.map(), plan)?;
     let mut passes = take_some(map, wanted)?;
@@ -154,6 +158,7 @@ where
         × (news : List (PassView K V F)) × IsActed K.eq K.code (after V.eq F.remapped F.merged)
         (X.acted action.now) map.now.ledger olds news list.items) }
     ensures workers { IsPlanned plan.now.workers result }
+    ensures few_enough { IsErrOf result LiveFault.TooMany → ⊥ }
 {
     let wanted = live_bulk::clients_for(map.map(), plan)?;
     let mut passes = take_some(map, wanted)?;

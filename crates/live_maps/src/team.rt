@@ -1,8 +1,10 @@
 //! Bulk operations on a team's map that stays open.
-ghost use Rattle.std.specs.Prelude.{◌≡◌, IfOk};
+ghost use Rattle.std.specs.Prelude.{◌≡◌, IfOk, IsErrOf};
+ghost use Rattle.std.specs.List.{AllZip};
 ghost use Rattle.bin_history.specs.Calls.{after};
+ghost use Rattle.count_ledger.specs.Fronts.{HasSeenMore};
 ghost use Rattle.live_bulk.specs.Plans.{IsPlanned};
-ghost use Rattle.live_bulk.specs.Shared.{IsActed, IsFound, IsReduced};
+ghost use Rattle.live_bulk.specs.Shared.{AreTooMany, IsActed, IsFound, IsReduced};
 
 use bin_history::{Remap, Value};
 use bulk_tasks::{Action, Gate, Plan, Probe, Reducer};
@@ -44,9 +46,13 @@ pub fn team_reduce<
 where
     T::A: Send,
     ensures map { result.0.map ≡ team.map }
+    ensures seen { AllZip HasSeenMore team.passes result.0.passes }
     ensures fold { IfOk result.1 (IsReduced K.eq K.code (after V.eq F.remapped F.merged)
         (T.lifted reducer.now) (T.joined reducer.now) team.map.ledger team.passes result.0.passes) }
     ensures workers { IsPlanned plan.now.workers result.1 }
+    ensures no_client { IsErrOf result.1 LiveFault.NoClient → ⊥ }
+    ensures too_many { IsErrOf result.1 LiveFault.TooMany → AreTooMany K.eq K.code
+        (after V.eq F.remapped F.merged) team.map.ledger team.passes result.0.passes }
 {
     let (map, mut passes) = team.into_parts();
     let _clients = map.clients();
@@ -83,9 +89,12 @@ pub fn team_search<
 where
     P::U: Send,
     ensures map { result.0.map ≡ team.map }
+    ensures seen { AllZip HasSeenMore team.passes result.0.passes }
     ensures found { IfOk result.1 (IsFound K.eq K.code (after V.eq F.remapped F.merged)
         (P.probed probe.now) team.map.ledger team.passes result.0.passes) }
     ensures workers { IsPlanned plan.now.workers result.1 }
+    ensures no_client { IsErrOf result.1 LiveFault.NoClient → ⊥ }
+    ensures few_enough { IsErrOf result.1 LiveFault.TooMany → ⊥ }
 {
     let (map, mut passes) = team.into_parts();
     let _clients = map.clients();
@@ -123,9 +132,12 @@ pub fn team_for_each<
 where
     X::R: Send,
     ensures map { result.0.map ≡ team.map }
+    ensures seen { AllZip HasSeenMore team.passes result.0.passes }
     ensures answers { IfOk result.1 (λ list. IsActed K.eq K.code (after V.eq F.remapped F.merged)
         (X.acted action.now) team.map.ledger team.passes result.0.passes list.items) }
     ensures workers { IsPlanned plan.now.workers result.1 }
+    ensures no_client { IsErrOf result.1 LiveFault.NoClient → ⊥ }
+    ensures few_enough { IsErrOf result.1 LiveFault.TooMany → ⊥ }
 {
     let (map, mut passes) = team.into_parts();
     let _clients = map.clients();

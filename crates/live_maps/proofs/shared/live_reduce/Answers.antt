@@ -12,3 +12,10 @@ returns-clause-fold g c =
     (g.T.Reducer.lifted c.args.reducer.now) (g.T.Reducer.joined c.args.reducer.now) c.args.map.now.ledger olds news)
     c.in_ok-passes.passes.items c.live_reduce-reduced.new.passes.items c.live_reduce-reduced.result
     (rw c.map-2.ensures at c.live_reduce-reduced.ensures.fold)
+
+pub returns-clause-too_many : goal.returns-clause-too_many
+returns-clause-too_many g c = λ fails. (
+  c.in_ok-passes.passes.items,
+  c.live_reduce-reduced.new.passes.items,
+  rw c.map-2.ensures at (c.live_reduce-reduced.ensures.too_many fails),
+)
