@@ -202,8 +202,8 @@ FACING_CHECKED FACING_API uint32_t facing_bytes_get(facing_bytes_handle *client,
 }
 
 /* Fills `held` with a handle of the value at the key, which facing_bytes_read reads and facing_bytes_free frees; it is null
- * where there is no value. The bucket is locked only while the value gets one more owner, whatever its length. The value
- * stays as it is when another one is put in its place. */
+ * where there is no value. The bucket is locked only while the value gets one more owner, or, where it has at most 30
+ * bytes, while it is copied. The value stays as it is when another one is put in its place. */
 FACING_CHECKED FACING_API uint32_t facing_bytes_hold(facing_bytes_handle *client, const void *key, size_t key_len,
                                                      facing_bytes_handle *held, facing_bytes_answer *answer) {
     facing_handle lent, back, made = {FACING_NULL};

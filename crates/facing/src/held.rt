@@ -34,9 +34,9 @@ fn hold(
     }
 }
 
-/// Gets the value at the key as a handle of its own: it has an owner more, until the handle is freed, and
-/// lives on where the map gives its key another. It answers how many bytes the value has. It takes memory
-/// for the handle.
+/// Gets the value at the key as a handle of its own, which lives on where the map gives its key another:
+/// a copy of at most 30 bytes, or an owner more of a longer value, until the handle is freed. It answers
+/// how many bytes the value has. It takes memory for the handle.
 #[unsafe(no_mangle)]
 pub extern "C" fn facing_c_bytes_try_hold(
     alloc: Global,

@@ -11,6 +11,6 @@ pub enum Target {
     Bytes(Keys, Stage<SeededKey, SharedBytes, NoFunction>),
     /// Of a map from byte strings to whole numbers.
     Counts(Keys, Stage<SeededKey, u64, Merging>),
-    /// A value of a map of byte strings, which has an owner more.
+    /// A value of a map of byte strings: a copy, or an owner more.
     Held(SharedBytes),
 }

@@ -2,7 +2,7 @@
 use denote.RattleType.{RattleType}
 use denote.Enum.Declared as enum
 use denote.Struct.Declared.{shape}
-use denote.Param.Send.{IsSend, IsSync, Frees, AllSend, AllSync, EachSend, sendable}
+use denote.Param.Send.{IsSend, IsSync, Frees, AllSend, AllSync, EachSend, EachSync, sendable}
 use Rattle.std.proofs.CrossingOver.{crosses}
 use Rattle.std.proofs.Crossing as heap
 use Rattle.std.specs.declared.alloc.Allocator as Allocator
@@ -11,9 +11,9 @@ use Rattle.std.specs.declared.cmp.Eq as Eq
 use Rattle.std.specs.declared.cmp.PartialEq as PartialEq
 use Rattle.std_heap.specs.contracts.Global as Heap
 use Rattle.std_heap.specs.contracts.GlobalAllocator.TheImpl.{ghosts}
-use Rattle.hashkeys.specs.contracts.bytes.ByteString as ByteString
-use Rattle.hashkeys.specs.contracts.bytes.ByteString.TheInside as StringInside
 use Rattle.hashkeys.specs.declared.hashing.HashKey as HashKey
+use Rattle.seeded_keys.proofs.Crossing.{short_send, short_sync, compact_send, compact_sync}
+use Rattle.seeded_keys.specs.contracts.compact.CompactBytes as CompactBytes
 use Rattle.seeded_keys.specs.contracts.hashed.Hashed as Hashed
 use Rattle.bin_history.specs.declared.call.Remap as Remap
 use Rattle.bin_history.specs.declared.call.Value as Value
@@ -23,6 +23,7 @@ use Rattle.chm.specs.contracts.closed.quiet.Quiet.TheInside as QuietInside
 use Rattle.facingberyl.proofs.Crossing.{owned_send, shared_send, unshared_send}
 use Rattle.facing_maps.specs.contracts.keys.Keys as Keys
 use Rattle.facing_maps.specs.contracts.keys.Keys.TheInside as KeysInside
+use Rattle.facing_maps.specs.contracts.shared.Place as Place
 use Rattle.facing_maps.specs.contracts.shared.SharedBytes as SharedBytes
 use Rattle.facing_maps.specs.contracts.shared.SharedBytes.TheInside as SharedInside
 use Rattle.facing_maps.specs.contracts.stage.Stage as Stage
@@ -94,35 +95,34 @@ module _ (K V F : RattleType) (hash : HashKey.Ghosts K.Denot) (key_eq : Eq.Ghost
       (Stage.the_field K V F hash key_eq key_same key_clone value value_clone value_eq value_same remap function_clone).row
   stage_within = search (sendable, stages_send) depth 30
 
--- a key
-string_fields_send : AllSend (shape (StringInside.the_type Heap.the_row ghosts)).fields
-string_fields_send = (search (sendable, heap.crosses) depth 20, tt)
-
-pub string_send : IsSend (ByteString.the_row Heap.the_row ghosts)
-string_send = search (sendable, string_fields_send) depth 20
-
-string_fields_sync : AllSync (shape (StringInside.the_type Heap.the_row ghosts)).fields
-string_fields_sync = (search (sendable, heap.crosses) depth 20, tt)
-
-pub string_sync : IsSync (ByteString.the_row Heap.the_row ghosts)
-string_sync = search (sendable, string_fields_sync) depth 20
-
 -- a key with its code
-pub key_send : IsSend (Hashed.the_row (ByteString.the_row Heap.the_row ghosts))
-key_send = search (sendable, string_send) depth 20
+pub key_send : IsSend (Hashed.the_row (CompactBytes.the_row Heap.the_row ghosts))
+key_send = search (sendable, compact_send, heap.crosses) depth 20
 
-pub key_sync : IsSync (Hashed.the_row (ByteString.the_row Heap.the_row ghosts))
-key_sync = search (sendable, string_sync) depth 20
+pub key_sync : IsSync (Hashed.the_row (CompactBytes.the_row Heap.the_row ghosts))
+key_sync = search (sendable, compact_sync, heap.crosses) depth 20
 
 -- a value
+places_send : EachSend (enum.shape Place.the_type).variants
+places_send = (
+  (search (sendable, short_send) depth 20, tt),
+  ((search (sendable, heap.crosses) depth 20, tt), tt),
+)
+
+places_sync : EachSync (enum.shape Place.the_type).variants
+places_sync = (
+  (search (sendable, short_sync) depth 20, tt),
+  ((search (sendable, heap.crosses) depth 20, tt), tt),
+)
+
 shared_fields_send : AllSend (shape SharedInside.the_type).fields
-shared_fields_send = (search (sendable, heap.crosses) depth 20, tt)
+shared_fields_send = (search (sendable, places_send) depth 20, tt)
 
 pub value_send : IsSend SharedBytes.the_row
 value_send = search (sendable, shared_fields_send) depth 20
 
 shared_fields_sync : AllSync (shape SharedInside.the_type).fields
-shared_fields_sync = (search (sendable, heap.crosses) depth 20, tt)
+shared_fields_sync = (search (sendable, places_sync) depth 20, tt)
 
 pub value_sync : IsSync SharedBytes.the_row
 value_sync = search (sendable, shared_fields_sync) depth 20

@@ -6,3 +6,4 @@ pub mod Keys
 pub mod Calls
 pub mod Stages
 pub mod Pairs
+pub mod Places

@@ -1,19 +1,18 @@
 //! Keys of bytes under a seed.
-ghost use Rattle.std.specs.Prelude.{◌≡◌, IfOk};
+ghost use Rattle.std.specs.Prelude.{◌≡◌, ◌≤◌, IfOk, IsOk, length};
 ghost use Rattle.seeded_keys.specs.Seeds.{keyed};
 ghost use Rattle.facing_maps.specs.Keys.{key_of};
 
-use hashkeys::ByteString;
-use seeded_keys::{Hashed, Query, Seed};
+use seeded_keys::{CompactBytes, Hashed, Query, Seed};
 use std::alloc::{AllocError, Global};
 use std::marker::Model;
 use std::mem;
 
 /// A key of bytes, with its code under the seed of its map.
-pub type SeededKey = Hashed<ByteString<Global>>;
+pub type SeededKey = Hashed<CompactBytes<Global>>;
 
-/// The seed of a map's keys, and room for the bytes of one key, which grows to those of the longest
-/// key that a call was made on. Contracts see the seed.
+/// The seed of a map's keys, and room for the bytes of one key of more than 30, which grows to those of
+/// the longest key that a call was made on. Contracts see the seed.
 #[derive(Drop)]
 pub struct Keys {
     seed: Seed,
@@ -61,22 +60,29 @@ impl Keys {
         self.seed.query(bytes)
     }
 
-    /// The key of these bytes, in the room, until it is taken back. It takes memory where the room is
-    /// too small, and where it gets none the room is empty.
+    /// The key of these bytes. At most 30 lie in the key, and it takes no memory. More lie in the room,
+    /// until it is taken back: it takes memory where the room is too small, and where it gets none the
+    /// room is empty.
     pub(crate) fn key(&mut self, bytes: &[u8]) -> Result<SeededKey, AllocError>
         ensures key { IfOk result (λ k. k ≡ key_of self.old bytes.now) }
+        ensures short { length bytes.now ≤ 30 → IsOk result }
         ensures same { self.new ≡ self.old }
     {
+        if let Some(short) = CompactBytes::short(bytes) {
+            return Ok(self.seed.key(short));
+        }
         let mut room = mem::replace(&mut self.room, Vec::new(self.alloc));
         room.clear();
         room.extend_from_slice(bytes)?;
-        Ok(self.seed.key(room))
+        Ok(self.seed.key(CompactBytes::new(room)))
     }
 
-    /// Takes the room of a key back.
+    /// Takes the room of a key back, where its bytes lie there.
     pub(crate) fn take_back(&mut self, key: SeededKey)
         ensures { self.new ≡ self.old }
     {
-        self.room = key.into_bytes().into_bytes();
+        if let Some(room) = key.into_bytes().into_room() {
+            self.room = room;
+        }
     }
 }

@@ -1,42 +1,57 @@
 //! Values of bytes.
-ghost use Rattle.std.specs.Prelude.{◌≡◌, IfOk};
+ghost use Rattle.std.specs.Prelude.{◌≡◌, ◌≤◌, IfOk, IsOk, length};
 
+use seeded_keys::ShortBytes;
 use std::alloc::{AllocError, Global};
 use std::marker::Model;
 use std::sync::Arc;
 
-/// Bytes with several owners, as a value of any length. A clone is one more owner, so it takes no
-/// memory. Contracts see the bytes.
+/// Where the bytes lie.
+#[derive(Drop)]
+enum Place {
+    Inline(ShortBytes),
+    /// More than 30 of them, with several owners.
+    Shared(Arc<Vec<u8, Global>, Global>),
+}
+
+/// Bytes as a value of any length. At most 30 lie in the value itself, and a clone copies them. More have
+/// several owners, and a clone is one more. So a clone takes no memory. Contracts see the bytes.
 #[derive(Drop)]
 pub struct SharedBytes {
-    bytes: Arc<Vec<u8, Global>, Global>,
+    place: Place,
 }
 
 impl Model for SharedBytes {
     ghost use Rattle.std.specs.Prelude.{ℕ, List};
-    ghost use Rattle.std.specs.Arc.{arc_value};
+    ghost use Rattle.facing_maps.specs.Places.{bytes_at};
 
     ghost Value = { List ℕ };
 
-    ghost view = { λ b. (arc_value b.bytes).items };
+    ghost view = { λ b. bytes_at b.place };
 }
 
 impl SharedBytes {
-    /// A copy of these bytes. It takes memory for them, and for the number of its owners.
+    /// A copy of these bytes. Where there are more than 30, it takes memory for them, and for the number
+    /// of their owners.
     pub fn copy_of(alloc: Global, bytes: &[u8]) -> Result<SharedBytes, AllocError>
-        ensures { IfOk result (λ b. b ≡ bytes.now) }
+        ensures copy { IfOk result (λ b. b ≡ bytes.now) }
+        ensures short { length bytes.now ≤ 30 → IsOk result }
     {
-        let copy = bytes.to_vec(alloc)?;
-        Ok(SharedBytes {
-            bytes: Arc::new(alloc, copy)?,
-        })
+        let place = match ShortBytes::copy_of(bytes) {
+            Some(short) => Place::Inline(short),
+            None => Place::Shared(Arc::new(alloc, bytes.to_vec(alloc)?)?),
+        };
+        Ok(SharedBytes { place })
     }
 
     /// The bytes.
     pub fn bytes(&self) -> &[u8]
         ensures { result.now ≡ self.now }
     {
-        self.bytes.as_slice()
+        match &self.place {
+            Place::Inline(short) => short.bytes(),
+            Place::Shared(bytes) => bytes.as_slice(),
+        }
     }
 }
 
@@ -46,9 +61,11 @@ impl Clone for SharedBytes {
     ghost is_clone = { λ x y. y ≡ x };
 
     fn clone(&self) -> Result<SharedBytes, AllocError> {
-        Ok(SharedBytes {
-            bytes: Arc::try_clone(&self.bytes)?,
-        })
+        let place = match &self.place {
+            Place::Inline(short) => Place::Inline(short.clone()?),
+            Place::Shared(bytes) => Place::Shared(Arc::try_clone(bytes)?),
+        };
+        Ok(SharedBytes { place })
     }
 }
 

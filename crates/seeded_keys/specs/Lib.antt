@@ -1,1 +1,2 @@
 pub mod Seeds
+pub mod Places

@@ -5,10 +5,14 @@
 //! which makes no key. Keys of two seeds are different keys, also where their bytes are the same.
 #![tactic(auto)]
 
+mod compact;
 mod hashed;
 mod query;
 mod seed;
+mod short;
 
+pub use compact::CompactBytes;
 pub use hashed::Hashed;
 pub use query::Query;
 pub use seed::Seed;
+pub use short::ShortBytes;

@@ -2,10 +2,10 @@
 ghost use Rattle.std.specs.Prelude.{◌≡◌, ◌<◌, ◌^◌};
 ghost use Rattle.seeded_keys.specs.Seeds.{keyed};
 
+use crate::compact::CompactBytes;
 use crate::hashed::Hashed;
 use crate::query::Query;
 use core::hash::keyed_hasher;
-use hashkeys::ByteString;
 use std::alloc::Allocator;
 use std::hash::Hasher;
 use std::io;
@@ -53,15 +53,12 @@ impl Seed {
     }
 
     /// The key of these bytes. It keeps its code, so that the bytes are hashed once.
-    pub fn key<A: Allocator>(&self, bytes: Vec<u8, A>) -> Hashed<ByteString<A>>
-        ensures code { result.code ≡ keyed self.now bytes.items }
-        ensures bytes { result.bytes ≡ bytes.items }
+    pub fn key<A: Allocator>(&self, bytes: CompactBytes<A>) -> Hashed<CompactBytes<A>>
+        ensures code { result.code ≡ keyed self.now bytes }
+        ensures bytes { result.bytes ≡ bytes }
     {
-        let code = self.code(bytes.as_slice());
-        Hashed {
-            code,
-            bytes: ByteString::new(bytes),
-        }
+        let code = self.code(bytes.bytes());
+        Hashed { code, bytes }
     }
 
     /// What stands for the key of these bytes, where none is made. A query of another seed finds

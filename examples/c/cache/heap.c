@@ -1,6 +1,6 @@
-/* The library's memory: small blocks without the header that malloc puts before each, larger ones from malloc. A key takes
- * four small blocks, so this saves a quarter of the memory of short values. The library calls the three functions at the
- * end; a program with the static library may have its own, and the shared library has those that use malloc.
+/* The library's memory: small blocks without the header that malloc puts before each, larger ones from malloc. A key and
+ * a value that are short lie in one small block, of 88 bytes. The library calls the three functions at the end; a program
+ * with the static library may have its own, and the shared library has those that use malloc.
  *
  * A slab has 64 KB of blocks of one size. A thread keeps free blocks of each size, and takes and gives them many at once. A
  * small block is used again for its size, and does not go back to the system. */
@@ -13,7 +13,7 @@
 /* AddressSanitizer looks at malloc's blocks. */
 #ifndef __SANITIZE_ADDRESS__
 
-enum { STEP = 8, SMALL = 64, SIZES = SMALL / STEP, BATCH = 64, SLAB = 1 << 16, SLABS = 16, LEAF = 1 << 16 };
+enum { STEP = 8, SMALL = 96, SIZES = SMALL / STEP, BATCH = 64, SLAB = 1 << 16, SLABS = 16, LEAF = 1 << 16 };
 
 /* `found` is 1 where there is memory at `at`; where it is 0 `at` is an address of no use. */
 typedef struct {

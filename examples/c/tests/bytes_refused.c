@@ -136,6 +136,16 @@ static void hold(facing_bytes_handle *client, unsigned key) {
     facing_bytes_free(&held);
 }
 
+/* A key of 30 bytes and values of fewer lie in the map's node: a put at such a key, where it is there, takes no memory. */
+static void put_short(facing_bytes_handle *map, facing_bytes_handle *client) {
+    long before;
+    make(map, client, 1, 6, 1);
+    look(map, client, 1);
+    before = requests;
+    make(map, client, 1, 6, 2);
+    want(requests == before, "a put of few bytes that takes memory");
+}
+
 static void work(facing_bytes_handle *map) {
     facing_bytes_handle clients[CLIENTS];
     for (int i = 0; i < CLIENTS; i++)
@@ -144,6 +154,7 @@ static void work(facing_bytes_handle *map) {
     for (unsigned key = 0; key < KEYS; key++) make(map, &clients[key % CLIENTS], 1, key, 1 + key);
     for (unsigned key = 0; key < ROOM; key++) make(map, &clients[key % CLIENTS], 2 + (int)(key % 5), key, 100 + key);
     look(map, &clients[0], 0);
+    put_short(map, &clients[1]);
     for (unsigned key = 0; key < ROOM; key += 10) hold(&clients[key % CLIENTS], key);
     for (int i = 0; i < CLIENTS; i++) facing_bytes_free(&clients[i]);
 }
