@@ -2,48 +2,56 @@
 ghost use Rattle.std.specs.Prelude.{◌≡◌, ◌<◌, ◌^◌, true, [], length, All, IfOk, IfErr};
 ghost use Rattle.hashkeys.specs.Classes.{is_of, low_half, high_half};
 ghost use Rattle.hashkeys.specs.Limits.{most_bins};
-ghost use Rattle.bin_history.specs.Copies.{IsExact};
 ghost use Rattle.count_ledger.specs.Agreement.{part_of_role};
 ghost use Rattle.count_ledger.specs.Limits.{most_calls};
 
-use bin_history::{Bin, Form, KeyArg, Op, Remap, Reply, Value};
+use bin_history::{Bin, Form, KeyArg, Op, Remap, Reply};
 use count_ledger::{BinRole, Ledger, Pass, Unsettled};
-use hashkeys::{Class, HashKey, Salt};
-use std::alloc::{AllocError, Allocator};
+use hashkeys::{Class, HashKey, Key, Salt};
+use std::alloc::{AllocError, Global};
 use std::marker::Model;
 use std::process::Abort;
+use test_support::Plus;
+
+pub(crate) type KeyLedger = Ledger<Key, u64, Plus, Global>;
+
+pub(crate) type KeyPass = Pass<Key, u64, Plus>;
+
+pub(crate) type KeyRole = BinRole<Key, u64, Plus>;
 
 /// A bin and its role, which agree. Contracts see the role.
 #[derive(Drop)]
-pub(crate) struct Held<K: HashKey, V: Value, F: Remap<K, V>, A: Allocator> {
-    alloc: A,
-    bin: Bin<K, V, F, A>,
-    role: BinRole<K, V, F>,
+pub(crate) struct Held {
+    alloc: Global,
+    bin: Bin<Key, u64, Plus, Global>,
+    role: BinRole<Key, u64, Plus>,
 }
 
-impl<K: HashKey, V: Value, F: Remap<K, V>, A: Allocator> Model for Held<K, V, F, A> {
+impl Model for Held {
+    ghost use Rattle.std.specs.Prelude.{ℕ, List};
     ghost use Rattle.bin_history.specs.Calls.{after};
     ghost use Rattle.count_ledger.specs.Agreement.{BinAgrees};
     ghost use Rattle.count_ledger.specs.Views.{RoleView};
+    ghost use Rattle.test_support.specs.declared.functions.Plus.{Plus};
 
-    ghost Value = { RoleView K V F };
+    ghost Value = { RoleView (List ℕ) ℕ Plus };
 
     ghost view = { λ h. h.role };
 
-    ghost invariant = { λ h. BinAgrees K.eq (after V.eq F.remapped F.merged) h.bin h.role };
+    ghost invariant = { λ h. BinAgrees ⟦<Key as PartialEq>⟧.eq
+        (after ⟦<u64 as PartialEq>⟧.eq ⟦<Plus as Remap<Key, u64>>⟧.remapped
+        ⟦<Plus as Remap<Key, u64>>⟧.merged) h.bin h.role };
 }
 
-impl<K: HashKey, V: Value, F: Remap<K, V>, A: Allocator + Clone> Held<K, V, F, A> {
+impl Held {
     /// A new bin for a new role over no pairs.
-    fn new(alloc: A, form: Form, salt: Salt, role: BinRole<K, V, F>) -> Result<Self, AllocError>
-        requires keys { IsExact K.is_clone }
-        requires values { IsExact V.is_clone }
+    fn new(alloc: Global, form: Form, salt: Salt, role: KeyRole) -> Result<Held, AllocError>
         requires salt { role.salt ≡ salt }
         requires opening { role.opening ≡ [] }
         requires kept { role.kept ≡ [] }
         ensures { IfOk result (λ held. held ≡ role) }
     {
-        let base = Vec::new(alloc.clone()?);
+        let base = Vec::new(alloc);
         let bin = Bin::new(&alloc, form, salt, role.class(), base)?;
         Ok(Held { alloc, bin, role })
     }
@@ -65,42 +73,36 @@ impl<K: HashKey, V: Value, F: Remap<K, V>, A: Allocator + Clone> Held<K, V, F, A
     /// Makes a call on the bin as the pass's next, and posts it.
     pub(crate) fn post<'a>(
         &'a mut self,
-        ledger: &Ledger<K, V, F, A>,
-        pass: &mut Pass<K, V, F>,
-        key: K,
-        op: Op<V, F>,
-    ) -> Result<Reply<V>, AllocError>
-        requires keys { IsExact K.is_clone }
-        requires values { IsExact V.is_clone }
+        ledger: &KeyLedger,
+        pass: &mut KeyPass,
+        key: Key,
+        op: Op<u64, Plus>,
+    ) -> Result<Reply<u64>, AllocError>
         requires pass { pass.old.ledger ≡ ledger.now.id }
         requires role { self.old.ledger ≡ ledger.now.id }
         requires room { length pass.old.made < most_calls ledger.now.form ledger.now.clients }
         requires short { length pass.old.made < 2 ^ 48 }
-        requires of_class { is_of K.code self.old.salt self.old.class key ≡ true }
+        requires of_class { is_of ⟦<Key as HashKey>⟧.code self.old.salt self.old.class key ≡ true }
         ensures pass { pass.new.ledger ≡ pass.old.ledger }
         ensures role { self.new.ledger ≡ self.old.ledger }
     {
         self.bin.lawful();
         let (client, made) = (pass.client(), pass.made());
         let hash = self.bin.salt().hash_of(&key);
-        let key: KeyArg<'a, K> = KeyArg::Owned(key);
+        let key: KeyArg<'a, Key> = KeyArg::Owned(key);
         let (reply, trace) = self.bin.make_on(&self.alloc, hash, key, op, client, made)?;
         ledger.post_trace(pass, &mut self.role, &trace);
         Ok(reply)
     }
 
     /// The halves of the bin with those of its role.
-    pub(crate) fn divide(self, rt: &impl Abort, ledger: &Ledger<K, V, F, A>) -> (Self, Self)
-        requires keys { IsExact K.is_clone }
-        requires values { IsExact V.is_clone }
-        requires functions { IsExact F.is_clone }
+    pub(crate) fn divide(self, rt: &impl Abort, ledger: &KeyLedger) -> (Held, Held)
         requires role { self.ledger ≡ ledger.now.id }
         requires size { self.class.n < most_bins }
-        ensures low { result.0 ≡ part_of_role K.code (low_half self.class) self }
-        ensures high { result.1 ≡ part_of_role K.code (high_half self.class) self }
+        ensures low { result.0 ≡ part_of_role ⟦<Key as HashKey>⟧.code (low_half self.class) self }
+        ensures high { result.1 ≡ part_of_role ⟦<Key as HashKey>⟧.code (high_half self.class) self }
     {
         let Held { alloc, bin, role } = self;
-        let other = alloc.clone().expect(rt, "memory");
         let Ok((low_bin, high_bin)) = bin.split(&alloc) else {
             assert!(rt; false, "memory");
             unreachable!()
@@ -112,7 +114,7 @@ impl<K: HashKey, V: Value, F: Remap<K, V>, A: Allocator + Clone> Held<K, V, F, A
             role: low_role,
         };
         let high = Held {
-            alloc: other,
+            alloc,
             bin: high_bin,
             role: high_role,
         };
@@ -123,9 +125,9 @@ impl<K: HashKey, V: Value, F: Remap<K, V>, A: Allocator + Clone> Held<K, V, F, A
     pub(crate) fn settle_alone(
         self,
         rt: &impl Abort,
-        ledger: Ledger<K, V, F, A>,
-        passes: Vec<Pass<K, V, F>, A>,
-    ) -> Result<u64, (Ledger<K, V, F, A>, Vec<Pass<K, V, F>, A>, Self)>
+        ledger: KeyLedger,
+        passes: Vec<KeyPass>,
+    ) -> Result<u64, (KeyLedger, Vec<KeyPass>, Held)>
         requires passes { All (λ p. p.ledger ≡ ledger.id) passes.items }
         requires role { self.ledger ≡ ledger.id }
         ensures ledger { IfErr result (λ u. u.0 ≡ ledger) }
@@ -133,8 +135,7 @@ impl<K: HashKey, V: Value, F: Remap<K, V>, A: Allocator + Clone> Held<K, V, F, A
         ensures role { IfErr result (λ u. u.2 ≡ self) }
     {
         let Held { alloc, bin, role } = self;
-        let own = alloc.clone().expect(rt, "memory");
-        let roles = Vec::from_array(own, [role]).expect(rt, "memory");
+        let roles = Vec::from_array(alloc, [role]).expect(rt, "memory");
         match ledger.settle(passes, roles) {
             Ok(total) => Ok(total),
             Err(
@@ -152,21 +153,18 @@ impl<K: HashKey, V: Value, F: Remap<K, V>, A: Allocator + Clone> Held<K, V, F, A
 }
 
 /// A new bin for each of the roles, which keep nothing over no pairs.
-pub(crate) fn hold_all<K: HashKey, V: Value, F: Remap<K, V>, A: Allocator + Clone>(
+pub(crate) fn hold_all(
     rt: &impl Abort,
-    ledger: &Ledger<K, V, F, A>,
+    ledger: &KeyLedger,
     salt: Salt,
-    roles: Vec<BinRole<K, V, F>, A>,
-) -> Vec<Held<K, V, F, A>, A>
-    requires keys { IsExact K.is_clone }
-    requires values { IsExact V.is_clone }
+    roles: Vec<KeyRole>,
+) -> Vec<Held>
     requires new { All (λ r. (r.salt ≡ salt) × (r.opening ≡ []) × (r.kept ≡ [])) roles.items }
     ensures { result.items ≡ roles.items }
 {
-    let alloc = roles.allocator().clone().expect(rt, "memory");
+    let alloc = *roles.allocator();
     let mut bins = Vec::new(alloc);
     for role in roles {
-        let alloc = bins.allocator().clone().expect(rt, "memory");
         let held = Held::new(alloc, ledger.form(), salt, role).expect(rt, "memory");
         bins.push(held).expect(rt, "memory");
     }
@@ -174,14 +172,10 @@ pub(crate) fn hold_all<K: HashKey, V: Value, F: Remap<K, V>, A: Allocator + Clon
 }
 
 /// The roles of the bins.
-pub(crate) fn roles_of<K: HashKey, V: Value, F: Remap<K, V>, A: Allocator + Clone>(
-    rt: &impl Abort,
-    bins: Vec<Held<K, V, F, A>, A>,
-) -> Vec<BinRole<K, V, F>, A>
+pub(crate) fn roles_of(rt: &impl Abort, bins: Vec<Held>) -> Vec<KeyRole>
     ensures { result.items ≡ bins.items }
 {
-    let alloc = bins.allocator().clone().expect(rt, "memory");
-    let mut roles = Vec::new(alloc);
+    let mut roles = Vec::new(*bins.allocator());
     for held in bins {
         let Held { role, .. } = held;
         roles.push(role).expect(rt, "memory");

@@ -5,23 +5,15 @@ ghost use Rattle.hashkeys.specs.Classes.{IsTableSize};
 ghost use Rattle.count_ledger.specs.Opening.{new_passes};
 
 use crate::asserts::{assert_same, key};
-use crate::held::{Held, hold_all, roles_of};
+use crate::held::{Held, KeyLedger, KeyPass, KeyRole, hold_all, roles_of};
 use bin_history::{Form, Op, Reply};
-use count_ledger::{BinRole, Ledger, LedgerName, MOST_CALLS, Pass};
+use count_ledger::{Ledger, LedgerName, MOST_CALLS};
 use hashkeys::{Key, Salt};
 use std::alloc::{AllocError, Global};
 use std::process::Abort;
 use std::test::Fail;
 use std::thread::join_mut;
 use test_support::{Plus, settled};
-
-pub(crate) type KeyLedger = Ledger<Key, u64, Plus, Global>;
-
-pub(crate) type KeyPass = Pass<Key, u64, Plus>;
-
-type KeyRole = BinRole<Key, u64, Plus>;
-
-pub(crate) type KeyBin = Held<Key, u64, Plus, Global>;
 
 /// A call: which client makes it, on which bin and key, and which value it is to find and to leave.
 /// It is a put, or where it leaves none a remove.
@@ -55,7 +47,7 @@ pub(crate) fn call(
     rt: &impl Abort,
     ledger: &KeyLedger,
     pass: &mut KeyPass,
-    bin: &mut KeyBin,
+    bin: &mut Held,
     text: &[u8],
     op: Op<u64, Plus>,
     before: Option<u64>,
@@ -78,7 +70,7 @@ pub(crate) fn make(
     rt: &impl Abort,
     ledger: &KeyLedger,
     pass: &mut KeyPass,
-    bin: &mut KeyBin,
+    bin: &mut Held,
     row: &Row,
 )
     requires pass { pass.old.ledger ≡ ledger.now.id }
@@ -97,7 +89,7 @@ fn make_all(
     rt: &impl Abort,
     ledger: &KeyLedger,
     passes: &mut Vec<KeyPass>,
-    bins: &mut Vec<KeyBin>,
+    bins: &mut Vec<Held>,
     rows: &[Row],
 )
     requires passes { All (λ p. p.ledger ≡ ledger.now.id) passes.old.items }
@@ -153,7 +145,7 @@ pub(crate) fn open(
     alloc: Global,
     clients: u32,
     n: usize,
-) -> Result<(KeyLedger, Vec<KeyPass>, Vec<KeyBin>), AllocError>
+) -> Result<(KeyLedger, Vec<KeyPass>, Vec<Held>), AllocError>
     requires some { 0 < clients }
     requires at_most { clients ≤ 32 }
     requires size { IsTableSize n }
@@ -194,7 +186,7 @@ fn shares_and_sums_count_new_keys(rt: HostRuntime) {
 }
 
 /// Divides the last bin.
-fn divide_last(rt: &impl Abort, ledger: &KeyLedger, bins: &mut Vec<KeyBin>)
+fn divide_last(rt: &impl Abort, ledger: &KeyLedger, bins: &mut Vec<Held>)
     requires { All (λ r. r.ledger ≡ ledger.now.id) bins.old.items }
     ensures { All (λ r. r.ledger ≡ ledger.now.id) bins.new.items }
 {
@@ -206,7 +198,7 @@ fn divide_last(rt: &impl Abort, ledger: &KeyLedger, bins: &mut Vec<KeyBin>)
 }
 
 /// Whether the bins are of these classes, by size and index.
-fn are_of(bins: &[KeyBin], classes: &[(u32, u32)]) -> bool {
+fn are_of(bins: &[Held], classes: &[(u32, u32)]) -> bool {
     for (bin, class) in bins.iter().zip(classes) {
         if (bin.class().n(), bin.class().index()) != *class {
             return false;
@@ -244,7 +236,7 @@ pub(crate) fn put_often(
     rt: &impl Abort,
     ledger: &KeyLedger,
     pass: &mut KeyPass,
-    bin: &mut KeyBin,
+    bin: &mut Held,
     text: &[u8],
     times: u64,
 )

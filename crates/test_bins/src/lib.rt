@@ -8,6 +8,8 @@ mod bins;
 #[cfg(test)]
 mod chains;
 #[cfg(test)]
+mod compact;
+#[cfg(test)]
 mod held;
 #[cfg(test)]
 mod keys;

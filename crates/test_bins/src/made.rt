@@ -1,7 +1,7 @@
 //! Bins of either form, whose calls are made in one step.
 use crate::asserts::{assert_same, key};
 use crate::rows::{Row, rows};
-use bin_history::{Bin, Call, Form, KeyArg, Kind, Reply};
+use bin_history::{Bin, BinKind, Call, Form, KeyArg, Reply};
 use hashkeys::{Class, Key, Salt};
 use std::alloc::{AllocError, Global};
 use std::process::Abort;
@@ -94,13 +94,13 @@ fn each_call_in_one_step_of_a_recorded_bin(rt: HostRuntime) {
     let bin = after_rows(&rt, rt.alloc(), Form::Recorded).expect(&rt, "memory");
     assert!(rt; bin.form() == Form::Recorded);
     match bin.into_kind() {
-        Kind::Recorded(own) => {
+        BinKind::Recorded(own) => {
             assert_same(&rt, &(own.records().len(), own.base().len()), &(36, 0));
-            assert_answers(&rt, rt.alloc(), Bin::of_kind(Kind::Recorded(own))).expect(
+            assert_answers(&rt, rt.alloc(), Bin::of_kind(BinKind::Recorded(own))).expect(
                 &rt, "memory",
             );
         }
-        Kind::Lean(_own) => assert!(rt; false, "the bin is recorded"),
+        BinKind::Lean(_own) => assert!(rt; false, "the bin is recorded"),
     }
 }
 

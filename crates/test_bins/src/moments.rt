@@ -3,8 +3,8 @@ ghost use Rattle.std.specs.Prelude.{◌≡◌};
 ghost use Rattle.count_ledger.specs.Fronts.{BeginsWith};
 
 use crate::asserts::assert_same;
-use crate::held::roles_of;
-use crate::ledgers::{KeyBin, KeyLedger, KeyPass, call, open, put_often};
+use crate::held::{Held, KeyLedger, KeyPass, roles_of};
+use crate::ledgers::{call, open, put_often};
 use bin_history::Op;
 use count_ledger::Moment;
 use hashkeys::Key;
@@ -76,7 +76,7 @@ fn hear(
     ledger: &KeyLedger,
     pass: &mut KeyPass,
     moment: &mut KeyMoment,
-    bin: &mut KeyBin,
+    bin: &mut Held,
 )
     requires pass { pass.old.ledger ≡ ledger.now.id }
     requires moment { moment.old.ledger ≡ ledger.now.id }

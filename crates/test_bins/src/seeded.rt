@@ -1,7 +1,7 @@
 //! Codes of bytes under a seed, and keys that keep them. The codes are the lower halves of SipHash-1-3
 //! as Rust's and Python's libraries compute it.
-use hashkeys::{AsKey, ByteString, HashKey};
-use seeded_keys::{Hashed, Query, Seed};
+use hashkeys::{AsKey, HashKey};
+use seeded_keys::{CompactBytes, Hashed, Query, Seed};
 use std::alloc::Global;
 use std::process::Abort;
 
@@ -57,17 +57,17 @@ fn codes_under_a_seed_are_known(rt: HostRuntime) {
         }
         assert!(rt; seed.code(bytes.as_slice()) == row.code);
         assert!(rt; code_of(seed.query(bytes.as_slice())) == row.code);
-        assert!(rt; seed.key(bytes).hash_code() == row.code);
+        assert!(rt; seed.key(CompactBytes::new(bytes)).hash_code() == row.code);
     }
 }
 
 /// The code of a query, as a map of byte strings asks for it.
 fn code_of(query: Query<'_>) -> u32 {
-    AsKey::<Hashed<ByteString<Global>>>::key_code(&query)
+    AsKey::<Hashed<CompactBytes<Global>>>::key_code(&query)
 }
 
-fn key(rt: &impl Abort, alloc: Global, seed: Seed, text: &[u8]) -> Hashed<ByteString<Global>> {
-    seed.key(Vec::from_slice(alloc, text).expect(rt, "memory"))
+fn key(rt: &impl Abort, alloc: Global, seed: Seed, text: &[u8]) -> Hashed<CompactBytes<Global>> {
+    seed.key(CompactBytes::new(Vec::from_slice(alloc, text).expect(rt, "memory")))
 }
 
 #[test]
@@ -89,7 +89,7 @@ fn a_query_finds_the_key_of_its_seed_alone(rt: HostRuntime) {
     assert!(rt; one == one.clone().expect(&rt, "memory"));
     assert!(rt; one != key(&rt, rt.alloc(), second, b"AaAaBB"));
     assert!(rt; one.bytes().bytes() == b"AaAaBB".as_slice());
-    assert!(rt; one.into_bytes().into_bytes().as_slice() == b"AaAaBB".as_slice());
+    assert!(rt; one.into_bytes().bytes() == b"AaAaBB".as_slice());
 }
 
 #[test]

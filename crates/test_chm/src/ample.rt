@@ -38,7 +38,7 @@ fn again(rt: &impl Abort, quiet: &KeyQuiet<Global>) -> KeyQuiet<Global> {
 }
 
 /// How many pairs are taken out of a closed map, and the sum of their values.
-fn taken(rt: &impl Abort, quiet: KeyQuiet<Global>) -> (usize, u64) {
+pub(crate) fn taken(rt: &impl Abort, quiet: KeyQuiet<Global>) -> (usize, u64) {
     let pairs = quiet.into_entries().ok().expect(rt, "memory");
     let mut sum = 0u64;
     for (_key, value) in &pairs {

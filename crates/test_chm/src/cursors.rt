@@ -19,10 +19,8 @@ fn next_of<R: Wait + Abort, A: Allocator + Clone>(
     cursor: &mut Cursor,
     wanted: &[(&[u8], u64)],
 ) -> (u32, u32)
-    requires pass { pass.old.ledger ≡ map.now.ledger.id }
-    requires cursor { cursor.old.n ≡ map.now.n }
-    ensures pass { pass.new.ledger ≡ map.now.ledger.id }
-    ensures cursor { cursor.new.n ≡ map.now.n }
+    requires { pass.old.ledger ≡ map.now.ledger.id }
+    ensures { pass.new.ledger ≡ map.now.ledger.id }
 {
     let shown = map.visit_next(rt, pass, cursor).expect(rt, "memory");
     let visit = shown.expect(rt, "a bucket");
@@ -38,10 +36,8 @@ fn rest_of<R: Wait + Abort, A: Allocator + Clone>(
     pass: &mut KeyPass,
     cursor: &mut Cursor,
 ) -> (u32, u64, bool)
-    requires pass { pass.old.ledger ≡ map.now.ledger.id }
-    requires cursor { cursor.old.n ≡ map.now.n }
-    ensures pass { pass.new.ledger ≡ map.now.ledger.id }
-    ensures cursor { cursor.new.n ≡ map.now.n }
+    requires { pass.old.ledger ≡ map.now.ledger.id }
+    ensures { pass.new.ledger ≡ map.now.ledger.id }
 {
     let mut buckets = 0u32;
     let mut entries = 0u64;

@@ -2,7 +2,8 @@
 //! its call.
 ghost use Rattle.std.specs.Prelude.{◌≡◌, All};
 
-use crate::call_examples::right_calls;
+use crate::call_examples::first_wrong;
+use crate::maps::assert_same;
 use bin_history::{Form, Remap};
 use chm::{Fault, Map, Opened, Quiet, Sharing};
 use count_ledger::{Pass, retire_all};
@@ -172,24 +173,24 @@ fn into_entries(quiet: NumberQuiet) -> bool {
     }
 }
 
-/// The closed map of the examples of calls, which has 5 at 1, and how many were right.
-fn closed<R: Wait + Abort>(rt: &R, alloc: Global) -> Result<(NumberQuiet, u64), Fault> {
+/// The closed map of the examples of calls, which has 5 at 1, and the number of one that was wrong.
+fn closed<R: Wait + Abort>(rt: &R, alloc: Global) -> Result<(NumberQuiet, Option<u64>), Fault> {
     let Single {
         map,
         mut pass,
         mut place,
     } = open_single(alloc, Form::Lean, 16).expect(rt, "a map");
-    let right = right_calls(rt, &map, &mut pass);
+    let wrong = first_wrong(rt, &map, &mut pass);
     let _ = map.put(rt, &mut pass, 1, 5);
     put_back(&map, pass, &mut place);
-    Ok((close(map, place)?, right))
+    Ok((close(map, place)?, wrong))
 }
 
 #[test]
 fn each_example_of_a_call_is_as_it_says(rt: HostRuntime) {
-    let (quiet, right) = closed(&rt, rt.alloc()).expect(&rt, "memory");
+    let (quiet, wrong) = closed(&rt, rt.alloc()).expect(&rt, "memory");
     drop(quiet);
-    assert!(rt; right == 22);
+    assert_same(&rt, &wrong, &None);
 }
 
 #[test]

@@ -1,14 +1,11 @@
 //! How many bins there are, with growth and after opening again.
-ghost use Rattle.std.specs.Prelude.{◌≡◌};
-
-use crate::maps::{
-    KeyMap, KeyPass, assert_same, count_all, filled, numbered, put_numbers, records_of,
-};
+use crate::maps::{assert_same, count_all, filled, numbered, put_numbers, records_of};
+use crate::steps::{Act, Found, Row, left_by};
 use bin_history::{Form, Reply};
 use std::alloc::Global;
 use std::process::Abort;
 use std::sync::Wait;
-use test_maps::{Single, close, close_single, open, open_single, put_back, take_pass};
+use test_maps::{Single, close, close_single, open_single};
 
 /// The bins and the keys of a map that so many new keys were put into.
 fn grown<R: Wait + Abort>(
@@ -27,11 +24,8 @@ fn grown<R: Wait + Abort>(
 fn assert_grown<R: Wait + Abort>(rt: &R, alloc: Global, form: Form, rows: &[(usize, u32, usize)]) {
     for (capacity, puts, bins) in rows {
         let sizes = grown(rt, alloc, form, *capacity, *puts);
-        assert_eq!(rt;
-            sizes,
-            (*bins, u64::from(*puts)),
-            "{capacity} with {puts} keys"
-        );
+        let wanted = (*bins, u64::from(*puts));
+        assert_same(rt, &(*capacity, *puts, sizes), &(*capacity, *puts, wanted));
     }
 }
 
@@ -114,39 +108,14 @@ fn a_lean_table_of_256_bins_grows_at_three_keys_to_two_bins(rt: HostRuntime) {
     assert_grown(&rt, rt.alloc(), Form::Lean, &rows);
 }
 
-/// Gets the key of the number 0, which has the value 0.
-fn get_one<R: Wait + Abort>(rt: &R, map: &KeyMap<Global>, pass: &mut KeyPass)
-    requires { pass.old.ledger ≡ map.now.ledger.id }
-    ensures { pass.new.ledger ≡ map.now.ledger.id }
-{
-    let reply = map.get(rt, pass, numbered(rt, 0));
-    assert!(rt; reply == Ok(Reply::Value(Some(0))));
-}
-
-/// How many bins a lean map of 16 has, in which client 0 put 8 keys and client 1 got one then.
-fn helped_by_another<R: Wait + Abort>(rt: &R, alloc: Global) -> usize {
-    let opened = open(alloc, Form::Lean, 16, 2).expect(rt, "a map");
-    let Single {
-        map,
-        pass: mut other,
-        place,
-    } = take_pass(opened).expect(rt, "a pass");
-    let Single {
-        map,
-        mut pass,
-        mut place,
-    } = take_pass((map, place)).expect(rt, "a second pass");
-    put_numbers(rt, &map, &mut pass, 0, 8);
-    get_one(rt, &map, &mut other);
-    put_back(&map, pass, &mut place);
-    let closed = close_single(map, other, place).expect(rt, "a closed map");
-    closed.bins().len()
-}
-
 #[test]
 fn a_get_of_another_client_helps_a_lean_table(rt: HostRuntime) {
     // The eighth put opens the move from 32 bins and moves 16 of them, and the get moves the others.
-    let bins = helped_by_another(&rt, rt.alloc());
+    let rows: [Row; 2] = [
+        (0, Act::PutNumbers(0, 8), Found::Done),
+        (1, Act::GetNumber(0), Found::Value(Some(0))),
+    ];
+    let (bins, _, _) = left_by(&rt, rt.alloc(), (Form::Lean, 16, 2), &rows, &[]);
     assert_same(&rt, &bins, &64);
 }
 
@@ -169,11 +138,11 @@ fn put_and_get<R: Wait + Abort>(rt: &R, alloc: Global, count: u32) -> usize {
 
 #[test]
 fn a_wide_lean_table_grows_whatever_comes_between_puts(rt: HostRuntime) {
-    let bins = put_and_get(&rt, rt.alloc(), 1535);
-    assert_same(&rt, &bins, &1024);
-    // The put moves 16 bins, and the get 16 more.
-    let bins = put_and_get(&rt, rt.alloc(), 1536);
-    assert_same(&rt, &bins, &1056);
+    // The last put moves 16 bins, and the get 16 more.
+    for (count, wanted) in [(1535, 1024), (1536, 1056)] {
+        let bins = put_and_get(&rt, rt.alloc(), count);
+        assert_same(&rt, &(count, bins), &(count, wanted));
+    }
 }
 
 /// The bins, the keys and the records of a map that so many new keys were put into, once it is
@@ -203,11 +172,8 @@ fn assert_grown_again<R: Wait + Abort>(
     for (capacity, puts, bins) in rows {
         let sizes = grown_again(rt, alloc, form, *capacity, *puts);
         let keys = u64::from(*puts);
-        assert_eq!(rt;
-            sizes,
-            (*bins, keys, 0, keys),
-            "{capacity} with {puts} keys"
-        );
+        let wanted = (*bins, keys, 0, keys);
+        assert_same(rt, &(*capacity, *puts, sizes), &(*capacity, *puts, wanted));
     }
 }
 

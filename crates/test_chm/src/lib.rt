@@ -31,6 +31,8 @@ mod numbers;
 #[cfg(test)]
 mod opening;
 #[cfg(test)]
+mod part_steps;
+#[cfg(test)]
 mod reading;
 #[cfg(test)]
 mod refused;
@@ -44,6 +46,8 @@ mod rows;
 mod shown;
 #[cfg(test)]
 mod sizes;
+#[cfg(test)]
+mod steps;
 #[cfg(test)]
 mod threads;
 #[cfg(test)]

@@ -3,10 +3,8 @@ ghost use Rattle.std.specs.Prelude.{◌≡◌};
 
 use crate::examples::{NumberPass, Numbers};
 use crate::maps::assert_same;
-use bin_history::{Form, KeyArg, Reply};
+use bin_history::{KeyArg, Reply};
 use chm::{Change, Fault, PartWalk, Taker};
-use std::alloc::Global;
-use std::process::Abort;
 use std::sync::Wait;
 use test_maps::{BOTH, Single, close_single, open_single};
 
@@ -24,7 +22,6 @@ fn update<R: Wait>(rt: &R, map: &Numbers, pass: &mut NumberPass) -> Result<bool,
     requires { pass.old.ledger ≡ map.now.ledger.id }
     ensures { pass.new.ledger ≡ map.now.ledger.id }
 {
-    map.put(rt, pass, 1, 5)?;
     let set = map.update(rt, pass, 1, |value| (Change::Set(6), value.copied()))? == Some(5);
     let after = map.get(rt, pass, 1)? == Reply::Value(Some(6));
     Ok(set && after)
@@ -34,7 +31,6 @@ fn update_lent<R: Wait>(rt: &R, map: &Numbers, pass: &mut NumberPass) -> Result<
     requires { pass.old.ledger ≡ map.now.ledger.id }
     ensures { pass.new.ledger ≡ map.now.ledger.id }
 {
-    map.put(rt, pass, 1, 5)?;
     let removed = map.update_lent(rt, pass, &1, |value| (Change::Remove, value.copied()))?
         == Some(5);
     let kept = map.update_on(
@@ -53,7 +49,6 @@ fn visit_next<R: Wait>(rt: &R, map: &Numbers, pass: &mut NumberPass) -> Result<b
     requires { pass.old.ledger ≡ map.now.ledger.id }
     ensures { pass.new.ledger ≡ map.now.ledger.id }
 {
-    map.put(rt, pass, 1, 5)?;
     let mut cursor = map.cursor();
     let tried = map.try_visit_next(pass, &mut cursor).is_some();
     let mut shown = false;
@@ -67,16 +62,15 @@ fn visit_next<R: Wait>(rt: &R, map: &Numbers, pass: &mut NumberPass) -> Result<b
     Ok(tried && shown)
 }
 
-fn show_next<R: Wait>(rt: &R, map: &Numbers, pass: &mut NumberPass) -> Result<bool, Fault>
+fn show_next<R: Wait>(rt: &R, map: &Numbers, pass: &mut NumberPass) -> bool
     requires { pass.old.ledger ≡ map.now.ledger.id }
     ensures { pass.new.ledger ≡ map.now.ledger.id }
 {
-    map.put(rt, pass, 1, 5)?;
     let mut cursor = map.cursor();
     let mut most = 0;
     let mut look = |_key: &u64, value: &u64| most = most.max(*value);
     let some = map.show_next(rt, pass, &mut cursor, &mut look);
-    Ok(some && most <= 5)
+    some && most <= 5
 }
 
 /// Adds values up.
@@ -93,25 +87,23 @@ impl Taker<u64, u64> for Summing {
     }
 }
 
-fn show_part<R: Wait>(rt: &R, map: &Numbers, pass: &mut NumberPass) -> Result<bool, Fault>
+fn show_part<R: Wait>(rt: &R, map: &Numbers, pass: &mut NumberPass) -> bool
     requires { pass.old.ledger ≡ map.now.ledger.id }
     ensures { pass.new.ledger ≡ map.now.ledger.id }
 {
-    map.put(rt, pass, 1, 5)?;
     let is_sized = map.table_size() == 16;
     let mut walk = PartWalk::new(map.table_size(), 0, 1);
     if walk.is_at_end() {
-        return Ok(false);
+        return false;
     }
     let sum = map.show_part(rt, pass, &mut walk, &Summing, 0);
-    Ok(is_sized && sum <= 5 && walk.is_at_end())
+    is_sized && sum <= 5 && walk.is_at_end()
 }
 
 fn retain<R: Wait>(rt: &R, map: &Numbers, pass: &mut NumberPass) -> Result<bool, Fault>
     requires { pass.old.ledger ≡ map.now.ledger.id }
     ensures { pass.new.ledger ≡ map.now.ledger.id }
 {
-    map.put(rt, pass, 1, 5)?;
     map.retain(rt, pass, &|_key: &u64, value: &u64| *value > 5)?;
     let gone = map.get(rt, pass, 1)? == Reply::Value(None);
     map.put(rt, pass, 1, 6)?;
@@ -121,36 +113,51 @@ fn retain<R: Wait>(rt: &R, map: &Numbers, pass: &mut NumberPass) -> Result<bool,
     Ok(gone && some && kept)
 }
 
-/// Runs the examples on a map without entries each. Answers how many are right.
-fn count_right<R: Wait + Abort>(rt: &R, alloc: Global, form: Form) -> u64 {
-    let Single {
-        map,
-        mut pass,
-        place,
-    } = open_single(alloc, form, 16).expect(rt, "a map");
-    let mut right = 0u64;
+/// Runs the example of this number on a map without entries; all but the first begin with a put of 5
+/// at 1.
+fn run<R: Wait>(rt: &R, map: &Numbers, pass: &mut NumberPass, number: u64) -> Result<bool, Fault>
+    requires { pass.old.ledger ≡ map.now.ledger.id }
+    ensures { pass.new.ledger ≡ map.now.ledger.id }
+{
+    if number == 0 {
+        return view(rt, map, pass);
+    }
+    map.put(rt, pass, 1, 5)?;
+    match number {
+        1 => update(rt, map, pass),
+        2 => update_lent(rt, map, pass),
+        3 => visit_next(rt, map, pass),
+        4 => Ok(show_next(rt, map, pass)),
+        5 => Ok(show_part(rt, map, pass)),
+        _ => retain(rt, map, pass),
+    }
+}
+
+/// Runs the seven examples. Answers which is the first that is not as it says.
+fn first_wrong<R: Wait>(rt: &R, map: &Numbers, pass: &mut NumberPass) -> Option<u64>
+    requires { pass.old.ledger ≡ map.now.ledger.id }
+    ensures { pass.new.ledger ≡ map.now.ledger.id }
+{
     for number in 0..7u64 {
-        let is_clear = map.clear(rt, &mut pass).is_ok();
-        let is_right = match number {
-            0 => view(rt, &map, &mut pass),
-            1 => update(rt, &map, &mut pass),
-            2 => update_lent(rt, &map, &mut pass),
-            3 => visit_next(rt, &map, &mut pass),
-            4 => show_next(rt, &map, &mut pass),
-            5 => show_part(rt, &map, &mut pass),
-            _ => retain(rt, &map, &mut pass),
-        };
-        if is_clear && is_right == Ok(true) {
-            right = right.wrapping_add(1);
+        let is_clear = map.clear(rt, pass).is_ok();
+        let is_right = run(rt, map, pass, number) == Ok(true);
+        if !is_clear || !is_right {
+            return Some(number);
         }
     }
-    drop(close_single(map, pass, place).expect(rt, "a closed map"));
-    right
+    None
 }
 
 #[test]
 fn each_example_of_a_live_map_is_as_it_says(rt: HostRuntime) {
     for form in BOTH {
-        assert_same(&rt, &count_right(&rt, rt.alloc(), form), &7);
+        let Single {
+            map,
+            mut pass,
+            place,
+        } = open_single(rt.alloc(), form, 16).expect(&rt, "a map");
+        let wrong = first_wrong(&rt, &map, &mut pass);
+        drop(close_single(map, pass, place).expect(&rt, "a closed map"));
+        assert_same(&rt, &(form, wrong), &(form, None));
     }
 }

@@ -1,15 +1,20 @@
 //! Many calls of one client.
 use crate::maps::{
-    KeyQuiet, assert_entries, assert_same, assert_slot_1, count_all, filled, get_often, key,
-    put_new, put_numbers, put_texts, records_of,
+    assert_entries, assert_same, assert_slot_1, count_all, filled, key, put_new, put_numbers,
+    records_of,
 };
-use bin_history::{Form, Reply};
+use crate::steps::{Act, Found, Kind, NONE, Row, after_steps, left_by};
+use bin_history::Form;
 use chm::Fault;
 use hashkeys::Key;
 use std::alloc::Global;
 use std::process::Abort;
 use std::sync::Wait;
-use test_maps::{BOTH, Single, close, close_single, open_single, put_back, take_pass};
+use test_maps::{Single, close, close_single, open_single, put_back, take_pass};
+use test_support::Refusing;
+
+/// What a call of a pass is refused with that has made all that it may.
+const FULL: Found = Found::Refused(Fault::PassFull);
 
 /// Puts a key more into a map of 16 bins that was opened again with so many. Answers how many keys
 /// the pass and the words count, how many bins and keys the closed map has, how many entries, and
@@ -88,96 +93,60 @@ fn keys_of_one_hash_stand_in_one_bin(rt: HostRuntime) {
 
 #[test]
 fn a_full_pass_makes_no_more_calls(rt: HostRuntime) {
-    let Single {
-        map,
-        mut pass,
-        place,
-    } = open_single(rt.alloc(), Form::Recorded, 16).expect(&rt, "a map");
-    put_texts(&rt, &map, &mut pass, &[(b"a", 1), (b"q", 2), (b"Aa", 3)]);
-    get_often(&rt, &map, &mut pass, 999_996, 1);
-    let made = pass.made();
-    let cleared = map.clear(&rt, &mut pass);
-    let got = map.get(&rt, &mut pass, key(&rt, b"a"));
-    let walked = map.walk(&rt, &mut pass).map(|visits| visits.len());
-    let end = pass.made();
-    let closed = close_single(map, pass, place).expect(&rt, "a closed map");
-    assert_entries(&rt, closed.entries(), &[(b"a", 1), (b"q", 2)]);
-    drop(closed);
-    assert!(rt; got == Err(Fault::PassFull));
-    let told = (made, end, cleared, walked);
-    assert_same(
-        &rt,
-        &told,
-        &(999_999, 1_000_000, Err(Fault::PassFull), Ok(16)),
-    );
-}
-
-/// Clears a map of one key by the last call of a pass, and then once more. Answers what both clears
-/// answered, and how many calls and keys there are in the end.
-fn clear_by_the_last_call<R: Wait + Abort>(
-    rt: &R,
-    alloc: Global,
-) -> ([Result<(), Fault>; 2], u64, u64) {
-    let Single {
-        map,
-        mut pass,
-        place,
-    } = open_single(alloc, Form::Recorded, 16).expect(rt, "a map");
-    put_texts(rt, &map, &mut pass, &[(b"a", 1)]);
-    get_often(rt, &map, &mut pass, 999_998, 1);
-    let cleared = map.clear(rt, &mut pass);
-    let again = map.clear(rt, &mut pass);
-    let made = pass.made();
-    let keys = close_single(map, pass, place)
-        .expect(rt, "a closed map")
-        .mapping_count();
-    ([cleared, again], made, keys)
+    // The clear makes the last call, by which `Aa` goes.
+    let rows: [Row; 9] = [
+        (0, Act::Make(b"a", Kind::Put(1)), NONE),
+        (0, Act::Make(b"q", Kind::Put(2)), NONE),
+        (0, Act::Make(b"Aa", Kind::Put(3)), NONE),
+        (0, Act::GetOften(999_996, 1), Found::Done),
+        (0, Act::Made, Found::Number(999_999)),
+        (0, Act::Clear, FULL),
+        (0, Act::Make(b"a", Kind::Get), FULL),
+        (0, Act::Walk, Found::Walked(16, 2)),
+        (0, Act::Made, Found::Number(1_000_000)),
+    ];
+    let opening = (Form::Recorded, 16, 1);
+    let (_, keys, _) = left_by(&rt, rt.alloc(), opening, &rows, &[(b"a", 1), (b"q", 2)]);
+    assert_same(&rt, &keys, &2);
 }
 
 #[test]
 fn a_full_pass_clears_where_nothing_is_left(rt: HostRuntime) {
-    let told = clear_by_the_last_call(&rt, rt.alloc());
-    assert_same(&rt, &told, &([Ok(()), Ok(())], 1_000_000, 0));
+    let rows: [Row; 5] = [
+        (0, Act::Make(b"a", Kind::Put(1)), NONE),
+        (0, Act::GetOften(999_998, 1), Found::Done),
+        (0, Act::Clear, Found::Done),
+        (0, Act::Clear, Found::Done),
+        (0, Act::Made, Found::Number(1_000_000)),
+    ];
+    let (_, keys, _) = left_by(&rt, rt.alloc(), (Form::Recorded, 16, 1), &rows, &[]);
+    assert_same(&rt, &keys, &0);
 }
 
 #[test]
 fn a_lean_pass_makes_three_million_calls(rt: HostRuntime) {
-    let Single {
-        map,
-        mut pass,
-        place,
-    } = open_single(rt.alloc(), Form::Lean, 16).expect(&rt, "a map");
-    put_texts(&rt, &map, &mut pass, &[(b"a", 1)]);
-    get_often(&rt, &map, &mut pass, 2_999_998, 1);
-    let removed = map.remove(&rt, &mut pass, key(&rt, b"a"));
-    let made = pass.made();
-    let closed = close_single(map, pass, place).expect(&rt, "a closed map");
-    let left = (closed.mapping_count(), records_of(&closed));
-    drop(closed);
-    assert!(rt; removed == Ok(Reply::Value(Some(1))));
-    assert_same(&rt, &(made, left), &(3_000_000, (0, 0)));
-}
-
-/// A recorded map with 1,025 calls on two keys of one bin: both are put, one is taken away and put
-/// again.
-fn folded<R: Wait + Abort>(rt: &R, alloc: Global) -> KeyQuiet<Global> {
-    let Single {
-        map,
-        mut pass,
-        place,
-    } = open_single(alloc, Form::Recorded, 16).expect(rt, "a map");
-    put_texts(rt, &map, &mut pass, &[(b"q", 1), (b"a", 2)]);
-    get_often(rt, &map, &mut pass, 1_021, 2);
-    let removed = map.remove(rt, &mut pass, key(rt, b"q"));
-    put_texts(rt, &map, &mut pass, &[(b"q", 3)]);
-    let closed = close_single(map, pass, place).expect(rt, "a closed map");
-    assert!(rt; removed == Ok(Reply::Value(Some(1))));
-    closed
+    let rows: [Row; 4] = [
+        (0, Act::Make(b"a", Kind::Put(1)), NONE),
+        (0, Act::GetOften(2_999_998, 1), Found::Done),
+        (0, Act::Make(b"a", Kind::Remove), Found::Value(Some(1))),
+        (0, Act::Made, Found::Number(3_000_000)),
+    ];
+    let (_, keys, records) = left_by(&rt, rt.alloc(), (Form::Lean, 16, 1), &rows, &[]);
+    assert_same(&rt, &(keys, records), &(0, 0));
 }
 
 #[test]
 fn old_records_are_folded_into_the_base(rt: HostRuntime) {
-    let closed = folded(&rt, rt.alloc());
+    // 1,025 calls on two keys of one bin: both are put, one is taken away and put again.
+    let rows: [Row; 5] = [
+        (0, Act::Make(b"q", Kind::Put(1)), NONE),
+        (0, Act::Make(b"a", Kind::Put(2)), NONE),
+        (0, Act::GetOften(1_021, 2), Found::Done),
+        (0, Act::Make(b"q", Kind::Remove), Found::Value(Some(1))),
+        (0, Act::Make(b"q", Kind::Put(3)), NONE),
+    ];
+    let alloc = Refusing::new(rt.alloc());
+    let closed = after_steps(&rt, &alloc, &alloc, (Form::Recorded, 16, 1), &rows);
     assert_entries(&rt, closed.entries(), &[(b"a", 2), (b"q", 3)]);
     assert_slot_1(&rt, &closed, 513, &[(b"q", 1), (b"a", 2)]);
     let records = records_of(&closed);

@@ -2,11 +2,11 @@
 ghost use Rattle.std.specs.Prelude.{◌≡◌, All};
 
 use crate::maps::{
-    KeyQuiet, assert_entries, assert_pairs, assert_same, key, put_numbers, put_texts, records_of,
-    room,
+    KeyQuiet, assert_entries, assert_pairs, assert_same, key, put_numbers, put_texts, room,
 };
+use crate::steps::{Act, Found, Kind, NONE, Row, left_by};
 use bin_history::{Form, Reply};
-use chm::{Fault, Opened, Visit};
+use chm::{Opened, Visit};
 use hashkeys::{Key, Salt};
 use std::alloc::{Allocator, Global};
 use std::process::Abort;
@@ -137,111 +137,83 @@ const SALTED_32: [(&[u8], u64); 4] = [(b"a", 2), (b"q", 1), (b"Aa", 3), (b"zzzzz
 /// The walk order under the salt 1 of a table that opens with 32 bins.
 const SALTED_OF_32: [(&[u8], u64); 4] = [(b"a", 2), (b"Aa", 3), (b"q", 1), (b"zzzzzz", 4)];
 
+/// Four keys in walk order.
+type Order = [(&'static [u8], u64); 4];
+
 /// A form, how many bins a map of 16 has with the four keys, and opened again with them, and three walk
 /// orders: of the first one, of the first one under the salt 1, and of the second one under it. A lean
 /// table has grown.
-type WithFour = (
-    Form,
-    usize,
-    [(&'static [u8], u64); 4],
-    [(&'static [u8], u64); 4],
-    [(&'static [u8], u64); 4],
-);
+type WithFour = (Form, usize, Order, Order, Order);
 
 const WITH_FOUR: [WithFour; 2] = [
     (Form::Recorded, 16, OF_16, SALTED_16, SALTED_16),
     (Form::Lean, 32, OF_32, SALTED_32, SALTED_OF_32),
 ];
 
+/// Asserts the walk orders of the four keys in so many bins under a salt, in a map that is opened again
+/// with them under the salt 1, and in one of 32 bins that has others too.
+fn assert_orders<R: Wait + Abort>(
+    rt: &R,
+    alloc: Global,
+    (form, bins, salt): (Form, usize, Salt),
+    [first, second, wider]: [&Order; 3],
+) {
+    let closed = four_and_more(rt, alloc, form, salt, 0);
+    assert_four(rt, &closed, (form, salt, bins), first.as_slice());
+    let opened = if salt == Salt(1) {
+        again(rt, closed.reopen(1).expect(rt, "a map"))
+    } else {
+        again(rt, closed.reopen_with(1, Salt(1)).expect(rt, "a map"))
+    };
+    assert_four(rt, &opened, (form, Salt(1), bins), second.as_slice());
+    let grown = four_and_more(rt, alloc, form, salt, room(form));
+    assert_four(rt, &grown, (form, salt, 32), wider.as_slice());
+}
+
 #[test]
 fn a_walk_shows_four_keys_in_order(rt: HostRuntime) {
-    for (form, bins, in_order, _salted, opened_salted) in WITH_FOUR {
-        let closed = four_and_more(&rt, rt.alloc(), form, Salt(0), 0);
-        assert_four(&rt, &closed, (form, Salt(0), bins), in_order.as_slice());
-        let salted = again(&rt, closed.reopen_with(1, Salt(1)).expect(&rt, "a map"));
-        assert_four(
-            &rt,
-            &salted,
-            (form, Salt(1), bins),
-            opened_salted.as_slice(),
-        );
-    }
-    for form in BOTH {
-        let wider = four_and_more(&rt, rt.alloc(), form, Salt(0), room(form));
-        assert_four(&rt, &wider, (form, Salt(0), 32), OF_32.as_slice());
+    for (form, bins, in_order, _salted, opened) in WITH_FOUR {
+        let orders = [&in_order, &opened, &OF_32];
+        assert_orders(&rt, rt.alloc(), (form, bins, Salt(0)), orders);
     }
 }
 
 #[test]
 fn four_keys_stand_in_the_walk_order_of_a_salt(rt: HostRuntime) {
-    for (form, bins, _in_order, salted, opened_salted) in WITH_FOUR {
-        let closed = four_and_more(&rt, rt.alloc(), form, Salt(1), 0);
-        assert_four(&rt, &closed, (form, Salt(1), bins), salted.as_slice());
-        let same = again(&rt, closed.reopen(1).expect(&rt, "a map"));
-        assert_four(&rt, &same, (form, Salt(1), bins), opened_salted.as_slice());
+    for (form, bins, _in_order, salted, opened) in WITH_FOUR {
+        let orders = [&salted, &opened, &SALTED_32];
+        assert_orders(&rt, rt.alloc(), (form, bins, Salt(1)), orders);
     }
-    for form in BOTH {
-        let wider = four_and_more(&rt, rt.alloc(), form, Salt(1), room(form));
-        assert_four(&rt, &wider, (form, Salt(1), 32), SALTED_32.as_slice());
-    }
-}
-
-/// Glances at two keys before any call, and before and after a move, for which so many more keys are
-/// put. Answers what was shown, how many calls were made, and how many bins there are in the end.
-fn glances<R: Wait + Abort>(
-    rt: &R,
-    alloc: Global,
-    form: Form,
-    more: u32,
-) -> ([Result<Option<u64>, Fault>; 4], u64, usize) {
-    let Single {
-        map,
-        mut pass,
-        place,
-    } = open_single(alloc, form, 16).expect(rt, "a map");
-    let first = map.glance(rt, &key(rt, b"a"));
-    put_texts(rt, &map, &mut pass, &[(b"a", 7)]);
-    let before = map.glance(rt, &key(rt, b"a"));
-    put_numbers(rt, &map, &mut pass, 0, more);
-    let after = map.glance(rt, &key(rt, b"a"));
-    let absent = map.glance(rt, &key(rt, b"q"));
-    let made = pass.made();
-    let closed = close_single(map, pass, place).expect(rt, "a closed map");
-    ([first, before, after, absent], made, closed.bins().len())
 }
 
 #[test]
 fn a_glance_shows_the_value_before_and_after_a_move(rt: HostRuntime) {
     for (form, more, calls) in [(Form::Recorded, 11, 12), (Form::Lean, 3, 4)] {
-        let (shown, made, bins) = glances(&rt, rt.alloc(), form, more);
-        assert!(rt; shown == [Ok(None), Ok(Some(7)), Ok(Some(7)), Ok(None)]);
-        assert_same(&rt, &(made, bins), &(calls, 32));
+        let rows: [Row; 7] = [
+            (0, Act::Glance(b"a"), NONE),
+            (0, Act::Make(b"a", Kind::Put(7)), NONE),
+            (0, Act::Glance(b"a"), Found::Value(Some(7))),
+            (0, Act::PutNumbers(0, more), Found::Done),
+            (0, Act::Glance(b"a"), Found::Value(Some(7))),
+            (0, Act::Glance(b"q"), NONE),
+            (0, Act::Made, Found::Number(calls)),
+        ];
+        let (bins, _, _) = left_by(&rt, rt.alloc(), (form, 16, 1), &rows, &[(b"a", 7)]);
+        assert_same(&rt, &bins, &32);
     }
-}
-
-/// Clears a map of three keys. Answers what the clear answered, how many calls were made, and how
-/// many keys and records there are in the end.
-fn clear_three<R: Wait + Abort>(
-    rt: &R,
-    alloc: Global,
-    form: Form,
-) -> (Result<(), Fault>, u64, u64, usize) {
-    let Single {
-        map,
-        mut pass,
-        place,
-    } = open_single(alloc, form, 16).expect(rt, "a map");
-    put_texts(rt, &map, &mut pass, &[(b"a", 1), (b"q", 2), (b"Aa", 3)]);
-    let cleared = map.clear(rt, &mut pass);
-    let made = pass.made();
-    let closed = close_single(map, pass, place).expect(rt, "a closed map");
-    (cleared, made, closed.mapping_count(), records_of(&closed))
 }
 
 #[test]
 fn a_clear_removes_each_entry_by_a_call(rt: HostRuntime) {
-    for (form, records) in [(Form::Recorded, 6), (Form::Lean, 0)] {
-        let told = clear_three(&rt, rt.alloc(), form);
-        assert_same(&rt, &told, &(Ok(()), 6, 0, records));
+    let rows: [Row; 5] = [
+        (0, Act::Make(b"a", Kind::Put(1)), NONE),
+        (0, Act::Make(b"q", Kind::Put(2)), NONE),
+        (0, Act::Make(b"Aa", Kind::Put(3)), NONE),
+        (0, Act::Clear, Found::Done),
+        (0, Act::Made, Found::Number(6)),
+    ];
+    for (form, wanted) in [(Form::Recorded, 6), (Form::Lean, 0)] {
+        let (_, keys, records) = left_by(&rt, rt.alloc(), (form, 16, 1), &rows, &[]);
+        assert_same(&rt, &(keys, records), &(0, wanted));
     }
 }

@@ -1,9 +1,8 @@
-//! Requests for memory that are refused, each in turn.
+//! Requests for memory that are refused, each in turn, but for those of a put.
 use crate::maps::{
-    assert_entries, assert_pairs, assert_same, get_often, key, numbered, open_with, opening_fault,
-    put_numbers, room,
+    assert_entries, assert_pairs, assert_same, get_often, key, open_with, opening_fault,
 };
-use bin_history::{Form, Reply};
+use bin_history::Form;
 use chm::{Fault, NotClosed};
 use std::alloc::{Allocator, Global};
 use std::process::Abort;
@@ -15,7 +14,6 @@ use test_support::Refusing;
 #[derive(Clone, Copy, Debug, Drop)]
 enum Refused {
     Opening,
-    Put,
     Clear,
     Walk,
     Close,
@@ -28,62 +26,6 @@ const THREE: [(&[u8], u64); 3] = [(b"a", 1), (b"q", 2), (b"Aa", 3)];
 
 /// The three keys in walk order.
 const IN_ORDER: [(&[u8], u64); 3] = [(b"Aa", 3), (b"a", 1), (b"q", 2)];
-
-/// Puts one key more into a map that has no room for it, with the request after so many refused.
-/// Answers whether it was put, whether there was such a request, how many keys and calls there are
-/// then, and how many bins and keys the closed map has.
-fn put_one_more<R: Wait + Abort, A: Allocator + Clone>(
-    rt: &R,
-    switch: &Refusing<Global>,
-    alloc: A,
-    form: Form,
-    granted: u64,
-) -> (Result<Reply<u64>, Fault>, bool, (u64, u64), (usize, u64)) {
-    let Single {
-        map,
-        mut pass,
-        place,
-    } = open_with(rt, alloc, form, &THREE);
-    let next = room(form);
-    put_numbers(rt, &map, &mut pass, 0, next);
-    switch.refuse_after(granted);
-    let reply = map.put(rt, &mut pass, numbered(rt, next), u64::from(next));
-    let refused = switch.has_refused();
-    switch.refuse_after(u64::MAX);
-    let live = (map.mapping_count(), pass.made());
-    let closed = close_single(map, pass, place).expect(rt, "a closed map");
-    assert_entries(rt, closed.entries(), &IN_ORDER);
-    let left = (closed.bins().len(), closed.mapping_count());
-    (reply, refused, live, left)
-}
-
-/// Puts one key more, which asks for room for its entry, and in a recorded map for room for the
-/// record. Where a request of these is refused there are as many keys as before; where one of the
-/// move is, there is one more.
-fn refuse_put<R: Wait + Abort, A: Allocator + Clone>(
-    rt: &R,
-    switch: &Refusing<Global>,
-    alloc: A,
-    form: Form,
-    granted: u64,
-) -> bool {
-    let (reply, refused, live, (bins, keys)) = put_one_more(rt, switch, alloc, form, granted);
-    let full = u64::from(room(form)).saturating_add(3);
-    let own = match form {
-        Form::Recorded => 2,
-        Form::Lean => 1,
-    };
-    if granted < own {
-        assert!(rt; reply == Err(Fault::NoMemory) && refused);
-        assert_same(rt, &(live, keys), &((full, full), full));
-    } else {
-        assert!(rt; reply == Ok(Reply::Value(None)));
-        let more = full.saturating_add(1);
-        assert_same(rt, &(live, keys), &((more, more), more));
-        assert!(rt; refused || bins == 32);
-    }
-    refused
-}
 
 /// Clears, with the request after so many refused, and clears again. Answers what the first clear
 /// answered, whether there was such a request, how many keys and calls there were between the two,
@@ -291,7 +233,6 @@ fn refuse<R: Wait + Abort, A: Allocator + Clone>(
 ) -> bool {
     match call {
         Refused::Opening => refuse_opening(rt, switch, alloc, form, granted),
-        Refused::Put => refuse_put(rt, switch, alloc, form, granted),
         Refused::Clear => refuse_clear(rt, switch, alloc, form, granted),
         Refused::Walk => refuse_walk(rt, switch, alloc, form, granted),
         Refused::Close => refuse_close(rt, switch, alloc, form, granted),
@@ -316,7 +257,6 @@ fn each_request_is_refused_in_turn(rt: HostRuntime) {
     // How many requests there are at least and at most, in a recorded and in a lean map.
     let rows = [
         (Refused::Opening, (5, 999), (5, 999)),
-        (Refused::Put, (10, 999), (10, 10)),
         (Refused::Clear, (1, 1), (0, 0)),
         (Refused::Walk, (3, 999), (3, 999)),
         (Refused::Close, (2, 999), (2, 999)),

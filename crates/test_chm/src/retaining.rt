@@ -1,66 +1,37 @@
 //! Keeping some entries and removing the others.
 ghost use Rattle.std.specs.Prelude.{◌≡◌};
 
-use crate::maps::{KeyMap, KeyPass, assert_entries, assert_same, key, put_texts, records_of};
+use crate::maps::{KeyMap, KeyPass, assert_same, key, put_texts};
+use crate::steps::{Act, Found, Kind, NONE, Row, left_by};
 use bin_history::Form;
 use chm::{Cursor, Fault};
 use hashkeys::Key;
 use std::alloc::{Allocator, Global};
 use std::process::Abort;
 use std::sync::Wait;
-use test_maps::{BOTH, Single, close_single, open, open_single, take_pass};
+use test_maps::{BOTH, Single, close_single, open_single};
 use test_support::Refusing;
 
 /// Two keys of one bucket and one of another, each with its value.
 const THREE: [(&[u8], u64); 3] = [(b"q", 1), (b"a", 2), (b"Aa", 3)];
 
-/// One client puts, the other keeps what is above 1. Answers what the first sees of each key.
-fn keep_above_one<R: Wait + Abort>(
-    rt: &R,
-    map: &KeyMap<Global>,
-    first: &mut KeyPass,
-    second: &mut KeyPass,
-) -> [Option<u64>; 3]
-    requires first { first.old.ledger ≡ map.now.ledger.id }
-    requires second { second.old.ledger ≡ map.now.ledger.id }
-    ensures first { first.new.ledger ≡ map.now.ledger.id }
-    ensures second { second.new.ledger ≡ map.now.ledger.id }
-{
-    put_texts(rt, map, first, &THREE);
-    let kept = map.retain(rt, second, &|_key: &Key, value: &u64| *value > 1);
-    assert!(rt; kept.is_ok());
-    let q = map.view(rt, first, &key(rt, b"q"), |value| value.copied());
-    let a = map.view(rt, first, &key(rt, b"a"), |value| value.copied());
-    let aa = map.view(rt, first, &key(rt, b"Aa"), |value| value.copied());
-    [q, a, aa]
-}
-
-/// The same on a new map. Answers what was seen too, how many calls each client made, and how many
-/// records there are.
-fn keep_of_two<R: Wait + Abort>(
-    rt: &R,
-    alloc: Global,
-    form: Form,
-) -> ([Option<u64>; 3], [u64; 2], usize) {
-    let Single {
-        map,
-        mut pass,
-        mut place,
-    } = take_pass(open(alloc, form, 16, 2).expect(rt, "a map")).expect(rt, "a pass");
-    assert!(rt; place.len() == 1);
-    let seen = keep_above_one(rt, &map, &mut place[0], &mut pass);
-    let made = [place[0].made(), pass.made()];
-    let closed = close_single(map, pass, place).expect(rt, "a closed map");
-    assert_entries(rt, closed.entries(), &[(b"Aa", 3), (b"a", 2)]);
-    (seen, made, records_of(&closed))
-}
-
 #[test]
 fn each_entry_that_goes_is_a_remove(rt: HostRuntime) {
-    for (form, records) in [(Form::Recorded, 4), (Form::Lean, 0)] {
-        let (seen, made, told) = keep_of_two(&rt, rt.alloc(), form);
-        assert!(rt; seen == [None, Some(2), Some(3)]);
-        assert_same(&rt, &(made, told), &([3, 1], records));
+    let rows: [Row; 9] = [
+        (0, Act::Make(b"q", Kind::Put(1)), NONE),
+        (0, Act::Make(b"a", Kind::Put(2)), NONE),
+        (0, Act::Make(b"Aa", Kind::Put(3)), NONE),
+        (1, Act::KeepAboveOne, Found::Done),
+        (0, Act::View(b"q"), NONE),
+        (0, Act::View(b"a"), Found::Value(Some(2))),
+        (0, Act::View(b"Aa"), Found::Value(Some(3))),
+        (0, Act::Made, Found::Number(3)),
+        (1, Act::Made, Found::Number(1)),
+    ];
+    for (form, wanted) in [(Form::Recorded, 4), (Form::Lean, 0)] {
+        let pairs: [(&[u8], u64); 2] = [(b"Aa", 3), (b"a", 2)];
+        let (_, keys, records) = left_by(&rt, rt.alloc(), (form, 16, 2), &rows, &pairs);
+        assert_same(&rt, &(keys, records), &(2, wanted));
     }
 }
 
@@ -72,10 +43,8 @@ fn drop_rest<R: Wait, A: Allocator + Clone>(
     pass: &mut KeyPass,
     cursor: &mut Cursor,
 ) -> (u32, Option<Fault>)
-    requires pass { pass.old.ledger ≡ map.now.ledger.id }
-    requires cursor { cursor.old.n ≡ map.now.n }
-    ensures pass { pass.new.ledger ≡ map.now.ledger.id }
-    ensures cursor { cursor.new.n ≡ map.now.n }
+    requires { pass.old.ledger ≡ map.now.ledger.id }
+    ensures { pass.new.ledger ≡ map.now.ledger.id }
 {
     let none = |_key: &Key, _value: &u64| false;
     let mut steps = 0u32;

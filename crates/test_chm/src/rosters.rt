@@ -3,6 +3,7 @@ ghost use Rattle.std.specs.Prelude.{◌≡◌, All, IfOk, IfSome};
 
 use crate::examples::{NumberPass, NumberQuiet, Numbers, Plus};
 use crate::maps::assert_same;
+use crate::steps::{Act, Found, Kind, NONE, Row, left_by};
 use bin_history::{Form, Reply};
 use chm::{Fault, Map, Moment, NotClosedWith, Roster, Started};
 use count_ledger::retire_all;
@@ -18,51 +19,25 @@ type NumbersStarted = Started<u64, u64, Plus, Global>;
 
 type NumberRoster = Roster<u64, u64, Plus>;
 
-/// Clients 0 and 32, which count in one lane: the first adds two keys, the other adds one and takes
-/// one of the first's away. Returns both balances, and the live count.
-fn counted_in_one_lane<R: Wait>(
-    rt: &R,
-    map: &Numbers,
-    first: &mut NumberPass,
-    last: &mut NumberPass,
-) -> Result<(u64, u64, u64), Fault>
-    requires first { first.old.ledger ≡ map.now.ledger.id }
-    requires last { last.old.ledger ≡ map.now.ledger.id }
-    ensures first { first.new.ledger ≡ map.now.ledger.id }
-    ensures last { last.new.ledger ≡ map.now.ledger.id }
-{
-    map.put(rt, first, 1, 5)?;
-    map.put(rt, first, 2, 5)?;
-    map.put(rt, first, 2, 6)?;
-    map.put(rt, last, 3, 5)?;
-    map.remove(rt, last, 1)?;
-    map.get(rt, last, 2)?;
-    Ok((map.balance(first), map.balance(last), map.mapping_count()))
-}
-
-/// Clients 0 and 32 of a new map count in one lane. Answers their numbers, what they told, and how many
-/// keys there are in the end.
-fn of_one_lane<R: Wait + Abort>(
-    rt: &R,
-    alloc: Global,
-) -> ((u32, u32), Result<(u64, u64, u64), Fault>, u64) {
-    let Single {
-        map,
-        mut pass,
-        mut place,
-    } = take_pass(open(alloc, Form::Lean, 16, 33).expect(rt, "a map")).expect(rt, "a pass");
-    assert!(rt; place.len() == 32);
-    let told = counted_in_one_lane(rt, &map, &mut place[0], &mut pass);
-    let clients = (place[0].client(), pass.client());
-    let closed = close_single(map, pass, place).expect(rt, "a closed map");
-    (clients, told, closed.mapping_count())
-}
-
 #[test]
 fn two_clients_of_one_lane_count_each_its_own(rt: HostRuntime) {
-    let (clients, told, keys) = of_one_lane(&rt, rt.alloc());
-    assert_same(&rt, &clients, &(0, 32));
-    assert_same(&rt, &told.expect(&rt, "memory"), &(2, 0, 2));
+    // Clients 0 and 32 count in one lane: the first adds two keys, the other adds one and takes one of
+    // the first's away.
+    let rows: [Row; 11] = [
+        (0, Act::Client, Found::Number(0)),
+        (32, Act::Client, Found::Number(32)),
+        (0, Act::Make(b"a", Kind::Put(5)), NONE),
+        (0, Act::Make(b"q", Kind::Put(5)), NONE),
+        (0, Act::Make(b"q", Kind::Put(6)), Found::Value(Some(5))),
+        (32, Act::Make(b"Aa", Kind::Put(5)), NONE),
+        (32, Act::Make(b"a", Kind::Remove), Found::Value(Some(5))),
+        (32, Act::Make(b"q", Kind::Get), Found::Value(Some(6))),
+        (0, Act::Balance, Found::Number(2)),
+        (32, Act::Balance, Found::Number(0)),
+        (0, Act::Count, Found::Number(2)),
+    ];
+    let pairs: [(&[u8], u64); 2] = [(b"Aa", 5), (b"q", 6)];
+    let (_, keys, _) = left_by(&rt, rt.alloc(), (Form::Lean, 16, 33), &rows, &pairs);
     assert_same(&rt, &keys, &2);
 }
 

@@ -2,7 +2,8 @@
 ghost use Rattle.std.specs.Prelude.{◌≡◌, All};
 
 use crate::maps::{
-    KeyMap, KeyPass, KeySingle, filled, key, numbered, open_with, put_numbers, room,
+    KeyMap, KeyPass, KeySingle, assert_entries, assert_same, filled, key, numbered, open_with,
+    put_numbers, room,
 };
 use bin_history::{Form, Reply};
 use chm::Fault;
@@ -27,13 +28,18 @@ fn a_recorded_table_grows_at_three_quarters_of_its_bins(rt: HostRuntime) {
         (4096, 3072, 8192),
     ];
     for (capacity, puts, wanted) in rows {
-        let closed = filled(&rt, rt.alloc(), Form::Recorded, capacity, puts);
-        assert_eq!(rt; closed.bins().len(), wanted, "{capacity} with {puts} keys");
+        let bins = filled(&rt, rt.alloc(), Form::Recorded, capacity, puts)
+            .bins()
+            .len();
+        assert_same(&rt, &(capacity, puts, bins), &(capacity, puts, wanted));
     }
 }
 
 /// Three keys of two bins.
 const THREE: [(&[u8], u64); 3] = [(b"a", 100), (b"q", 200), (b"Aa", 300)];
+
+/// The three keys in walk order.
+const IN_ORDER: [(&[u8], u64); 3] = [(b"Aa", 300), (b"a", 100), (b"q", 200)];
 
 /// A map of 16 bins with all keys that it has room for: the three, and the numbered ones from 0 on.
 fn full<R: Wait + Abort, A: Allocator + Clone>(rt: &R, alloc: A, form: Form) -> KeySingle<A>
@@ -103,14 +109,15 @@ fn count_found<R: Wait + Abort, A: Allocator + Clone>(
 }
 
 /// What a full map told: the reply of the put of one key more, whether a request of it was refused,
-/// how many keys were found with their values then, and how many after the put of the next one, and
-/// how many bins there were in the end.
+/// how many keys and calls were counted then, how many keys were found with their values then, and how
+/// many after the put of the next one, and how many bins and keys the closed map had.
 #[derive(Drop)]
 struct Told {
     reply: Result<Reply<u64>, Fault>,
     refused: bool,
+    counted: (u64, u64),
     found: [u64; 2],
-    bins: usize,
+    left: (usize, u64),
 }
 
 /// Puts one key more into a full map, with the request after so many refused, and then the next one.
@@ -131,18 +138,18 @@ fn put_one_more<R: Wait + Abort, A: Allocator + Clone>(
     let reply = map.put(rt, &mut pass, numbered(rt, next), u64::from(next));
     let refused = switch.has_refused();
     switch.refuse_after(u64::MAX);
+    let counted = (map.mapping_count(), pass.made());
     let before = count_found(rt, &map, &mut pass);
     put_numbers(rt, &map, &mut pass, next.saturating_add(1), 1);
     let after = count_found(rt, &map, &mut pass);
-    let bins = close_single(map, pass, place)
-        .expect(rt, "a closed map")
-        .bins()
-        .len();
+    let closed = close_single(map, pass, place).expect(rt, "a closed map");
+    assert_entries(rt, closed.entries(), &IN_ORDER);
     Told {
         reply,
         refused,
+        counted,
         found: [before, after],
-        bins,
+        left: (closed.bins().len(), closed.mapping_count()),
     }
 }
 
@@ -160,9 +167,11 @@ fn refuse_each<R: Wait + Abort>(rt: &R, memory: Global, form: Form, own: u64) ->
         } else {
             (Ok(Reply::Value(None)), before.saturating_add(1))
         };
-        let found = [first, first.saturating_add(1)];
+        let second = first.saturating_add(1);
         assert!(rt; told.reply == reply, "{granted} granted");
-        assert_eq!(rt; (told.found, told.bins), (found, 32), "{granted} granted");
+        let found = (granted, told.counted, told.found, told.left);
+        let wanted = (granted, (first, first), [first, second], (32, second));
+        assert_same(rt, &found, &wanted);
         if !told.refused {
             return granted;
         }

@@ -2,6 +2,7 @@
 ghost use Rattle.std.specs.Prelude.{◌≡◌};
 
 use crate::maps::{KeyMap, KeyPass, assert_same, key};
+use crate::steps::{Act, Found, Kind, NONE, Row, left_by};
 use bin_history::Form;
 use chm::{Fault, Map};
 use count_ledger::retire_all;
@@ -17,50 +18,23 @@ fn number(value: Option<&u64>) -> Option<u64> {
     value.copied()
 }
 
-/// One client puts a key twice and takes another away; what the other sees of both, and of a key
-/// that nobody put.
-fn seen_by_another<R: Wait + Abort>(
-    rt: &R,
-    map: &KeyMap<Global>,
-    first: &mut KeyPass,
-    second: &mut KeyPass,
-) -> [Option<u64>; 4]
-    requires first { first.old.ledger ≡ map.now.ledger.id }
-    requires second { second.old.ledger ≡ map.now.ledger.id }
-    ensures first { first.new.ledger ≡ map.now.ledger.id }
-    ensures second { second.new.ledger ≡ map.now.ledger.id }
-{
-    assert!(rt; map.put(rt, first, key(rt, b"a"), 1).is_ok());
-    assert!(rt; map.put(rt, first, key(rt, b"q"), 4).is_ok());
-    let early = map.view(rt, second, &key(rt, b"a"), number);
-    assert!(rt; map.put(rt, first, key(rt, b"a"), 2).is_ok());
-    assert!(rt; map.remove(rt, first, key(rt, b"q")).is_ok());
-    let late = map.view(rt, second, &key(rt, b"a"), number);
-    let gone = map.view(rt, second, &key(rt, b"q"), number);
-    let never = map.view(rt, second, &key(rt, b"Aa"), number);
-    [early, late, gone, never]
-}
-
-/// Lets two clients put and view. Answers what was seen, and how many calls each made.
-fn two_clients<R: Wait + Abort>(rt: &R, alloc: Global, form: Form) -> ([Option<u64>; 4], [u64; 2]) {
-    let Single {
-        map,
-        mut pass,
-        mut place,
-    } = take_pass(open(alloc, form, 16, 2).expect(rt, "a map")).expect(rt, "a pass");
-    assert!(rt; place.len() == 1);
-    let seen = seen_by_another(rt, &map, &mut place[0], &mut pass);
-    let made = [place[0].made(), pass.made()];
-    drop(close_single(map, pass, place).expect(rt, "a closed map"));
-    (seen, made)
-}
-
 #[test]
 fn a_view_sees_what_the_call_before_it_left(rt: HostRuntime) {
+    let rows: [Row; 10] = [
+        (0, Act::Make(b"a", Kind::Put(1)), NONE),
+        (0, Act::Make(b"q", Kind::Put(4)), NONE),
+        (1, Act::View(b"a"), Found::Value(Some(1))),
+        (0, Act::Make(b"a", Kind::Put(2)), Found::Value(Some(1))),
+        (0, Act::Make(b"q", Kind::Remove), Found::Value(Some(4))),
+        (1, Act::View(b"a"), Found::Value(Some(2))),
+        (1, Act::View(b"q"), NONE),
+        (1, Act::View(b"Aa"), NONE),
+        (0, Act::Made, Found::Number(4)),
+        (1, Act::Made, Found::Number(0)),
+    ];
     for form in BOTH {
-        let (seen, made) = two_clients(&rt, rt.alloc(), form);
-        assert!(rt; seen == [Some(1), Some(2), None, None]);
-        assert_same(&rt, &made, &[4, 0]);
+        let (_, keys, _) = left_by(&rt, rt.alloc(), (form, 16, 2), &rows, &[(b"a", 2)]);
+        assert_same(&rt, &keys, &1);
     }
 }
 

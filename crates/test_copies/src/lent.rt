@@ -256,9 +256,52 @@ fn a_refused_call_that_borrows_its_key_leaves_the_map(rt: HostRuntime) {
     }
 }
 
-/// Puts, replaces and removes at `a`, which has the value `one`, by value and by reference, and
-/// puts `one` there again. Answers whether each call replied the value before it, and none of them
-/// but the last asked for memory.
+/// A call that changes a value or looks whether there is one.
+#[derive(Clone, Copy)]
+enum Change {
+    Put,
+    Replace,
+    Lent(Lent),
+}
+
+/// Makes a change, or looks; a call that borrows its key borrows this one.
+fn make_change<R: Wait, A: Allocator + Clone>(
+    rt: &R,
+    map: &TextMap<A>,
+    pass: &mut TextPass<A>,
+    change: Change,
+    key: Text<A>,
+    value: Text<A>,
+) -> Result<Reply<usize>, Fault>
+    requires { pass.old.ledger ≡ map.now.ledger.id }
+    ensures { pass.new.ledger ≡ map.now.ledger.id }
+{
+    match change {
+        Change::Put => told(map.put(rt, pass, key, value)),
+        Change::Replace => told(map.replace(rt, pass, key, value)),
+        Change::Lent(call) => make(rt, map, pass, call, &key, value),
+    }
+}
+
+/// A change, the value that it brings, how many requests for memory are granted, and its reply.
+type Row = (Change, &'static [u8], u64, Reply<usize>);
+
+/// Changes of `a`, which has the value `one` before and after them. None of them but the last asks for
+/// memory.
+fn rows() -> [Row; 6] {
+    let (replace, contains, remove) = (Lent::Replace, Lent::Contains, Lent::Remove);
+    [
+        (Change::Put, b"four", 0, Reply::Value(Some(3))),
+        (Change::Replace, b"fives", 0, Reply::Value(Some(4))),
+        (Change::Lent(replace), b"sixths", 0, Reply::Value(Some(5))),
+        (Change::Lent(contains), b"", 0, Reply::Truth(true)),
+        (Change::Lent(remove), b"", 0, Reply::Value(Some(6))),
+        (Change::Put, b"one", u64::MAX, Reply::Value(None)),
+    ]
+}
+
+/// Makes the changes of all rows. Answers whether each replied what its row says and was refused
+/// nothing.
 fn change_often<R: Wait + Abort, A: Allocator + Clone>(
     rt: &R,
     switch: &Refusing<Global>,
@@ -269,25 +312,15 @@ fn change_often<R: Wait + Abort, A: Allocator + Clone>(
     requires { pass.old.ledger ≡ map.now.ledger.id }
     ensures { pass.new.ledger ≡ map.now.ledger.id }
 {
-    let key = text(rt, alloc, b"a");
-    let (first, second) = (text(rt, alloc, b"a"), text(rt, alloc, b"a"));
-    let (four, fives) = (text(rt, alloc, b"four"), text(rt, alloc, b"fives"));
-    let sixths = text(rt, alloc, b"sixths");
-    switch.refuse_after(0);
-    let put = told(map.put(rt, pass, first, four));
-    let replaced = told(map.replace(rt, pass, second, fives));
-    let again = told(map.call_on(rt, pass, KeyArg::Borrowed(&key), Op::Replace(sixths)));
-    let has = told(map.call_on(rt, pass, KeyArg::Borrowed(&key), Op::Contains));
-    let removed = told(map.call_on(rt, pass, KeyArg::Borrowed(&key), Op::Remove));
-    let asked = switch.has_refused();
-    switch.refuse_after(u64::MAX);
-    let last = told(map.put(rt, pass, key, text(rt, alloc, b"one")));
-    let replies = put == Ok(Reply::Value(Some(3)))
-        && replaced == Ok(Reply::Value(Some(4)))
-        && again == Ok(Reply::Value(Some(5)))
-        && has == Ok(Reply::Truth(true))
-        && removed == Ok(Reply::Value(Some(6)));
-    replies && !asked && last == Ok(Reply::Value(None))
+    let mut right = true;
+    for (kind, bytes, granted, wanted) in rows() {
+        let (key, value) = (text(rt, alloc, b"a"), text(rt, alloc, bytes));
+        switch.refuse_after(granted);
+        let reply = make_change(rt, map, pass, kind, key, value);
+        right = right && reply == Ok(wanted) && !switch.has_refused();
+        switch.refuse_after(u64::MAX);
+    }
+    right
 }
 
 /// How many of so many rounds of changes are right.

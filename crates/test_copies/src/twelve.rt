@@ -6,19 +6,19 @@ use bin_history::{Call, Form, Reply};
 use chm::{Fault, Map};
 use count_ledger::Pass;
 use hashkeys::Key;
-use std::alloc::Global;
+use std::alloc::{Allocator, Global};
 use std::process::Abort;
 use std::sync::Wait;
 use test_maps::{Single, close_single, open_single};
 use test_support::{Alloc, Answer, Number, Refusing};
 
-type NumberMap<'a> = Map<Key, Number<'a>, Answer<'a>, Alloc<'a>>;
+type NumberMap<'a, A> = Map<Key, Number<'a>, Answer<'a>, A>;
 
 type NumberPass<'a> = Pass<Key, Number<'a>, Answer<'a>>;
 
 type NumberCall<'a> = Call<Key, Number<'a>, Answer<'a>>;
 
-type Numbers<'a> = Single<Key, Number<'a>, Answer<'a>, Alloc<'a>>;
+type Numbers<'a, A> = Single<Key, Number<'a>, Answer<'a>, A>;
 
 /// A call of each kind on `a`.
 fn call_of_kind<'a>(rt: &impl Abort, alloc: Alloc<'a>, kind: usize) -> NumberCall<'a> {
@@ -70,10 +70,10 @@ fn rows() -> [(Outcome, Outcome); 12] {
 }
 
 /// Makes a call on `a`, and tells its reply by numbers.
-fn make<'a, R: Wait + Abort>(
+fn make<'a, R: Wait + Abort, A: Allocator + Clone>(
     rt: &R,
     alloc: Alloc<'a>,
-    map: &NumberMap<'a>,
+    map: &NumberMap<'a, A>,
     pass: &mut NumberPass<'a>,
     kind: usize,
 ) -> Result<Reply<u64>, Fault>
@@ -88,10 +88,10 @@ fn make<'a, R: Wait + Abort>(
 }
 
 /// Puts a number at a key.
-fn put<'a, R: Wait + Abort>(
+fn put<'a, R: Wait + Abort, A: Allocator + Clone>(
     rt: &R,
     alloc: Alloc<'a>,
-    map: &NumberMap<'a>,
+    map: &NumberMap<'a, A>,
     pass: &mut NumberPass<'a>,
     text: &[u8],
     number: u64,
@@ -106,10 +106,10 @@ fn put<'a, R: Wait + Abort>(
 /// What a walk shows, pair by pair, and how many calls were made.
 type Shown = (Vec<(Key, u64)>, u64);
 
-fn shown<'a, R: Wait + Abort>(
+fn shown<'a, R: Wait + Abort, A: Allocator + Clone>(
     rt: &R,
     memory: Global,
-    map: &NumberMap<'a>,
+    map: &NumberMap<'a, A>,
     pass: &mut NumberPass<'a>,
 ) -> Shown
     requires { pass.old.ledger ≡ map.now.ledger.id }
@@ -160,28 +160,34 @@ struct Told {
 }
 
 /// A map of one client that put `q` and `Aa`, and `a` with the value 1 or not.
-fn filled<'a, R: Wait + Abort>(rt: &R, alloc: Alloc<'a>, form: Form, present: bool) -> Numbers<'a>
+fn filled<'a, R: Wait + Abort, A: Allocator + Clone>(
+    rt: &R,
+    both: (Alloc<'a>, A),
+    form: Form,
+    present: bool,
+) -> Numbers<'a, A>
     ensures pass { result.pass.ledger ≡ result.map.ledger.id }
     ensures place { All (λ p. p.ledger ≡ result.map.ledger.id) result.place.items }
 {
+    let (switch, alloc) = both;
     let Single {
         map,
         mut pass,
         place,
     } = open_single(alloc, form, 16).expect(rt, "a map");
-    put(rt, alloc, &map, &mut pass, b"q", 2);
-    put(rt, alloc, &map, &mut pass, b"Aa", 3);
+    put(rt, switch, &map, &mut pass, b"q", 2);
+    put(rt, switch, &map, &mut pass, b"Aa", 3);
     if present {
-        put(rt, alloc, &map, &mut pass, b"a", 1);
+        put(rt, switch, &map, &mut pass, b"a", 1);
     }
     Single { map, pass, place }
 }
 
 /// Makes a call again, where it was refused.
-fn make_again<'a, R: Wait + Abort>(
+fn make_again<'a, R: Wait + Abort, A: Allocator + Clone>(
     rt: &R,
     alloc: Alloc<'a>,
-    map: &NumberMap<'a>,
+    map: &NumberMap<'a, A>,
     pass: &mut NumberPass<'a>,
     kind: usize,
     refused: bool,
@@ -205,10 +211,10 @@ struct RefusedCall<'a> {
 }
 
 /// Makes a call with a request refused. Where it was refused, makes it again.
-fn tell<'a, R: Wait + Abort>(
+fn tell<'a, R: Wait + Abort, A: Allocator + Clone>(
     rt: &R,
     memory: Global,
-    map: &NumberMap<'a>,
+    map: &NumberMap<'a, A>,
     pass: &mut NumberPass<'a>,
     call: RefusedCall<'a>,
 ) -> Told
@@ -238,9 +244,10 @@ fn tell<'a, R: Wait + Abort>(
 
 /// Makes a call where `a` has the value 1, or has none, with the request after so many refused.
 /// Where it was refused, makes it again.
-fn call_twice<R: Wait + Abort>(
+fn call_twice<R: Wait + Abort, A: Allocator + Clone>(
     rt: &R,
-    (memory, alloc): (Global, &Refusing<Global>),
+    memory: Global,
+    (switch, alloc): (&Refusing<Global>, A),
     form: Form,
     (kind, present): (usize, bool),
     granted: u64,
@@ -249,9 +256,9 @@ fn call_twice<R: Wait + Abort>(
         map,
         mut pass,
         place,
-    } = filled(rt, alloc, form, present);
+    } = filled(rt, (switch, alloc), form, present);
     let call = RefusedCall {
-        alloc,
+        alloc: switch,
         kind,
         granted,
     };
@@ -299,7 +306,7 @@ fn refuse_each<R: Wait + Abort>(
     let before = if present { (Some(1), 3) } else { (None, 2) };
     for granted in 0..100u64 {
         let alloc = Refusing::new(memory);
-        let told = call_twice(rt, (memory, &alloc), form, (kind, present), granted);
+        let told = call_twice(rt, memory, (&alloc, &alloc), form, (kind, present), granted);
         assert_told(rt, kind, &told, before, outcome);
         if !told.refused {
             return granted;

@@ -96,7 +96,8 @@ fn each_call_asks_its_key_and_its_function_so_often(rt: HostRuntime) {
         for (kind, row) in ROWS.iter().enumerate() {
             for present in [true, false] {
                 let counted = count_call(&rt, rt.alloc(), &counts, form, (kind, present));
-                assert_eq!(rt; counted, wanted(form, *row, present), "kind {kind}");
+                let wanted = wanted(form, *row, present);
+                assert_same(&rt, &(kind, counted), &(kind, wanted));
             }
         }
     }
@@ -171,8 +172,11 @@ fn a_move_of_a_lean_map_asks_no_key(rt: HostRuntime) {
     // looks for each of 12 entries and 12 records whether it is of the one half and whether it is of
     // the other, and copies it to one.
     let counts = Counts::new();
-    let lean = count_growth(&rt, rt.alloc(), &counts, Form::Lean, 3);
-    assert_same(&rt, &lean, &([1, 0, 0, 0], 32));
-    let recorded = count_growth(&rt, rt.alloc(), &counts, Form::Recorded, 11);
-    assert_same(&rt, &recorded, &([1 + 48, 0, 1 + 24, 0], 32));
+    for (form, keys, wanted) in [
+        (Form::Lean, 3, [1, 0, 0, 0]),
+        (Form::Recorded, 11, [1 + 48, 0, 1 + 24, 0]),
+    ] {
+        let told = count_growth(&rt, rt.alloc(), &counts, form, keys);
+        assert_same(&rt, &(form, told), &(form, (wanted, 32)));
+    }
 }

@@ -5,28 +5,28 @@ use crate::counted::{Counts, assert_same};
 use crate::maps::{CountedMap, CountedPass, count_below, filled};
 use bin_history::Form;
 use chm::{Fault, NotClosed};
-use std::alloc::Global;
+use std::alloc::{Allocator, Global};
 use std::process::Abort;
 use std::sync::Wait;
 use test_maps::{BOTH, Single, close, put_back};
-use test_support::{Alloc, Refusing};
+use test_support::Refusing;
 
 /// A map and its passes.
-type Whole<'a> = (CountedMap<'a, Alloc<'a>>, Vec<CountedPass<'a>, Alloc<'a>>);
+type Whole<'a, A> = (CountedMap<'a, A>, Vec<CountedPass<'a>, A>);
 
 /// Closes a map with the request after so many refused, and gets map and passes back.
-fn refuse_close<'a>(
+fn refuse_close<'a, A: Allocator + Clone>(
     rt: &impl Abort,
-    alloc: Alloc<'a>,
+    switch: &Refusing<Global>,
     granted: u64,
-    map: CountedMap<'a, Alloc<'a>>,
-    passes: Vec<CountedPass<'a>, Alloc<'a>>,
-) -> Whole<'a>
+    map: CountedMap<'a, A>,
+    passes: Vec<CountedPass<'a>, A>,
+) -> Whole<'a, A>
     requires { All (λ p. p.ledger ≡ map.ledger.id) passes.items }
     ensures id { result.0.ledger.id ≡ map.entry.ledger.id }
     ensures own { All (λ p. p.ledger ≡ result.0.ledger.id) result.1.items }
 {
-    alloc.refuse_after(granted);
+    switch.refuse_after(granted);
     match map.close(passes) {
         Ok(_) => {
             assert!(rt; false, "a request is refused");
@@ -41,10 +41,10 @@ fn refuse_close<'a>(
 
 /// Closes a map of 40 keys, in vain with each of its two requests refused. Answers how many bins
 /// and how many of the keys with their numbers it has in the end, and how many keys in all.
-fn close_at_last<'a, R: Wait + Abort>(
+fn close_at_last<R: Wait + Abort, A: Allocator + Clone>(
     rt: &R,
-    alloc: Alloc<'a>,
-    counts: &'a Counts,
+    (switch, alloc): (&Refusing<Global>, A),
+    counts: &Counts,
     form: Form,
 ) -> (usize, u32, u64) {
     let Single {
@@ -53,11 +53,11 @@ fn close_at_last<'a, R: Wait + Abort>(
         mut place,
     } = filled(rt, alloc, counts, form, 40);
     put_back(&map, pass, &mut place);
-    let (map, passes) = refuse_close(rt, alloc, 0, map, place);
-    let (map, passes) = refuse_close(rt, alloc, 1, map, passes);
-    alloc.refuse_after(2);
+    let (map, passes) = refuse_close(rt, switch, 0, map, place);
+    let (map, passes) = refuse_close(rt, switch, 1, map, passes);
+    switch.refuse_after(2);
     let closed = close(map, passes).expect(rt, "a closed map");
-    assert!(rt; !alloc.has_refused());
+    assert!(rt; !switch.has_refused());
     let found = count_below(&closed, counts, 40);
     (closed.bins().len(), found, closed.mapping_count())
 }
@@ -67,7 +67,7 @@ fn a_map_closes_after_each_refused_close(rt: HostRuntime) {
     let counts = Counts::new();
     for (form, bins) in [(Form::Recorded, 64), (Form::Lean, 256)] {
         let alloc = Refusing::new(rt.alloc());
-        let told = close_at_last(&rt, &alloc, &counts, form);
+        let told = close_at_last(&rt, (&alloc, &alloc), &counts, form);
         assert_same(&rt, &told, &(bins, 40, 40));
     }
 }

@@ -4,7 +4,7 @@ ghost use Rattle.std.specs.Prelude.{◌≡◌, All};
 use crate::counted::assert_same;
 use bin_history::{Form, Remap, Reply};
 use chm::Map;
-use count_ledger::{Pass, retire_all};
+use count_ledger::Pass;
 use std::alloc::{AllocError, Global};
 use std::process::Abort;
 use std::sync::Wait;
@@ -102,51 +102,31 @@ fn remove_by_all<R: Threads + Wait + Abort + Sync>(
 }
 
 /// Lets each client put keys, and then remove half of those of another. Answers how many keys the map
-/// counts after the puts, and after the removes.
+/// counts after the puts, how many the passes count together then, and how many the map counts after
+/// the removes.
 fn put_and_remove<R: Threads + Wait + Abort + Sync>(
     rt: &R,
     map: &NumberMap,
     passes: &mut [NumberPass],
-) -> [u64; 2]
+) -> [u64; 3]
     requires { All (λ p. p.ledger ≡ map.now.ledger.id) passes.old }
     ensures { All (λ p. p.ledger ≡ map.now.ledger.id) passes.new }
 {
     put_by_all(rt, map, passes);
     let with_all = map.mapping_count();
-    remove_by_all(rt, map, passes);
-    [with_all, map.mapping_count()]
-}
-
-/// Lets 32 clients put and remove keys. Answers how many keys the map counts after the puts, after
-/// the removes, and once it is closed.
-fn count_clients<R: Threads + Wait + Abort + Sync>(rt: &R, alloc: Global, form: Form) -> [u64; 3] {
-    let (map, mut passes) = open::<u32, u64, Away, Global>(alloc, form, 16, 32).expect(rt, "a map");
-    let [with_all, with_half] = put_and_remove(rt, &map, &mut passes);
-    let closed = close(map, passes).expect(rt, "a closed map");
-    [with_all, with_half, closed.mapping_count()]
-}
-
-/// Lets each client put keys. Answers how many keys the passes count together.
-fn put_and_count<R: Threads + Wait + Abort + Sync>(
-    rt: &R,
-    map: &NumberMap,
-    passes: &mut [NumberPass],
-) -> u64
-    requires { All (λ p. p.ledger ≡ map.now.ledger.id) passes.old }
-    ensures { All (λ p. p.ledger ≡ map.now.ledger.id) passes.new }
-{
-    put_by_all(rt, map, passes);
     assert!(rt; passes.len() == map.clients() as usize);
-    map.mapping_count_all(passes)
+    let of_passes = map.mapping_count_all(passes);
+    remove_by_all(rt, map, passes);
+    [with_all, of_passes, map.mapping_count()]
 }
 
-/// Lets 32 clients put keys. Answers how many keys the passes count together.
-fn count_passes<R: Threads + Wait + Abort + Sync>(rt: &R, alloc: Global, form: Form) -> u64 {
+/// Lets 32 clients put and remove keys. Answers how many keys the map counts after the puts, how many
+/// the passes count then, and how many the map counts after the removes, and once it is closed.
+fn count_clients<R: Threads + Wait + Abort + Sync>(rt: &R, alloc: Global, form: Form) -> [u64; 4] {
     let (map, mut passes) = open::<u32, u64, Away, Global>(alloc, form, 16, 32).expect(rt, "a map");
-    let counted = put_and_count(rt, &map, &mut passes);
-    retire_all(passes);
-    drop(map);
-    counted
+    let [with_all, of_passes, with_half] = put_and_remove(rt, &map, &mut passes);
+    let closed = close(map, passes).expect(rt, "a closed map");
+    [with_all, of_passes, with_half, closed.mapping_count()]
 }
 
 #[test]
@@ -154,7 +134,6 @@ fn clients_that_are_done_are_all_counted(rt: HostRuntime) {
     // One key and two and so on up to 32; and of each number the lower half away.
     for form in BOTH {
         let counted = count_clients(&rt, rt.alloc(), form);
-        assert_same(&rt, &counted, &[528, 272, 272]);
-        assert_same(&rt, &count_passes(&rt, rt.alloc(), form), &528);
+        assert_same(&rt, &counted, &[528, 528, 272, 272]);
     }
 }

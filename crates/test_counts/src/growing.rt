@@ -5,18 +5,18 @@ use crate::counted::{Counted, Counts, assert_same};
 use crate::maps::{CountedMap, CountedPass, filled, room};
 use bin_history::{Form, Reply};
 use chm::Fault;
-use std::alloc::Global;
+use std::alloc::{Allocator, Global};
 use std::process::Abort;
 use std::sync::Wait;
 use test_maps::{Single, close_single};
-use test_support::{Alloc, Refusing};
+use test_support::Refusing;
 
 /// What a walk shows: the size and the index of each bin, and how many entries it has and the sum of
 /// their values.
-fn shown<'a, R: Wait + Abort>(
+fn shown<'a, R: Wait + Abort, A: Allocator + Clone>(
     rt: &R,
     memory: Global,
-    map: &CountedMap<'a, Alloc<'a>>,
+    map: &CountedMap<'a, A>,
     pass: &mut CountedPass<'a>,
 ) -> Vec<(u32, u32, usize, u64)>
     requires { pass.old.ledger ≡ map.now.ledger.id }
@@ -47,9 +47,10 @@ struct Told {
 }
 
 /// Puts one key more into a full map, with the request after so many refused.
-fn put_one_more<R: Wait + Abort>(
+fn put_one_more<R: Wait + Abort, A: Allocator + Clone>(
     rt: &R,
-    (memory, alloc): (Global, Alloc<'_>),
+    memory: Global,
+    (switch, alloc): (&Refusing<Global>, A),
     counts: &Counts,
     form: Form,
     granted: u64,
@@ -61,10 +62,10 @@ fn put_one_more<R: Wait + Abort>(
     } = filled(rt, alloc, counts, form, room(form));
     let number = room(form);
     let before = shown(rt, memory, &map, &mut pass);
-    alloc.refuse_after(granted);
+    switch.refuse_after(granted);
     let reply = map.put(rt, &mut pass, Counted { number, counts }, u64::from(number));
-    let refused = alloc.has_refused();
-    alloc.refuse_after(u64::MAX);
+    let refused = switch.has_refused();
+    switch.refuse_after(u64::MAX);
     let after = shown(rt, memory, &map, &mut pass);
     drop(close_single(map, pass, place).expect(rt, "a closed map"));
     Told {
@@ -98,7 +99,7 @@ fn refuse_each<R: Wait + Abort>(
 ) -> u64 {
     for granted in 0..1000u64 {
         let alloc = Refusing::new(memory);
-        let told = put_one_more(rt, (memory, &alloc), counts, form, granted);
+        let told = put_one_more(rt, memory, (&alloc, &alloc), counts, form, granted);
         if granted < own {
             assert!(rt; told.reply == Err(Fault::NoMemory));
             assert_same(rt, &told.after, &told.before);

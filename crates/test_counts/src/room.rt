@@ -5,23 +5,23 @@ use crate::counted::{Counted, Counts, assert_same};
 use crate::maps::{CountedMap, CountedPass, filled, put_new};
 use bin_history::{Form, Reply};
 use count_ledger::retire_all;
-use std::alloc::Global;
+use std::alloc::{Allocator, Global};
 use std::process::Abort;
 use std::sync::Wait;
 use test_maps::{Single, close_single, open, open_single};
-use test_support::{Alloc, Refusing};
+use test_support::Refusing;
 
 /// How many requests the opening of a map makes, and how many bytes it keeps.
-fn opening(
+fn opening<A: Allocator + Clone>(
     rt: &impl Abort,
-    alloc: Alloc<'_>,
+    (switch, alloc): (&Refusing<Global>, A),
     form: Form,
     capacity: usize,
     clients: u32,
 ) -> (u64, u64) {
     let (map, passes) = open(alloc, form, capacity, clients).expect(rt, "a map");
-    let map: CountedMap<'_, Alloc<'_>> = map;
-    let told = (alloc.requests(), alloc.bytes_out());
+    let map: CountedMap<'_, A> = map;
+    let told = (switch.requests(), switch.bytes_out());
     retire_all(passes);
     drop(map);
     told
@@ -35,10 +35,11 @@ fn an_opening_asks_once_for_each_of_its_lists(rt: HostRuntime) {
     // once for each bin.
     for clients in [1, 32] {
         for bins in [1u64, 16, 4096] {
-            let (lean, recorded) = (Refusing::new(rt.alloc()), Refusing::new(rt.alloc()));
-            let of_lean = opening(&rt, &lean, Form::Lean, bins as usize, clients).0;
-            let of_recorded = opening(&rt, &recorded, Form::Recorded, bins as usize, clients).0;
-            assert_same(&rt, &(of_lean, of_recorded), &(11, bins.wrapping_add(8)));
+            for (form, wanted) in [(Form::Lean, 11), (Form::Recorded, bins.wrapping_add(8))] {
+                let alloc = Refusing::new(rt.alloc());
+                let (found, _) = opening(&rt, (&alloc, &alloc), form, bins as usize, clients);
+                assert_same(&rt, &(form, bins, found), &(form, bins, wanted));
+            }
         }
     }
 }
@@ -46,13 +47,18 @@ fn an_opening_asks_once_for_each_of_its_lists(rt: HostRuntime) {
 /// How many bytes a lean map of so many bins keeps.
 fn bytes_of(rt: &impl Abort, memory: Global, bins: usize) -> u64 {
     let alloc = Refusing::new(memory);
-    opening(rt, &alloc, Form::Lean, bins, 1).1
+    opening(rt, (&alloc, &alloc), Form::Lean, bins, 1).1
 }
 
 /// How many bytes a lean map keeps that was opened for 16 bins, with so many keys.
-fn bytes_with<R: Wait + Abort>(rt: &R, alloc: Alloc<'_>, counts: &Counts, keys: u32) -> u64 {
+fn bytes_with<R: Wait + Abort, A: Allocator + Clone>(
+    rt: &R,
+    (switch, alloc): (&Refusing<Global>, A),
+    counts: &Counts,
+    keys: u32,
+) -> u64 {
     let Single { map, pass, place } = filled(rt, alloc, counts, Form::Lean, keys);
-    let told = alloc.bytes_out();
+    let told = switch.bytes_out();
     drop(close_single(map, pass, place).expect(rt, "a closed map"));
     told
 }
@@ -83,15 +89,15 @@ fn a_lean_map_has_room_for_its_own_bins_alone(rt: HostRuntime) {
 fn a_lean_map_of_16_keys_has_room_for_128_bins(rt: HostRuntime) {
     let counts = Counts::new();
     let alloc = Refusing::new(rt.alloc());
-    let bytes = bytes_with(&rt, &alloc, &counts, 16);
+    let bytes = bytes_with(&rt, (&alloc, &alloc), &counts, 16);
     // 8,128 bytes, 88 for each of 128 bins, and what the keys and three moves take.
     assert!(rt; 8128 + 128 * 88 < bytes && bytes < 24_000, "{bytes} bytes");
 }
 
 /// How many requests the put of the next key makes into 16 bins with so many.
-fn requests_of_growth<R: Wait + Abort>(
+fn requests_of_growth<R: Wait + Abort, A: Allocator + Clone>(
     rt: &R,
-    alloc: Alloc<'_>,
+    (switch, alloc): (&Refusing<Global>, A),
     counts: &Counts,
     form: Form,
     keys: u32,
@@ -101,9 +107,9 @@ fn requests_of_growth<R: Wait + Abort>(
         mut pass,
         place,
     } = filled(rt, alloc, counts, form, keys);
-    let before = alloc.requests();
+    let before = switch.requests();
     put_new(rt, &map, &mut pass, counts, keys);
-    let after = alloc.requests();
+    let after = switch.requests();
     drop(close_single(map, pass, place).expect(rt, "a closed map"));
     after.wrapping_sub(before)
 }
@@ -121,15 +127,15 @@ fn a_move_asks_for_its_table_its_strides_and_copies(rt: HostRuntime) {
         (Form::Recorded, 11, 2 + 1 + 3 + 32 + 12 * 2),
     ] {
         let alloc = Refusing::new(rt.alloc());
-        let requests = requests_of_growth(&rt, &alloc, &counts, form, keys);
+        let requests = requests_of_growth(&rt, (&alloc, &alloc), &counts, form, keys);
         assert_same(&rt, &requests, &wanted);
     }
 }
 
 /// Gets the key 1 so often.
-fn get_often<'a, R: Wait + Abort>(
+fn get_often<'a, R: Wait + Abort, A: Allocator + Clone>(
     rt: &R,
-    map: &CountedMap<'a, Alloc<'a>>,
+    map: &CountedMap<'a, A>,
     pass: &mut CountedPass<'a>,
     counts: &'a Counts,
     times: u32,
@@ -144,10 +150,10 @@ fn get_often<'a, R: Wait + Abort>(
 }
 
 /// How many requests the put of a key and so many gets of it make.
-fn requests_of_calls<'a, R: Wait + Abort>(
+fn requests_of_calls<R: Wait + Abort, A: Allocator + Clone>(
     rt: &R,
-    alloc: Alloc<'a>,
-    counts: &'a Counts,
+    (switch, alloc): (&Refusing<Global>, A),
+    counts: &Counts,
     form: Form,
     gets: u32,
 ) -> u64 {
@@ -156,10 +162,10 @@ fn requests_of_calls<'a, R: Wait + Abort>(
         mut pass,
         place,
     } = open_single(alloc, form, 16).expect(rt, "a map");
-    let before = alloc.requests();
+    let before = switch.requests();
     put_new(rt, &map, &mut pass, counts, 1);
     get_often(rt, &map, &mut pass, counts, gets);
-    let after = alloc.requests();
+    let after = switch.requests();
     drop(close_single(map, pass, place).expect(rt, "a closed map"));
     after.wrapping_sub(before)
 }
@@ -183,28 +189,33 @@ fn calls_on_one_key_ask_for_records_and_for_one_fold(rt: HostRuntime) {
     ];
     for (calls, wanted) in rows {
         let gets = calls.wrapping_sub(1);
-        let (recorded, lean) = (Refusing::new(rt.alloc()), Refusing::new(rt.alloc()));
-        let of_recorded = requests_of_calls(&rt, &recorded, &counts, Form::Recorded, gets);
-        let of_lean = requests_of_calls(&rt, &lean, &counts, Form::Lean, gets);
-        assert_same(&rt, &(calls, of_recorded, of_lean), &(calls, wanted, 1));
+        for (form, requests) in [(Form::Recorded, wanted), (Form::Lean, 1)] {
+            let alloc = Refusing::new(rt.alloc());
+            let found = requests_of_calls(&rt, (&alloc, &alloc), &counts, form, gets);
+            assert_same(&rt, &(form, calls, found), &(form, calls, requests));
+        }
     }
 }
 
 /// How many bytes of a lean map are out before a key is put, with it, after another call on it, and
 /// once it is removed.
-fn bytes_of_a_key<R: Wait + Abort>(rt: &R, alloc: Alloc<'_>, counts: &Counts) -> [u64; 4] {
+fn bytes_of_a_key<R: Wait + Abort, A: Allocator + Clone>(
+    rt: &R,
+    (switch, alloc): (&Refusing<Global>, A),
+    counts: &Counts,
+) -> [u64; 4] {
     let Single {
         map,
         mut pass,
         place,
     } = filled(rt, alloc, counts, Form::Lean, 5);
-    let before = alloc.bytes_out();
+    let before = switch.bytes_out();
     put_new(rt, &map, &mut pass, counts, 21);
-    let with = alloc.bytes_out();
+    let with = switch.bytes_out();
     let put = map.put(rt, &mut pass, Counted { number: 21, counts }, 7);
-    let again = alloc.bytes_out();
+    let again = switch.bytes_out();
     let removed = map.remove(rt, &mut pass, Counted { number: 21, counts });
-    let without = alloc.bytes_out();
+    let without = switch.bytes_out();
     drop(close_single(map, pass, place).expect(rt, "a closed map"));
     assert!(rt; put == Ok(Reply::Value(Some(21))) && removed == Ok(Reply::Value(Some(7))));
     [before, with, again, without]
@@ -214,7 +225,7 @@ fn bytes_of_a_key<R: Wait + Abort>(rt: &R, alloc: Alloc<'_>, counts: &Counts) ->
 fn a_key_of_a_lean_map_has_room_for_itself_alone(rt: HostRuntime) {
     let alloc = Refusing::new(rt.alloc());
     let counts = Counts::new();
-    let [before, with, again, without] = bytes_of_a_key(&rt, &alloc, &counts);
+    let [before, with, again, without] = bytes_of_a_key(&rt, (&alloc, &alloc), &counts);
     // The key has 16 bytes, its value 8, and what leads to the next entry at most 24.
     let size = with.wrapping_sub(before);
     assert!(rt; 24 <= size && size <= 48);

@@ -5,43 +5,42 @@ use bin_history::{Call, Form, Remap, Reply};
 use chm::{Map, Quiet};
 use count_ledger::Pass;
 use hashkeys::ByteString;
-use std::alloc::AllocError;
+use std::alloc::{AllocError, Allocator};
 use std::process::Abort;
 use std::sync::Wait;
 use test_maps::{Single, close_single, numbered_text, open_single};
-use test_support::Alloc;
 
-pub(crate) type Text<'a> = ByteString<Alloc<'a>>;
+pub(crate) type Text<A> = ByteString<A>;
 
-pub(crate) type TextMap<'a> = Map<Text<'a>, Text<'a>, Says<'a>, Alloc<'a>>;
+pub(crate) type TextMap<A> = Map<Text<A>, Text<A>, Says<A>, A>;
 
-pub(crate) type TextPass<'a> = Pass<Text<'a>, Text<'a>, Says<'a>>;
+pub(crate) type TextPass<A> = Pass<Text<A>, Text<A>, Says<A>>;
 
-pub(crate) type TextQuiet<'a> = Quiet<Text<'a>, Text<'a>, Says<'a>, Alloc<'a>>;
+pub(crate) type TextQuiet<A> = Quiet<Text<A>, Text<A>, Says<A>, A>;
 
-pub(crate) type Texts<'a> = Single<Text<'a>, Text<'a>, Says<'a>, Alloc<'a>>;
+pub(crate) type Texts<A> = Single<Text<A>, Text<A>, Says<A>, A>;
 
-type TextCall<'a> = Call<Text<'a>, Text<'a>, Says<'a>>;
+type TextCall<A> = Call<Text<A>, Text<A>, Says<A>>;
 
 /// The function whose result is a text of its own.
 #[derive(Drop)]
-pub(crate) struct Says<'a> {
-    text: Text<'a>,
+pub(crate) struct Says<A: Allocator> {
+    text: Text<A>,
 }
 
-impl<'a> Clone for Says<'a> {
+impl<A: Allocator + Clone> Clone for Says<A> {
     ghost use Rattle.std.specs.Prelude.{◌≡◌};
 
     ghost is_clone = { λ x y. y ≡ x };
 
-    fn clone(&self) -> Result<Says<'a>, AllocError> {
+    fn clone(&self) -> Result<Says<A>, AllocError> {
         Ok(Says {
             text: self.text.clone()?,
         })
     }
 }
 
-impl<'a> Remap<Text<'a>, Text<'a>> for Says<'a> {
+impl<A: Allocator + Clone> Remap<Text<A>, Text<A>> for Says<A> {
     ghost use Rattle.std.specs.Prelude.{Some};
 
     ghost remapped = { λ f k v. Some f.text };
@@ -50,37 +49,43 @@ impl<'a> Remap<Text<'a>, Text<'a>> for Says<'a> {
 
     fn remap(
         &self,
-        _key: &Text<'a>,
-        _value: Option<&Text<'a>>,
-    ) -> Result<Option<Text<'a>>, AllocError> {
+        _key: &Text<A>,
+        _value: Option<&Text<A>>,
+    ) -> Result<Option<Text<A>>, AllocError> {
         Ok(Some(self.text.clone()?))
     }
 
-    fn merge(&self, _old: &Text<'a>, _given: &Text<'a>) -> Result<Option<Text<'a>>, AllocError> {
+    fn merge(&self, _old: &Text<A>, _given: &Text<A>) -> Result<Option<Text<A>>, AllocError> {
         Ok(Some(self.text.clone()?))
     }
 }
 
-pub(crate) fn text<'a>(rt: &impl Abort, alloc: Alloc<'a>, bytes: &[u8]) -> Text<'a> {
+pub(crate) fn text<A: Allocator + Clone>(rt: &impl Abort, alloc: &A, bytes: &[u8]) -> Text<A> {
+    let alloc = alloc.clone().expect(rt, "an allocator");
     ByteString::new(bytes.to_vec(alloc).expect(rt, "memory"))
 }
 
 /// The key of a number.
-pub(crate) fn key<'a>(rt: &impl Abort, alloc: Alloc<'a>, number: u32) -> Text<'a> {
+pub(crate) fn key<A: Allocator + Clone>(rt: &impl Abort, alloc: &A, number: u32) -> Text<A> {
     text(rt, alloc, &numbered_text(number))
 }
 
-fn value<'a>(rt: &impl Abort, alloc: Alloc<'a>) -> Text<'a> {
+fn value<A: Allocator + Clone>(rt: &impl Abort, alloc: &A) -> Text<A> {
     text(rt, alloc, b"value")
 }
 
-fn seven<'a>(rt: &impl Abort, alloc: Alloc<'a>) -> Says<'a> {
+fn seven<A: Allocator + Clone>(rt: &impl Abort, alloc: &A) -> Says<A> {
     let text = text(rt, alloc, b"seven");
     Says { text }
 }
 
 /// A call of each kind on the key of a number.
-fn call_of_kind<'a>(rt: &impl Abort, alloc: Alloc<'a>, kind: u32, number: u32) -> TextCall<'a> {
+fn call_of_kind<A: Allocator + Clone>(
+    rt: &impl Abort,
+    alloc: &A,
+    kind: u32,
+    number: u32,
+) -> TextCall<A> {
     let key = key(rt, alloc, number);
     match kind {
         0 => Call::Get(key),
@@ -99,11 +104,11 @@ fn call_of_kind<'a>(rt: &impl Abort, alloc: Alloc<'a>, kind: u32, number: u32) -
 }
 
 /// Puts the keys of so many numbers, each with a value.
-pub(crate) fn put_numbers<'a, R: Wait + Abort>(
+pub(crate) fn put_numbers<R: Wait + Abort, A: Allocator + Clone>(
     rt: &R,
-    alloc: Alloc<'a>,
-    map: &TextMap<'a>,
-    pass: &mut TextPass<'a>,
+    alloc: &A,
+    map: &TextMap<A>,
+    pass: &mut TextPass<A>,
     count: u32,
 )
     requires { pass.old.ledger ≡ map.now.ledger.id }
@@ -116,11 +121,11 @@ pub(crate) fn put_numbers<'a, R: Wait + Abort>(
 }
 
 /// Makes so many calls, of each kind in turn, on five keys in turn.
-pub(crate) fn call_often<'a, R: Wait + Abort>(
+pub(crate) fn call_often<R: Wait + Abort, A: Allocator + Clone>(
     rt: &R,
-    alloc: Alloc<'a>,
-    map: &TextMap<'a>,
-    pass: &mut TextPass<'a>,
+    alloc: &A,
+    map: &TextMap<A>,
+    pass: &mut TextPass<A>,
     times: u32,
 )
     requires { pass.old.ledger ≡ map.now.ledger.id }
@@ -133,31 +138,32 @@ pub(crate) fn call_often<'a, R: Wait + Abort>(
 }
 
 /// A map of one client in 16 bins that put the keys of so many numbers.
-pub(crate) fn filled<'a, R: Wait + Abort>(
+pub(crate) fn filled<R: Wait + Abort, A: Allocator + Clone>(
     rt: &R,
-    alloc: Alloc<'a>,
+    alloc: &A,
     form: Form,
     count: u32,
-) -> Texts<'a>
+) -> Texts<A>
     ensures pass { result.pass.ledger ≡ result.map.ledger.id }
     ensures place { All (λ p. p.ledger ≡ result.map.ledger.id) result.place.items }
 {
+    let own = alloc.clone().expect(rt, "an allocator");
     let Single {
         map,
         mut pass,
         place,
-    } = open_single(alloc, form, 16).expect(rt, "a map");
+    } = open_single(own, form, 16).expect(rt, "a map");
     put_numbers(rt, alloc, &map, &mut pass, count);
     Single { map, pass, place }
 }
 
 /// A closed map with the keys of so many numbers.
-pub(crate) fn closed<'a, R: Wait + Abort>(
+pub(crate) fn closed<R: Wait + Abort, A: Allocator + Clone>(
     rt: &R,
-    alloc: Alloc<'a>,
+    alloc: &A,
     form: Form,
     count: u32,
-) -> TextQuiet<'a> {
+) -> TextQuiet<A> {
     let Single { map, pass, place } = filled(rt, alloc, form, count);
     close_single(map, pass, place).expect(rt, "a closed map")
 }

@@ -2,4 +2,4 @@ use Rattle.std.proofs.Common.{◌≡◌}
 use Rattle.test_chm.proofs.live_examples.visit_next.Given as goal
 
 abbrev pub invariant-loop : goal.invariant-loop
-invariant-loop g l = (l.pass.ledger ≡ l.map.ledger.id) × (l.cursor.n ≡ l.map.n)
+invariant-loop g l = l.pass.ledger ≡ l.map.ledger.id

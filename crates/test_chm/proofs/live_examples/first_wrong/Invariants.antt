@@ -1,5 +1,5 @@
 use Rattle.std.proofs.Common.{◌≡◌}
-use Rattle.test_chm.proofs.live_examples.count_right.Given as goal
+use Rattle.test_chm.proofs.live_examples.first_wrong.Given as goal
 
 abbrev pub invariant-loop-number : goal.invariant-loop-number
 invariant-loop-number g l = l.pass.ledger ≡ l.map.ledger.id
