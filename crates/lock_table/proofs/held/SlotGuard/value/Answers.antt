@@ -15,7 +15,8 @@ use Rattle.lock_table.proofs.held.SlotGuard.value.Goals as goal
 same_held : {X A T : Type 0} (h : SlotGuard X A T) (seat : Seat X (Terms T)) (a b : h.at < h.rows.now.table.shared.table_id.slots)
     (c d : seat.table_id ≡ h.rows.now.table.shared.table_id) (e f : places seat.me.1 ≡ h.at ∷ [])
     (k l : h.word ≡ word_of h.rows.now.table.shared.key.stride h.at) (m n : h.word < h.rows.now.table.shared.table_id.words)
-    → ◌≡◌ {A = SlotGuard X A T} (record { rows = h.rows; at = h.at; word = h.word; seat = seat; within = a; seated = c; holds = e; worded = k; below = m })
+    → ◌≡◌ {A = SlotGuard X A T} (record
+    { rows = h.rows; at = h.at; word = h.word; seat = seat; within = a; seated = c; holds = e; worded = k; below = m })
     (record { rows = h.rows; at = h.at; word = h.word; seat = seat; within = b; seated = d; holds = f; worded = l; below = n })
 same_held h seat a b c d e f k l m n = let p : IsProp (h.at < h.rows.now.table.shared.table_id.slots) = hlevel props in
     let q : IsProp (seat.table_id ≡ h.rows.now.table.shared.table_id) = Coded-set table_id_coded _ _ in
