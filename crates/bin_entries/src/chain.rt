@@ -226,7 +226,7 @@ pub fn chain_of<K: HashKey, V: Drop, A: Allocator + Clone>(
 }
 
 /// A chain of one entry.
-#[inline(always)]
+#[inline(never)]
 pub fn linked<K: Drop, V: Drop, A: Allocator + Clone>(
     alloc: &A,
     hash: u32,

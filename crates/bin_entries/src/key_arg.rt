@@ -29,7 +29,7 @@ impl<'a, K> KeyArg<'a, K> {
 
 impl<'a, K: Clone> KeyArg<'a, K> {
     /// The key itself where it was handed over, and else a copy.
-    #[inline(always)]
+    #[inline(never)]
     pub fn into_owned(self) -> Result<K, AllocError>
         requires { IsExact K.is_clone }
         ensures key { IfOk result (λ key. key ≡ key_in self.entry) }

@@ -18,6 +18,7 @@ pub mod Bins
 pub mod Histories
 pub mod Copies
 pub mod Changes
+pub mod Effects
 pub mod Readiness
 pub mod Sure
 pub mod Seeks

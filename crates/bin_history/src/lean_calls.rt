@@ -1,5 +1,5 @@
 //! Calls on the entries of a lean bin, where they lie.
-ghost use Rattle.std.specs.Prelude.{◌≡◌, IfOk, IsOk, OnOk, OnErr, option_copied, is_some, None, true, false};
+ghost use Rattle.std.specs.Prelude.{◌≡◌, IfOk, IsOk, OnOk, OnErr, is_some, None, true, false};
 ghost use Rattle.hashkeys.specs.Classes.{is_of};
 ghost use Rattle.bin_history.specs.Calls.{after};
 ghost use Rattle.bin_history.specs.Changes.{IsWork, left_by, taken_by};
@@ -33,27 +33,6 @@ pub fn lawful_entries<K: HashKey, V: Eq, F: Remap<K, V>, A: Allocator>(
     entries.lawful();
 }
 
-/// What a call on a key with this value does, and what the books see of it.
-#[inline(always)]
-fn plan_on<K: HashKey, V: Value, F: Remap<K, V>>(
-    key: &K,
-    op: &Op<V, F>,
-    before: Option<&V>,
-) -> Result<(Work<V>, Seen<K, V, F>), AllocError>
-    requires values { IsExact V.is_clone }
-    ensures work { IfOk result (λ r. IsWork V.eq F.remapped F.merged key.now op.now
-        (option_copied before.entry) r.0) }
-    ensures seen { IfOk result (λ r. IsSeen r.1 (call_on key.now op.now) (option_copied before.entry)
-        (left_by op.now r.0.effect (option_copied before.entry))) }
-    ensures succeeds { (copies_none op.now ≡ false → IsNeverRefused V.is_infallible) →
-        asks op.now (option_copied before.entry) ≡ false → IsOk result }
-{
-    let work = work_of(key, op, before)?;
-    let after = work.effect.left(op, before);
-    let seen = Seen::of(key, op, before, after);
-    Ok((work, seen))
-}
-
 /// What a call on a key of this hash does, and what the books see of it.
 #[inline(always)]
 fn plan<K: HashKey, V: Value, F: Remap<K, V>, A: Allocator>(
@@ -72,7 +51,11 @@ fn plan<K: HashKey, V: Value, F: Remap<K, V>, A: Allocator>(
     ensures succeeds { (copies_none op.now ≡ false → IsNeverRefused V.is_infallible) →
         asks op.now (lookup K.eq entries.now.entries key.now) ≡ false → IsOk result }
 {
-    plan_on(key, op, entries.get(hash, key))
+    let before = entries.get(hash, key);
+    let work = work_of(key, op, before)?;
+    let after = work.effect.left(op, before);
+    let seen = Seen::of(key, op, before, after);
+    Ok((work, seen))
 }
 
 /// Carries the effect of a call on the key out, which is there or not. It gives back the value that
@@ -101,11 +84,12 @@ fn carry_out<K: HashKey, V: Drop, F: Drop, A: Allocator + Clone>(
     ensures class { entries.new.class ≡ entries.old.class }
     ensures salt { entries.new.salt ≡ entries.old.salt }
 {
-    match effect {
-        Effect::Keep => Ok(None),
-        Effect::Give => entries.store(alloc, hash, key, there, op.into_value()),
-        Effect::Set(made) => entries.store(alloc, hash, key, there, made),
-    }
+    let value = match effect {
+        Effect::Keep => return Ok(None),
+        Effect::Give => op.into_value(),
+        Effect::Set(made) => made,
+    };
+    entries.store(alloc, hash, key, there, value)
 }
 
 impl<V: Value, F: Drop> Op<V, F> {

@@ -33,7 +33,7 @@ pub struct Held<'a, K: HashKey, V: Value, F: Remap<K, V>, A: Allocator> {
 
 impl<K: HashKey, V: Value, F: Remap<K, V>, A: Allocator + Clone> BinStore<K, V, F, A> {
     /// Waits for the bin of the hash, and holds it.
-    #[inline(always)]
+    #[inline(never)]
     pub fn hold<R: Wait>(&self, rt: &R, hash: u32) -> Held<'_, K, V, F, A>
         ensures at { AreAt K.eq (after V.eq F.remapped F.merged) (tag_of result.place)
             result.bin result.role }

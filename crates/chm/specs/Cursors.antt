@@ -6,7 +6,7 @@ use Rattle.bin_history.specs.declared.call.Call.{Call}
 use Rattle.bin_history.specs.Records.{RecordView}
 use Rattle.count_ledger.specs.Fronts.{HasSeen}
 use Rattle.count_ledger.specs.Views.{LedgerView, PassView}
-use Rattle.bin_layout.specs.Walks.{IsWalk, IsWalkTo}
+pub use Rattle.part_walks.specs.Parts.{HasComeTo}
 use Rattle.chm.specs.Cleared.{HasMade}
 use Rattle.chm.specs.Visits.{VisitView, IsVisit, classes_of_visits}
 
@@ -17,10 +17,6 @@ pub record CursorView : Type 0 where
 
 -- bins of these classes have been passed: in walk order, each hash before the next class is of one of them, at the end
 -- every hash
-abbrev pub HasComeTo : ℕ → Option ClassView → List ClassView → Type 0
-HasComeTo n (Some next) classes = IsWalkTo n classes next
-HasComeTo n None classes = IsWalk n classes
-
 abbrev pub HasPassed : CursorView → List ClassView → Type 0
 HasPassed cursor classes = HasComeTo cursor.n cursor.next classes
 

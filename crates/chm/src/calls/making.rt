@@ -74,6 +74,56 @@ impl<K: HashKey, V: Value, F: Remap<K, V>, A: Allocator + Clone> Map<K, V, F, A>
         Ok((reply, effect))
     }
 
+    /// Makes a call on the bin of its key by value, for which it waits. All of it is out of line, so
+    /// that a call on a lean bin is short enough to be inlined.
+    #[cold]
+    #[inline(never)]
+    fn make_recorded<R: Wait>(
+        &self,
+        rt: &R,
+        pass: &mut Pass<K, V, F>,
+        key: KeyArg<'_, K>,
+        op: Op<V, F>,
+    ) -> Made<V>
+        requires keys { IsExact K.is_clone }
+        requires values { IsExact V.is_clone }
+        requires pass { pass.old.ledger ≡ self.now.ledger.id }
+        requires room { length pass.old.made < most_calls self.now.ledger.form self.now.ledger.clients }
+        ensures called { IfOk result
+            (λ r. IsCalled K.eq V.eq F.remapped F.merged self.now.ledger
+            (call_on (key_in key.entry) op) pass.old pass.new r.0) }
+        ensures refused { OnErr result (pass.new ≡ pass.old) }
+    {
+        let hash = self.salt().hash_of(key.get());
+        let held = self.bins.hold(rt, hash);
+        self.make_by_value(held, pass, hash, key, op)
+    }
+
+    /// Does what `make_recorded` does, unless the bin is locked just then: then nothing is changed or
+    /// posted.
+    #[cold]
+    #[inline(never)]
+    fn try_make_recorded(
+        &self,
+        pass: &mut Pass<K, V, F>,
+        key: KeyArg<'_, K>,
+        op: Op<V, F>,
+    ) -> Option<Made<V>>
+        requires keys { IsExact K.is_clone }
+        requires values { IsExact V.is_clone }
+        requires pass { pass.old.ledger ≡ self.now.ledger.id }
+        requires room { length pass.old.made < most_calls self.now.ledger.form self.now.ledger.clients }
+        ensures called { IfSome result (λ made. IfOk made
+            (λ r. IsCalled K.eq V.eq F.remapped F.merged self.now.ledger
+            (call_on (key_in key.entry) op) pass.old pass.new r.0)) }
+        ensures refused { IfSome result (λ made. OnErr made (pass.new ≡ pass.old)) }
+        ensures busy { IfNone result (pass.new ≡ pass.old) }
+    {
+        let hash = self.salt().hash_of(key.get());
+        let held = self.bins.try_hold(hash)?;
+        Some(self.make_by_value(held, pass, hash, key, op))
+    }
+
     /// Makes a call on the lean bin of its key, which is locked where it lies, posts it, and unlocks the
     /// bin. Out of memory nothing is changed or posted.
     #[inline(always)]
@@ -128,11 +178,7 @@ impl<K: HashKey, V: Value, F: Remap<K, V>, A: Allocator + Clone> Map<K, V, F, A>
         ensures refused { OnErr result (pass.new ≡ pass.old) }
     {
         match &self.bins.kind {
-            StoreKind::Recorded(_) => {
-                let hash = self.salt().hash_of(key.get());
-                let held = self.bins.hold(rt, hash);
-                self.make_by_value(held, pass, hash, key, op)
-            }
+            StoreKind::Recorded(_) => self.make_recorded(rt, pass, key, op),
             StoreKind::Lean(home) => {
                 let hash = home.salt().hash_of(key.get());
                 let held = home.hold_in_place(rt, hash);
@@ -163,11 +209,7 @@ impl<K: HashKey, V: Value, F: Remap<K, V>, A: Allocator + Clone> Map<K, V, F, A>
         ensures busy { IfNone result (pass.new ≡ pass.old) }
     {
         match &self.bins.kind {
-            StoreKind::Recorded(_) => {
-                let hash = self.salt().hash_of(key.get());
-                let held = self.bins.try_hold(hash)?;
-                Some(self.make_by_value(held, pass, hash, key, op))
-            }
+            StoreKind::Recorded(_) => self.try_make_recorded(pass, key, op),
             StoreKind::Lean(home) => {
                 let hash = home.salt().hash_of(key.get());
                 let held = home.try_hold_in_place(hash)?;
