@@ -13,19 +13,20 @@ use std::marker::Model;
 /// The right of one client to make calls, what it made, and what it has seen of all calls. It
 /// cannot be dropped: it ends by `Ledger::settle` or by `retire`.
 pub struct Pass<K, V, F> {
-    pub(crate) client: u32,
     pub(crate) made: u64,
     /// The sum of the deltas of the calls made.
     pub(crate) balance: u64,
+    pub(crate) client: u32,
     pub(crate) seat: Seat<(), View<K, V, F>>,
     /// Keeps the passes of two clients off one another's cache lines.
     pub(crate) apart: Apart,
 }
 
-/// Two cache lines, less what a pass has before them.
-pub(crate) type Apart = [u64; 13];
+/// Three cache lines, less what a pass has before them. What two passes write is then never on two
+/// lines side by side, wherever they lie: a processor that reads one line may fetch the next with it.
+pub(crate) type Apart = [u64; 21];
 
-pub(crate) const APART: Apart = [0; 13];
+pub(crate) const APART: Apart = [0; 21];
 
 impl<K, V, F> Model for Pass<K, V, F> {
     ghost use Rattle.count_ledger.specs.Views.{PassView};

@@ -16,9 +16,9 @@ use Rattle.lean_bins.specs.declared.slot.SegmentTag.{SegmentTag}
 use Rattle.lean_bins.specs.declared.slot.BinSlot.{BinSlot}
 
 -- the words of the opening table, each so far from the next
-pub words_few : (n count stride : ℕ) → IsTableSize n → count ≡ n → stride ≤ 8 → 8 + count * stride < 1152921504606846976
+pub words_few : (n count stride : ℕ) → IsTableSize n → count ≡ n → stride ≤ 16 → 8 + count * stride < 1152921504606846976
 words_few n count stride size same few =
-    let a : count * stride ≤ count * 8 = mul-le-mul_left count few in omega (arith, size_few n size)
+    let a : count * stride ≤ count * 16 = mul-le-mul_left count few in omega (arith, size_few n size)
 
 at_end : {A : Type 0} (l : List A) (a b : A) (j : ℕ) → get_elem? (l ++ a ∷ []) j ≡ some b →
     (get_elem? l j ≡ some b) ⊎ ((j ≡ length l) × (a ≡ b))

@@ -25,22 +25,27 @@ use std::sync::atomic::Ordering::SeqCst;
 /// The exponent of the most bins.
 pub(crate) const MOST_EXPONENT: u32 = 26;
 
-/// How many words apart the places of a map's opening table lie, by its number of bins: up to 1,024
-/// places have a cache line each.
+/// How many words apart the places of a map's opening table lie, by its number of bins: up to 256
+/// places have two cache lines each, up to 1,024 one. A processor that reads a line may fetch the
+/// next with it, which so is not another place's.
 pub(crate) fn stride_of_opening(n: u32) -> usize
     ensures some { 0 < result }
-    ensures few { result ≤ 8 }
+    ensures few { result ≤ 16 }
 {
-    if n <= 1024 { 8 } else { 1 }
+    match n {
+        0..=256 => 16,
+        257..=1024 => 8,
+        _ => 1,
+    }
 }
 
 /// How many words apart the places of a segment of a later table lie, by its first index: those below
-/// 256 have a cache line each.
+/// 256 have two cache lines each.
 fn stride_from(first: u32) -> usize
     ensures some { 0 < result }
-    ensures few { result ≤ 8 }
+    ensures few { result ≤ 16 }
 {
-    if first < 256 { 8 } else { 1 }
+    if first < 256 { 16 } else { 1 }
 }
 
 /// The bins of one map, each in the place of its index, where it stays when it is halved. Contracts

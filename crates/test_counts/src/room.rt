@@ -65,13 +65,14 @@ fn bytes_with<R: Wait + Abort, A: Allocator + Clone>(
 
 #[test]
 fn a_lean_map_has_room_for_its_own_bins_alone(rt: HostRuntime) {
-    // A bin has 24 bytes, and up to 1,024 bins a cache line each for their words, which else take 8
-    // bytes; all else takes 8,128.
+    // A bin has 24 bytes, and up to 256 bins have two cache lines each for their words, up to 1,024
+    // one, and else 8 bytes; all else takes 8,192.
     for (bins, each) in [
-        (1u64, 88u64),
-        (16, 88),
-        (64, 88),
-        (256, 88),
+        (1u64, 152u64),
+        (16, 152),
+        (64, 152),
+        (256, 152),
+        (512, 88),
         (1024, 88),
         (2048, 32),
         (4096, 32),
@@ -80,7 +81,7 @@ fn a_lean_map_has_room_for_its_own_bins_alone(rt: HostRuntime) {
         assert_same(
             &rt,
             &(bins, bytes),
-            &(bins, bins.wrapping_mul(each).wrapping_add(8128)),
+            &(bins, bins.wrapping_mul(each).wrapping_add(8192)),
         );
     }
 }
@@ -90,8 +91,8 @@ fn a_lean_map_of_16_keys_has_room_for_128_bins(rt: HostRuntime) {
     let counts = Counts::new();
     let alloc = Refusing::new(rt.alloc());
     let bytes = bytes_with(&rt, (&alloc, &alloc), &counts, 16);
-    // 8,128 bytes, 88 for each of 128 bins, and what the keys and three moves take.
-    assert!(rt; 8128 + 128 * 88 < bytes && bytes < 24_000, "{bytes} bytes");
+    // 8,192 bytes, 152 for each of 128 bins, and what the keys and three moves take.
+    assert!(rt; 8192 + 128 * 152 < bytes && bytes < 32_256, "{bytes} bytes");
 }
 
 /// How many requests the put of the next key makes into 16 bins with so many.

@@ -76,13 +76,17 @@ fn bytes_of(alloc: &Refusing<Global>, exponent: u32) -> Result<u64, AllocError>
 }
 
 #[test]
-fn up_to_1024_opening_bins_have_a_cache_line_each(rt: HostRuntime) {
+fn opening_bins_have_two_cache_lines_each_or_one_or_none(rt: HostRuntime) {
     // A bin's place takes 24 bytes, the head of its chain: whether it has a node, where that lies, and
-    // where its allocator does. Its word takes 64 bytes or 8. The rest is of the map whatever its size.
+    // where its allocator does. Its word takes 128 bytes, 64 or 8. The rest is of the map whatever its size.
     let alloc = Refusing::new(rt.alloc());
-    let rest = bytes_of(&alloc, 0).expect(&rt, "memory").wrapping_sub(88);
+    let rest = bytes_of(&alloc, 0).expect(&rt, "memory").wrapping_sub(152);
     for exponent in 0..13u32 {
-        let each = if exponent <= 10 { 88u64 } else { 32 };
+        let each = match exponent {
+            0..=8 => 152u64,
+            9..=10 => 88,
+            _ => 32,
+        };
         let wanted = (1u64 << exponent).wrapping_mul(each).wrapping_add(rest);
         assert_same(
             &rt,
