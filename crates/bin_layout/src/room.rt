@@ -1,5 +1,5 @@
 //! Room for what is taken out of a map.
-ghost use Rattle.std.specs.Prelude.{◌≡◌, []};
+ghost use Rattle.std.specs.Prelude.{◌≡◌, ◌≤◌, [], IfOk, vec_capacity};
 
 use bin_history::{Bin, Remap, Value};
 use count_ledger::BinRole;
@@ -18,7 +18,10 @@ pub struct Room<K: HashKey, V: Value, F: Remap<K, V>, A: Allocator> {
 
 impl<K: HashKey, V: Value, F: Remap<K, V>, A: Allocator + Clone> Room<K, V, F, A> {
     /// Room for so many bins and their roles: two requests of the allocator.
-    pub fn new(alloc: &A, count: u32) -> Result<Room<K, V, F, A>, AllocError> {
+    pub fn new(alloc: &A, count: u32) -> Result<Room<K, V, F, A>, AllocError>
+        ensures { IfOk result
+            (λ room. (count ≤ vec_capacity room.bins) × (count ≤ vec_capacity room.roles)) }
+    {
         let bins = Vec::with_capacity(alloc.clone()?, count as usize)?;
         let roles = Vec::with_capacity(alloc.clone()?, count as usize)?;
         Ok(Room { bins, roles })
