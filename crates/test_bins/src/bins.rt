@@ -1,6 +1,6 @@
 //! Recorded bins at the program's keys.
 use crate::asserts::{assert_same, key};
-use crate::rows::rows;
+use crate::rows::{Kind, call_of, rows};
 use bin_history::{Call, Record, RecordedBin, Reply};
 use hashkeys::{Class, Key, Salt};
 use std::alloc::{AllocError, Global};
@@ -27,7 +27,7 @@ fn make(
     Ok(bin.apply(ready, 7, ordinal).0)
 }
 
-fn assert_entries(rt: &impl Abort, entries: &[(Key, u64)], wanted: &[(&[u8], u64)]) {
+pub(crate) fn assert_entries(rt: &impl Abort, entries: &[(Key, u64)], wanted: &[(&[u8], u64)]) {
     assert_same(rt, &entries.len(), &wanted.len());
     for ((key, value), (text, number)) in entries.iter().zip(wanted) {
         assert_same(rt, &(key.bytes(), *value), &(*text, *number));
@@ -57,46 +57,57 @@ fn each_call_replies_and_leaves_what_its_row_says(rt: HostRuntime) {
 
 /// A bin of class (16, 1) after 1,025 calls on two keys: both are put, one is taken away and put
 /// again.
-fn folded(rt: &impl Abort, alloc: Global) -> Result<KeyBin, AllocError> {
-    let mut bin = empty(alloc, Class::new(16, 1))?;
-    let _ = make(rt, &mut bin, Call::Put(key(rt, b"q"), 1))?;
-    let _ = make(rt, &mut bin, Call::Put(key(rt, b"a"), 2))?;
-    for _ in 0..1021 {
-        let _ = make(rt, &mut bin, Call::Get(key(rt, b"a")))?;
+fn folded(rt: &impl Abort, alloc: Global) -> KeyBin {
+    let mut bin = empty(alloc, Class::new(16, 1)).expect(rt, "memory");
+    for (text, kind, times) in [
+        (b'q', Kind::Put(1), 1u32),
+        (b'a', Kind::Put(2), 1),
+        (b'a', Kind::Get, 1021),
+        (b'q', Kind::Remove, 1),
+        (b'q', Kind::Put(3), 1),
+    ] {
+        for _time in 0..times {
+            let call = call_of(key(rt, &[text]), kind);
+            let _ = make(rt, &mut bin, call).expect(rt, "memory");
+        }
     }
-    let _ = make(rt, &mut bin, Call::Remove(key(rt, b"q")))?;
-    let _ = make(rt, &mut bin, Call::Put(key(rt, b"q"), 3))?;
-    Ok(bin)
+    bin
+}
+
+/// Asserts what a bin stores: its base, its entries, and how many records.
+fn assert_stored(
+    rt: &impl Abort,
+    bin: &KeyBin,
+    base: &[(&[u8], u64)],
+    entries: &[(&[u8], u64)],
+    records: usize,
+) {
+    assert_entries(rt, bin.base(), base);
+    assert_entries(rt, bin.entries(), entries);
+    assert_same(rt, &bin.records().len(), &records);
 }
 
 /// Splits the folded bin into its halves.
-fn assert_halves(rt: &impl Abort, bin: &KeyBin) -> Result<(), AllocError> {
-    let (low, high) = {
-        assert!(rt; bin.class().n() < 65536);
-        bin.split()?
-    };
-    assert_entries(rt, low.base(), &[(b"a", 2)]);
-    assert_entries(rt, low.entries(), &[(b"a", 2)]);
-    assert_same(rt, &low.records().len(), &511);
-    assert_entries(rt, high.base(), &[(b"q", 1)]);
-    assert_entries(rt, high.entries(), &[(b"q", 3)]);
-    assert_same(rt, &high.records().len(), &2);
-    Ok(())
+fn assert_halves(rt: &impl Abort, bin: &KeyBin) {
+    assert!(rt; bin.class().n() < 65536);
+    let (low, high) = bin.split().expect(rt, "memory");
+    assert_stored(rt, &low, &[(b"a", 2)], &[(b"a", 2)], 511);
+    assert_stored(rt, &high, &[(b"q", 1)], &[(b"q", 3)], 2);
 }
 
 #[test]
 fn the_oldest_records_are_folded(rt: HostRuntime) {
-    let bin = folded(&rt, rt.alloc()).expect(&rt, "memory");
-    assert_same(&rt, &bin.records().len(), &513);
-    assert_entries(&rt, bin.base(), &[(b"q", 1), (b"a", 2)]);
-    assert_entries(
-        &rt,
-        &bin.copy_entries().expect(&rt, "memory"),
-        &[(b"a", 2), (b"q", 3)],
+    let bin = folded(&rt, rt.alloc());
+    let entries: [(&[u8], u64); 2] = [(b"a", 2), (b"q", 3)];
+    assert_stored(&rt, &bin, &[(b"q", 1), (b"a", 2)], &entries, 513);
+    let copy = bin.copy_entries().expect(&rt, "memory");
+    assert_entries(&rt, &copy, &entries);
+    let found = (
+        bin.get(&key(&rt, b"q")).copied(),
+        bin.get(&key(&rt, b"A")).copied(),
     );
-    assert!(rt; bin.get(&key(&rt, b"q")) == Some(&3));
-    assert!(rt; bin.get(&key(&rt, b"A")).is_none());
-    assert_halves(&rt, &bin).expect(&rt, "memory");
+    assert_same(&rt, &found, &(Some(3), None));
+    assert_halves(&rt, &bin);
 }
 
 #[test]
@@ -118,9 +129,9 @@ fn a_bin_stores_few_records(rt: HostRuntime) {
             );
         }
         calls = wanted;
-        assert_same(&rt, &bin.records().len(), &stored);
         let folded = bin.base().first().map(|pair| pair.1);
-        assert_same(&rt, &(folded, bin.base().len() <= 1), &(base, true));
+        let found = (bin.records().len(), folded, bin.base().len() <= 1);
+        assert_same(&rt, &found, &(stored, base, true));
         assert_entries(&rt, bin.entries(), &[(b"a", wanted)]);
     }
 }

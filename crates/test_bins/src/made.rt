@@ -1,6 +1,7 @@
 //! Bins of either form, whose calls are made in one step.
 use crate::asserts::{assert_same, key};
-use crate::rows::{Row, rows};
+use crate::bins;
+use crate::rows::{Kind, call_of, rows};
 use bin_history::{Bin, BinKind, Call, Form, KeyArg, Reply};
 use hashkeys::{Class, Key, Salt};
 use std::alloc::{AllocError, Global};
@@ -21,12 +22,11 @@ fn assert_entries(
     wanted: &[(&[u8], u64)],
 ) -> Result<(), AllocError> {
     let copy = bin.copy_entries(&alloc)?;
-    assert_same(rt, &copy.len(), &wanted.len());
+    bins::assert_entries(rt, &copy, wanted);
     let mut walk = bin.walk();
-    for (copied, (text, number)) in copy.iter().zip(wanted) {
-        let walked = walk.next().expect(rt, "an entry");
-        assert_same(rt, &(walked.0.bytes(), walked.1), &(*text, *number));
-        assert_same(rt, &(copied.0.bytes(), copied.1), &(*text, *number));
+    for (text, number) in wanted {
+        let entry = walk.next().expect(rt, "an entry");
+        assert_same(rt, &(entry.0.bytes(), entry.1), &(*text, *number));
     }
     assert!(rt; walk.next().is_none());
     Ok(())
@@ -134,11 +134,15 @@ fn a_salted_bin_is_split_by_salted_hashes(rt: HostRuntime) {
 fn a_lean_bin_stores_its_entries_alone(rt: HostRuntime) {
     let alloc = rt.alloc();
     let mut bin = empty(alloc, Form::Lean, Salt(0), Class::new(1, 0)).expect(&rt, "memory");
-    let _ = make(&rt, alloc, &mut bin, Call::Put(key(&rt, b"b"), 5), 0).expect(&rt, "memory");
-    let _ = make(&rt, alloc, &mut bin, Call::Put(key(&rt, b"a"), 0), 1).expect(&rt, "memory");
-    for _ in 0..10_000u32 {
-        let merge = Call::Merge(key(&rt, b"a"), 1, Plus(Some(0)));
-        let _ = make(&rt, alloc, &mut bin, merge, 2).expect(&rt, "memory");
+    for (text, kind, times) in [
+        (b'b', Kind::Put(5), 1u32),
+        (b'a', Kind::Put(0), 1),
+        (b'a', Kind::Merge(1, Some(0)), 10_000),
+    ] {
+        for _time in 0..times {
+            let call = call_of(key(&rt, &[text]), kind);
+            let _ = make(&rt, alloc, &mut bin, call, 0).expect(&rt, "memory");
+        }
     }
     assert_entries(&rt, alloc, &bin, &[(b"b", 5), (b"a", 10_000)]).expect(&rt, "memory");
 }

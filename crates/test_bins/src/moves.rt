@@ -3,9 +3,9 @@ ghost use Rattle.std.specs.Prelude.{◌≡◌, ◌<◌, ◌≤◌};
 
 use crate::asserts::assert_same;
 use std::alloc::{AllocError, Global};
+use std::process::Abort;
 use std::sync::atomic::AtomicU64;
 use std::sync::atomic::Ordering::SeqCst;
-use std::test::Fail;
 use std::thread;
 use transfer::{Finish, Mover, Range, STRIDE, Strides};
 
@@ -49,10 +49,10 @@ fn moves(strides: &Strides<Global>, mover: &mut Mover, want: Range, finish: Fini
 }
 
 #[test]
-fn one_mover_moves_each_table_alone(rt: HostRuntime) -> Result<(), Fail> {
+fn one_mover_moves_each_table_alone(rt: HostRuntime) {
     for (bins, ranges, last) in TABLES {
         assert!(rt; 0 < bins && bins <= 65536);
-        let (strides, mut opener) = Strides::new(rt.alloc(), bins)?;
+        let (strides, mut opener) = Strides::new(rt.alloc(), bins).expect(&rt, "memory");
         let mut lo = 0usize;
         for _more in 1..ranges {
             let hi = lo.wrapping_add(16);
@@ -68,7 +68,6 @@ fn one_mover_moves_each_table_alone(rt: HostRuntime) -> Result<(), Fail> {
         );
         assert!(rt; strides.claim(&mut opener).is_none(), "of {bins}");
     }
-    Ok(())
 }
 
 // Claims and finishes all ranges of a move of so many bins, and enters it as often as it lets one. How
@@ -156,30 +155,39 @@ fn moves_all(strides: &Strides<Global>, mut mover: Mover, marks: &[AtomicU64]) -
     is_last
 }
 
-#[test]
-fn eight_threads_move_a_table_of_65536(rt: HostRuntime) -> Result<(), Fail> {
-    let (strides, _opener) = Strides::new(rt.alloc(), 65536)?;
-    let mut all = Vec::with_capacity(rt.alloc(), 4096)?;
-    for _ in 0..4096 {
-        all.push(AtomicU64::new(0))?;
+// As many marks as a table of 65,536 bins has ranges.
+pub(crate) fn new_marks(rt: &impl Abort, alloc: Global) -> Vec<AtomicU64> {
+    let mut marks = Vec::new(alloc);
+    for _range in 0..4096u32 {
+        marks.push(AtomicU64::new(0)).expect(rt, "memory");
     }
+    marks
+}
+
+// Asserts that one thread was told that it was the last, and that each range was marked once.
+pub(crate) fn assert_moved_once(rt: &impl Abort, lasts: &[bool], marks: &[AtomicU64]) {
+    assert!(rt; lasts.iter().filter(|is_last| **is_last).count() == 1);
+    assert!(rt; marks.iter().all(|mark| mark.load(SeqCst) == 1));
+}
+
+#[test]
+fn eight_threads_move_a_table_of_65536(rt: HostRuntime) {
+    let (strides, _opener) = Strides::new(rt.alloc(), 65536).expect(&rt, "memory");
+    let all = new_marks(&rt, rt.alloc());
     let marks = all.as_slice();
     let help = |_: usize| match strides.enter() {
         Some(mover) => moves_all(&strides, mover, marks),
         None => true,
     };
-    let lasts = thread::map_indices(&rt, rt.alloc(), 8, &help)?;
-    assert!(rt; lasts.iter().filter(|is_last| **is_last).count() == 1);
-    assert!(rt; marks.iter().all(|mark| mark.load(SeqCst) == 1));
-    Ok(())
+    let lasts = thread::map_indices(&rt, rt.alloc(), 8, &help).expect(&rt, "memory");
+    assert_moved_once(&rt, &lasts, marks);
 }
 
 #[test]
-fn sixty_three_of_sixty_four_enter(rt: HostRuntime) -> Result<(), Fail> {
-    let (strides, _opener) = Strides::new(rt.alloc(), 16)?;
+fn sixty_three_of_sixty_four_enter(rt: HostRuntime) {
+    let (strides, _opener) = Strides::new(rt.alloc(), 16).expect(&rt, "memory");
     let enter = |_: usize| strides.enter();
-    let movers = thread::map_indices(&rt, rt.alloc(), 64, &enter)?;
+    let movers = thread::map_indices(&rt, rt.alloc(), 64, &enter).expect(&rt, "memory");
     assert!(rt; movers.iter().filter(|mover| mover.is_some()).count() == 63);
     assert!(rt; strides.enter().is_none());
-    Ok(())
 }

@@ -11,7 +11,7 @@ pub(crate) type Row = (Call<Key, u64, Plus>, Reply<u64>, i64);
 
 /// A call without its key.
 #[derive(Clone, Copy)]
-enum Kind {
+pub(crate) enum Kind {
     Get,
     Contains,
     Put(u64),
@@ -96,7 +96,7 @@ const LINES: [(u8, Kind, Told, i64); 36] = [
     ),
 ];
 
-fn call_of(key: Key, kind: Kind) -> Call<Key, u64, Plus> {
+pub(crate) fn call_of(key: Key, kind: Kind) -> Call<Key, u64, Plus> {
     match kind {
         Kind::Get => Call::Get(key),
         Kind::Contains => Call::Contains(key),

@@ -1,10 +1,10 @@
 //! Moves whose movers enter again and again.
 ghost use Rattle.std.specs.Prelude.{◌≡◌};
 
+use crate::moves::{assert_moved_once, new_marks};
 use std::alloc::Global;
 use std::sync::atomic::AtomicU64;
 use std::sync::atomic::Ordering::SeqCst;
-use std::test::Fail;
 use std::thread;
 use transfer::{Finish, Range, STRIDE, SharedStrides};
 
@@ -55,16 +55,11 @@ fn take_turns(strides: &SharedStrides<Global>, client: usize, marks: &[AtomicU64
 }
 
 #[test]
-fn eight_clients_move_65536_bins_in_turns(rt: HostRuntime) -> Result<(), Fail> {
-    let strides = SharedStrides::new(rt.alloc(), 65536, 8)?;
-    let mut all = Vec::with_capacity(rt.alloc(), 4096)?;
-    for _ in 0..4096 {
-        all.push(AtomicU64::new(0))?;
-    }
+fn eight_clients_move_65536_bins_in_turns(rt: HostRuntime) {
+    let strides = SharedStrides::new(rt.alloc(), 65536, 8).expect(&rt, "memory");
+    let all = new_marks(&rt, rt.alloc());
     let marks = all.as_slice();
     let help = |client: usize| take_turns(&strides, client, marks);
-    let lasts = thread::map_indices(&rt, rt.alloc(), 8, &help)?;
-    assert!(rt; lasts.iter().filter(|is_last| **is_last).count() == 1);
-    assert!(rt; marks.iter().all(|mark| mark.load(SeqCst) == 1));
-    Ok(())
+    let lasts = thread::map_indices(&rt, rt.alloc(), 8, &help).expect(&rt, "memory");
+    assert_moved_once(&rt, &lasts, marks);
 }
