@@ -106,5 +106,5 @@ class TestsRoom(Room):
         return f"{to}/lib.rt"
 
     def rewritten(self, lines, given):
-        # (without the hints: to inline a call of the map whole wherever a test makes one takes the compiler more than it saves the test)
+        # The hints on inlining are left out: a call of the map is long, and inlining it in every test costs more time than it saves.
         return module.plain(lines, {}, has_checks=True)

@@ -22,8 +22,8 @@ pub struct Pass<K, V, F> {
     pub(crate) apart: Apart,
 }
 
-/// Three cache lines, less what a pass has before them. What two passes write is then never on two
-/// lines side by side, wherever they lie: a processor that reads one line may fetch the next with it.
+/// Three cache lines, less what a pass has before them. A processor that reads a line may fetch the
+/// next one too, so at least one line lies between what two passes write, wherever they are.
 pub(crate) type Apart = [u64; 21];
 
 pub(crate) const APART: Apart = [0; 21];

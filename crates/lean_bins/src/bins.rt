@@ -27,7 +27,7 @@ pub(crate) const MOST_EXPONENT: u32 = 26;
 
 /// How many words apart the places of a map's opening table lie, by its number of bins: up to 256
 /// places have two cache lines each, up to 1,024 one. A processor that reads a line may fetch the
-/// next with it, which so is not another place's.
+/// next one too, so with two lines it fetches no other place's word.
 pub(crate) fn stride_of_opening(n: u32) -> usize
     ensures some { 0 < result }
     ensures few { result ≤ 16 }

@@ -74,8 +74,8 @@ impl<K: HashKey, V: Value, F: Remap<K, V>, A: Allocator + Clone> Map<K, V, F, A>
         Ok((reply, effect))
     }
 
-    /// Makes a call on the bin of its key by value, for which it waits. All of it is out of line, so
-    /// that a call on a lean bin is short enough to be inlined.
+    /// Waits for the bin of the key, takes it out of its place, makes the call on it and puts it back.
+    /// It is not inlined, so that a call on a lean bin is short enough to be.
     #[cold]
     #[inline(never)]
     fn make_recorded<R: Wait>(

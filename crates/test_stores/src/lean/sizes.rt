@@ -78,7 +78,7 @@ fn bytes_of(alloc: &Refusing<Global>, exponent: u32) -> Result<u64, AllocError>
 #[test]
 fn opening_bins_have_two_cache_lines_each_or_one_or_none(rt: HostRuntime) {
     // A bin's place takes 24 bytes, the head of its chain: whether it has a node, where that lies, and
-    // where its allocator does. Its word takes 128 bytes, 64 or 8. The rest is of the map whatever its size.
+    // where its allocator does. Its word takes 128, 64 or 8 bytes. The rest is the same for each map.
     let alloc = Refusing::new(rt.alloc());
     let rest = bytes_of(&alloc, 0).expect(&rt, "memory").wrapping_sub(152);
     for exponent in 0..13u32 {
