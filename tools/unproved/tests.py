@@ -1,5 +1,5 @@
-"""Builds the tests of several crates, and programs that read nothing, as one program without their proofs: what is below them is read and
-compiled once for all. Unlike other builds it keeps the trial run's checks of steps, so that a step that a proof would refuse ends the test."""
+"""Builds the tests of several crates, and their programs, as one program without their proofs: what is below them is read and compiled once
+for all. Unlike other builds it keeps the trial run's checks of steps, so that a step that a proof would refuse ends the test."""
 import copy
 import hashlib
 import os
@@ -7,17 +7,28 @@ import re
 
 from . import module
 from .build import Build, Room
-from .crates import NotBuilt
 
 # The modules that the crates become, and the tests that the programs become.
 PREFIX, PROGRAM = "in_", "the_program"
 # A crate's tests are built with those of other crates that have the same one of these below them, the first that they have.
 LAYERS = ("facingberyl", "mapcli_core", "chm")
 MAIN = re.compile(r"^fn main\(", re.M)
+# The first source. A test is started with its name as the first word, so the words of a crate's program come after that.
+ROOT = """//! Tests of several crates.
+#![tactic(auto)]
 
+{modules}
+use std::env;
+use std::io;
 
-def has_tests(repository, crate):
-    return count_of_tests(repository, crate) > 0
+/// Returns the words of a program, with the name of the test in place of the program's.
+#[cfg(test)]
+fn words_of(rt: &HostRuntime) -> io::Result<env::Args> {{
+    let mut words = env::args(rt)?;
+    drop(words.next());
+    Ok(words)
+}}
+"""
 
 
 def count_of_tests(repository, crate):
@@ -33,22 +44,11 @@ def is_program(repository, crate):
     return os.path.isfile(f"{repository.folder(crate)}/src/main.rt")
 
 
-def reads_nothing(repository, crate):
-    """Returns whether a program takes no words, and reads no input and no file."""
-    if any(os.path.exists(f"{repository.folder(crate)}/{it}") for it in ("args", "stdin", "data", "status")):
-        return False
-    texts = []
-    for path in repository.files(crate):
-        with open(path, encoding="utf-8") as it:
-            texts.append(it.read())
-    return "env::args" not in "".join(texts)
-
-
 def groups_of(repository):
     """Returns the crates whose tests, or whose program, are built together, by what they stand on."""
     groups = {}
     for crate in repository.used:
-        if has_tests(repository, crate) or is_program(repository, crate) and reads_nothing(repository, crate):
+        if count_of_tests(repository, crate) or is_program(repository, crate):
             below = repository.below(crate)
             layer = next((it for it in LAYERS if it in below), "lower")
             groups.setdefault(layer, []).append(crate)
@@ -56,14 +56,14 @@ def groups_of(repository):
 
 
 def write_module(folder, crate, to):
-    """Writes the sources of a crate as those of a module of another one."""
+    """Writes the sources of a crate as those of a module of another one, in which a program is a test."""
     name = PREFIX + crate
     top = "main.rt" if os.path.isfile(f"{folder}/main.rt") else "lib.rt"
     for at, _, files in os.walk(folder):
         for file in (it for it in files if it.endswith(".rt")):
             path = os.path.relpath(f"{at}/{file}", folder)
             with open(f"{folder}/{path}", encoding="utf-8") as it:
-                text = re.sub(r"\bcrate::(?!(?:proofs|specs)::)", f"crate::{name}::", it.read())
+                text = re.sub(r"\bcrate::(?!(?:proofs|specs)::)", f"crate::{name}::", it.read()).replace("env::args(", "crate::words_of(")
             if path == top:
                 text = MAIN.sub(f"#[test]\nfn {PROGRAM}(", re.sub(r"(?m)^(?:#!\[.*\]|//!.*)\n", "", text))
             written = f"{to}/{name}.rt" if path == top else f"{to}/{name}/{path}"
@@ -94,15 +94,15 @@ class Tests(Build):
 
 
 class TestsRoom(Room):
-    level, extra = "-O1", ("--test",)
+    # (not optimised: that costs at least twice the time that it saves when the tests run)
+    level, extra = "-O0", ("--test",)
 
     def root(self):
         to = f"{self.folder}/src"
         for it in self.build.crates:
             write_module(f"{self.build.repository.folder(it)}/src", it, to)
         with open(f"{to}/lib.rt", "w", encoding="utf-8") as it:
-            it.write("//! Tests of several crates.\n#![tactic(auto)]\n\n")
-            it.write("".join(f"#[cfg(test)]\nmod {PREFIX}{crate};\n" for crate in self.build.crates))
+            it.write(ROOT.format(modules="".join(f"#[cfg(test)]\nmod {PREFIX}{crate};\n" for crate in self.build.crates)))
         return f"{to}/lib.rt"
 
     def rewritten(self, lines, given):
