@@ -18,8 +18,9 @@ sys.path.insert(0, f"{TOP}/tools")
 
 from unproved.crates import Kit, NotBuilt, Repository, text_of  # noqa: E402
 from unproved.machine import FULL, is_full, need_memory  # noqa: E402
+from unproved.times import measured  # noqa: E402
 
-# A first check of 1,000 lines took a processor 0.4 to 3.3 minutes, by the crate, and one over kept work takes much less.
+# A first check of 1,000 lines of a crate that no gate measured takes a processor so many minutes, and a check over kept work much less.
 MINUTES_A_LINE, KEPT_SHARE = 2 / 1000, 0.2
 # The prover takes so much memory.
 MEMORY = 4 << 30
@@ -34,13 +35,14 @@ def say(name, text):
 
 
 class Sources(Repository):
-    """The crates that one of a repository stands on, each after those below it, and that one, and what they are proved from."""
+    """Some crates of a repository, each after those that it stands on, and what they are proved from."""
 
-    def __init__(self, top, crate):
+    def __init__(self, top, *crates):
         super().__init__(top)
-        if crate not in self.used:
-            raise NotBuilt(f"{top}/crates.txt has no line for {crate}: add the lines that bin/vendor prints")
-        self.crates = [*self.below(crate), crate]
+        for crate in crates:
+            if crate not in self.used:
+                raise NotBuilt(f"{top}/crates.txt has no line for {crate}: bin/vendor writes it")
+        self.crates = list(dict.fromkeys(it for crate in crates for it in [*self.below(crate), crate]))
         lacks = next((it for it in self.crates if not os.path.isdir(f"{self.folder(it)}/src")), None)
         if lacks:
             raise NotBuilt(f"{self.folder(lacks)}/src is not there, and {top}/crates.txt names {lacks}: copy the crate, or take its line out")
@@ -117,7 +119,9 @@ class Prover:
     def about(self, todo):
         """Returns about how long it takes to prove some crates."""
         is_new = lambda it: not os.path.isdir(f"{self.sources.folder(it)}/out/incremental")
-        minutes = sum(self.sources.lines(it) * MINUTES_A_LINE * (1 if is_new(it) else KEPT_SHARE) for it in todo)
+        times = measured()
+        of_first = lambda it: times[it]["proof"] / 60 if it in times else self.sources.lines(it) * MINUTES_A_LINE
+        minutes = sum(of_first(it) * (1 if is_new(it) else KEPT_SHARE) for it in todo)
         return f"about {minutes:.0f} minutes on one processor, less on several" if minutes >= 2 else "a minute or two"
 
     def need_machine(self):
