@@ -233,14 +233,30 @@ K is a key: 1 to 32 letters, digits or _. V is a signed number of 64 bits. F is
 sum V, max V, set V or drop; M is sum, max, set or drop. T says from how many
 keys on the work may be divided, and changes no answer.
 
+The first bad line is told as `mapcli: line L: KIND`. The kinds:
+  cut       the line is not ended by a line feed
+  bytes     it holds a byte outside 0x20 to 0x7E, such as a tab
+  spaces    it is empty, begins or ends with a space, or has two side by side
+  word      its first word is not allowed in its section
+  count     a word after the first is missing, or there is one too many
+  key       a word that should be a key is none
+  number    a word that should be a number is none
+  function  a word that should name a function is none
+  limit     it is the 33rd line `client`, or the 1,000,001st call of its block
+  missing   the text ends before a line `query`
+
 The exit status is 0; or 1 for a bad line of the script, 2 for wrong words, and 3
-where memory ran out or a file could not be opened, read or written."""
+where memory ran out or a file could not be opened, read or written.
+
+In a clone of the repository, bin/mapcli proves and builds this program if it is
+not there, and with --unproved as its first word compiles it without proofs. The
+page docs/SCRIPTS.md has all rules of scripts."""
 MAPCLI = Command(
     "mapcli",
     "Runs a script of client blocks over a concurrent hash map, and answers its queries",
     [
         Option("workers", "How many workers answer the queries, 1 to 16", "4", 1, 16),
-        Option("capacity", "How many bins the map opens with at least, 1 to 4096", "16", 1, 4096),
+        Option("capacity", "How many buckets the map opens with at least, 1 to 4096", "16", 1, 4096),
         Option("salt", "What the hashes of keys are mixed with, 0 to 4294967295", "0", 0, U32),
     ],
     version="0.1.0",
@@ -256,7 +272,7 @@ MAP_BENCH = Command(
         Option("threads", "How many threads make calls, 1 to 31", "4", 1, 31),
         Option("calls", "How many calls each makes, 1 to 100000000; of a recorded map 1000000", "1000000", 1, 10**8),
         Option("keys", "On how many keys, 1 to 10000000", "20000", 1, 10**7),
-        Option("capacity", "How many bins the map opens with at least, 1 to 4096", "16", 1, 4096),
+        Option("capacity", "How many buckets the map opens with at least, 1 to 4096", "16", 1, 4096),
         Option("mode", MODES, "mix", names=MODE_NAMES, value="MODE"),
         Option("form", "lean, or recorded: a map that stores a record of each call", "lean", names=("lean", "recorded"), value="FORM"),
         Option(

@@ -252,7 +252,7 @@ fn capacity_arg<'a>(alloc: Global) -> Arg<'a> {
     number(
         alloc,
         "capacity",
-        "How many bins the map opens with at least, 1 to 4096",
+        "How many buckets the map opens with at least, 1 to 4096",
         "16",
     )
     .value_parser(clap::value_parser!(u16).range(1..=4096))

@@ -179,8 +179,24 @@ K is a key: 1 to 32 letters, digits or _. V is a signed number of 64 bits. F is
 sum V, max V, set V or drop; M is sum, max, set or drop. T says from how many
 keys on the work may be divided, and changes no answer.
 
+The first bad line is told as `mapcli: line L: KIND`. The kinds:
+  cut       the line is not ended by a line feed
+  bytes     it holds a byte outside 0x20 to 0x7E, such as a tab
+  spaces    it is empty, begins or ends with a space, or has two side by side
+  word      its first word is not allowed in its section
+  count     a word after the first is missing, or there is one too many
+  key       a word that should be a key is none
+  number    a word that should be a number is none
+  function  a word that should name a function is none
+  limit     it is the 33rd line `client`, or the 1,000,001st call of its block
+  missing   the text ends before a line `query`
+
 The exit status is 0; or 1 for a bad line of the script, 2 for wrong words, and 3
-where memory ran out or a file could not be opened, read or written.";
+where memory ran out or a file could not be opened, read or written.
+
+In a clone of the repository, bin/mapcli proves and builds this program if it is
+not there, and with --unproved as its first word compiles it without proofs. The
+page docs/SCRIPTS.md has all rules of scripts.";
 
 /// How many workers answer queries.
 fn workers<'a>(alloc: Global) -> Arg<'a>
@@ -196,7 +212,7 @@ fn workers<'a>(alloc: Global) -> Arg<'a>
         .default_value("4")
 }
 
-/// How many bins the map opens with.
+/// How many buckets the map opens with.
 fn capacity<'a>(alloc: Global) -> Arg<'a>
     ensures rule { rule_of result ≡ capacity_rule }
     ensures local { result.global ≡ false }
@@ -204,7 +220,7 @@ fn capacity<'a>(alloc: Global) -> Arg<'a>
     Arg::new(alloc, "capacity")
         .long("capacity")
         .value_name("N")
-        .help("How many bins the map opens with at least, 1 to 4096")
+        .help("How many buckets the map opens with at least, 1 to 4096")
         .action(ArgAction::Set)
         .value_parser(clap::value_parser!(u16).range(1..=4096))
         .default_value("16")

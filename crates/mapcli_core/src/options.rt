@@ -75,7 +75,7 @@ impl Options {
         self.workers
     }
 
-    /// How many bins the map opens with at least.
+    /// How many buckets the map opens with at least.
     pub fn capacity(&self) -> usize
         ensures value { result ≡ self.now.capacity }
         ensures range { IsCapacity result }
