@@ -1,95 +1,45 @@
-"""The same requests to this server and to a redis-server: the replies must be the same, words and all. docs/CACHE.md tells what of Redis
-this server lacks and where it differs; such requests are not made here."""
-import itertools
+"""The same requests to this server and to a redis-server: the replies must be the same, words and all. rows.py has the requests."""
 import random
 import socket
 
+from . import rows
 from .client import Connection, Error
-from .replies import LEAST, MOST
 from .server import Failed
 from .together import PATTERNS, must, scanned
 
 AT_ONCE = 200
-TEXTS = ("", "x", "0", "1", "-1", "01", "-0", "+1", " 1", "1 ", "1.5", "1e3", "0x1", MOST, MOST + 1, LEAST, LEAST - 1, "9" * 30, b"1\0", b"\r\n\xff")
-# No deadline that is set comes while a reply is looked at.
-NUMBERS = ("0", "-1", "x", "", "1.5", "100000", MOST, LEAST, MOST // 1000, MOST // 1000 + 1, LEAST // 1000, LEAST // 1000 - 1, MOST + 1)
-# What is stored before each request: a number, a text, both with deadlines; and what is looked at after it.
-STORED = (["DEL", "none", ""], ["MSET", "n", "10", "t", "text"], ["SET", "nd", "10", "EX", "1000"], ["SET", "td", "text", "PX", "1000000"])
-LOOKS = (["MGET", "n", "t", "nd", "td", "none", ""], *(["TTL", it] for it in ("n", "t", "nd", "td", "none")), ["DBSIZE"])
-KEYS = ("n", "t", "nd", "td", "none", "")
 
 
-def times(most, *pools):
-    """Returns all choices of the first words, of none up to all of them, and one word too many."""
-    for count in range(len(pools) + 1):
-        yield from (list(it) for it in itertools.product(*pools[:count]))
-    yield ["a"] * (most + 1)
+def is_same_time(name, ours, theirs):
+    """Of a deadline some seconds may have passed."""
+    return ours > 0 and theirs > 0 and abs(ours - theirs) <= (20000 if name.startswith("P") else 20)
 
 
-def each_command():
-    """Every command, with right and wrong arguments, and too few and too many of them."""
-    for name in ("GET", "STRLEN", "TTL", "PTTL", "PERSIST", "INCR", "DECR"):
-        yield from ([name, *it] for it in times(1, KEYS))
-    for name in ("GETSET", "SETNX", "APPEND", "SET"):
-        yield from ([name, *it] for it in times(2 if name != "SET" else 3, KEYS, TEXTS))
-    for name in ("INCRBY", "DECRBY"):
-        yield from ([name, *it] for it in times(2, KEYS, TEXTS))
-    for name in ("EXPIRE", "PEXPIRE"):
-        yield from ([name, *it] for it in itertools.chain([()], itertools.product(KEYS), itertools.product(KEYS, NUMBERS)))
-    for name in ("DEL", "EXISTS", "MGET", "MSET"):
-        for count in range(5):
-            yield from ([name, *it] for it in itertools.product(("n", "none", "td"), repeat=count))
-    for name in ("PING", "ECHO", "DBSIZE", "CLIENT"):
-        yield from ([name, *it] for it in times(2, ("", "x", "a\r\nb")))
-    yield from (["CLIENT", "SETNAME", *it] for it in times(2, ("", "x", "a b", "a\n", "\xe9", "~!")))
-    rows = ([], ["a"], ["a\r\nb\tc", ""], ["y" * 127, "z"], ["y" * 128, "z"], ["y"] * 50, ["y" * 40] * 5, [b"a\0b"])
-    for name in ("", "NONE", "get ", b"a\0b", "a\r\nb", "x" * 200, "\xe9"):
-        yield from ([name, *it] for it in rows)
-    cursors = ("", "0", "-1", "+0", "00", "x", "0x", " 0", "0 ", 2**64, 2**64 - 1)
-    for it in times(3, cursors, ("MATCH", "count", "what"), ("0", "1", "-1", "x", "", MOST)):
-        if it[:1] in ([], ["x"], [" 0"]) or len(it) > 1 and it[0] in ("0", "00", "+0", "") or it == ["0"]:
-            yield ["SCAN", *it]
-    yield from (["FLUSHALL", *it] for it in ([], ["sync"], ["ASYNC"], ["x"], ["SYNC", "SYNC"], [""]))
-
-
-def options_of_set(most):
-    """SET with all rows of so many options."""
-    words = ("NX", "xx", "EX", "px", "100000", "-1", "0", "x", "what", str(MOST), str(MOST // 1000 - 10**9))
-    for count in range(1, most + 1):
-        for chosen in itertools.product(words, repeat=count):
-            for key in ("n", "none"):
-                yield ["SET", key, "new", *chosen]
-
-
-def numbers_at_limits():
-    """INCR and its kin on values at the limits, and on what is no number."""
-    for value in (*TEXTS, MOST - 1, LEAST + 1):
-        for words in (["INCR", "n"], ["DECR", "n"], *([name, "n", by] for name in ("INCRBY", "DECRBY") for by in ("0", "2", "-2", MOST, LEAST, -MOST))):
-            yield [["SET", "n", value, "EX", "1000"], words, ["GET", "n"], ["TTL", "n"]]
-
-
-def drawn_requests(drawn, count):
-    """So many requests at random, with right and wrong arguments."""
-    names = ("GET SET SETNX GETSET DEL EXISTS INCR DECR INCRBY DECRBY APPEND STRLEN MGET MSET EXPIRE TTL PERSIST DBSIZE PING ECHO").split()
-    pool = (*KEYS, *TEXTS, "NX", "XX", "EX", "PX", "100000", "200000")
-    for _ in range(count):
-        name = drawn.choice(names)
-        words = [drawn.choice(KEYS if at == 0 else pool) for at in range(drawn.choice((0, 1, 1, 2, 2, 2, 3, 4, 5)))]
-        is_soon = any(it in (("EX", "1"), ("PX", "1")) for it in zip(words, words[1:])) or name == "EXPIRE" and words[1:] == ["1"]
-        if not is_soon and not (name == "EXPIRE" and len(words) > 2):
-            yield [name, *words]
-
-
-# == How they are compared ==
+def is_same_command(ours, theirs):
+    """What COMMAND tells of a command: Redis tells more behind it."""
+    return ours is theirs is None or isinstance(theirs, list) and isinstance(ours, list) and ours == theirs[:6]
 
 
 def is_same(ours, theirs, words):
-    """Whether two replies are the same. Of a deadline some seconds may have passed; SCAN has cursors and an order of its own."""
-    if words[0] == "SCAN" and type(ours) is type(theirs) is list:
+    """Whether two replies are the same. SCAN has cursors and an order of its own, a client its number, a key its memory."""
+    name, more = words[0].upper(), [str(it).upper() for it in words[1:]]
+    if type(ours) is not type(theirs):
+        return False
+    if type(ours) is list and name == "SCAN":
         return ours[0] != b"0" or theirs[0] != b"0" or sorted(ours[1]) == sorted(theirs[1])
-    if words[0].upper() in ("TTL", "PTTL") and type(ours) is type(theirs) is int and ours > 0 and theirs > 0:
-        return abs(ours - theirs) <= (20 if words[0].upper() == "TTL" else 20000)
-    return type(ours) is type(theirs) and ours == theirs
+    if type(ours) is list and name == "KEYS":
+        return sorted(ours) == sorted(theirs)
+    if type(ours) is list and name == "COMMAND":
+        return len(ours) == len(theirs) and all(map(is_same_command, ours, theirs))
+    if type(ours) is list and name == "HELLO":
+        return [it for it in ours if type(it) is not int] == [it for it in theirs if type(it) is not int]
+    if type(ours) is list and name == "CONFIG":
+        return sorted(ours[::2]) == sorted(theirs[::2])
+    if type(ours) is int and name in ("TTL", "PTTL", "EXPIRETIME", "PEXPIRETIME"):
+        return ours == theirs or is_same_time(name, ours, theirs)
+    if type(ours) is int and (name == "MEMORY" or more[:1] == ["ID"]):
+        return ours > 0 and theirs > 0
+    return name == "RANDOMKEY" and ours is not None or ours == theirs
 
 
 class Beside:
@@ -123,64 +73,19 @@ class Beside:
         """Compares each of these requests on the same stored keys, and what it leaves there."""
         chosen = []
         for words in requests:
-            chosen += [*STORED, words, *LOOKS]
+            chosen += [*rows.STORED, words, *rows.LOOKS]
             if len(chosen) > AT_ONCE:
                 self.calls(chosen)
                 chosen = []
         self.calls(chosen)
 
-    def in_rows(self, rows):
-        for row in rows:
-            self.calls(row)
+    def each_of(self, lists):
+        """Compares lists of requests that stand for themselves."""
+        for requests in lists:
+            self.calls(requests)
 
     def end(self):
         must(not self.faults, f"{len(self.faults)} replies differ: " + "; ".join(self.faults))
-
-
-# == What is sent as bytes ==
-
-RAW = (
-    b"PING\r\n",
-    b"PING\n",
-    b" \t PING  \r\n",
-    b"\r\n\n \r\nPING\r\n",
-    b"SET a 'x y'\r\nGET a\r\nSTRLEN a\r\n",
-    b'SET "a b" "\\n\\r\\t\\a\\b\\x41\\xff\\xzz\\q\\"\\\\"\r\nGET "a b"\r\n',
-    b"ECHO 'it\\'s \\n'\r\n",
-    b'ECHO a"b c"\r\nECHO a\'b c\'\r\n',
-    b"ECHO a\\nb\r\nECHO \"\"\r\nECHO ''\r\n",
-    b'PING\r\nSET a "x\r\nPING\r\n',
-    b"SET a 'x\r\n",
-    b"SET a 'x'y\r\n",
-    b'SET a "x"y\r\n',
-    b'ECHO "a\\"\r\n',
-    b"GET\ta\r\n",
-    b"NONE a 'b c' \"d\"\r\n",
-    b"*0\r\nPING\r\n",
-    b"*-1\r\nPING\r\n",
-    b"*-5\r\n*1\r\n$4\r\nPING\r\n",
-    b"*1\r\n$0\r\n\r\n",
-    b"*1\r\n$4\r\nPING\r\n*x\r\n",
-    b"*1\r\n$x\r\n",
-    b"*1\r\n$-1\r\n",
-    b"*1\r\n$\r\n",
-    b"*1\r\n$04\r\nPING\r\n",
-    b"*1\r\n$+4\r\nPING\r\n",
-    b"*1\r\n$536870913\r\n",
-    b"*1\r\n@4\r\n",
-    b"*1\r\nPING\r\n",
-    b"*1\r\n*1\r\n",
-    b"*\r\n",
-    b"*01\r\nPING\r\n",
-    b"*+1\r\nPING\r\n",
-    b"*1 \r\nPING\r\n",
-    b"*2147483648\r\n",
-    b"*99999999999999999999\r\n",
-    b"QUIT\r\nPING\r\n",
-    b"PING\r\nQUIT x y\r\nPING\r\n",
-    b"*2\r\n$4\r\nECHO\r\n$3\r\na",
-    b"*3\r\n$3\r\nSET\r\n$1\r\nk\r\n",
-)
 
 
 def answered(port, data):
@@ -204,7 +109,7 @@ def compare_info(port, port_of_redis):
         ours, theirs = info_of(port, *words), info_of(port_of_redis, *words)
         for name, fields in ours.items():
             must(name in theirs and fields <= theirs[name], f"INFO {words}: {name} has {fields - theirs.get(name, set())}")
-        wanted = [it for it in theirs if it in ("Server", "Clients", "Memory", "Stats", "Keyspace")]
+        wanted = [it for it in theirs if it in ("Server", "Clients", "Memory", "Stats", "Cluster", "Keyspace")]
         must(list(ours) == wanted, f"INFO {words} has the sections {list(ours)}, and Redis's {wanted}")
 
 
@@ -225,13 +130,17 @@ def compare(port, port_of_redis, is_quick, seed):
     drawn = random.Random(f"beside {seed}")
     with Beside(port, port_of_redis) as both:
         both.calls([["FLUSHALL"]])
-        both.all_of(each_command())
-        both.all_of(options_of_set(2 if is_quick else 4))
-        both.in_rows(numbers_at_limits())
+        both.all_of(rows.each_command())
+        both.all_of(rows.options_of_set(2 if is_quick else 3))
+        both.all_of(rows.options_of_others(1 if is_quick else 3))
+        both.each_of(rows.numbers_at_limits())
+        both.each_of(rows.fractions())
+        both.each_of(rows.of_one_key())
+        both.each_of(rows.transactions())
         for _ in range(10 if is_quick else 200):
-            both.calls([["FLUSHALL"], *drawn_requests(drawn, 500), *LOOKS])
+            both.calls([["FLUSHALL"], *rows.drawn_requests(drawn, 500), *rows.LOOKS])
         compare_patterns(both, drawn, 100 if is_quick else 3000)
-        for data in RAW:
+        for data in rows.RAW:
             ours, theirs = answered(port, data), answered(port_of_redis, data)
             both.compared += 1
             if ours != theirs:

@@ -84,7 +84,7 @@ class Connection:
         if mark == b":":
             return int(rest)
         if mark == b"*":
-            return [self.reply() for _ in range(int(rest))]
+            return None if rest == b"-1" else [self.reply() for _ in range(int(rest))]
         if mark in (b"+", b"-"):
             return (Simple if mark == b"+" else Error)(rest.decode(errors="replace"))
         raise AssertionError(f"no reply: {line[:80]!r}")

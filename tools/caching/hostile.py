@@ -6,7 +6,7 @@ import threading
 import time
 
 from .client import OK, PONG, Closed, Connection, Error, packed
-from .server import Failed
+from .server import Failed, Server
 from .together import must
 
 PROTOCOL = "ERR Protocol error: "
@@ -22,7 +22,7 @@ MALFORMED = (
     (b"*" + b"1" * 100, "too big mbulk count string"),
     (b"*1\r\n$x\r\n", "invalid bulk length"),
     (b"*1\r\n$-1\r\n", "invalid bulk length"),
-    (b"*1\r\n$1048577\r\n", "invalid bulk length"),
+    (b"*1\r\n$536870913\r\n", "invalid bulk length"),
     (b"*1\r\n$9223372036854775807\r\n", "invalid bulk length"),
     (b"*1\r\n$18446744073709551615\r\n", "invalid bulk length"),
     (b"*1\r\n$" + b"1" * 100, "too big bulk count string"),
@@ -35,7 +35,7 @@ MALFORMED = (
 @contextlib.contextmanager
 def witness(server):
     """Another client's keys: they must be as it left them, all the while and at the end."""
-    stop, faults, drawn = threading.Event(), [], random.Random(5)
+    stop, begun, faults, drawn = threading.Event(), threading.Event(), [], random.Random(5)
 
     def look():
         kept = {f"witness{it}": None for it in range(20)}
@@ -46,11 +46,15 @@ def witness(server):
                     must(it.call("GET", key) == kept[key], f"{key} is another")
                     must(it.call("SET", key, value) == OK, f"{key} is not set")
                     kept[key] = value
+                    begun.set()
         except Exception as why:
             faults.append(repr(why))
+            begun.set()
 
     thread = threading.Thread(target=look)
     thread.start()
+    # (from now on its connection counts)
+    begun.wait()
     try:
         yield
     finally:
@@ -102,10 +106,10 @@ def random_bytes(server, seconds, seed):
                 must(it.is_closed(), "a connection that ended is not closed")
 
 
-def huge_requests(server):
+def huge_requests(program):
     """What is larger than the limits is refused, and what is as large as them is not."""
     long = b"x" * 65528
-    with witness(server), Connection(server.port) as it:
+    with Server(program, "--request", 1 << 20) as server, witness(server), Connection(server.port) as it:
         too_long = Error("ERR string exceeds maximum allowed size (proto-max-bulk-len)")
         must(it.call("SET", "huge", long) == OK and it.call("GET", "huge") == long, "the longest value is not taken")
         must(it.call("APPEND", "huge", "x") == too_long and it.call("STRLEN", "huge") == 65528, "a longer value is taken")
@@ -154,6 +158,10 @@ def connections(it):
     return int(it.call("INFO").split(b"connected_clients:")[1].split()[0])
 
 
+def used_memory(it):
+    return int(it.call("INFO", "memory").split(b"used_memory:")[1].split()[0])
+
+
 def are_closed(server, it, request, clients=1):
     """Sends a request from clients that never read, and waits until the server has closed their connections."""
     with contextlib.ExitStack() as stack:
@@ -167,20 +175,61 @@ def are_closed(server, it, request, clients=1):
             time.sleep(0.02)
 
 
-def clients_that_never_read(server, output=1 << 24):
-    """Replies that nobody reads are bounded: the connection is closed, and the memory comes back."""
-    with witness(server), Connection(server.port) as it:
+def clients_that_never_read(program):
+    """What clients do not read waits, up to a megabyte for each; other clients have their replies all the while. A client that
+    reads at last has them all, and what it took comes back."""
+    with Server(program) as server, witness(server), Connection(server.port) as it, contextlib.ExitStack() as stack:
         must(it.call("SET", "large", "x" * 60000) == OK, "a key was not set")
         before = server.resident()
-        for _ in range(4):
-            are_closed(server, it, packed("GET", "large") * 1000)
-        after = server.resident()
-        must(not server.is_plain or after < before + 3 * output, f"{(after - before) >> 20} MB more are resident than before")
-        must(len(it.call("MGET", *["large"] * 100)) == 100, "another client has no reply")
+        deaf = [stack.enter_context(Connection(server.port, room=4096)) for _ in range(100)]
+        for other in deaf:
+            other.send(packed("GET", "large") * 230)
+        until = time.monotonic() + 300
+        while used_memory(it) < (90 << 20):
+            must(time.monotonic() < until, "the replies do not wait")
+            time.sleep(0.02)
+        time.sleep(0.3)
+        more = server.resident() - before
+        must(not server.is_plain or more < (150 << 20), f"{more >> 20} MB are resident for 100 clients that do not read")
+        must(used_memory(it) < (150 << 20), "more is used")
+        must(deaf[0].call("PING") == b"x" * 60000, "another reply")
+        for number in range(229):
+            must(deaf[0].reply() == b"x" * 60000, f"reply {number} is another")
+        must(deaf[0].reply() == PONG, "the last reply is another")
+        for other in deaf:
+            other.close()
+        while used_memory(it) > (10 << 20):
+            must(time.monotonic() < until, "the memory does not come back")
+            time.sleep(0.02)
 
 
-def amplified(server):
+def long_pipelines(program):
+    """A pipeline has all its replies, however many they are: sent at once, and read only then."""
+    with Server(program, "--output", 1 << 17) as server, witness(server), Connection(server.port) as it:
+        must(it.call("SET", "v", "x" * 4096) == OK, "a key was not set")
+        it.send(packed("GET", "v") * 10000 + packed("ECHO", "end"))
+        time.sleep(0.2)
+        must(all(it.reply() == b"x" * 4096 for _ in range(10000)) and it.reply() == b"end", "a reply is another")
+
+
+def amplified(program):
     """One small request whose reply is larger than the limit: the connection is closed."""
-    with witness(server), Connection(server.port) as it:
+    with Server(program, "--output", 1 << 24) as server, witness(server), Connection(server.port) as it:
         must(it.call("SET", "large", "x" * 60000) == OK, "a key was not set")
         are_closed(server, it, packed("MGET", *["large"] * 20000))
+        for _ in range(3):
+            are_closed(server, it, packed("MULTI") + packed("MGET", *["large"] * 200) * 2 + packed("EXEC"))
+
+
+def http(server):
+    """A request of a browser ends its connection, and nothing of it is run: neither its lines nor its body."""
+    body = b"SET planted 1\r\nSET kept 2\r\n"
+    with witness(server), Connection(server.port) as it:
+        must(it.call("SET", "kept", "1") == OK, "a key was not set")
+        for head in (b"POST / HTTP/1.1\r\nHost: 127.0.0.1\r\n\r\n", b"GET / HTTP/1.1\r\nHost: x\r\n\r\n", b"host: x\r\n", b"post\r\n",
+                     packed("POST", "/"), packed("PING") + b"POST / HTTP/1.1\r\n"):
+            with Connection(server.port) as other:
+                other.send(head + body)
+                got = other.rest()
+                must(b"+OK" not in got and got in (b"", b"+PONG\r\n", b"$-1\r\n", got if head[:3] == b"GET" else b""), f"{head}: {got}")
+        must(it.call("GET", "planted") is None and it.call("GET", "kept") == b"1", "the body of a request of HTTP was run")

@@ -13,20 +13,79 @@ from .together import must
 FULL = Error("OOM command not allowed when used memory > 'maxmemory'.")
 
 
+def fill(it, name, value, most=1 << 30):
+    """Stores keys until one is refused, and returns how many there are."""
+    for number in range(0, most, 100):
+        got = it.calls([["SET", f"{name}:{at}", value] for at in range(number, number + 100)])
+        must(all(reply in (OK, FULL) for reply in got), f"{got}")
+        if FULL in got:
+            return number + got.index(FULL)
+    return most
+
+
 def memory_is_limited(program):
-    """What would go past the limit of all bytes is an error; what needs no more is not; nothing is evicted."""
-    with Server(program, "--memory", 1000, "--threads", 2) as server, Connection(server.port) as it:
-        value = "v" * 89  # 100 bytes with its key of 3 and its deadline of 8
-        for at in range(10):
-            must(it.call("SET", f"k:{at}", value) == OK, "a key within the limit is refused")
-        for words in (["SET", "x", ""], ["SETNX", "x", ""], ["INCR", "x"], ["APPEND", "k:1", "y"], ["MSET", "k:1", "1", "x", "2"],
-                      ["SET", "k:1", value + "y"], ["GETSET", "k:1", value + "y"]):
+    """With `none` what would go past the limit is an error; what needs no more is not; nothing is evicted."""
+    with Server(program, "--memory", 8 << 20, "--evict", "none", "--threads", 2) as server, Connection(server.port) as it:
+        count = fill(it, "k", "v" * 1000)
+        must(4000 < count < 8000, f"{count} keys of 1,000 bytes are in 8 MB")
+        value = "w" * 60000
+        for words in (["SET", "x", value], ["SETNX", "x", value], ["APPEND", "k:1", value], ["MSET", "k:1", "1", "x", value],
+                      ["SET", "k:1", value], ["GETSET", "k:1", value]):
             must(it.call(*words) == FULL, f"{words[0]} goes past the limit")
-        must(it.call("SET", "k:1", value[::-1]) == OK and it.call("EXPIRE", "k:1", 100) == 1, "what needs no more is refused")
-        must(it.call("GETSET", "k:2", "short") == value.encode() and it.call("SET", "x", "") == OK, "what became free is not used")
-        must(it.call("MGET", "k:1", "k:2", "k:9") == [value.encode(), b"short", value.encode()], "a key was evicted")
-        must(it.call("DEL", *(f"k:{at}" for at in range(10)), "x") == 11, "a key was evicted")
+        must(it.call("SET", "k:1", "u" * 1000) == OK and it.call("EXPIRE", "k:1", 100) == 1, "what needs no more is refused")
+        must(it.call("EXISTS", *(f"k:{at}" for at in range(count))) == count, "a key was evicted")
+        must(it.call("DEL", *(f"k:{at}" for at in range(200))) == 200 and it.call("SET", "x", value) == OK, "what is free is not used")
+        must(it.call("DEL", *(f"k:{at}" for at in range(200, 8000)), "x") >= count - 200, "a key was evicted")
         must(b"used_memory_dataset:0\r\n" in it.call("INFO"), "bytes are counted that are not there")
+        must(b"evicted_keys:0\r\n" in it.call("INFO"), "a key was evicted")
+
+
+def info(it, name):
+    return int(it.call("INFO").split(name.encode() + b":")[1].split()[0])
+
+
+def keys_are_evicted(program):
+    """With `lru` a write removes others at the limit: keys that are read again and again stay, and the memory stays within it."""
+    with Server(program, "--memory", 8 << 20, "--threads", 2) as server, Connection(server.port) as it:
+        hot = [f"hot:{at}" for at in range(50)]
+        must(it.calls([["SET", key, "h" * 1000] for key in hot]) == [OK] * 50, "a key is refused")
+        for number in range(0, 40000, 500):
+            requests = [["SET", f"cold:{number + at}", "c" * 1000] for at in range(500)]
+            must(it.calls(requests) == [OK] * 500, "a key is refused")
+            must(it.calls([["GET", key] for key in hot]) == [b"h" * 1000] * 50, "a key was evicted that is read again and again")
+        evicted, left, used = info(it, "evicted_keys"), it.call("DBSIZE"), info(it, "used_memory")
+        must(evicted + left == 40050 and 4000 < left < 8000, f"{evicted} keys were evicted, {left} are left")
+        must(used < (8 << 20) + (256 << 10), f"{used} bytes are used")
+        must(it.call("GET", "cold:39999") == b"c" * 1000, "the last key was evicted")
+
+
+def first_to_expire_go(program):
+    """With `ttl` keys with a deadline are removed, the nearest ones of some; without one a write fails."""
+    with Server(program, "--memory", 8 << 20, "--evict", "ttl", "--threads", 2) as server, Connection(server.port) as it:
+        must(it.calls([["SET", f"kept:{at}", "k" * 1000] for at in range(1000)]) == [OK] * 1000, "a key is refused")
+        for number in range(0, 20000, 100):
+            requests = [["SET", f"timed:{number + at}", "t" * 1000, "EX", 100000 if at % 2 else 1000] for at in range(100)]
+            must(it.calls(requests) == [OK] * 100, "a key is refused")
+        must(it.call("EXISTS", *(f"kept:{at}" for at in range(1000))) == 1000, "a key without a deadline was evicted")
+        late = it.call("EXISTS", *(f"timed:{at}" for at in range(1, 20000, 2)))
+        soon = it.call("EXISTS", *(f"timed:{at}" for at in range(0, 20000, 2)))
+        must(late > 5 * soon, f"{late} keys are left that expire late, and {soon} that expire soon")
+        must(fill(it, "more", "m" * 1000, 20000) < 8000, "more is stored than there is room for")
+        must(it.call("EXISTS", *(f"kept:{at}" for at in range(1000))) == 1000, "a key without a deadline was evicted")
+
+
+def used_is_resident(program):
+    """What INFO says is used is what is resident beyond what was at first, within a tenth."""
+    for size in (16, 300):
+        with Server(program, "--memory", 1 << 30) as server, Connection(server.port) as it:
+            fill(it, "first", "v" * size, 5000)
+            used, resident = info(it, "used_memory"), server.resident()
+            for number in range(0, 32000000 // (size + 100), 1000):
+                it.send(b"".join(packed("SET", f"key:{number + at}", "v" * size) for at in range(1000)))
+                it.bytes(1000 * len("+OK\r\n"))
+            used, resident = info(it, "used_memory") - used, server.resident() - resident
+            must(used > 20000000, f"{used} bytes are used")
+            must(0.9 * used < resident < 1.1 * used, f"values of {size}: {used} bytes more are used, and {resident} resident")
 
 
 def memory_is_used_again(server):
@@ -78,7 +137,7 @@ def large(number):
 
 def no_memory(program):
     """Where the system gives no memory a request is an error or its connection is closed; what is stored stays readable."""
-    with Server(program, "--threads", 2, "--buckets", 1024, "--memory", 1 << 40, memory=200 << 20) as server:
+    with Server(program, "--threads", 2, "--buckets", 1024, "--memory", 1 << 40, "--evict", "none", memory=200 << 20) as server:
         stored, refused, it = 0, 0, Connection(server.port)
         while refused < 20 and stored < 20000:
             try:
@@ -103,10 +162,20 @@ def no_memory(program):
 
 
 def little_is_kept(program):
-    """Clients that never read, with a small limit of replies, beside one that does."""
+    """Requests with replies beyond a small limit, beside a client within it."""
     with Server(program, "--output", 1 << 17) as server, witness(server), Connection(server.port) as it:
-        must(it.call("SET", "large", "x" * 60000) == OK, "a key was not set")
-        are_closed(server, it, packed("GET", "large") * 1000, clients=4)
+        must(it.call("SET", "large", "x" * 60000) == OK and it.call("MGET", "large", "large") == [b"x" * 60000] * 2, "no reply")
+        are_closed(server, it, packed("MGET", "large", "large", "large") * 10, clients=4)
+
+
+def idle_connections_are_closed(program):
+    """A connection that sends nothing for as long as --timeout says is closed, and one that sends is not."""
+    with Server(program, "--timeout", 1, "--threads", 2) as server, Connection(server.port) as busy, Connection(server.port) as idle:
+        until, is_closed = time.monotonic() + 60, False
+        idle.socket.settimeout(0.1)
+        while not (is_closed := idle.is_closed()) and time.monotonic() < until:
+            must(busy.call("PING") == PONG, "a connection is closed that sends")
+        must(is_closed, "an idle connection is not closed")
 
 
 def stop_answers_first(program):
@@ -158,7 +227,8 @@ def ports_and_words(program):
     """Wrong options are refused before the server starts."""
     with Server(program) as server:
         for words in (["--port", str(server.port)], ["--port", "x"], ["--port", "65536"], ["--threads", "-1"], ["--what"], ["more"],
-                      ["--memory", ""], ["--address", "here"], ["--buckets", "0"]):
+                      ["--memory", ""], ["--address", "here"], ["--buckets", "0"], ["--evict", "lfu"], ["--memory", "1000000"],
+                      ["--memory", "1048576", "--buckets", "65536"], ["--address", "0.0.0.0"], ["--password", ""]):
             try:
                 with Server(program, *words):
                     raise Failed(f"the server takes {words}")

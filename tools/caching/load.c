@@ -5,28 +5,13 @@
  *
  * It prints for SET and for GET the requests a second and the 99th percentile of the time from a request to its reply in
  * milliseconds. Every key is set before, so that all replies to one kind of request have one length. */
-#define _GNU_SOURCE
-#include <arpa/inet.h>
-#include <errno.h>
-#include <netinet/tcp.h>
-#include <pthread.h>
-#include <stdatomic.h>
-#include <stdbool.h>
-#include <stdint.h>
-#include <stdio.h>
-#include <stdlib.h>
-#include <string.h>
-#include <sys/epoll.h>
-#include <time.h>
-#include <unistd.h>
+#include "loading.h"
 
-enum { KEYS = 100000, AT_ONCE = 100, HEAD = 64, EVENTS = 256, THREADS = 16, STEPS = 100000 };
+enum { AT_ONCE = 100 };
 
 static long port, requests, connections, pipeline, size, threads;
 static bool is_get;
 static atomic_long begun;
-/* How many requests took how long, in hundredths of a millisecond. */
-static atomic_long took[STEPS];
 static char *value;
 
 struct connection {
@@ -36,25 +21,6 @@ struct connection {
     long sent;   /* requests on the way */
     uint64_t since;
 };
-
-static void stop(const char *what) {
-    fprintf(stderr, "load: %s: %s\n", what, strerror(errno));
-    exit(1);
-}
-
-static uint64_t now(void) {
-    struct timespec it;
-    clock_gettime(CLOCK_MONOTONIC, &it);
-    return (uint64_t)it.tv_sec * 1000000000 + (uint64_t)it.tv_nsec;
-}
-
-static int connected(void) {
-    struct sockaddr_in to = {.sin_family = AF_INET, .sin_port = htons((uint16_t)port), .sin_addr.s_addr = htonl(INADDR_LOOPBACK)};
-    int it = socket(AF_INET, SOCK_STREAM, 0), on = 1;
-    if (it < 0 || connect(it, (struct sockaddr *)&to, sizeof to) != 0) stop("cannot connect");
-    setsockopt(it, IPPROTO_TCP, TCP_NODELAY, &on, sizeof on);
-    return it;
-}
 
 /* Writes a request for a key, and returns its end. */
 static char *write_request(char *at, long key, bool is_got) {
@@ -96,8 +62,7 @@ static bool go_on(struct connection *c, char *room, size_t room_len) {
     c->wanted -= len;
     if (c->wanted > 0) return true;
     if (c->wanted < 0 || memcmp(room + len - 2, "\r\n", 2) != 0) stop("a reply is not of its length");
-    uint64_t step = (now() - c->since) / 10000;
-    atomic_fetch_add_explicit(&took[step < STEPS ? step : STEPS - 1], pipeline, memory_order_relaxed);
+    add_time(c->since, pipeline);
     return send_next(c, room);
 }
 
@@ -110,7 +75,7 @@ static void *run(void *of) {
     int epoll = epoll_create1(0);
     for (long i = 0; i < count; i++) {
         struct epoll_event event = {.events = EPOLLIN, .data.ptr = &all[i]};
-        all[i] = (struct connection){.socket = connected(), .drawn = (unsigned)(number * 1000 + i)};
+        all[i] = (struct connection){.socket = connected(port), .drawn = (unsigned)(number * 1000 + i)};
         epoll_ctl(epoll, EPOLL_CTL_ADD, all[i].socket, &event);
         left -= !send_next(&all[i], room);
     }
@@ -128,7 +93,7 @@ static void *run(void *of) {
 }
 
 static void set_all(void) {
-    int to = connected();
+    int to = connected(port);
     char *room = malloc(AT_ONCE * (size_t)(size + HEAD)), replies[AT_ONCE * 8];
     for (long key = 0; key < KEYS;) {
         char *end = room;
@@ -141,36 +106,18 @@ static void set_all(void) {
     free(room);
 }
 
-/* The 99th percentile in milliseconds. */
-static double latest(void) {
-    long all = 0, so_far = 0, step = 0;
-    for (long i = 0; i < STEPS; i++)
-        all += took[i];
-    while (step < STEPS && (so_far += took[step]) < all - all / 100)
-        step++;
-    return (double)(step + 1) / 100;
-}
-
 static void measure(const char *name) {
-    pthread_t all[THREADS];
     uint64_t began = now();
     atomic_store(&begun, 0);
-    memset((void *)took, 0, sizeof took);
-    for (long i = 0; i < threads; i++)
-        if (pthread_create(&all[i], NULL, run, (void *)(intptr_t)i) != 0) stop("cannot start a thread");
-    for (long i = 0; i < threads; i++)
-        pthread_join(all[i], NULL);
-    printf("%s %.0f %.2f\n", name, (double)requests * 1e9 / (double)(now() - began), latest());
+    run_all(run, threads);
+    printf("%s %.0f %.2f\n", name, (double)requests * 1e9 / (double)(now() - began), percentile(990));
 }
 
 int main(int count, char **words) {
     long *const numbers[] = {&port, &requests, &connections, &pipeline, &size, &threads};
-    for (int i = 0; i < 6; i++)
-        if (count != 7 || (*numbers[i] = atol(words[i + 1])) < 1) return 2;
+    if (!read_numbers(count, words, numbers, 6)) return 2;
     if (threads > THREADS || threads > connections) return 2;
-    value = malloc((size_t)size + 1);
-    memset(value, 'v', (size_t)size);
-    value[size] = 0;
+    value = value_of(size);
     set_all();
     measure("SET");
     is_get = true;

@@ -1,11 +1,14 @@
 """Builds the cache server, and runs it."""
+import contextlib
 import os
 import re
 import resource
 import shutil
 import signal
+import socket
 import subprocess
 import tempfile
+import time
 
 HERE = os.path.dirname(os.path.realpath(__file__))
 TOP = os.path.dirname(os.path.dirname(HERE))
@@ -132,3 +135,23 @@ class Server:
             if kind is not None and self.errors():
                 print(self.errors()[-4000:])
             self.said.close()
+
+
+@contextlib.contextmanager
+def redis_server(*options):
+    """A redis-server on a port that was free, with one database."""
+    need("redis-server")
+    with socket.socket() as it:
+        it.bind(("127.0.0.1", 0))
+        port = it.getsockname()[1]
+    with tempfile.TemporaryDirectory() as folder:
+        words = ["redis-server", "--port", str(port), "--save", "", "--appendonly", "no", "--databases", "1", "--dir", folder, *map(str, options)]
+        with subprocess.Popen(words, stdout=subprocess.DEVNULL) as ran:
+            try:
+                for _ in range(600):
+                    with contextlib.suppress(OSError), socket.create_connection(("127.0.0.1", port)):
+                        break
+                    time.sleep(0.1)
+                yield port
+            finally:
+                ran.terminate()

@@ -71,6 +71,64 @@ def each_key_is_one_cell(server):
         must(sum(all_of["lens"]) == 10 * sum(range(1, CLIENTS * wanted + 1)), "two clients appended at the same place")
 
 
+def parts_are_one_step(server):
+    """INCRBYFLOAT, SETRANGE, SET with GET and KEEPTTL, GETDEL and GETEX of many clients on the same keys: none is lost."""
+    rounds = CALLS // 10
+
+    def work(it, number):
+        chosen = []
+        for at in range(rounds):
+            chosen += [["INCRBYFLOAT", "half", "0.5"], ["SETRANGE", "row", number * rounds + at, chr(97 + number)]]
+            chosen += [["SET", "chain", f"{number}:{at}", "KEEPTTL", "GET"], ["SET", "token", f"{number}:{at}", "NX"], ["GETDEL", "token"]]
+            chosen += [["GETEX", "chain", "EX", 1000] if at % 2 else ["GETEX", "chain", "PERSIST"]]
+        replies = it.calls(chosen)
+        return {name: replies[at::6] for at, name in enumerate(("half", "row", "chain", "given", "taken"))}
+
+    with Connection(server.port) as it:
+        it.call("DEL", "half", "row", "chain", "token")
+        answers, total = each_client(server, work), CLIENTS * rounds
+        all_of = {name: [at for answer in answers for at in answer[name]] for name in answers[0]}
+        must(sorted(float(at) for at in all_of["half"]) == [at / 2 for at in range(1, total + 1)], "a half came twice, or not at all")
+        must(it.call("GET", "row") == b"".join(b"%c" % (97 + at) * rounds for at in range(CLIENTS)), "a byte of SETRANGE is lost")
+        values = {f"{number}:{at}".encode() for number in range(CLIENTS) for at in range(rounds)}
+        chain = all_of["chain"] + [it.call("GET", "chain")]
+        must(chain.count(None) == 1 and {at for at in chain if at is not None} == values, "a value of SET with GET is lost")
+        taken = [at for at in all_of["taken"] if at is not None]
+        must(len(taken) == len(set(taken)) == all_of["given"].count(OK), "GETDEL returned a value twice, or lost one")
+
+
+def two_keys_move_together(server):
+    """RENAMENX, MSETNX and EXEC run alone: one request of another client sees all that they change, or nothing."""
+    names, row, rounds, ended = [f"seat{at}" for at in range(30)], [f"row{at}" for at in range(100)], 6, threading.Semaphore(0)
+    with Connection(server.port) as it:
+        it.call("DEL", *names, *row)
+        must(it.call("SET", names[0], "token", "EX", 1000) == OK, "the token is not set")
+
+    def watch(it):
+        seen = it.calls([["EXISTS", *names], ["MGET", *row]] * 20)
+        must(set(seen[::2]) == {1}, f"of one token {sorted(set(seen[::2]))} are seen")
+        must(all(len(set(at)) == 1 for at in seen[1::2]), "a part of an MSETNX is seen")
+
+    def work(it, number):
+        drawn, moved = random.Random(f"seats {number}"), 0
+        while number % 2 and not ended.acquire(blocking=False):
+            watch(it)
+        for at in range(0 if number % 2 else rounds):
+            chosen = []
+            for _ in range(100):
+                values = [word for name in row for word in (name, f"{number}:{at}")]
+                chosen += [["RENAMENX", *drawn.sample(names, 2)] for _ in range(60)] + [["MSETNX", *values], ["MULTI"], ["DEL", *row], ["EXEC"]]
+            moved += sum(reply == 1 for place, reply in enumerate(it.calls(chosen)) if place % 64 < 60)
+        ended.release()
+        return moved
+
+    moved = sum(each_client(server, work, 6))
+    with Connection(server.port) as it:
+        must(moved > 0 and it.call("EXISTS", *names) == 1, "the token was not moved, or is lost")
+        at = next(name for name in names if it.call("EXISTS", name))
+        must(it.call("GET", at) == b"token" and 0 < it.call("TTL", at) <= 1000, "the token has another value or no deadline")
+
+
 def expired_keys_are_gone(server):
     """A key whose deadline has passed is there for no command, whether it is removed already or not."""
     with Connection(server.port) as it:

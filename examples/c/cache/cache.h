@@ -1,9 +1,10 @@
 /* A cache server: strings under keys, many connections, one map of facing_bytes.h, and the Redis protocol (RESP2).
  *
- * main.c opens the map, starts the threads, accepts connections and deals them out, and removes expired keys in slices.
- * worker.c has a thread's loop over its connections; request.c takes requests apart, reply.c writes replies.
- * store.c changes the value of a key by one atomic call, walk.c goes over the keys; strings.c, keys.c, scan.c and server.c
- * have the commands. */
+ * options.c reads the options. main.c opens the map, starts the threads, accepts connections and deals them out, and removes
+ * expired keys in slices. worker.c has a thread's loop over its connections; request.c takes requests apart, run.c runs
+ * them, reply.c writes replies. store.c changes the value of a key by one atomic call, walk.c goes over the keys, evict.c
+ * makes room; turn.c lets a request run alone, watch.c tells whether a key was changed. clock.c has deadlines, cluster.c the
+ * servers beside this one. heap.c counts memory. commands.c has the table of commands; commands.h tells where each is. */
 #ifndef CACHE_H
 #define CACHE_H
 #include "facing_bytes.h"
@@ -16,69 +17,88 @@ struct bytes {
     const uint8_t *at;
     size_t len;
 };
+#define NOTHING ((struct bytes){NULL, 0})
 
 /* Bytes in memory of their own, which grows. A connection that waits for its next request keeps none: the worker lends it
  * memory for a request and for replies, up to KEPT bytes. */
 enum { KEPT = 1 << 16 };
+
+/* A connection with so many bytes of replies that wait is not read until they are sent. */
+enum { HELD = 1 << 20 };
 
 struct buffer {
     uint8_t *at;
     size_t len, room;
 };
 
-/* What the server may use, by its options. */
+/* == heap.c: memory, which is counted == */
+
+void *heap_resize(void *at, size_t size);
+void *heap_zeros(size_t size);
+void heap_free(void *at);
+void heap_tell(void);
+uint64_t heap_used(void);
+bool buffer_reserve(struct buffer *buffer, size_t more);
+void buffer_free(struct buffer *buffer);
+void buffer_move(struct buffer *to, struct buffer *from);
+
+/* == The server == */
+
+/* What is removed where the memory is full: nothing; a key that was not used for long; the key that expires first. */
+enum evicts { EVICT_NONE, EVICT_LRU, EVICT_TTL };
+
+/* What the server may use, by its options; the password, which is empty where there is none. */
 struct limits {
-    uint64_t connections, request, output, memory;
+    uint64_t connections, request, output, memory, timeout, grace;
+    enum evicts evicts;
+    struct bytes password;
 };
+
+/* What threads count, and tell the others when their turn ends. */
+struct counts {
+    int64_t dataset; /* the bytes of all keys and values, with their heads */
+    int64_t timed;   /* how many keys have a deadline */
+    int64_t dead;    /* how many keys are still stored that a FLUSHALL removed */
+    int64_t calls, hits, misses, evicted, expired;
+};
+enum { COUNTS = sizeof(struct counts) / sizeof(int64_t) };
+
+/* Connections that the main thread or a worker refused, each for a reason. */
+enum refusal { TOO_MANY, CROSS_PROTOCOL, WRONG_PASSWORD, REFUSALS };
+
+struct seat {
+    _Alignas(64) atomic_bool is_taken;
+};
+
+struct touched {
+    _Atomic uint64_t *words;
+    size_t mask; /* of the number of a bit */
+};
+
+struct watched;
 
 struct cache {
     struct limits limits;
-    uint64_t started, grace;
-    _Alignas(64) _Atomic int64_t used; /* the bytes of all keys and values, with their deadlines */
-    _Atomic int64_t timed;             /* how many keys have a deadline */
-    _Alignas(64) _Atomic uint64_t connections, accepted, calls;
+    uint64_t started;
+    struct worker *workers;
+    size_t workers_len;
+    struct seat *seats; /* one for each store */
+    size_t seats_len;
+    struct touched touched;
+    uint64_t seed; /* of the hashes of touched and of watched keys */
+    _Alignas(64) atomic_bool is_alone; /* a request runs alone, or waits to */
+    _Atomic uint64_t generation;       /* of the values that are stored now */
+    _Atomic uint64_t swept;            /* values of generations before it are removed */
+    _Atomic uint64_t watching;         /* how many keys connections watch */
+    pthread_mutex_t alone, hand_lock, watch_lock;
+    uint64_t hand;           /* where eviction goes on in the map; hand_lock is held */
+    struct watched **chains; /* watch_lock is held */
+    _Alignas(64) _Atomic int64_t counts[COUNTS];
+    _Alignas(64) _Atomic uint64_t connections, accepted, ids, refused[REFUSALS];
 };
 
-/* == store.c: a client of the map, with room for a value == */
-
-/* A value in the map is its deadline and then its bytes. A deadline is in milliseconds of CLOCK_MONOTONIC, or 0. */
-enum { DEADLINE = 8, ROOM = FACING_LONGEST };
-
-/* Of the store alone, beside facing.h's: the limit of memory does not allow what the call would store. */
-enum { STORE_FULL = 100 };
-
-struct store {
-    struct cache *cache;
-    facing_bytes_handle client;
-    uint8_t *seen, *next; /* what was there, and what is to be stored: ROOM bytes each */
-    size_t next_len;
-    uint64_t next_deadline;
-};
-
-/* What a call found at a key. A value is stored until it is removed; it is live until its deadline. */
-struct found {
-    bool is_stored, is_live;
-    size_t stored_len;
-    uint64_t deadline;
-    struct bytes value;
-};
-
-enum change { LEAVE, STORE, REMOVE };
-
-/* Decides on what a key has. Before it returns STORE it calls store_next. It may be asked again, of another value. */
-typedef enum change decide_fn(struct store *store, const struct found *found, void *of);
-
-uint64_t now_ms(void);
-bool store_deadline(int64_t count, int64_t unit, uint64_t *deadline);
-uint32_t store_open(struct store *store, struct cache *cache, facing_bytes_handle *map);
-void store_close(struct store *store);
-void store_next(struct store *store, uint64_t deadline, struct bytes front, struct bytes back);
-bool store_has_room(const struct store *store, int64_t more);
-uint32_t store_get(struct store *store, struct bytes key, struct found *found);
-uint32_t store_put(struct store *store, struct bytes key, struct found *before);
-uint32_t store_remove(struct store *store, struct bytes key, struct found *before);
-uint32_t store_expire(struct store *store, struct bytes key, struct bytes stored);
-uint32_t store_change(struct store *store, struct bytes key, decide_fn *decide, void *of);
+int64_t read_count(struct cache *cache, size_t offset);
+#define COUNT_OF(cache, name) read_count(cache, offsetof(struct counts, name))
 
 /* == walk.c: going over the keys, some buckets at a time == */
 
@@ -89,13 +109,123 @@ struct walk {
     size_t len, room_len, pairs;
 };
 
+struct store;
 typedef bool each_fn(struct store *store, struct bytes key, struct bytes stored, void *of);
 
 uint32_t walk_next(struct walk *walk, struct store *store, size_t most);
 bool walk_each(const struct walk *walk, struct store *store, each_fn *each, void *of);
 void walk_free(struct walk *walk);
-uint32_t walk_sweep(struct walk *walk, struct store *store, uint64_t until);
-uint32_t walk_clear(struct walk *walk, struct store *store);
+uint32_t walk_sweep(struct walk *walk, struct store *store);
+
+/* == clock.c == */
+
+uint64_t now_ms(void);
+bool deadline_from(int64_t count, int64_t unit, bool is_moment, uint64_t *deadline);
+bool has_passed(uint64_t deadline);
+int64_t day_of(uint64_t deadline);
+
+/* == store.c: a client of the map, with room for a value == */
+
+/* A value in the map has a head before its bytes: a generation, and a deadline in milliseconds of CLOCK_MONOTONIC, or 0. */
+enum { HEAD = 8 };
+
+#ifdef FACING_LONGEST_VALUE
+#define LONGEST_STORED ((size_t)FACING_LONGEST_VALUE)
+#else
+#define LONGEST_STORED ((size_t)FACING_LONGEST)
+#endif
+#define LONGEST_VALUE (LONGEST_STORED - HEAD)
+
+/* Of the store alone, beside facing.h's: the limit of memory does not allow what the call would store. */
+enum { STORE_FULL = 100 };
+
+/* Keys that may be evicted: a part of the map that was copied, and how far it is looked through. */
+struct candidates {
+    struct walk walk;
+    size_t next, from;
+};
+
+struct store {
+    struct cache *cache;
+    struct seat *seat;
+    facing_bytes_handle client;
+    struct buffer seen, next; /* what was there, and what is to be stored; next.len is its length */
+    uint8_t head[HEAD];       /* of what was there, where the rest is not copied */
+    uint64_t next_deadline;
+    struct candidates candidates;
+    struct counts counts; /* what is not yet told */
+    bool is_alone;        /* this store's request runs alone */
+};
+
+/* What a call found at a key. A value is stored until it is removed; it is live until its deadline, or a FLUSHALL. */
+struct found {
+    bool is_stored, is_live, is_dead;
+    size_t stored_len;
+    uint64_t deadline;
+    struct bytes value; /* where the call copies it: store_get and store_change do */
+};
+
+enum change { LEAVE, STORE, REMOVE };
+
+/* Decides on what a key has. Before it returns STORE it calls store_next. It may be asked again, of another value. */
+typedef enum change decide_fn(struct store *store, const struct found *found, void *of);
+
+uint32_t store_open(struct store *store, struct cache *cache, facing_bytes_handle *map);
+void store_close(struct store *store);
+void store_tell(struct store *store);
+void store_rest(struct store *store);
+void store_next(struct store *store, uint64_t deadline, struct bytes front, struct bytes back);
+void store_over(struct store *store, size_t at, struct bytes bytes);
+void store_find(const struct store *store, struct bytes stored, uint64_t now, struct found *found);
+uint32_t store_get(struct store *store, struct bytes key, struct found *found);
+uint32_t store_look(struct store *store, struct bytes key, struct found *found);
+void store_count_look(struct store *store, struct bytes key, uint32_t status, const struct found *found);
+uint32_t store_put(struct store *store, struct bytes key, struct found *before);
+uint32_t store_remove(struct store *store, struct bytes key, struct found *before);
+uint32_t store_expire(struct store *store, struct bytes key, struct bytes stored);
+uint32_t store_change(struct store *store, struct bytes key, decide_fn *decide, void *of);
+uint32_t store_clear(struct store *store);
+uint64_t store_count(struct store *store, uint32_t *status);
+
+/* == evict.c: room for what is stored == */
+
+bool touched_begin(struct cache *cache);
+void touch(const struct store *store, struct bytes key);
+size_t memory_of(size_t key_len, size_t value_len);
+bool has_room(const struct cache *cache, uint64_t more);
+bool make_room(struct store *store, uint64_t more);
+
+/* == turn.c: requests that run at once, and one that runs alone == */
+
+bool turns_begin(struct cache *cache, size_t stores);
+void turn_share(struct store *store);
+void turn_pass(struct store *store);
+void turn_end(struct store *store);
+void turn_take_alone(struct store *store);
+void turn_leave_alone(struct store *store);
+
+/* == watch.c: keys that connections watch == */
+
+struct watched {
+    struct watched *next;
+    uint64_t hash, raised;
+    size_t watchers;
+};
+
+/* A key that a connection watches, and how often it was changed before. */
+struct watch {
+    struct watched *of;
+    uint64_t raised, generation;
+    uint8_t *key;
+    size_t key_len;
+    bool is_live;
+};
+
+uint64_t hash_of(const struct cache *cache, struct bytes key);
+bool watch_key(struct cache *cache, struct bytes key, struct watch *watch);
+void unwatch_key(struct cache *cache, struct watch *watch);
+bool is_changed(struct cache *cache, const struct watch *watch);
+void changed(const struct store *store, struct bytes key);
 
 /* == worker.c: a thread and its connections == */
 
@@ -104,17 +234,25 @@ struct worker {
     struct store store;
     struct walk walk;
     int epoll, inbox, outbox; /* the main thread writes descriptors of connections to the outbox, and closes it to stop */
-    struct connection *first;
-    struct buffer in, out; /* empty, to be lent */
-    uint64_t drain_by;     /* when a stopping worker closes all that is left, or 0 */
-    uint64_t calls;
-    char error[1024]; /* the last error with an argument in it */
+    struct connection *first, *last; /* those that were served last are first */
+    struct buffer in, out;           /* empty, to be lent */
+    uint64_t now, drain_by;          /* when a stopping worker closes all that is left, or 0 */
+    char error[1024];                /* the last error with an argument in it */
     pthread_t thread;
 };
 
 /* An argument of a request: where it begins behind the request's beginning, and its length. */
 struct span {
     uint32_t from, len;
+};
+
+/* The requests of a transaction, one behind the other. */
+struct transaction {
+    bool is_open, is_wrong;
+    size_t count;
+    struct buffer requests;
+    struct watch *watches;
+    size_t watches_len, watches_room;
 };
 
 struct connection {
@@ -124,29 +262,37 @@ struct connection {
     uint32_t watched;
     bool is_ending; /* takes no more requests, and is closed once its replies are sent */
     bool is_broken; /* is closed at once */
+    bool is_held;   /* has too many replies to send, and takes no requests until they are sent */
+    bool is_known;  /* gave the password, or needs none */
+    uint64_t id, began, served; /* when it was served last */
+    uint8_t *name;              /* its bytes and a 0, or NULL */
     struct buffer in, out;
     size_t begin, at;             /* of `in`: where the request begins, and how far it is read */
     size_t left, count, arg_room; /* how many arguments are still to come, are there, and have room in `args` */
     struct span *args;
+    const uint8_t *base;           /* where the request begins that runs */
     const struct command *command; /* of the request that runs */
     size_t sent;                   /* how much of `out` is sent */
+    uint64_t answered;             /* how many bytes of replies the request has that runs */
+    struct transaction transaction;
 };
 
-void worker_begin(struct worker *worker);
+void worker_begin(struct worker *worker, struct seat *seat);
 bool worker_open(struct worker *worker, struct cache *cache, facing_bytes_handle *map);
 void worker_close(struct worker *worker);
 void *worker_run(void *of);
 
 #define NOT_A_NUMBER "ERR value is not an integer or out of range"
+#define NOT_A_FLOAT "ERR value is not a valid float"
 #define NO_SYNTAX "ERR syntax error"
+
+/* The Redis whose commands and words these are. */
+#define REDIS_VERSION "7.0.15"
 
 /* == request.c == */
 
 enum parsed { PARSED, MORE, WRONG };
 
-bool buffer_reserve(struct buffer *buffer, size_t more);
-void buffer_free(struct buffer *buffer);
-void buffer_move(struct buffer *to, struct buffer *from);
 enum parsed request_next(struct connection *c);
 void request_done(struct connection *c);
 struct bytes arg(const struct connection *c, size_t number);
@@ -162,27 +308,14 @@ void reply_simple(struct connection *c, const char *text);
 void reply_error(struct connection *c, const char *text);
 void reply_number(struct connection *c, int64_t number);
 void reply_bulk(struct connection *c, struct bytes bytes);
+void reply_field(struct connection *c, const char *name, const char *text);
+void reply_count(struct connection *c, const char *name, int64_t number);
 void reply_none(struct connection *c);
+void reply_no_list(struct connection *c);
 void reply_list(struct connection *c, size_t count);
 const char *error_of(uint32_t status);
 const char *done_or_error(struct connection *c, uint32_t status, int64_t number);
 
-/* == strings.c, keys.c, scan.c, server.c == */
-
-/* A command: how many arguments it takes with its name, and a number that its function uses. The function replies and
- * returns NULL, or returns an error to reply with. */
-struct command {
-    const char *name;
-    const char *(*run)(struct connection *c);
-    size_t least, most;
-    int64_t number;
-};
-
-void run_request(struct connection *c);
-const char *wrong_count(struct connection *c);
-const char *no_deadline(struct connection *c);
-const char *error_with(struct connection *c, const char *before, struct bytes bytes, const char *after);
-const char *scan(struct connection *c);
-extern const struct command string_commands[], key_commands[];
+#include "commands.h"
 
 #endif

@@ -1,19 +1,26 @@
-/* The library's memory: small blocks without the header that malloc puts before each, larger ones from malloc. A key and
- * a value that are short lie in one small block, of 88 bytes. The library calls the three functions at the end; a program
- * with the static library may have its own, and the shared library has those that use malloc.
+/* The memory of the server and of the library, which is counted: small blocks without the header that malloc puts before
+ * each, larger ones from malloc. A key and a value that are short lie in one small block, of 88 bytes. The library calls the
+ * three functions at the end; a program with the static library may have its own, and the shared library has those that use
+ * malloc.
  *
  * A slab has 64 KB of blocks of one size. A thread keeps free blocks of each size, and takes and gives them many at once. A
  * small block is used again for its size, and does not go back to the system. */
 #define _GNU_SOURCE
 #include "cache.h"
+#include <malloc.h>
 #include <stdlib.h>
 #include <string.h>
 #include <sys/mman.h>
 
-/* AddressSanitizer looks at malloc's blocks. */
-#ifndef __SANITIZE_ADDRESS__
+enum { STEP = 8, LARGEST = 96, SIZES = LARGEST / STEP, BATCH = 64, SLAB = 1 << 16, SLABS = 16, LEAF = 1 << 16 };
+enum { HEADER = 8, MOST_UNTOLD = 4096, LEAST_ROOM = 256 };
 
-enum { STEP = 8, SMALL = 96, SIZES = SMALL / STEP, BATCH = 64, SLAB = 1 << 16, SLABS = 16, LEAF = 1 << 16 };
+/* AddressSanitizer looks at malloc's blocks. */
+#ifdef __SANITIZE_ADDRESS__
+enum { SMALL = 0 };
+#else
+enum { SMALL = LARGEST };
+#endif
 
 /* `found` is 1 where there is memory at `at`; where it is 0 `at` is an address of no use. */
 typedef struct {
@@ -24,6 +31,52 @@ typedef struct {
 rattle_room rattle_alloc(size_t size, size_t align);
 rattle_room rattle_realloc(void *at, size_t old_size, size_t size, size_t align);
 void rattle_dealloc(void *at);
+
+/* The bytes of all blocks that are not free, but for those that each thread has yet to tell. */
+static _Alignas(64) _Atomic int64_t used;
+static _Thread_local int64_t untold;
+
+/* Tells the others what this thread took and gave back. */
+void heap_tell(void) {
+    if (untold == 0) return;
+    atomic_fetch_add_explicit(&used, untold, memory_order_relaxed);
+    untold = 0;
+}
+
+static void count(int64_t more) {
+    untold += more;
+    if (untold > MOST_UNTOLD || untold < -MOST_UNTOLD) heap_tell();
+}
+
+/* The bytes of all blocks that are not free. It may lack 4 KB for each thread. */
+uint64_t heap_used(void) {
+    int64_t now = atomic_load_explicit(&used, memory_order_relaxed);
+    return now > 0 ? (uint64_t)now : 0;
+}
+
+static int64_t size_of_malloc(void *at) {
+    return at == NULL ? 0 : (int64_t)malloc_usable_size(at) + HEADER;
+}
+
+/* As realloc. */
+void *heap_resize(void *at, size_t size) {
+    int64_t before = size_of_malloc(at);
+    void *moved = realloc(at, size);
+    if (moved != NULL) count(size_of_malloc(moved) - before);
+    return moved;
+}
+
+/* A block of zeros, or NULL. */
+void *heap_zeros(size_t size) {
+    void *at = calloc(1, size);
+    count(size_of_malloc(at));
+    return at;
+}
+
+void heap_free(void *at) {
+    count(-size_of_malloc(at));
+    free(at);
+}
 
 struct block {
     struct block *next;
@@ -120,9 +173,11 @@ rattle_room rattle_alloc(size_t size, size_t align) {
     void *at;
     if (size > SMALL || align > STEP) {
         at = malloc(size);
+        count(size_of_malloc(at));
     } else {
         if (own[steps - 1].count == 0) take_blocks(steps);
         at = own[steps - 1].count == 0 ? NULL : pop(&own[steps - 1]);
+        if (at != NULL) count((int64_t)(steps * STEP));
     }
     return (rattle_room){at != NULL, at != NULL ? at : &nowhere};
 }
@@ -130,9 +185,10 @@ rattle_room rattle_alloc(size_t size, size_t align) {
 void rattle_dealloc(void *at) {
     size_t steps = size_at(at);
     if (steps == 0) {
-        free(at);
+        heap_free(at);
         return;
     }
+    count(-(int64_t)(steps * STEP));
     push(&own[steps - 1], at);
     if (own[steps - 1].count > 2 * BATCH) give_blocks(steps);
 }
@@ -140,7 +196,7 @@ void rattle_dealloc(void *at) {
 rattle_room rattle_realloc(void *at, size_t old_size, size_t size, size_t align) {
     rattle_room room;
     if (size > SMALL && size_at(at) == 0) {
-        void *moved = realloc(at, size);
+        void *moved = heap_resize(at, size);
         return (rattle_room){moved != NULL, moved != NULL ? moved : at};
     }
     room = rattle_alloc(size, align);
@@ -151,4 +207,33 @@ rattle_room rattle_realloc(void *at, size_t old_size, size_t size, size_t align)
     return room;
 }
 
-#endif
+/* == Buffers == */
+
+/* Makes room for so many more bytes: twice as much as before, and of large room a quarter more. Returns false where there is
+ * no memory for them. */
+bool buffer_reserve(struct buffer *buffer, size_t more) {
+    size_t room = buffer->room < LEAST_ROOM ? LEAST_ROOM : buffer->room;
+    uint8_t *at;
+    if (buffer->room - buffer->len >= more && buffer->at != NULL) return true;
+    while (room - buffer->len < more)
+        room += room < 4 * (size_t)KEPT ? room : room / 4;
+    at = heap_resize(buffer->at, room);
+    if (at == NULL) return false;
+    buffer->at = at;
+    buffer->room = room;
+    return true;
+}
+
+void buffer_free(struct buffer *buffer) {
+    heap_free(buffer->at);
+    *buffer = (struct buffer){0};
+}
+
+/* Moves an empty buffer's memory to one that has none. Where that has some, or it is much, it is freed. */
+void buffer_move(struct buffer *to, struct buffer *from) {
+    if (to->at == NULL && from->room <= KEPT)
+        *to = *from;
+    else
+        heap_free(from->at);
+    *from = (struct buffer){0};
+}

@@ -1,85 +1,111 @@
-/* The commands on keys and their deadlines. */
+/* The commands on keys, whatever their values. */
 #include "cache.h"
+#include <limits.h>
+#include <string.h>
 
-/* EXISTS, and with the number 1 DEL: one call a key. */
-static const char *each_key(struct connection *c) {
+/* DEL and UNLINK with the number 1, EXISTS and TOUCH: one call a key. */
+const char *run_each_key(struct connection *c) {
+    struct store *store = &c->worker->store;
     int64_t count = 0;
     uint32_t status = FACING_DONE;
     for (size_t i = 1; i < c->count && status == FACING_DONE; i++) {
         struct found found;
-        status = (c->command->number == 1 ? store_remove : store_get)(&c->worker->store, arg(c, i), &found);
+        bool is_removal = c->command->number == 1;
+        status = (is_removal ? store_remove : store_look)(store, arg(c, i), &found);
         count += found.is_live;
+        if (!is_removal) store_count_look(store, arg(c, i), status, &found);
     }
     return done_or_error(c, status, count);
 }
 
+const char *run_type(struct connection *c) {
+    struct found found;
+    uint32_t status = store_look(&c->worker->store, arg(c, 1), &found);
+    if (status == FACING_DONE) reply_simple(c, found.is_live ? "string" : "none");
+    return error_of(status);
+}
+
 /* An estimate while clients make calls. It counts expired keys until they are removed. */
-static const char *dbsize(struct connection *c) {
-    uint64_t count;
-    uint32_t status = facing_bytes_count(&c->worker->store.client, &count);
+const char *run_dbsize(struct connection *c) {
+    uint32_t status;
+    uint64_t count = store_count(&c->worker->store, &status);
     return done_or_error(c, status, (int64_t)count);
 }
 
-static const char *flush_all(struct connection *c) {
+/* All keys are gone at one moment. The main thread gives their memory back, also where SYNC is asked for. */
+const char *run_flushall(struct connection *c) {
     uint32_t status;
     if (c->count > 2 || (c->count == 2 && !is_word(arg(c, 1), "SYNC") && !is_word(arg(c, 1), "ASYNC"))) return NO_SYNTAX;
-    status = walk_clear(&c->worker->walk, &c->worker->store);
+    status = store_clear(&c->worker->store);
     if (status == FACING_DONE) reply_simple(c, "OK");
     return error_of(status);
 }
 
-/* What EXPIRE and PERSIST are asked to do: a deadline, 0 for none, or one in the past. */
-struct expiring {
-    uint64_t deadline;
-    bool is_done;
-};
+/* == Two keys: these run alone == */
 
-static enum change decide_expire(struct store *store, const struct found *found, void *of) {
-    struct expiring *it = of;
-    it->is_done = found->is_live && (it->deadline != 0 || found->deadline != 0);
-    if (!it->is_done) return LEAVE;
-    if (it->deadline != 0 && it->deadline <= now_ms()) return REMOVE;
-    store_next(store, it->deadline, found->value, (struct bytes){NULL, 0});
-    return STORE;
+/* Stores what was found at another key, with its deadline. */
+static uint32_t put_found(struct store *store, struct bytes key, const struct found *found) {
+    struct found before;
+    store_next(store, found->deadline, found->value, NOTHING);
+    return store_put(store, key, &before);
 }
 
-static const char *change_deadline(struct connection *c, uint64_t deadline) {
-    struct expiring it = {.deadline = deadline};
-    uint32_t status = store_change(&c->worker->store, arg(c, 1), decide_expire, &it);
-    return done_or_error(c, status, it.is_done);
+static bool is_same(struct bytes one, struct bytes other) {
+    return one.len == other.len && (one.len == 0 || memcmp(one.at, other.at, one.len) == 0);
 }
 
-/* EXPIRE, PEXPIRE: the command's number is the unit in milliseconds. */
-static const char *expire(struct connection *c) {
-    uint64_t deadline;
-    int64_t count;
-    if (!number_of(arg(c, 2), &count)) return NOT_A_NUMBER;
-    if (!store_deadline(count, c->command->number, &deadline)) return no_deadline(c);
-    return change_deadline(c, deadline);
+/* RENAME, and with the number 1 RENAMENX, which leaves a key that is there. */
+const char *run_rename(struct connection *c) {
+    struct store *store = &c->worker->store;
+    struct bytes from = arg(c, 1), to = arg(c, 2);
+    struct found found, other;
+    bool if_absent = c->command->number == 1, is_done = !is_same(from, to);
+    uint32_t status = FACING_DONE;
+    if (if_absent && is_done) status = store_look(store, to, &other);
+    if (if_absent && is_done) is_done = !other.is_live;
+    if (status == FACING_DONE) status = store_get(store, from, &found);
+    if (status == FACING_DONE && !found.is_live) return "ERR no such key";
+    if (status == FACING_DONE && is_done) status = put_found(store, to, &found);
+    if (status == FACING_DONE && is_done) status = store_remove(store, from, &other);
+    if (if_absent) return done_or_error(c, status, is_done);
+    if (status == FACING_DONE) reply_simple(c, "OK");
+    return error_of(status);
 }
 
-static const char *persist(struct connection *c) {
-    return change_deadline(c, 0);
+/* Reads the number of a database: there is one. Returns an error, or NULL. */
+static const char *no_database(struct bytes text) {
+    int64_t number;
+    if (!number_of(text, &number)) return NOT_A_NUMBER;
+    if (number < INT_MIN || number > INT_MAX)
+        return "ERR value is out of range, value must between -2147483648 and 2147483647";
+    return number == 0 ? NULL : "ERR DB index is out of range";
 }
 
-/* TTL, PTTL: -2 where there is no key, -1 where it has no deadline. */
-static const char *ttl(struct connection *c) {
-    struct found found;
-    uint32_t status = store_get(&c->worker->store, arg(c, 1), &found);
-    uint64_t now = now_ms(), left = found.deadline > now ? found.deadline - now : 0, unit = (uint64_t)c->command->number;
-    return done_or_error(c, status, !found.is_live ? -2 : found.deadline == 0 ? -1 : (int64_t)((left + unit / 2) / unit));
+const char *run_select(struct connection *c) {
+    const char *error = no_database(arg(c, 1));
+    if (error == NULL) reply_simple(c, "OK");
+    return error;
 }
 
-const struct command key_commands[] = {
-    {"del", each_key, 2, SIZE_MAX, 1},
-    {"exists", each_key, 2, SIZE_MAX, 0},
-    {"expire", expire, 3, 3, 1000},
-    {"pexpire", expire, 3, 3, 1},
-    {"ttl", ttl, 2, 2, 1000},
-    {"pttl", ttl, 2, 2, 1},
-    {"persist", persist, 2, 2, 0},
-    {"dbsize", dbsize, 1, 1, 0},
-    {"flushall", flush_all, 1, SIZE_MAX, 0},
-    {"scan", scan, 2, SIZE_MAX, 0},
-    {NULL, NULL, 0, 0, 0},
-};
+/* COPY: 0 where there is no such key, or one to copy to and no REPLACE. */
+const char *run_copy(struct connection *c) {
+    struct store *store = &c->worker->store;
+    struct found found, other = {0};
+    bool replaces = false;
+    uint32_t status = FACING_DONE;
+    for (size_t i = 3; i < c->count; i++) {
+        const char *error = NULL;
+        if (is_word(arg(c, i), "REPLACE"))
+            replaces = true;
+        else if (is_word(arg(c, i), "DB") && i + 1 < c->count)
+            error = no_database(arg(c, ++i));
+        else
+            error = NO_SYNTAX;
+        if (error != NULL) return error;
+    }
+    if (is_same(arg(c, 1), arg(c, 2))) return "ERR source and destination objects are the same";
+    if (!replaces) status = store_look(store, arg(c, 2), &other);
+    if (status == FACING_DONE) status = store_get(store, arg(c, 1), &found);
+    if (status != FACING_DONE || !found.is_live || other.is_live) return done_or_error(c, status, 0);
+    return done_or_error(c, put_found(store, arg(c, 2), &found), 1);
+}

@@ -2,10 +2,9 @@
  *
  * usage: cache [OPTION..]; `cache --help` lists the options. */
 #define _GNU_SOURCE
-#include "cache.h"
+#include "options.h"
 #include <arpa/inet.h>
 #include <errno.h>
-#include <getopt.h>
 #include <inttypes.h>
 #include <malloc.h>
 #include <netinet/in.h>
@@ -20,75 +19,14 @@
 #include <sys/socket.h>
 #include <unistd.h>
 
-enum { THREADS = 256, STACK = 1 << 20, TICK = 100, SWEEP = 5, BACKLOG = 511, BATCH = 64, LARGE = 1 << 17 };
+enum { STACK = 1 << 20, BACKLOG = 511, BATCH = 64, LARGE = 1 << 17 };
 
-struct options {
-    const char *address;
-    uint64_t port, threads, buckets, connections, request, output, memory, grace;
-};
+/* In milliseconds: how often the main thread looks around, and how long it removes keys at a time: a tenth of the time,
+ * or half of it after a FLUSHALL. */
+enum { TICK = 100, SLICE = 1, PAUSE = 9, SHORT_PAUSE = 1 };
 
-/* The options with a number: what they are by default, and their range. */
-struct option_number {
-    const char *name, *text;
-    size_t at;
-    uint64_t value, least, most;
-};
-
-static const struct option_number numbers[] = {
-    {"port", "the port to listen on; 0 takes one that is free", offsetof(struct options, port), 6379, 0, 65535},
-    {"threads", "threads that serve connections; 0: as many as processors", offsetof(struct options, threads), 0, 0,
-     THREADS},
-    {"buckets", "buckets of the map to begin with; it grows", offsetof(struct options, buckets), 4096, 1, 1 << 26},
-    {"connections", "the most connections", offsetof(struct options, connections), 10000, 1, 1 << 20},
-    {"request", "the most bytes of a request", offsetof(struct options, request), 1 << 20, 64, 1 << 29},
-    {"output", "the most bytes of replies that wait for a client", offsetof(struct options, output), 1 << 24, 1 << 17,
-     1 << 30},
-    {"memory", "the most bytes of all keys and values", offsetof(struct options, memory), 1 << 30, 1, (uint64_t)1 << 48},
-    {"grace", "milliseconds until a stop closes what is left", offsetof(struct options, grace), 5000, 0, 600000},
-};
-enum { NUMBERS = sizeof numbers / sizeof *numbers };
-
-static int usage(FILE *to, int status) {
-    fprintf(to, "usage: cache [OPTION..]\n  --address ADDRESS  the IPv4 address to listen on (127.0.0.1)\n");
-    for (size_t i = 0; i < NUMBERS; i++)
-        fprintf(to, "  --%-12s N  %s (%" PRIu64 ")\n", numbers[i].name, numbers[i].text, numbers[i].value);
-    return status;
-}
-
-static bool number_from(const char *text, const struct option_number *of, uint64_t *number) {
-    char *end;
-    errno = 0;
-    *number = strtoull(text, &end, 10);
-    return text[0] >= '0' && text[0] <= '9' && *end == 0 && errno == 0 && *number >= of->least && *number <= of->most;
-}
-
-/* Reads the options. Returns the status to exit with, or -1. */
-static int read_options(int count, char **words, struct options *options) {
-    struct option known[NUMBERS + 3] = {{0}};
-    int which = 0, at;
-    options->address = "127.0.0.1";
-    for (size_t i = 0; i < NUMBERS; i++) {
-        known[i] = (struct option){numbers[i].name, required_argument, NULL, (int)i};
-        memcpy((char *)options + numbers[i].at, &numbers[i].value, sizeof numbers[i].value);
-    }
-    known[NUMBERS] = (struct option){"address", required_argument, NULL, NUMBERS};
-    known[NUMBERS + 1] = (struct option){"help", no_argument, NULL, NUMBERS + 1};
-    while ((which = getopt_long(count, words, "", known, &at)) >= 0) {
-        uint64_t number;
-        if (which == NUMBERS + 1) return usage(stdout, 0);
-        if (which > NUMBERS) return usage(stderr, 2);
-        if (which == NUMBERS) {
-            options->address = optarg;
-        } else if (number_from(optarg, &numbers[which], &number)) {
-            memcpy((char *)options + numbers[which].at, &number, sizeof number);
-        } else {
-            fprintf(stderr, "cache: --%s takes %" PRIu64 " to %" PRIu64 "\n", numbers[which].name, numbers[which].least,
-                    numbers[which].most);
-            return 2;
-        }
-    }
-    return optind < count ? usage(stderr, 2) : -1;
-}
+/* In seconds: after how long without a sign the system asks whether a client is still there, and how often. */
+enum { ALIVE_AFTER = 300, ALIVE_EACH = 100, ALIVE_TIMES = 3 };
 
 /* A server: what it runs with, and what must be closed. */
 struct server {
@@ -100,6 +38,7 @@ struct server {
     struct store store; /* of the main thread, which removes expired keys */
     struct walk walk;
     int listener, signals;
+    uint64_t sweeping, refused[REFUSALS], logged; /* the generation of the walk; what the log has of refusals, and when */
 };
 
 static bool failed(const char *what) {
@@ -138,7 +77,7 @@ static bool take_signals(struct server *server, sigset_t *set) {
 /* Allows as many descriptors as connections need, where the system lets it. */
 static void allow_connections(const struct options *options) {
     struct rlimit files;
-    rlim_t wanted = options->connections + 4 * options->threads + 16;
+    rlim_t wanted = options->limits.connections + 4 * options->threads + 16;
     if (getrlimit(RLIMIT_NOFILE, &files) != 0 || files.rlim_cur >= wanted) return;
     files.rlim_cur = files.rlim_max < wanted ? files.rlim_max : wanted;
     (void)setrlimit(RLIMIT_NOFILE, &files);
@@ -148,7 +87,7 @@ static bool start_threads(struct server *server) {
     pthread_attr_t attributes;
     bool is_started = pthread_attr_init(&attributes) == 0 && pthread_attr_setstacksize(&attributes, STACK) == 0;
     while (is_started && server->started < server->opened) {
-        struct worker *worker = &server->workers[server->started];
+        struct worker *worker = &server->cache.workers[server->started];
         errno = pthread_create(&worker->thread, &attributes, worker_run, worker);
         is_started = errno == 0;
         server->started += is_started;
@@ -157,34 +96,72 @@ static bool start_threads(struct server *server) {
     return is_started || failed("cannot start threads");
 }
 
-static bool start(struct server *server) {
+/* Makes what all threads share: for each store a seat and a client of the map. */
+static uint32_t open_map(struct server *server) {
     const struct options *options = &server->options;
-    uint32_t status = facing_bytes_open(options->buckets, (uint32_t)options->threads + 1, &server->map);
-    if (status == FACING_DONE) status = store_open(&server->store, &server->cache, &server->map);
-    server->workers = calloc(options->threads, sizeof *server->workers);
-    if (status != FACING_DONE || server->workers == NULL) {
+    struct cache *cache = &server->cache;
+    size_t stores = options->threads + 1;
+    uint64_t seed[2];
+    uint32_t status = facing_seed(seed);
+    pthread_mutex_t *const locks[] = {&cache->alone, &cache->hand_lock, &cache->watch_lock};
+    for (size_t i = 0; i < sizeof locks / sizeof *locks; i++)
+        if (pthread_mutex_init(locks[i], NULL) != 0) return FACING_NO_MEMORY;
+    if (status == FACING_DONE) status = facing_bytes_open(options->buckets, (uint32_t)stores, &server->map);
+    if (status != FACING_DONE) return status;
+    cache->seed = seed[0];
+    cache->workers = heap_zeros(options->threads * sizeof *cache->workers);
+    cache->workers_len = cache->workers == NULL ? 0 : options->threads;
+    if (cache->workers == NULL || !turns_begin(cache, stores) || !touched_begin(cache)) return FACING_NO_MEMORY;
+    for (size_t i = 0; i < options->threads; i++)
+        worker_begin(&cache->workers[i], &cache->seats[i]);
+    server->store.seat = &cache->seats[options->threads];
+    return store_open(&server->store, cache, &server->map);
+}
+
+static bool start(struct server *server) {
+    struct cache *cache = &server->cache;
+    uint32_t status = open_map(server);
+    if (status != FACING_DONE) {
         fprintf(stderr, "cache: cannot open the map: %s\n", facing_strerror(status));
         return false;
     }
-    for (size_t i = 0; i < options->threads; i++)
-        worker_begin(&server->workers[i]);
-    for (; server->opened < options->threads; server->opened++)
-        if (!worker_open(&server->workers[server->opened], &server->cache, &server->map)) return failed("cannot start");
+    for (; server->opened < cache->workers_len; server->opened++)
+        if (!worker_open(&cache->workers[server->opened], cache, &server->map)) return failed("cannot start");
+    heap_tell();
+    if (heap_used() > cache->limits.memory) {
+        fprintf(stderr, "cache: --memory is too little: the map and the threads take %" PRIu64 " bytes\n", heap_used());
+        return false;
+    }
     return listen_on(server) && start_threads(server);
+}
+
+/* Replies go out at once, and a connection ends whose client is gone without a word. */
+static void set_up(int accepted) {
+    static const struct {
+        int level, name, value;
+    } settings[] = {
+        {IPPROTO_TCP, TCP_NODELAY, 1},
+        {SOL_SOCKET, SO_KEEPALIVE, 1},
+        {IPPROTO_TCP, TCP_KEEPIDLE, ALIVE_AFTER},
+        {IPPROTO_TCP, TCP_KEEPINTVL, ALIVE_EACH},
+        {IPPROTO_TCP, TCP_KEEPCNT, ALIVE_TIMES},
+    };
+    for (size_t i = 0; i < sizeof settings / sizeof *settings; i++)
+        (void)setsockopt(accepted, settings[i].level, settings[i].name, &settings[i].value, sizeof settings[i].value);
 }
 
 /* Deals a connection out, or refuses it. */
 static void deal_out(struct server *server, int accepted, size_t *turn) {
     static const char full[] = "-ERR max number of clients reached\r\n";
     struct cache *cache = &server->cache;
-    int on = 1;
     bool is_taken = atomic_fetch_add_explicit(&cache->connections, 1, memory_order_relaxed) < cache->limits.connections;
     if (is_taken) {
         *turn = (*turn + 1) % server->started;
         atomic_fetch_add_explicit(&cache->accepted, 1, memory_order_relaxed);
-        (void)setsockopt(accepted, IPPROTO_TCP, TCP_NODELAY, &on, sizeof on);
-        is_taken = write(server->workers[*turn].outbox, &accepted, sizeof accepted) == sizeof accepted;
+        set_up(accepted);
+        is_taken = write(server->cache.workers[*turn].outbox, &accepted, sizeof accepted) == sizeof accepted;
     } else {
+        atomic_fetch_add_explicit(&cache->refused[TOO_MANY], 1, memory_order_relaxed);
         (void)!send(accepted, full, sizeof full - 1, MSG_NOSIGNAL);
     }
     if (is_taken) return;
@@ -202,10 +179,42 @@ static bool accept_some(struct server *server, size_t *turn) {
     return true;
 }
 
-/* When the next slice begins: a slice takes a twentieth of the time, also where one step of the walk takes longer. */
-static uint64_t next_slice(uint64_t began, uint64_t ended) {
-    uint64_t pause = (ended - began) * (TICK / SWEEP);
-    return ended + (pause > TICK ? pause : TICK);
+/* Removes what is live no more, for a slice of time. A turn takes a step of the walk. Once a walk that began in a generation
+ * is at its end, no value of an older one is stored. */
+static void sweep(struct server *server, uint64_t until) {
+    struct cache *cache = &server->cache;
+    uint32_t status;
+    do {
+        turn_share(&server->store);
+        if (server->walk.at == 0) server->sweeping = atomic_load(&cache->generation);
+        status = walk_sweep(&server->walk, &server->store);
+        if (status == FACING_DONE && server->walk.at == 0) atomic_store(&cache->swept, server->sweeping);
+        turn_end(&server->store);
+    } while (status == FACING_DONE && server->walk.at != 0 && now_ms() < until);
+}
+
+/* Removes what is live no more, if there may be some. Returns in how many milliseconds there is more to do. */
+static uint64_t sweep_slice(struct server *server) {
+    struct cache *cache = &server->cache;
+    bool has_dead = COUNT_OF(cache, dead) > 0;
+    if (!has_dead && COUNT_OF(cache, timed) <= 0) return TICK;
+    sweep(server, now_ms() + SLICE);
+    return has_dead ? SHORT_PAUSE : PAUSE;
+}
+
+/* Writes a line a second at most for each reason why connections were refused. A line that nobody reads is left out. */
+static void log_refusals(struct server *server, uint64_t now) {
+    static const char *const reasons[REFUSALS] = {"too many connections", "requests of HTTP", "wrong passwords"};
+    if (now < server->logged + 1000) return;
+    server->logged = now;
+    for (size_t i = 0; i < REFUSALS; i++) {
+        uint64_t count = atomic_load_explicit(&server->cache.refused[i], memory_order_relaxed);
+        struct pollfd out = {.fd = STDOUT_FILENO, .events = POLLOUT};
+        if (count == server->refused[i] || poll(&out, 1, 0) != 1 || (out.revents & POLLOUT) == 0) continue;
+        printf("cache: refused %" PRIu64 ": %s\n", count - server->refused[i], reasons[i]);
+        fflush(stdout);
+        server->refused[i] = count;
+    }
 }
 
 /* Accepts connections and removes expired keys, until a signal comes. Where there are no more descriptors, connections wait
@@ -217,11 +226,12 @@ static void accept_all(struct server *server) {
     while ((files[0].revents & POLLIN) == 0) {
         uint64_t now = now_ms();
         if (now >= next) {
-            if (atomic_load_explicit(&server->cache.timed, memory_order_relaxed) > 0)
-                (void)walk_sweep(&server->walk, &server->store, now + SWEEP);
+            uint64_t pause = sweep_slice(server);
+            log_refusals(server, now);
             files[1].events = POLLIN;
-            next = next_slice(now, now_ms());
+            next = now_ms() + pause;
         }
+        now = now_ms();
         if (poll(files, 2, now < next ? (int)(next - now) : 0) <= 0) continue;
         if ((files[1].revents & POLLIN) && !accept_some(server, &turn)) files[1].events = 0;
     }
@@ -234,25 +244,32 @@ static void stop(struct server *server, const sigset_t *set) {
     sigprocmask(SIG_UNBLOCK, set, NULL);
     if (server->listener >= 0) close(server->listener);
     for (size_t i = 0; i < server->opened; i++) {
-        close(server->workers[i].outbox);
-        server->workers[i].outbox = -1;
+        close(server->cache.workers[i].outbox);
+        server->cache.workers[i].outbox = -1;
     }
     for (size_t i = 0; i < server->started; i++)
-        pthread_join(server->workers[i].thread, NULL);
+        pthread_join(server->cache.workers[i].thread, NULL);
 }
 
 static void close_all(struct server *server) {
-    for (size_t i = 0; server->workers != NULL && i < server->options.threads; i++)
-        worker_close(&server->workers[i]);
-    free(server->workers);
+    struct cache *cache = &server->cache;
+    for (size_t i = 0; i < cache->workers_len; i++)
+        worker_close(&cache->workers[i]);
+    heap_free(cache->workers);
     walk_free(&server->walk);
     store_close(&server->store);
     facing_bytes_free(&server->map);
     if (server->signals >= 0) close(server->signals);
 }
 
-static uint64_t read_count(_Atomic uint64_t *count) {
-    return atomic_load_explicit(count, memory_order_relaxed);
+/* Without a password, clients of other machines are taken only where that is meant. Returns whether the server may start. */
+static bool is_safe(const struct options *options) {
+    struct in_addr address;
+    bool is_local = inet_pton(AF_INET, options->address, &address) == 1 && (ntohl(address.s_addr) >> 24) == 127;
+    if (is_local || options->limits.password.len > 0 || inet_pton(AF_INET, options->address, &address) != 1) return true;
+    fprintf(stderr, "cache: %s without --password: who reaches it may read and write everything%s\n", options->address,
+            options->is_open ? "" : "; --open says that this is meant");
+    return options->is_open;
 }
 
 int main(int count, char **words) {
@@ -262,10 +279,11 @@ int main(int count, char **words) {
     bool is_started;
     int status = read_options(count, words, options);
     if (status >= 0) return status;
+    if (!is_safe(options) || !cluster_open(options->slots, options->nodes)) return 2;
+    commands_begin();
     if (options->threads == 0) options->threads = (uint64_t)sysconf(_SC_NPROCESSORS_ONLN);
-    if (options->threads > THREADS) options->threads = THREADS;
-    server.cache.limits = (struct limits){options->connections, options->request, options->output, options->memory};
-    server.cache.grace = options->grace;
+    if (options->threads > MOST_THREADS) options->threads = MOST_THREADS;
+    server.cache.limits = options->limits;
     server.cache.started = now_ms();
     allow_connections(options);
     mallopt(M_MMAP_THRESHOLD, LARGE); /* what a client did not read in time goes back to the system */
@@ -277,8 +295,8 @@ int main(int count, char **words) {
     }
     stop(&server, &set);
     if (is_started)
-        printf("cache: stopped, %" PRIu64 " connections, %" PRIu64 " requests\n", read_count(&server.cache.accepted),
-               read_count(&server.cache.calls));
+        printf("cache: stopped, %" PRIu64 " connections, %" PRId64 " requests\n", atomic_load(&server.cache.accepted),
+               COUNT_OF(&server.cache, calls));
     close_all(&server);
     return is_started ? 0 : 1;
 }

@@ -1,4 +1,5 @@
-/* Writes replies, and sends them. What a client does not read waits here, up to a limit; then its connection is closed. */
+/* Writes replies, and sends them. What a client does not read waits here; the worker takes no more requests from a
+ * connection where much waits. A request whose own replies go past a limit ends its connection. */
 #include "cache.h"
 #include <errno.h>
 #include <string.h>
@@ -26,11 +27,14 @@ void send_replies(struct connection *c) {
     buffer_move(&c->worker->out, &c->out);
 }
 
+/* Whether the replies may grow by so many bytes: those of a request have a limit, and what is much must have room. */
+static bool may_grow(struct connection *c, size_t len) {
+    if (c->answered + len > c->worker->cache->limits.output) return false;
+    return unsent(c) + len <= HELD || c->out.room - c->out.len >= len || make_room(&c->worker->store, len);
+}
+
 /* Makes room for so many bytes, and returns where they go; NULL where the connection is to be closed. */
 static uint8_t *more_out(struct connection *c, size_t len) {
-    uint64_t limit = c->worker->cache->limits.output;
-    if (unsent(c) + len > limit) send_replies(c);
-    if (unsent(c) + len > limit) c->is_broken = true;
     if (c->is_broken) return NULL;
     if (c->sent > unsent(c) && c->out.room - c->out.len < len) {
         memmove(c->out.at, c->out.at + c->sent, unsent(c));
@@ -38,11 +42,17 @@ static uint8_t *more_out(struct connection *c, size_t len) {
         c->sent = 0;
     }
     if (c->out.at == NULL) buffer_move(&c->out, &c->worker->out);
-    if (!buffer_reserve(&c->out, len)) {
+    if (!may_grow(c, len) || !buffer_reserve(&c->out, len)) {
         c->is_broken = true;
         return NULL;
     }
     return c->out.at + c->out.len;
+}
+
+/* So many bytes were written there. */
+static void wrote(struct connection *c, size_t len) {
+    c->out.len += len;
+    c->answered += len;
 }
 
 /* Writes a line with a number behind a mark, and returns its length. */
@@ -64,7 +74,7 @@ static size_t write_number(uint8_t line[NUMBER], char mark, int64_t number) {
 
 static void reply_line(struct connection *c, char mark, int64_t number) {
     uint8_t *to = more_out(c, NUMBER);
-    if (to != NULL) c->out.len += write_number(to, mark, number);
+    if (to != NULL) wrote(c, write_number(to, mark, number));
 }
 
 static void reply_text(struct connection *c, char mark, const char *text) {
@@ -74,7 +84,7 @@ static void reply_text(struct connection *c, char mark, const char *text) {
     to[0] = (uint8_t)mark;
     memcpy(to + 1, text, len);
     memcpy(to + 1 + len, "\r\n", 2);
-    c->out.len += len + 3;
+    wrote(c, len + 3);
 }
 
 void reply_simple(struct connection *c, const char *text) {
@@ -98,6 +108,10 @@ void reply_none(struct connection *c) {
     reply_line(c, '$', -1);
 }
 
+void reply_no_list(struct connection *c) {
+    reply_line(c, '*', -1);
+}
+
 void reply_bulk(struct connection *c, struct bytes bytes) {
     uint8_t *to = more_out(c, NUMBER + bytes.len + 2);
     size_t len;
@@ -105,7 +119,18 @@ void reply_bulk(struct connection *c, struct bytes bytes) {
     len = write_number(to, '$', (int64_t)bytes.len);
     if (bytes.len > 0) memcpy(to + len, bytes.at, bytes.len);
     memcpy(to + len + bytes.len, "\r\n", 2);
-    c->out.len += len + bytes.len + 2;
+    wrote(c, len + bytes.len + 2);
+}
+
+/* A name, and what is told of it. */
+void reply_field(struct connection *c, const char *name, const char *text) {
+    reply_bulk(c, bytes_of(name));
+    reply_bulk(c, bytes_of(text));
+}
+
+void reply_count(struct connection *c, const char *name, int64_t number) {
+    reply_bulk(c, bytes_of(name));
+    reply_number(c, number);
 }
 
 /* Why a call was not made; NULL where it was. */

@@ -7,37 +7,12 @@
 
 enum { LONGEST_HEAD = 32, LONGEST_LINE = 65536, MOST_ARGS = 1048576, KEPT_ARGS = 256 };
 
-/* Makes room for so many more bytes. Returns false where there is no memory for them. */
-bool buffer_reserve(struct buffer *buffer, size_t more) {
-    size_t room = buffer->room < 256 ? 256 : buffer->room;
-    uint8_t *at;
-    if (buffer->room - buffer->len >= more) return true;
-    while (room - buffer->len < more)
-        room *= 2;
-    at = realloc(buffer->at, room);
-    if (at == NULL) return false;
-    buffer->at = at;
-    buffer->room = room;
-    return true;
-}
+/* What a request may have before the password was given. */
+enum { UNKNOWN_ARGS = 10, UNKNOWN_BULK = 16384 };
 
-void buffer_free(struct buffer *buffer) {
-    free(buffer->at);
-    *buffer = (struct buffer){0};
-}
-
-/* Moves an empty buffer's memory to one that has none. Where that has some, or it is much, it is freed. */
-void buffer_move(struct buffer *to, struct buffer *from) {
-    if (to->at == NULL && from->room <= KEPT)
-        *to = *from;
-    else
-        free(from->at);
-    *from = (struct buffer){0};
-}
-
-/* An argument of the request that is read; they lie there until request_done. */
+/* An argument of the request that runs; they lie there until request_done. */
 struct bytes arg(const struct connection *c, size_t number) {
-    return (struct bytes){c->in.at + c->begin + c->args[number].from, c->args[number].len};
+    return (struct bytes){c->base + c->args[number].from, c->args[number].len};
 }
 
 struct bytes bytes_of(const char *text) {
@@ -74,7 +49,7 @@ static enum parsed wrong(struct connection *c, const char *text) {
 static bool add_arg(struct connection *c, size_t from, size_t len) {
     if (c->count == c->arg_room) {
         size_t room = c->arg_room ? 2 * c->arg_room : 8;
-        struct span *args = realloc(c->args, room * sizeof *args);
+        struct span *args = heap_resize(c->args, room * sizeof *args);
         if (args == NULL) return false;
         c->args = args;
         c->arg_room = room;
@@ -120,6 +95,7 @@ static enum parsed read_arg(struct connection *c) {
     if (parsed != PARSED) return parsed;
     if (bulk < 0 || (uint64_t)bulk + c->at > c->worker->cache->limits.request)
         return wrong(c, "ERR Protocol error: invalid bulk length");
+    if (!c->is_known && bulk > UNKNOWN_BULK) return wrong(c, "ERR Protocol error: unauthenticated bulk length");
     if (len - c->at < (size_t)bulk + 2) {
         c->at = start;
         return MORE;
@@ -205,6 +181,7 @@ enum parsed request_next(struct connection *c) {
                            "ERR Protocol error: invalid multibulk length");
         if (parsed != PARSED) return parsed;
         if (count > MOST_ARGS) return wrong(c, "ERR Protocol error: invalid multibulk length");
+        if (!c->is_known && count > UNKNOWN_ARGS) return wrong(c, "ERR Protocol error: unauthenticated multibulk length");
         c->left = count > 0 ? (size_t)count : 0;
     }
     while (c->left > 0) {
@@ -217,7 +194,7 @@ enum parsed request_next(struct connection *c) {
 /* Goes past the request. */
 void request_done(struct connection *c) {
     if (c->arg_room > KEPT_ARGS) {
-        free(c->args);
+        heap_free(c->args);
         c->args = NULL;
         c->arg_room = 0;
     }

@@ -1,4 +1,5 @@
-/* SCAN: its cursor is the map's own, a number that any client may send back. */
+/* SCAN, whose cursor is the map's own, a number that any client may send back; KEYS, which goes over all keys, and
+ * RANDOMKEY. */
 #include "cache.h"
 #include <ctype.h>
 #include <errno.h>
@@ -6,80 +7,56 @@
 #include <stdio.h>
 #include <stdlib.h>
 #include <string.h>
+#include <sys/random.h>
 
-/* The most keys that one SCAN copies. */
-enum { MOST_SCANNED = 1024 };
+/* The most keys that one SCAN copies; and the numbers of the map's cursor are below this. */
+enum { MOST_SCANNED = 1024, CURSORS = 1 << 26 };
 
-/* Whether a byte is in a set such as `[a-z]`, whose first byte behind the bracket `at` is; which then is behind the set. */
-static bool is_in_set(struct bytes pattern, size_t *at, uint8_t byte) {
-    size_t i = *at;
-    bool is_in = false, is_not = i < pattern.len && pattern.at[i] == '^';
-    for (i += is_not; i < pattern.len && pattern.at[i] != ']'; i++) {
-        uint8_t low, high;
-        if (pattern.at[i] == '\\' && i + 1 < pattern.len) i++;
-        low = high = pattern.at[i];
-        if (i + 2 < pattern.len && pattern.at[i + 1] == '-') {
-            high = pattern.at[i + 2];
-            i += 2;
-        }
-        is_in = is_in || (low <= high ? low <= byte && byte <= high : high <= byte && byte <= low);
-    }
-    *at = i < pattern.len ? i + 1 : i;
-    return is_in != is_not;
-}
-
-/* Whether the part of a pattern at `at`, which is no star, takes a byte; `at` is behind the part then. */
-static bool takes(struct bytes pattern, size_t *at, uint8_t byte) {
-    uint8_t part = pattern.at[(*at)++];
-    if (part == '?') return true;
-    if (part == '[') return is_in_set(pattern, at, byte);
-    if (part == '\\' && *at < pattern.len) part = pattern.at[(*at)++];
-    return part == byte;
-}
-
-/* Whether a text is of a pattern of Redis: `*`, `?`, `[..]`, and `\` before a byte that stands for itself. Only the last
- * star is tried again, so that no pattern takes longer than its length times the text's. */
-static bool is_like(struct bytes text, struct bytes pattern) {
-    size_t i = 0, at = 0, star = SIZE_MAX, again = 0;
-    while (i < text.len || at < pattern.len) {
-        size_t next = at;
-        if (at < pattern.len && pattern.at[at] == '*') {
-            star = ++at;
-            again = i;
-        } else if (at < pattern.len && i < text.len && takes(pattern, &next, text.at[i])) {
-            at = next;
-            i++;
-        } else if (star != SIZE_MAX && again < text.len) {
-            at = star;
-            i = ++again;
-        } else {
-            return false;
-        }
-    }
-    return true;
-}
-
-/* What SCAN is asked for, and how many keys it has found. */
-struct scanning {
-    struct connection *c;
+/* Which keys are asked for, and those that were found: each behind its length. */
+struct finding {
     struct bytes pattern;
-    bool has_pattern, is_counting;
-    size_t found;
+    bool has_pattern, is_of_strings;
     uint64_t now;
+    size_t count;
+    struct buffer keys;
 };
 
-static bool scan_key(struct store *store, struct bytes key, struct bytes stored, void *of) {
-    struct scanning *it = of;
-    uint64_t deadline = 0;
-    (void)store;
-    if (stored.len >= DEADLINE) memcpy(&deadline, stored.at, DEADLINE);
-    if (deadline != 0 && deadline <= it->now) return true;
-    if (it->has_pattern && !is_like(key, it->pattern)) return true;
-    if (it->is_counting)
-        it->found++;
-    else
-        reply_bulk(it->c, key);
+/* Takes a key where it is asked for. Returns false where there is no memory for it. */
+static bool take_key(struct store *store, struct bytes key, struct bytes stored, void *of) {
+    struct finding *it = of;
+    struct found found;
+    store_find(store, stored, it->now, &found);
+    if (!found.is_live) return true;
+    if (!it->is_of_strings || (it->has_pattern && !is_like(key, it->pattern))) return true;
+    if (!buffer_reserve(&it->keys, sizeof key.len + key.len)) return false;
+    memcpy(it->keys.at + it->keys.len, &key.len, sizeof key.len);
+    it->keys.len += sizeof key.len;
+    if (key.len > 0) memcpy(it->keys.at + it->keys.len, key.at, key.len);
+    it->keys.len += key.len;
+    it->count++;
     return true;
+}
+
+/* Takes the keys of the next buckets: at most so many, or one bucket's. */
+static uint32_t take_keys(struct connection *c, struct finding *it, size_t most) {
+    struct walk *walk = &c->worker->walk;
+    uint32_t status = walk_next(walk, &c->worker->store, most);
+    return status != FACING_DONE || walk_each(walk, &c->worker->store, take_key, it) ? status : FACING_NO_MEMORY;
+}
+
+/* The key that lies at a place of those that were found, which is behind it then. */
+static struct bytes key_at(const struct finding *it, size_t *at) {
+    struct bytes key;
+    memcpy(&key.len, it->keys.at + *at, sizeof key.len);
+    key.at = it->keys.at + *at + sizeof key.len;
+    *at += sizeof key.len + key.len;
+    return key;
+}
+
+static void reply_keys(struct connection *c, const struct finding *it) {
+    reply_list(c, it->count);
+    for (size_t at = 0; at < it->keys.len && !c->is_broken;)
+        reply_bulk(c, key_at(it, &at));
 }
 
 /* Reads a cursor: an unsigned number of 64 bits. */
@@ -93,15 +70,17 @@ static bool cursor_of(struct bytes text, uint64_t *cursor) {
 }
 
 /* Reads the options of SCAN. Returns an error, or NULL. */
-static const char *options_of_scan(struct scanning *it, int64_t *count) {
-    for (size_t i = 2; i < it->c->count; i += 2) {
-        if (i + 1 == it->c->count) return NO_SYNTAX;
-        if (is_word(arg(it->c, i), "MATCH")) {
-            it->pattern = arg(it->c, i + 1);
+static const char *options_of_scan(struct connection *c, struct finding *it, int64_t *count) {
+    for (size_t i = 2; i < c->count; i += 2) {
+        if (i + 1 == c->count) return NO_SYNTAX;
+        if (is_word(arg(c, i), "MATCH")) {
+            it->pattern = arg(c, i + 1);
             it->has_pattern = true;
-        } else if (!is_word(arg(it->c, i), "COUNT")) {
+        } else if (is_word(arg(c, i), "TYPE")) {
+            it->is_of_strings = is_word(arg(c, i + 1), "string");
+        } else if (!is_word(arg(c, i), "COUNT")) {
             return NO_SYNTAX;
-        } else if (!number_of(arg(it->c, i + 1), count)) {
+        } else if (!number_of(arg(c, i + 1), count)) {
             return NOT_A_NUMBER;
         } else if (*count < 1) {
             return NO_SYNTAX;
@@ -110,26 +89,67 @@ static const char *options_of_scan(struct scanning *it, int64_t *count) {
     return NULL;
 }
 
-/* Copies at most COUNT keys, or a bucket, and shows those that match. Its cursor is the map's, where 0 is the end too. */
-const char *scan(struct connection *c) {
+/* Copies at most COUNT keys, or a bucket, and shows those that match; none where many buckets are empty. Its cursor is the
+ * map's, where 0 is the end too. */
+const char *run_scan(struct connection *c) {
     static const char no_cursor[] = "ERR invalid cursor";
     struct walk *walk = &c->worker->walk;
-    struct scanning it = {.c = c, .is_counting = true, .now = now_ms()};
+    struct finding it = {.is_of_strings = true, .now = now_ms()};
     int64_t count = 10;
     const char *error;
     char text[24];
     uint32_t status;
     if (!cursor_of(arg(c, 1), &walk->at)) return no_cursor;
-    error = options_of_scan(&it, &count);
+    error = options_of_scan(c, &it, &count);
     if (error != NULL) return error;
-    status = walk_next(walk, &c->worker->store, count < MOST_SCANNED ? (size_t)count : MOST_SCANNED);
-    if (status != FACING_DONE) return status == FACING_BAD_ARGUMENT ? no_cursor : error_of(status);
-    walk_each(walk, &c->worker->store, scan_key, &it);
-    snprintf(text, sizeof text, "%" PRIu64, walk->at == UINT64_MAX ? 0 : walk->at);
-    reply_list(c, 2);
-    reply_bulk(c, bytes_of(text));
-    reply_list(c, it.found);
-    it.is_counting = false;
-    walk_each(walk, &c->worker->store, scan_key, &it);
-    return NULL;
+    status = take_keys(c, &it, count < MOST_SCANNED ? (size_t)count : MOST_SCANNED);
+    if (status == FACING_DONE) {
+        snprintf(text, sizeof text, "%" PRIu64, walk->at == UINT64_MAX ? 0 : walk->at);
+        reply_list(c, 2);
+        reply_bulk(c, bytes_of(text));
+        reply_keys(c, &it);
+    }
+    buffer_free(&it.keys);
+    return status == FACING_BAD_ARGUMENT ? no_cursor : error_of(status);
+}
+
+/* Goes over all keys. No moment is that of all: a key that comes or goes meanwhile may be shown or not, also by a request
+ * that runs alone between two steps. */
+const char *run_keys(struct connection *c) {
+    struct walk *walk = &c->worker->walk;
+    struct finding it = {.is_of_strings = true, .now = now_ms()};
+    uint32_t status;
+    it.pattern = arg(c, 1);
+    it.has_pattern = true;
+    walk->at = 0;
+    do {
+        status = take_keys(c, &it, MOST_SCANNED);
+        if (!c->worker->store.is_alone) turn_pass(&c->worker->store);
+    } while (status == FACING_DONE && walk->at != UINT64_MAX);
+    if (status == FACING_DONE) reply_keys(c, &it);
+    buffer_free(&it.keys);
+    return error_of(status);
+}
+
+/* Begins at a bucket at random, and shows a key of the first one that has any. */
+const char *run_randomkey(struct connection *c) {
+    struct walk *walk = &c->worker->walk;
+    struct finding it = {.is_of_strings = true, .now = now_ms()};
+    struct bytes key = NOTHING;
+    bool is_second = false, is_over = false;
+    uint32_t random[2] = {0}, status = FACING_DONE;
+    (void)!getrandom(random, sizeof random, 0);
+    walk->at = random[0] % CURSORS;
+    while (status == FACING_DONE && it.count == 0 && !is_over) {
+        status = take_keys(c, &it, 1);
+        is_over = is_second && walk->at == UINT64_MAX;
+        if (walk->at != UINT64_MAX) continue;
+        is_second = true;
+        walk->at = 0;
+    }
+    for (size_t i = 0, at = 0; i < it.count && i <= random[1] % it.count; i++)
+        key = key_at(&it, &at);
+    if (status == FACING_DONE) (it.count == 0) ? reply_none(c) : reply_bulk(c, key);
+    buffer_free(&it.keys);
+    return error_of(status);
 }

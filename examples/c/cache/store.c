@@ -2,102 +2,190 @@
  * either the call does not depend on what was there, or it is made only if that is still there, and else all is done again.
  *
  * A value whose deadline has passed is gone for every function here: each looks at the clock after it got the value, and no
- * clock of another thread is behind. It takes memory until it is overwritten or removed. */
-#define _GNU_SOURCE
+ * clock of another thread is behind. So is a value of another generation, since FLUSHALL begins a new one. Both take memory
+ * until they are overwritten or removed. */
 #include "cache.h"
-#include <stdlib.h>
 #include <string.h>
-#include <time.h>
 
-static uint64_t ms_of(clockid_t clock) {
-    struct timespec now;
-    clock_gettime(clock, &now);
-    return (uint64_t)now.tv_sec * 1000 + (uint64_t)now.tv_nsec / 1000000;
+/* A head's upper 8 bits are the generation. A deadline in 2^55 milliseconds or more is kept in units of 256. */
+enum { GENERATIONS = 256, GENERATION_AT = 56, COARSE_AT = 55, COARSE = 8 };
+
+static uint64_t head_of(uint64_t generation, uint64_t deadline) {
+    const uint64_t coarse = (uint64_t)1 << COARSE_AT;
+    return generation << GENERATION_AT | (deadline < coarse ? deadline : coarse | deadline >> COARSE);
 }
 
-/* The time by CLOCK_MONOTONIC, in milliseconds. */
-uint64_t now_ms(void) {
-    return ms_of(CLOCK_MONOTONIC);
+static uint64_t deadline_of(uint64_t head) {
+    const uint64_t coarse = (uint64_t)1 << COARSE_AT;
+    return (head & coarse) == 0 ? head & (coarse - 1) : (head & (coarse - 1)) << COARSE;
 }
 
-/* The moment after so many units of milliseconds. Returns false where the time of day has no such moment in 63 bits. */
-bool store_deadline(int64_t count, int64_t unit, uint64_t *deadline) {
-    int64_t after, day;
-    if (__builtin_mul_overflow(count, unit, &after) || __builtin_add_overflow(after, (int64_t)ms_of(CLOCK_REALTIME), &day)
-        || __builtin_add_overflow(after, (int64_t)now_ms(), &after))
-        return false;
-    *deadline = after > 0 ? (uint64_t)after : 1;
-    return true;
+static uint64_t generation_of(const struct store *store) {
+    return atomic_load_explicit(&store->cache->generation, memory_order_relaxed) % GENERATIONS;
 }
+
+/* == The store == */
 
 uint32_t store_open(struct store *store, struct cache *cache, facing_bytes_handle *map) {
-    *store = (struct store){.cache = cache, .seen = malloc(ROOM), .next = malloc(ROOM)};
-    if (store->seen == NULL || store->next == NULL) return FACING_NO_MEMORY;
+    store->cache = cache;
+    if (!buffer_reserve(&store->seen, KEPT) || !buffer_reserve(&store->next, KEPT)) return FACING_NO_MEMORY;
     return facing_bytes_client(map, &store->client);
 }
 
 void store_close(struct store *store) {
     facing_bytes_free(&store->client);
-    free(store->seen);
-    free(store->next);
-    store->seen = store->next = NULL;
+    buffer_free(&store->seen);
+    buffer_free(&store->next);
+    walk_free(&store->candidates.walk);
+}
+
+/* Adds to all threads' counts what this one counted. */
+void store_tell(struct store *store) {
+    int64_t *own = (int64_t *)(void *)&store->counts;
+    for (size_t i = 0; i < COUNTS; i++)
+        if (own[i] != 0) atomic_fetch_add_explicit(&store->cache->counts[i], own[i], memory_order_relaxed);
+    store->counts = (struct counts){0};
+    heap_tell();
+}
+
+/* Gives back what a large value took. */
+void store_rest(struct store *store) {
+    if (store->seen.room > KEPT) buffer_free(&store->seen);
+    if (store->next.room > KEPT) buffer_free(&store->next);
 }
 
 /* Says what is to be stored: a deadline, and the bytes of both parts. They may not lie in store->next. */
 void store_next(struct store *store, uint64_t deadline, struct bytes front, struct bytes back) {
+    uint64_t head = head_of(generation_of(store), deadline);
+    struct buffer *next = &store->next;
     store->next_deadline = deadline;
-    store->next_len = DEADLINE + front.len + back.len;
-    if (front.len > ROOM || back.len > ROOM || store->next_len > ROOM) {
-        store->next_len = ROOM + 1;
-        return;
+    next->len = 0;
+    if (front.len > LONGEST_VALUE || back.len > LONGEST_VALUE - front.len) {
+        next->len = SIZE_MAX;
+    } else if (buffer_reserve(next, HEAD + front.len + back.len)) {
+        memcpy(next->at, &head, HEAD);
+        if (front.len > 0) memcpy(next->at + HEAD, front.at, front.len);
+        if (back.len > 0) memcpy(next->at + HEAD + front.len, back.at, back.len);
+        next->len = HEAD + front.len + back.len;
     }
-    memcpy(store->next, &deadline, DEADLINE);
-    if (front.len > 0) memcpy(store->next + DEADLINE, front.at, front.len);
-    if (back.len > 0) memcpy(store->next + DEADLINE + front.len, back.at, back.len);
 }
 
-/* What a call said of a key. */
-static void find(const struct store *store, const facing_bytes_answer *answer, struct found *found) {
-    *found = (struct found){.is_stored = answer->found != 0, .stored_len = (size_t)answer->len};
-    if (!found->is_stored || answer->len < DEADLINE || answer->len > ROOM) return;
-    memcpy(&found->deadline, store->seen, DEADLINE);
-    found->is_live = found->deadline == 0 || now_ms() < found->deadline;
-    found->value = (struct bytes){store->seen + DEADLINE, (size_t)answer->len - DEADLINE};
+/* Writes bytes over what is to be stored, from a place on, and zeros between its end and the place. */
+void store_over(struct store *store, size_t at, struct bytes bytes) {
+    struct buffer *next = &store->next;
+    size_t begin = HEAD + at, end = begin + bytes.len;
+    if (next->len == 0 || next->len > LONGEST_STORED) return;
+    if (at > LONGEST_VALUE || bytes.len > LONGEST_VALUE - at) {
+        next->len = SIZE_MAX;
+    } else if (end > next->len && !buffer_reserve(next, end - next->len)) {
+        next->len = 0;
+    } else {
+        if (begin > next->len) memset(next->at + next->len, 0, begin - next->len);
+        if (bytes.len > 0) memcpy(next->at + begin, bytes.at, bytes.len);
+        if (end > next->len) next->len = end;
+    }
 }
 
-/* Whether the limit of memory allows so many more bytes. Each thread may be one value past it. */
-bool store_has_room(const struct store *store, int64_t more) {
-    int64_t used = atomic_load_explicit(&store->cache->used, memory_order_relaxed);
-    return more <= 0 || used < 0 || (uint64_t)used + (uint64_t)more <= store->cache->limits.memory;
+/* Why store->next cannot be stored. */
+static uint32_t status_of_next(const struct store *store) {
+    return store->next.len == 0 ? FACING_NO_MEMORY : store->next.len > LONGEST_STORED ? FACING_TOO_LONG : FACING_DONE;
 }
 
-/* How many more bytes there are where a key gets store->next in the place of what was found. */
-static int64_t growth(const struct store *store, struct bytes key, const struct found *found) {
-    return (int64_t)store->next_len - (int64_t)found->stored_len + (found->is_stored ? 0 : (int64_t)key.len);
+/* == What is stored == */
+
+/* What the first bytes of a value that is stored say, of which there are `stored_len`. */
+static void find(const struct store *store, const uint8_t *first, size_t stored_len, uint64_t now, struct found *found) {
+    uint64_t head;
+    *found = (struct found){.is_stored = true, .stored_len = stored_len};
+    if (stored_len < HEAD) return;
+    memcpy(&head, first, HEAD);
+    found->is_dead = head >> GENERATION_AT != generation_of(store);
+    if (found->is_dead) return;
+    found->deadline = deadline_of(head);
+    found->is_live = found->deadline == 0 || (now != 0 ? now : now_ms()) < found->deadline;
+    found->value.len = stored_len - HEAD;
 }
 
-static void count(_Atomic int64_t *of, int64_t more) {
-    if (more != 0) atomic_fetch_add_explicit(of, more, memory_order_relaxed);
+/* What a copy of a value that is stored says, at that time; now where it is 0. */
+void store_find(const struct store *store, struct bytes stored, uint64_t now, struct found *found) {
+    find(store, stored.at, stored.len, now, found);
+    if (stored.len >= HEAD) found->value = (struct bytes){stored.at + HEAD, stored.len - HEAD};
 }
 
-/* Counts that a key has store->next in the place of what was found. */
-static void count_stored(struct store *store, struct bytes key, const struct found *before) {
-    count(&store->cache->used, growth(store, key, before));
-    count(&store->cache->timed, (store->next_deadline != 0) - (before->deadline != 0));
-}
-
-/* Counts that what was found is removed. */
-static void count_removed(struct store *store, struct bytes key, const struct found *before) {
-    count(&store->cache->used, -(int64_t)(before->stored_len + key.len));
-    count(&store->cache->timed, -(before->deadline != 0));
+/* What a call said of a key, whose answer has the first bytes there. */
+static void find_answer(const struct store *store, const facing_bytes_answer *answer, const uint8_t *first,
+                        struct found *found) {
+    *found = (struct found){0};
+    if (answer->found) find(store, first, (size_t)answer->len, 0, found);
 }
 
 /* Gets the value at a key. */
 uint32_t store_get(struct store *store, struct bytes key, struct found *found) {
     facing_bytes_answer answer = {0, 0};
-    uint32_t status = facing_bytes_get(&store->client, key.at, key.len, store->seen, ROOM, &answer);
-    find(store, &answer, found);
+    struct buffer *seen = &store->seen;
+    uint32_t status = FACING_DONE;
+    do {
+        seen->len = 0;
+        if (seen->at == NULL || status == FACING_NO_ROOM)
+            if (!buffer_reserve(seen, answer.len < KEPT ? KEPT : (size_t)answer.len)) return FACING_NO_MEMORY;
+        status = facing_bytes_get(&store->client, key.at, key.len, seen->at, seen->room, &answer);
+    } while (status == FACING_NO_ROOM);
+    *found = (struct found){0};
+    if (status == FACING_DONE && answer.found) store_find(store, (struct bytes){seen->at, (size_t)answer.len}, 0, found);
     return status;
+}
+
+/* Finds what a key has, but for the bytes of the value: a long one is not copied. */
+uint32_t store_look(struct store *store, struct bytes key, struct found *found) {
+    facing_bytes_answer answer = {0, 0};
+    facing_bytes_handle held = {0};
+    struct buffer *seen = &store->seen;
+    uint32_t status;
+    *found = (struct found){0};
+    if (seen->at == NULL && !buffer_reserve(seen, KEPT)) return FACING_NO_MEMORY;
+    status = facing_bytes_get(&store->client, key.at, key.len, seen->at, seen->room, &answer);
+    if (status == FACING_NO_ROOM) {
+        status = facing_bytes_hold(&store->client, key.at, key.len, &held, &answer);
+        if (status == FACING_DONE && held.at != NULL) status = facing_bytes_read(&held, 0, seen->at, HEAD, &answer);
+        facing_bytes_free(&held);
+    }
+    if (status == FACING_DONE) find_answer(store, &answer, seen->at, found);
+    return status;
+}
+
+/* Counts that a command looked for a value, and that the key is used. */
+void store_count_look(struct store *store, struct bytes key, uint32_t status, const struct found *found) {
+    if (status != FACING_DONE) return;
+    store->counts.hits += found->is_live;
+    store->counts.misses += !found->is_live;
+    if (found->is_live) touch(store, key);
+}
+
+/* == Changes == */
+
+/* Counts what was there before, and says that the key was changed. */
+static void count_gone(struct store *store, struct bytes key, const struct found *before) {
+    if (before->is_stored) {
+        store->counts.dataset -= (int64_t)(before->stored_len + key.len);
+        store->counts.dead -= before->is_dead;
+        store->counts.timed -= before->deadline != 0;
+    }
+    changed(store, key);
+}
+
+/* Counts that a key has store->next in the place of what was found. */
+static void count_stored(struct store *store, struct bytes key, const struct found *before) {
+    count_gone(store, key, before);
+    store->counts.dataset += (int64_t)(store->next.len + key.len);
+    store->counts.timed += store->next_deadline != 0;
+    if (before->is_live) touch(store, key);
+}
+
+/* Sees to it that there is room for store->next in the place of what was found. */
+static uint32_t make_room_for_next(struct store *store, struct bytes key, const struct found *found) {
+    size_t more = memory_of(key.len, store->next.len - HEAD);
+    size_t less = found->is_stored && found->stored_len >= HEAD ? memory_of(key.len, found->stored_len - HEAD) : 0;
+    return more <= less || make_room(store, more - less) ? FACING_DONE : STORE_FULL;
 }
 
 static enum change always(struct store *store, const struct found *found, void *of) {
@@ -106,52 +194,55 @@ static enum change always(struct store *store, const struct found *found, void *
     return STORE;
 }
 
-/* Stores store->next at a key, and finds what was there before. */
+/* Stores store->next at a key, and finds what was there before, but for the bytes of its value. */
 uint32_t store_put(struct store *store, struct bytes key, struct found *before) {
     facing_bytes_answer answer = {0, 0};
-    uint32_t status;
+    uint32_t status = status_of_next(store);
     *before = (struct found){0};
-    if (store->next_len > ROOM) return FACING_TOO_LONG;
-    if (!store_has_room(store, growth(store, key, before))) return store_change(store, key, always, before);
-    status = facing_bytes_put(&store->client, key.at, key.len, store->next, store->next_len, store->seen, ROOM, &answer);
-    find(store, &answer, before);
-    if (status == FACING_DONE) count_stored(store, key, before);
+    if (status != FACING_DONE) return status;
+    if (make_room_for_next(store, key, before) != FACING_DONE) return store_change(store, key, always, before);
+    status = facing_bytes_put(&store->client, key.at, key.len, store->next.at, store->next.len, store->head, HEAD, &answer);
+    if (status != FACING_DONE) return status;
+    find_answer(store, &answer, store->head, before);
+    count_stored(store, key, before);
     return status;
 }
 
-/* Removes a key, and finds what was there. */
+/* Removes a key, and finds what was there, but for the bytes of its value. */
 uint32_t store_remove(struct store *store, struct bytes key, struct found *before) {
     facing_bytes_answer answer = {0, 0};
-    uint32_t status = facing_bytes_remove(&store->client, key.at, key.len, store->seen, ROOM, &answer);
-    find(store, &answer, before);
-    if (before->is_stored) count_removed(store, key, before);
+    uint32_t status = facing_bytes_remove(&store->client, key.at, key.len, store->head, HEAD, &answer);
+    find_answer(store, &answer, store->head, before);
+    if (before->is_stored) count_gone(store, key, before);
     return status;
 }
 
-/* Removes a key with what was copied of it, if its deadline has passed and it still has that. */
+/* Removes a key with what was copied of it, if that is live no more and the key still has it. */
 uint32_t store_expire(struct store *store, struct bytes key, struct bytes stored) {
     facing_bytes_answer answer = {0, 0};
-    struct found before = {.is_stored = true, .stored_len = stored.len};
+    struct found found;
     uint32_t status;
-    if (stored.len < DEADLINE) return FACING_DONE;
-    memcpy(&before.deadline, stored.at, DEADLINE);
-    if (before.deadline == 0 || now_ms() < before.deadline) return FACING_DONE;
+    store_find(store, stored, 0, &found);
+    if (found.is_live) return FACING_DONE;
     status = facing_bytes_remove_if(&store->client, key.at, key.len, stored.at, stored.len, &answer);
-    if (answer.found) count_removed(store, key, &before);
+    if (!answer.found) return status;
+    count_gone(store, key, &found);
+    store->counts.expired += !found.is_dead;
     return status;
 }
 
 /* Stores store->next if the key still has what was found. */
 static uint32_t try_store(struct store *store, struct bytes key, const struct found *found, bool *is_made) {
     facing_bytes_answer answer = {0, 0};
-    uint32_t status;
-    if (store->next_len > ROOM) return FACING_TOO_LONG;
-    if (!store_has_room(store, growth(store, key, found))) return STORE_FULL;
+    uint32_t status = status_of_next(store);
+    if (status == FACING_DONE) status = make_room_for_next(store, key, found);
+    if (status != FACING_DONE) return status;
     if (found->is_stored)
-        status = facing_bytes_replace_if(&store->client, key.at, key.len, store->seen, found->stored_len, store->next,
-                                         store->next_len, &answer);
+        status = facing_bytes_replace_if(&store->client, key.at, key.len, store->seen.at, found->stored_len, store->next.at,
+                                         store->next.len, &answer);
     else
-        status = facing_bytes_put_if_absent(&store->client, key.at, key.len, store->next, store->next_len, NULL, 0, &answer);
+        status = facing_bytes_put_if_absent(&store->client, key.at, key.len, store->next.at, store->next.len, NULL, 0,
+                                            &answer);
     *is_made = status == FACING_DONE && (answer.found != 0) == found->is_stored;
     if (*is_made) count_stored(store, key, found);
     return status;
@@ -162,9 +253,9 @@ static uint32_t try_remove(struct store *store, struct bytes key, const struct f
     facing_bytes_answer answer = {0, 0};
     uint32_t status = FACING_DONE;
     if (found->is_stored)
-        status = facing_bytes_remove_if(&store->client, key.at, key.len, store->seen, found->stored_len, &answer);
+        status = facing_bytes_remove_if(&store->client, key.at, key.len, store->seen.at, found->stored_len, &answer);
     *is_made = status == FACING_DONE && (answer.found != 0) == found->is_stored;
-    if (*is_made && found->is_stored) count_removed(store, key, found);
+    if (*is_made && found->is_stored) count_gone(store, key, found);
     return status;
 }
 
@@ -182,5 +273,45 @@ uint32_t store_change(struct store *store, struct bytes key, decide_fn *decide, 
         case REMOVE: status = try_remove(store, key, &found, &is_made); break;
         }
     }
+    return status;
+}
+
+/* == All keys == */
+
+int64_t read_count(struct cache *cache, size_t offset) {
+    return atomic_load_explicit(&cache->counts[offset / sizeof(int64_t)], memory_order_relaxed);
+}
+
+/* How many keys there are. Expired keys count until they are removed. */
+uint64_t store_count(struct store *store, uint32_t *status) {
+    uint64_t count = 0;
+    int64_t dead = COUNT_OF(store->cache, dead) + store->counts.dead;
+    *status = facing_bytes_count(&store->client, &count);
+    return dead < 0 ? count : count > (uint64_t)dead ? count - (uint64_t)dead : 0;
+}
+
+/* Removes what is live no more. The request runs alone. */
+static uint32_t remove_dead(struct store *store) {
+    struct walk walk = {0};
+    uint32_t status;
+    do
+        status = walk_sweep(&walk, store);
+    while (status == FACING_DONE && walk.at != 0);
+    walk_free(&walk);
+    return status;
+}
+
+/* Removes all keys at one moment: a new generation begins. The request runs alone. Where values may still be stored whose
+ * generation has the same number as the new one, they are removed first. */
+uint32_t store_clear(struct store *store) {
+    struct cache *cache = store->cache;
+    uint64_t count = 0, next = atomic_load(&cache->generation) + 1;
+    uint32_t status = facing_bytes_count(&store->client, &count);
+    if (status == FACING_DONE && count > 0 && next - atomic_load(&cache->swept) >= GENERATIONS) status = remove_dead(store);
+    if (status != FACING_DONE || count == 0) return status;
+    store_tell(store);
+    atomic_store(&cache->counts[offsetof(struct counts, dead) / sizeof(int64_t)], (int64_t)count);
+    atomic_store(&cache->counts[offsetof(struct counts, timed) / sizeof(int64_t)], 0);
+    atomic_store(&cache->generation, next);
     return status;
 }

@@ -1,51 +1,81 @@
-/* Goes over the keys by a cursor of the map, some buckets at a time: for SCAN, for FLUSHALL, and to remove expired keys. */
+/* Goes over the keys by a cursor of the map, some buckets at a time: for SCAN, for eviction, and to remove what is live no
+ * more. */
 #include "cache.h"
-#include <stdlib.h>
+#include <string.h>
 
-enum { PAIRS = 1024 };
+/* The most buckets that a step looks into, and the most pairs of a sweep's step: either takes some 0.1 ms. */
+enum { BUCKETS = 4096, SWEPT = 256 };
 
 /* Makes room for so many pairs of so many bytes. */
-static bool make_room(struct walk *walk, size_t pairs, size_t bytes) {
+static bool make_room_in(struct walk *walk, size_t pairs, size_t bytes) {
     if (walk->len < pairs) {
         walk_free(walk);
-        walk->key_lens = malloc(pairs * sizeof *walk->key_lens);
-        walk->value_lens = malloc(pairs * sizeof *walk->value_lens);
+        walk->key_lens = heap_resize(NULL, pairs * sizeof *walk->key_lens);
+        walk->value_lens = heap_resize(NULL, pairs * sizeof *walk->value_lens);
         if (walk->key_lens == NULL || walk->value_lens == NULL) return false;
         walk->len = pairs;
     }
     if (walk->room_len < bytes) {
-        uint8_t *room = malloc(bytes);
+        uint8_t *room = heap_resize(NULL, bytes);
         if (room == NULL) return false;
-        free(walk->room);
+        heap_free(walk->room);
         walk->room = room;
         walk->room_len = bytes;
     }
     return true;
 }
 
-/* Copies the pairs of the next buckets: at most so many pairs, or one bucket, and at least one bucket until the end. */
-uint32_t walk_next(struct walk *walk, struct store *store, size_t most) {
-    facing_cursor cursor = {walk->at};
-    facing_bytes_sizes sizes = {most, 2 * FACING_LONGEST};
+/* Copies the pairs of the bucket where the walk is, behind those that are there. */
+static uint32_t copy_bucket(struct walk *walk, struct store *store, size_t most, size_t *bytes, facing_bytes_sizes *sizes) {
+    facing_bytes_handle *client = &store->client;
+    facing_handle lent, back;
+    uint64_t next = walk->at;
     uint32_t status;
+    unsigned round = 0;
     do {
-        if (!make_room(walk, sizes.pairs, sizes.bytes)) {
-            walk_free(walk);
-            return FACING_NO_MEMORY;
-        }
-        if (most < sizes.pairs) most = sizes.pairs;
-        status = facing_bytes_pairs(&store->client, &cursor, walk->key_lens, walk->value_lens, most, walk->room,
-                                    walk->room_len, &sizes);
-    } while (status == FACING_NO_ROOM);
-    walk->pairs = status == FACING_DONE ? sizes.pairs : 0;
-    walk->at = cursor.at;
+        lent = facing_lend(client->at, FACING_BYTES);
+        back.at = NULL;
+        FACING_ENTER(0);
+        status = facing_c_bytes_try_pairs(lent, &back, walk->at, &next, walk->key_lens + walk->pairs, most - walk->pairs,
+                                          walk->value_lens + walk->pairs, most - walk->pairs, walk->room + *bytes,
+                                          walk->room_len - *bytes, sizes);
+        FACING_LEAVE(0);
+        client->at = facing_back(client->at, lent.at, back.at);
+        if (status == FACING_BUSY) facing_wait(round);
+        round += round < 64;
+    } while (status == FACING_BUSY);
+    if (status == FACING_DONE) {
+        walk->pairs += sizes->pairs;
+        *bytes += sizes->bytes;
+        walk->at = next;
+    }
     return status;
 }
 
+/* Copies the pairs of the next buckets: at most so many pairs, and one bucket's at least where it has some. It may find none
+ * before the end, since it looks into a bounded number of buckets. */
+uint32_t walk_next(struct walk *walk, struct store *store, size_t most) {
+    facing_bytes_sizes sizes = {most, 2 * (size_t)KEPT};
+    uint32_t status = FACING_DONE;
+    size_t bytes = 0;
+    walk->pairs = 0;
+    if (walk->room_len > sizes.bytes) walk_free(walk);
+    if (!make_room_in(walk, sizes.pairs, sizes.bytes)) status = FACING_NO_MEMORY;
+    for (size_t i = 0; status == FACING_DONE && i < BUCKETS && walk->at != UINT64_MAX; i++) {
+        status = copy_bucket(walk, store, most, &bytes, &sizes);
+        if (status != FACING_NO_ROOM || walk->pairs > 0) continue;
+        if (most < sizes.pairs) most = sizes.pairs;
+        status = make_room_in(walk, most, sizes.bytes) ? FACING_DONE : FACING_NO_MEMORY;
+    }
+    FACING_SEE_ALL();
+    if (status == FACING_NO_MEMORY) walk_free(walk);
+    return walk->pairs > 0 ? FACING_DONE : status;
+}
+
 void walk_free(struct walk *walk) {
-    free(walk->key_lens);
-    free(walk->value_lens);
-    free(walk->room);
+    heap_free(walk->key_lens);
+    heap_free(walk->value_lens);
+    heap_free(walk->room);
     *walk = (struct walk){.at = walk->at};
 }
 
@@ -67,33 +97,10 @@ static bool remove_expired(struct store *store, struct bytes key, struct bytes s
     return *status == FACING_DONE;
 }
 
-static bool remove_any(struct store *store, struct bytes key, struct bytes stored, void *of) {
-    struct found before;
-    uint32_t *status = of;
-    (void)stored;
-    *status = store_remove(store, key, &before);
-    return *status == FACING_DONE;
-}
-
-/* Removes what the function removes, from where the walk is until a time, the end, or a call that is not made. */
-static uint32_t remove_each(struct walk *walk, struct store *store, each_fn *remove, uint64_t until) {
-    uint32_t status;
-    do {
-        status = walk_next(walk, store, PAIRS);
-        if (status == FACING_DONE) walk_each(walk, store, remove, &status);
-    } while (status == FACING_DONE && walk->at != UINT64_MAX && now_ms() < until);
-    return status;
-}
-
-/* Removes expired keys, from where the walk is, until a time or the end, from which the walk begins again. */
-uint32_t walk_sweep(struct walk *walk, struct store *store, uint64_t until) {
-    uint32_t status = remove_each(walk, store, remove_expired, until);
+/* Removes what is live no more from the next buckets. At the end of the map the walk begins again. */
+uint32_t walk_sweep(struct walk *walk, struct store *store) {
+    uint32_t status = walk_next(walk, store, SWEPT);
+    if (status == FACING_DONE) walk_each(walk, store, remove_expired, &status);
     if (walk->at == UINT64_MAX) walk->at = 0;
     return status;
-}
-
-/* Removes all keys, one call a key. A key that another thread stores meanwhile may stay. */
-uint32_t walk_clear(struct walk *walk, struct store *store) {
-    walk->at = 0;
-    return remove_each(walk, store, remove_any, UINT64_MAX);
 }

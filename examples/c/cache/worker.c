@@ -1,17 +1,16 @@
 /* A thread's loop over its connections. It takes new ones from a pipe, reads what came, runs the requests that are whole,
- * and sends the replies. Once the pipe is closed it answers what has come, and closes each connection when its replies are
- * sent. */
+ * and sends the replies. A connection that leaves many replies unread is not read until it took them. Once the pipe is
+ * closed the thread answers what has come, and closes each connection when its replies are sent. */
 #define _GNU_SOURCE
 #include "cache.h"
 #include <errno.h>
 #include <fcntl.h>
-#include <stdlib.h>
 #include <string.h>
 #include <sys/epoll.h>
 #include <sys/socket.h>
 #include <unistd.h>
 
-enum { LEAST_READ = KEPT / 4, EVENTS = 128 };
+enum { LEAST_READ = KEPT / 4, EVENTS = 128, LOOKS = 1000 };
 
 static bool watch(int epoll, int how, int file, uint32_t events, void *of) {
     struct epoll_event event = {.events = events, .data = {.ptr = of}};
@@ -19,8 +18,8 @@ static bool watch(int epoll, int how, int file, uint32_t events, void *of) {
 }
 
 /* A worker that is not opened yet, and may be closed. */
-void worker_begin(struct worker *worker) {
-    *worker = (struct worker){.epoll = -1, .inbox = -1, .outbox = -1};
+void worker_begin(struct worker *worker, struct seat *seat) {
+    *worker = (struct worker){.epoll = -1, .inbox = -1, .outbox = -1, .store = {.seat = seat}};
 }
 
 bool worker_open(struct worker *worker, struct cache *cache, facing_bytes_handle *map) {
@@ -44,24 +43,41 @@ void worker_close(struct worker *worker) {
     if (worker->outbox >= 0) close(worker->outbox);
 }
 
+/* == The list of connections: those that were served last are first == */
+
+static void put_first(struct connection *c) {
+    struct worker *worker = c->worker;
+    c->before = NULL;
+    c->after = worker->first;
+    *(c->after != NULL ? &c->after->before : &worker->last) = c;
+    worker->first = c;
+}
+
+static void take_out(struct connection *c) {
+    *(c->before != NULL ? &c->before->after : &c->worker->first) = c->after;
+    *(c->after != NULL ? &c->after->before : &c->worker->last) = c->before;
+}
+
+/* Closes a connection. The list changes in a turn, so that who runs alone may read it. */
 static void drop(struct connection *c) {
-    if (c->before != NULL)
-        c->before->after = c->after;
-    else
-        c->worker->first = c->after;
-    if (c->after != NULL) c->after->before = c->before;
-    atomic_fetch_sub_explicit(&c->worker->cache->connections, 1, memory_order_relaxed);
+    struct store *store = &c->worker->store;
+    turn_share(store);
+    take_out(c);
+    forget_transaction(c);
+    atomic_fetch_sub_explicit(&store->cache->connections, 1, memory_order_relaxed);
     close(c->socket);
     buffer_free(&c->in);
     buffer_free(&c->out);
-    free(c->args);
-    free(c);
+    heap_free(c->args);
+    heap_free(c->name);
+    heap_free(c);
+    turn_end(store);
 }
 
 static void take_in(struct worker *worker, int socket) {
-    struct connection *c = calloc(1, sizeof *c);
+    struct connection *c = heap_zeros(sizeof *c);
     if (c == NULL || !watch(worker->epoll, EPOLL_CTL_ADD, socket, EPOLLIN, c)) {
-        free(c);
+        heap_free(c);
         close(socket);
         atomic_fetch_sub_explicit(&worker->cache->connections, 1, memory_order_relaxed);
         return;
@@ -69,15 +85,36 @@ static void take_in(struct worker *worker, int socket) {
     c->worker = worker;
     c->socket = socket;
     c->watched = EPOLLIN;
-    c->after = worker->first;
-    if (c->after != NULL) c->after->before = c;
-    worker->first = c;
+    c->is_known = worker->cache->limits.password.len == 0;
+    c->id = atomic_fetch_add_explicit(&worker->cache->ids, 1, memory_order_relaxed) + 1;
+    c->began = c->served = now_ms();
+    turn_share(&worker->store);
+    put_first(c);
+    turn_end(&worker->store);
+}
+
+/* == Requests and replies == */
+
+/* Whether the limit of memory allows what more there is of a long request. */
+static bool may_be_longer(struct connection *c) {
+    struct store *store = &c->worker->store;
+    bool has_it;
+    if (c->in.len < HELD || c->in.room - c->in.len >= LEAST_READ) return true;
+    turn_share(store);
+    has_it = make_room(store, c->in.len / 4);
+    turn_end(store);
+    return has_it;
 }
 
 /* Reads once what has come. Returns whether there may be more at once. */
 static bool receive(struct connection *c) {
     ssize_t len;
     if (c->in.at == NULL) buffer_move(&c->in, &c->worker->in);
+    if (!may_be_longer(c)) {
+        reply_error(c, error_of(STORE_FULL));
+        c->is_ending = true;
+        return false;
+    }
     if (!buffer_reserve(&c->in, c->in.at == NULL ? KEPT : LEAST_READ)) {
         c->is_broken = true;
         return false;
@@ -92,13 +129,39 @@ static bool receive(struct connection *c) {
     return len > 0;
 }
 
-/* Runs the requests that are whole, and keeps what is behind them. */
-static void run_requests(struct connection *c) {
+/* Whether the replies that wait are so many that they go out first. Where memory is full, fewer are. */
+static bool has_many(const struct connection *c) {
+    return unsent(c) >= KEPT && (unsent(c) >= HELD || !has_room(c->worker->cache, 0));
+}
+
+/* Runs the requests that are whole, in a turn, until too many replies wait. */
+static enum parsed run_some(struct connection *c) {
+    struct store *store = &c->worker->store;
     enum parsed parsed = PARSED;
-    while (!c->is_broken && !c->is_ending && (parsed = request_next(c)) == PARSED) {
+    turn_share(store);
+    c->served = c->worker->now;
+    if (c->worker->cache->limits.timeout > 0) {
+        take_out(c);
+        put_first(c);
+    }
+    while (!c->is_broken && !c->is_ending && !has_many(c) && (parsed = request_next(c)) == PARSED) {
         run_request(c);
         request_done(c);
+        turn_pass(store);
     }
+    store_rest(store);
+    turn_end(store);
+    return parsed;
+}
+
+/* Runs the requests that are whole, and keeps what is behind them. Where too many replies wait the rest waits for them. */
+static void run_requests(struct connection *c) {
+    enum parsed parsed;
+    do {
+        parsed = run_some(c);
+        c->is_held = !c->is_broken && !c->is_ending && parsed == PARSED && has_many(c);
+        if (c->is_held) send_replies(c);
+    } while (c->is_held && !c->is_broken && unsent(c) == 0);
     if (parsed == WRONG) c->is_ending = true;
     if (c->begin > 0) memmove(c->in.at, c->in.at + c->begin, c->in.len - c->begin);
     c->in.len -= c->begin;
@@ -108,7 +171,8 @@ static void run_requests(struct connection *c) {
 
 /* Closes a connection that is at its end, and else says what it waits for. */
 static void settle(struct connection *c) {
-    uint32_t events = (c->is_ending ? 0U : (uint32_t)EPOLLIN) | (unsent(c) > 0 ? (uint32_t)EPOLLOUT : 0U);
+    bool is_read = !c->is_ending && !c->is_held;
+    uint32_t events = (is_read ? (uint32_t)EPOLLIN : 0U) | (unsent(c) > 0 ? (uint32_t)EPOLLOUT : 0U);
     if (c->is_broken || events == 0) {
         drop(c);
     } else if (events != c->watched) {
@@ -119,8 +183,19 @@ static void settle(struct connection *c) {
     }
 }
 
+/* At a stop: answers what has come, and takes no more. */
+static void finish(struct connection *c) {
+    while (!c->is_held && !c->is_ending && !c->is_broken && now_ms() < c->worker->drain_by && receive(c))
+        run_requests(c);
+    if (!c->is_held) c->is_ending = true;
+}
+
 static void serve(struct connection *c, uint32_t events) {
-    if (!c->is_ending && (events & (EPOLLIN | EPOLLHUP | EPOLLERR))) {
+    if (c->is_held) {
+        send_replies(c);
+        if (!c->is_broken && unsent(c) == 0) run_requests(c);
+        if (c->worker->drain_by != 0) finish(c);
+    } else if (!c->is_ending && (events & (EPOLLIN | EPOLLHUP | EPOLLERR))) {
         receive(c);
         run_requests(c);
     }
@@ -136,25 +211,31 @@ static void look_into_inbox(struct worker *worker) {
         take_in(worker, sockets[i]);
     if (len == 0) {
         watch(worker->epoll, EPOLL_CTL_DEL, worker->inbox, 0, NULL);
-        worker->drain_by = now_ms() + worker->cache->grace;
+        worker->drain_by = now_ms() + worker->cache->limits.grace;
     }
 }
 
-/* Answers what has come on each connection, and takes no more from it. */
+/* Answers what has come on each connection. */
 static void drain(struct worker *worker) {
     for (struct connection *c = worker->first, *after; c != NULL; c = after) {
         after = c->after;
-        while (!c->is_ending && !c->is_broken && now_ms() < worker->drain_by && receive(c))
-            run_requests(c);
-        c->is_ending = true;
+        finish(c);
         send_replies(c);
         settle(c);
     }
 }
 
+/* Closes the connections that were idle for too long. */
+static void close_idle(struct worker *worker) {
+    uint64_t timeout = 1000 * worker->cache->limits.timeout;
+    while (timeout > 0 && worker->last != NULL && worker->last->served + timeout <= worker->now)
+        drop(worker->last);
+}
+
+/* How many milliseconds to wait for events: -1 for as long as there are none. */
 static int time_left(const struct worker *worker) {
     uint64_t now = now_ms();
-    if (worker->drain_by == 0) return -1;
+    if (worker->drain_by == 0) return worker->cache->limits.timeout > 0 ? LOOKS : -1;
     return worker->drain_by > now ? (int)(worker->drain_by - now) : 0;
 }
 
@@ -165,6 +246,7 @@ void *worker_run(void *of) {
     while (worker->drain_by == 0 || (worker->first != NULL && now_ms() < worker->drain_by)) {
         int count = epoll_wait(worker->epoll, events, EVENTS, time_left(worker));
         bool was_stopping = worker->drain_by != 0;
+        worker->now = now_ms();
         for (int i = 0; i < count; i++) {
             if (events[i].data.ptr == NULL)
                 look_into_inbox(worker);
@@ -172,8 +254,7 @@ void *worker_run(void *of) {
                 serve(events[i].data.ptr, events[i].events);
         }
         if (worker->drain_by != 0 && !was_stopping) drain(worker);
-        if (worker->calls > 0) atomic_fetch_add_explicit(&worker->cache->calls, worker->calls, memory_order_relaxed);
-        worker->calls = 0;
+        close_idle(worker);
     }
     while (worker->first != NULL)
         drop(worker->first);

@@ -1,0 +1,178 @@
+/* The commands of a connection on itself and on others. */
+#define _GNU_SOURCE
+#include "cache.h"
+#include <arpa/inet.h>
+#include <inttypes.h>
+#include <netinet/in.h>
+#include <stdio.h>
+#include <stdlib.h>
+#include <string.h>
+#include <sys/socket.h>
+
+enum { ADDRESS = 32, LINE = 256 };
+
+/* Whether a name is of visible characters alone, as clients' names are. */
+static bool is_name(struct bytes name) {
+    for (size_t i = 0; i < name.len; i++)
+        if (name.at[i] < '!' || name.at[i] > '~') return false;
+    return true;
+}
+
+/* Gives the connection a name; none where it is empty. Returns an error, or NULL. */
+static const char *name_client(struct connection *c, struct bytes name) {
+    uint8_t *copy = NULL;
+    if (!is_name(name)) return "ERR Client names cannot contain spaces, newlines or special characters.";
+    if (name.len > 0 && (copy = heap_zeros(name.len + 1)) == NULL) return error_of(FACING_NO_MEMORY);
+    if (copy != NULL) memcpy(copy, name.at, name.len);
+    heap_free(c->name);
+    c->name = copy;
+    return NULL;
+}
+
+static struct bytes name_of(const struct connection *c) {
+    return c->name == NULL ? NOTHING : bytes_of((const char *)c->name);
+}
+
+static const char *set_name(struct connection *c) {
+    const char *error = name_client(c, arg(c, 2));
+    if (error == NULL) reply_simple(c, "OK");
+    return error;
+}
+
+static const char *get_name(struct connection *c) {
+    (c->name == NULL) ? reply_none(c) : reply_bulk(c, name_of(c));
+    return NULL;
+}
+
+/* A client's library is taken, and not kept. */
+static const char *set_info(struct connection *c) {
+    if (!is_word(arg(c, 2), "LIB-NAME") && !is_word(arg(c, 2), "LIB-VER"))
+        return error_with(c, "Unrecognized option", arg(c, 2), "");
+    if (!is_name(arg(c, 3))) return "ERR lib-name cannot contain spaces, newlines or special characters.";
+    reply_simple(c, "OK");
+    return NULL;
+}
+
+static const char *get_id(struct connection *c) {
+    reply_number(c, (int64_t)c->id);
+    return NULL;
+}
+
+/* Clients are never evicted here. */
+static const char *no_evict(struct connection *c) {
+    if (!is_word(arg(c, 2), "ON") && !is_word(arg(c, 2), "OFF")) return NO_SYNTAX;
+    reply_simple(c, "OK");
+    return NULL;
+}
+
+static void write_address(char text[ADDRESS], int (*get)(int, struct sockaddr *, socklen_t *), int socket) {
+    struct sockaddr_in address = {0};
+    socklen_t len = sizeof address;
+    char host[INET_ADDRSTRLEN] = "?";
+    (void)get(socket, (struct sockaddr *)&address, &len);
+    (void)inet_ntop(AF_INET, &address.sin_addr, host, sizeof host);
+    snprintf(text, ADDRESS, "%s:%d", host, ntohs(address.sin_port));
+}
+
+/* Adds a connection's line. Returns false where there is no memory. */
+static bool add_line(struct buffer *lines, const struct connection *c, uint64_t now) {
+    char peer[ADDRESS], own[ADDRESS];
+    struct bytes name = name_of(c);
+    if (!buffer_reserve(lines, LINE + name.len)) return false;
+    write_address(peer, getpeername, c->socket);
+    write_address(own, getsockname, c->socket);
+    lines->len += (size_t)snprintf((char *)lines->at + lines->len, LINE + name.len,
+                                   "id=%" PRIu64 " addr=%s laddr=%s fd=%d name=%.*s age=%" PRIu64 " idle=%" PRIu64
+                                   " flags=N db=0 user=default resp=2\n",
+                                   c->id, peer, own, c->socket, (int)name.len, name.len > 0 ? (const char *)name.at : "",
+                                   (now - c->began) / 1000, now > c->served ? (now - c->served) / 1000 : 0);
+    return true;
+}
+
+static const char *reply_lines(struct connection *c, struct buffer *lines, bool is_whole) {
+    if (is_whole) reply_bulk(c, (struct bytes){lines->at, lines->len});
+    buffer_free(lines);
+    return is_whole ? NULL : error_of(FACING_NO_MEMORY);
+}
+
+static const char *info(struct connection *c) {
+    struct buffer lines = {0};
+    return reply_lines(c, &lines, add_line(&lines, c, now_ms()));
+}
+
+/* Whether LIST is asked for a connection: for all, or for those whose numbers stand behind ID. */
+static bool is_listed(const struct connection *c, const struct connection *other) {
+    int64_t id;
+    for (size_t i = 3; i < c->count; i++)
+        if (number_of(arg(c, i), &id) && id == (int64_t)other->id) return true;
+    return c->count == 2;
+}
+
+/* Reads the options of LIST. Returns an error, or NULL. */
+static const char *options_of_list(struct connection *c) {
+    int64_t id;
+    if (c->count > 2 && (c->count == 3 || !is_word(arg(c, 2), "ID"))) return NO_SYNTAX;
+    for (size_t i = 3; i < c->count; i++)
+        if (!number_of(arg(c, i), &id)) return "ERR Invalid client ID";
+    return NULL;
+}
+
+/* It runs alone, so that no list of connections changes. */
+static const char *list(struct connection *c) {
+    struct cache *cache = c->worker->cache;
+    struct buffer lines = {0};
+    const char *error = options_of_list(c);
+    uint64_t now = now_ms();
+    bool is_whole = true;
+    if (error != NULL) return error;
+    for (size_t i = 0; i < cache->workers_len; i++)
+        for (struct connection *it = cache->workers[i].first; it != NULL && is_whole; it = it->after)
+            if (is_listed(c, it)) is_whole = add_line(&lines, it, now);
+    return reply_lines(c, &lines, is_whole);
+}
+
+const char *run_client(struct connection *c) {
+    static const struct command parts[] = {
+        {"client|getname", get_name, 2, 0, 0, 0, 0, 0},  {"client|id", get_id, 2, 0, 0, 0, 0, 0},
+        {"client|info", info, 2, 0, 0, 0, 0, 0},         {"client|list", list, -2, ALONE, 0, 0, 0, 0},
+        {"client|no-evict", no_evict, 3, 0, 0, 0, 0, 0}, {"client|setinfo", set_info, 4, 0, 0, 0, 0, 0},
+        {"client|setname", set_name, 3, 0, 0, 0, 0, 0},
+    };
+    return run_part(c, parts, sizeof parts / sizeof *parts);
+}
+
+/* Tells what a client asks for when it begins. */
+static void reply_server(struct connection *c) {
+    reply_list(c, 14);
+    reply_field(c, "server", "redis");
+    reply_field(c, "version", REDIS_VERSION);
+    reply_count(c, "proto", 2);
+    reply_count(c, "id", (int64_t)c->id);
+    reply_field(c, "mode", is_in_cluster() ? "cluster" : "standalone");
+    reply_field(c, "role", "master");
+    reply_bulk(c, bytes_of("modules"));
+    reply_list(c, 0);
+}
+
+/* HELLO: this server speaks RESP2 alone. */
+const char *run_hello(struct connection *c) {
+    const char *error = NULL;
+    int64_t version = 2;
+    if (c->count > 1 && !number_of(arg(c, 1), &version)) return "ERR Protocol version is not an integer or out of range";
+    if (version != 2) return "NOPROTO unsupported protocol version";
+    for (size_t i = 2; i < c->count && error == NULL; i++) {
+        if (is_word(arg(c, i), "AUTH") && i + 2 < c->count) {
+            error = authenticate(c, arg(c, i + 1), arg(c, i + 2));
+            i += 2;
+        } else if (is_word(arg(c, i), "SETNAME") && i + 1 < c->count) {
+            error = name_client(c, arg(c, ++i));
+        } else {
+            error = error_with(c, "Syntax error in HELLO option", arg(c, i), "");
+        }
+    }
+    if (error == NULL && !c->is_known)
+        return "NOAUTH HELLO must be called with the client already authenticated, otherwise the HELLO <proto> AUTH <user> "
+               "<pass> option can be used to authenticate the client and select the RESP protocol version at the same time";
+    if (error == NULL) reply_server(c);
+    return error;
+}
