@@ -22,8 +22,9 @@ WATCHED = ["-g", "-O1", "-fsanitize=thread"]
 VALGRIND = ["valgrind", "-q", "--leak-check=full", "--show-leak-kinds=all", "--error-exitcode=9"]
 # No program takes so many seconds, on a busy machine either.
 LONGEST = 1200
-# The test that refuses memory stands between the library and the heap.
+# The tests that refuse memory, or stop where it is requested, stand between the library and the heap.
 WRAPPED = ["-Wl,--wrap=malloc,--wrap=realloc,--wrap=free"]
+STOPPED = ["-Wl,--wrap=malloc"]
 WARNED = ["-Wall", "-Wextra", "-Wpedantic", "-Wshadow", "-Wconversion", "-Werror"]
 CMAKE = """cmake_minimum_required(VERSION 3.13)
 project(tried C)
@@ -77,6 +78,20 @@ class Place:
         """A program that ThreadSanitizer watches."""
         return self.program(compiler, source, WATCHED)
 
+    def without_warnings(self):
+        """Builds ordinary programs by two compilers at three levels, in each of which nothing may be warned of, and runs them."""
+        need("gcc", "clang")
+        folder, built, programs = f"{HERE}/c/tests/ordinary", 0, []
+        for source in sorted(os.listdir(folder)):
+            for compiler in ("gcc", "clang"):
+                for level in ("-O1", "-O2", "-O3"):
+                    programs.append(f"{self.folder}/{source}_{compiler}{level}")
+                    words = [compiler, "-std=c11", "-D_GNU_SOURCE", level, "-Wall", "-Wextra", "-Werror", f"-I{self.prefix}/include"]
+                    self.built([*words, f"{folder}/{source}", f"{self.prefix}/lib/libfacing.a", "-lpthread", "-o", programs[-1]])
+                    built += 1
+        is_right, said = run(*programs)
+        return is_right, f"{built} built, 0 wrong" if is_right else said
+
     def finds_race(self):
         """Whether ThreadSanitizer finds two threads that use one client."""
         ran = subprocess.run(self.watched(C, "c/tests/race.c"), capture_output=True, text=True, check=False, timeout=LONGEST)
@@ -122,6 +137,11 @@ class Place:
         if lacks := [it for it in said if ": left out, " in it]:
             raise Lacking("; ".join(lacks))
         return True, said[-1]
+
+    def python_by_name(self):
+        """A program that finds the library by the linker alone, without a compiler or ldconfig."""
+        found = {"LD_LIBRARY_PATH": f"{self.prefix}/lib", "PYTHONPATH": f"{HERE}/python", "PYTHONDONTWRITEBYTECODE": "1", "PATH": ""}
+        return run([sys.executable, "-c", "import facing; print(facing.version())"], env=found)
 
     def python(self, program):
         more = {"FACING": f"{self.prefix}/lib/libfacing.so", "PYTHONDONTWRITEBYTECODE": "1"}
@@ -170,8 +190,15 @@ WORKS = [
     ("Rust, word count", lambda it: it.cargo("run", "--example", "word_count")),
     ("Rust, tests", lambda it: counted(it.cargo("test"))),
     ("Python, word count", lambda it: it.python("word_count.py")),
+    ("Python, the library by its name", lambda it: it.python_by_name()),
     ("Python, tests", lambda it: counted(it.python("test_facing.py"))),
     ("C, many keys at once", lambda it: run(it.program(C, "c/tests/many.c"))),
+    ("C, ordinary programs by gcc and clang", lambda it: it.without_warnings()),
+    ("C, answers to wrong arguments", lambda it: run(it.program(C, "c/tests/answers.c"))),
+    ("C, at most 1,024 buckets a call", lambda it: run(it.program(C, "c/tests/bounded.c"))),
+    ("C, children of a fork", lambda it: run(it.program(C, "c/tests/fork.c", more=STOPPED))),
+    ("C, sanitized, children of a fork", lambda it: run(it.sanitized(C, "c/tests/fork.c", STOPPED))),
+    ("C, sanitized, answers to wrong arguments", lambda it: run(it.sanitized(C, "c/tests/answers.c"))),
     ("C, misuses one by one", lambda it: run(it.program(C, "c/tests/rows.c"))),
     ("C++, sanitized, misuses one by one", lambda it: run(it.sanitized(CPP, "c/tests/rows.c"))),
     ("C, handles of another kind, and no seed", lambda it: run(it.program(C, "c/tests/kinds.c", more=SEEDED))),

@@ -5,16 +5,21 @@
  *  1. Use a handle from one thread at a time. It is move-only: after copying the struct, use one copy.
  *  2. Hand a handle to another thread over a lock, the start or join of a thread, or a sequentially consistent atomic.
  *  3. An `answer` and an output handle are memory that nobody else uses during the call, and no two arguments overlap.
- *  4. malloc, realloc and free belong to one allocator and align to 16 bytes. Make no call in a signal handler, nor in the
- *     forked child of a process with threads.
+ *  4. malloc, realloc and free belong to one allocator and align to 16 bytes. Make no call in a signal handler.
  *  5. Output handles are overwritten, not freed.
+ *  6. In the child of a fork use no handle that another thread was using during the fork. What a child may do stands below.
  * The functions check the rest: they reject null pointers and lengths that no array has, and set a handle to null once it
  * is freed. With FACING_DEBUG defined, in all files of a program or in none, they also tell on stderr of a handle of another
  * header and of a copy of one of the last 1,024 handles that were freed.
  *
  * Every function but facing_free returns a status. Where it is not FACING_DONE nothing was changed, but where facing_close
- * or a call of many keys says so, and an answer is {0, 0}, but where FACING_NO_ROOM tells a length. The `answer` of a
- * client's call may be NULL. */
+ * or a call of many keys says so; an answer is {0, 0}, but where FACING_NO_ROOM tells a length; an output handle is null.
+ * The `answer` of a client's call may be NULL.
+ *
+ * The child of a fork has a copy of each map, which the parent and other children do not see. It may open maps of its own,
+ * read closed maps, and make calls by clients that no thread was using during the fork. If another thread had locked a
+ * bucket during the fork, a call on that bucket fails with FACING_AFTER_FORK: nobody will unlock it in the child. While the
+ * child has one thread the call fails at once, and else once it has waited for ten seconds. */
 #ifndef FACING_H
 #define FACING_H
 #include "facing_base.h"
@@ -52,6 +57,8 @@ FACING_CHECKED FACING_API uint32_t facing_open(size_t capacity, uint32_t clients
     uint32_t status;
     if (map == FACING_NULL) return FACING_BAD_ARGUMENT;
     map->at = FACING_NULL;
+    status = facing_watch_forks();
+    if (status != FACING_DONE) return status;
     FACING_ENTER(0);
     status = facing_c_open(capacity, clients, salt, &made);
     FACING_LEAVE(0);
@@ -61,25 +68,27 @@ FACING_CHECKED FACING_API uint32_t facing_open(size_t capacity, uint32_t clients
 /* Fills `client` with a client of the map that is not in use. Free it to give it back, in any thread.
  * Returns FACING_NO_CLIENT where all are in use, FACING_NO_MEMORY, or FACING_WRONG_HANDLE; the handle is null then. */
 FACING_CHECKED FACING_API uint32_t facing_client(facing_handle *map, facing_handle *client) {
-    if (map == FACING_NULL || client == FACING_NULL || map == client) return FACING_BAD_ARGUMENT;
+    if (client == FACING_NULL || map == client) return FACING_BAD_ARGUMENT;
+    client->at = FACING_NULL;
+    if (map == FACING_NULL) return FACING_BAD_ARGUMENT;
     return facing_any_client(&map->at, &client->at, FACING_NUMBERS);
 }
 
 /* == Calls of a client ==
  *
  * Each call locks the bucket of its key, and no other lock; while another thread has that lock it spins, then yields, then
- * sleeps for a millisecond at a time. It returns FACING_NO_MEMORY, FACING_CLIENT_FULL or FACING_WRONG_HANDLE, and then the
- * call was not made. A call that adds a key allocates one node.
+ * sleeps for a millisecond at a time. It returns FACING_NO_MEMORY, FACING_CLIENT_FULL, FACING_AFTER_FORK or
+ * FACING_WRONG_HANDLE, and then the call was not made. A call that adds a key allocates one node.
  * A call may also allocate parts of a table that grows, and goes on where there is no memory for them. */
 #define FACING_CALL(export_and_arguments)                                                                                   \
     uint32_t status;                                                                                                        \
     unsigned round = 0;                                                                                                     \
     facing_handle lent, back;                                                                                               \
     facing_answer dropped;                                                                                                  \
-    if (client == FACING_NULL) return FACING_BAD_ARGUMENT;                                                                  \
     if (answer == FACING_NULL) answer = &dropped;                                                                           \
     answer->found = 0;                                                                                                      \
     answer->value = 0;                                                                                                      \
+    if (client == FACING_NULL) return FACING_BAD_ARGUMENT;                                                                  \
     do {                                                                                                                    \
         lent = facing_lend(client->at, FACING_NUMBERS);                                                                     \
         back.at = FACING_NULL;                                                                                              \
@@ -88,8 +97,8 @@ FACING_CHECKED FACING_API uint32_t facing_client(facing_handle *map, facing_hand
         FACING_LEAVE(key);                                                                                                  \
         client->at = facing_back(client->at, lent.at, back.at);                                                             \
         if (status != FACING_BUSY) return status;                                                                           \
-        facing_wait(round);                                                                                                 \
-        round += round < 64;                                                                                                \
+        round = facing_next_round(round, 0);                                                                                \
+        if (round == FACING_NEVER) return FACING_AFTER_FORK;                                                                \
     } while (1)
 
 /* The answer is the value at the key. */
@@ -162,7 +171,8 @@ FACING_CHECKED FACING_API uint32_t facing_put_all(facing_handle *client, const u
                                                   size_t len, size_t *done) {
     size_t i = 0;
     uint32_t status = FACING_DONE;
-    if (len != 0 && (keys == FACING_NULL || values == FACING_NULL)) status = FACING_BAD_ARGUMENT;
+    if (client == FACING_NULL || len >> 60 != 0 || (len != 0 && (keys == FACING_NULL || values == FACING_NULL)))
+        status = FACING_BAD_ARGUMENT;
     while (status == FACING_DONE && i < len) {
         status = facing_put(client, keys[i], values[i], FACING_NULL);
         i += status == FACING_DONE;
@@ -176,12 +186,14 @@ FACING_CHECKED FACING_API uint32_t facing_get_all(facing_handle *client, const u
                                                   size_t len, size_t *done) {
     size_t i = 0;
     uint32_t status = FACING_DONE;
-    if (len != 0 && (keys == FACING_NULL || answers == FACING_NULL)) status = FACING_BAD_ARGUMENT;
+    if (client == FACING_NULL || len >> 59 != 0 || (len != 0 && (keys == FACING_NULL || answers == FACING_NULL)))
+        status = FACING_BAD_ARGUMENT;
     while (status == FACING_DONE && i < len) {
         status = facing_get(client, keys[i], &answers[i]);
         i += status == FACING_DONE;
     }
     if (done != FACING_NULL) *done = i;
+    facing_answer_none(answers, i, len);
     return status;
 }
 
@@ -190,7 +202,8 @@ FACING_CHECKED FACING_API uint32_t facing_add_all(facing_handle *client, const u
                                                   size_t len, size_t *done) {
     size_t i = 0;
     uint32_t status = FACING_DONE;
-    if (len != 0 && (keys == FACING_NULL || values == FACING_NULL)) status = FACING_BAD_ARGUMENT;
+    if (client == FACING_NULL || len >> 60 != 0 || (len != 0 && (keys == FACING_NULL || values == FACING_NULL)))
+        status = FACING_BAD_ARGUMENT;
     while (status == FACING_DONE && i < len) {
         status = facing_add(client, keys[i], values[i], FACING_NULL);
         i += status == FACING_DONE;
@@ -222,9 +235,10 @@ FACING_CHECKED FACING_API uint32_t facing_close(facing_handle *map) {
 FACING_CHECKED FACING_API uint32_t facing_find(facing_handle *closed, uint64_t key, facing_answer *answer) {
     facing_handle lent, back = {FACING_NULL};
     uint32_t status;
-    if (closed == FACING_NULL || answer == FACING_NULL) return FACING_BAD_ARGUMENT;
+    if (answer == FACING_NULL) return FACING_BAD_ARGUMENT;
     answer->found = 0;
     answer->value = 0;
+    if (closed == FACING_NULL) return FACING_BAD_ARGUMENT;
     lent = facing_lend(closed->at, FACING_NUMBERS);
     FACING_ENTER(0);
     status = facing_c_find(lent, &back, key, answer);
@@ -234,20 +248,20 @@ FACING_CHECKED FACING_API uint32_t facing_find(facing_handle *closed, uint64_t k
 }
 
 /* Copies the pairs of the next buckets of a closed map or, by a client, of an open one: whole buckets, as many as `room`
- * pairs have room for. Stores in `copied` how many pairs were copied, and moves the cursor. Call it until cursor->at is
- * UINT64_MAX. Of an open map each bucket is as all calls before had left it, but two buckets are copied at two times: a key
- * that stays in the map all the while is copied once, and one that comes or goes meanwhile may be copied or not. Locks one
- * bucket at a time, and allocates a copy of it.
- * Returns FACING_NO_ROOM where the next bucket alone has more than `room` pairs: `copied` is how many it has, and the cursor
- * is at it. Returns FACING_NO_MEMORY or FACING_WRONG_HANDLE. Where a bucket fails behind pairs that were copied the status
- * is FACING_DONE, and the next call begins with that bucket. */
+ * pairs have room for, and at most 1,024 buckets. Stores in `copied` how many pairs were copied, and moves the cursor. Call
+ * it until cursor->at is UINT64_MAX; it may copy no pair before, where all those buckets are empty. Of an open map each
+ * bucket is as all calls before had left it, but two buckets are copied at two times: a key that stays in the map all the
+ * while is copied once, and one that comes or goes meanwhile may be copied or not. Locks one bucket at a time, and allocates
+ * a copy of it. Returns FACING_NO_ROOM where the next bucket alone has more than `room` pairs: `copied` is how many it has,
+ * and the cursor is at it. Returns FACING_NO_MEMORY, FACING_AFTER_FORK or FACING_WRONG_HANDLE. Where a bucket fails behind
+ * pairs that were copied the status is FACING_DONE, and the next call begins with that bucket. */
 FACING_CHECKED FACING_API uint32_t facing_pairs(facing_handle *any, facing_cursor *cursor, uint64_t *keys, uint64_t *values,
                                                 size_t room, size_t *copied) {
     facing_handle lent, back;
     facing_answer answer = {0, 0};
     uint64_t next;
     uint32_t status;
-    unsigned round = 0;
+    unsigned round = 0, buckets = 0;
     if (copied == FACING_NULL) return FACING_BAD_ARGUMENT;
     *copied = 0;
     if (any == FACING_NULL || cursor == FACING_NULL || keys == FACING_NULL || values == FACING_NULL || keys == values
@@ -265,12 +279,14 @@ FACING_CHECKED FACING_API uint32_t facing_pairs(facing_handle *any, facing_curso
         if (status == FACING_DONE) {
             *copied += answer.value;
             cursor->at = next;
+            buckets++;
             round = 0;
         } else if (status == FACING_BUSY) {
-            facing_wait(round);
-            round += round < 64;
+            round = facing_next_round(round, 0);
+            if (round == FACING_NEVER) status = FACING_AFTER_FORK;
         }
-    } while (status == FACING_BUSY || (status == FACING_DONE && cursor->at != UINT64_MAX));
+    } while (status == FACING_BUSY
+             || (status == FACING_DONE && cursor->at != UINT64_MAX && buckets < FACING_MOST_BUCKETS));
     FACING_SEE_ALL();
     if (*copied != 0) return FACING_DONE;
     if (status == FACING_NO_ROOM) *copied = answer.value;
@@ -279,7 +295,9 @@ FACING_CHECKED FACING_API uint32_t facing_pairs(facing_handle *any, facing_curso
 
 /* Opens a map with copies of the pairs of a closed one, which stays as it is. Fails as facing_open does. */
 FACING_CHECKED FACING_API uint32_t facing_reopen(facing_handle *closed, uint32_t clients, facing_handle *map) {
-    if (closed == FACING_NULL || map == FACING_NULL || closed == map) return FACING_BAD_ARGUMENT;
+    if (map == FACING_NULL || closed == map) return FACING_BAD_ARGUMENT;
+    map->at = FACING_NULL;
+    if (closed == FACING_NULL) return FACING_BAD_ARGUMENT;
     return facing_any_reopen(&closed->at, clients, &map->at, FACING_NUMBERS);
 }
 

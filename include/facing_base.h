@@ -3,13 +3,18 @@
 #ifndef FACING_BASE_H
 #define FACING_BASE_H
 #include <poll.h>
+#include <pthread.h>
 #include <sched.h>
 #include <stddef.h>
 #include <stdint.h>
+#include <sys/stat.h>
 #ifdef FACING_DEBUG
 #include <stdio.h>
 #include <stdlib.h>
 #endif
+
+/* The version of the headers: 10,000 times the first number of facing_version(), 100 times the second, and the third. */
+#define FACING_VERSION_NUMBER 100
 
 /* How the functions are declared. A shared library of them defines it as what makes them visible. */
 #ifndef FACING_API
@@ -114,7 +119,8 @@ enum facing_status {
     FACING_TOO_LONG,     /* of byte strings alone: a key or a value has more than 65,536 bytes */
     FACING_NO_CLIENT,    /* of facing_client and its like alone: every client of the map is in use */
     FACING_NO_SEED,      /* of the opening of byte maps alone: the system gave no random bytes */
-    FACING_NO_ROOM       /* the value, or the next bucket, is larger than the room; the call tells how large */
+    FACING_NO_ROOM,      /* the value, or the next bucket, is larger than the room; the call tells how large */
+    FACING_AFTER_FORK    /* of the child of a fork: the bucket, or each client of the pool, was in use during the fork */
 };
 
 /* Returns a sentence for a status, without memory and without a line's end. */
@@ -134,6 +140,7 @@ FACING_API const char *facing_strerror(uint32_t status) {
     case FACING_NO_CLIENT: return "every client of the map is in use";
     case FACING_NO_SEED: return "the system gave no random bytes";
     case FACING_NO_ROOM: return "the room is too small";
+    case FACING_AFTER_FORK: return "a thread that the fork left behind holds the lock";
     default: return "no status of this library";
     }
 }
@@ -149,6 +156,19 @@ typedef struct facing_answer {
     uint32_t found;
     uint64_t value;
 } facing_answer;
+
+/* Stores that there is no value, in the answers number `from` to `len`. */
+FACING_INNER void facing_answer_none(facing_answer *answers, size_t from, size_t len) {
+    size_t i;
+    if (answers == FACING_NULL || len >> 59 != 0) return;
+    for (i = from; i < len; i++) {
+        answers[i].found = 0;
+        answers[i].value = 0;
+    }
+}
+
+/* The most buckets that a call which copies pairs looks at. */
+enum { FACING_MOST_BUCKETS = 1024 };
 
 /* A place in a walk over the pairs of a map. It begins as {0}, and ends as {UINT64_MAX}. It belongs to no handle: it may be
  * kept, and sent. A place that a client was at is good for all clients of the map, and one of a closed map for that map; any
@@ -262,6 +282,53 @@ FACING_API void facing_wait(unsigned round) {
     }
 }
 
+/* How often this process, or one that it was forked from, was forked since it opened its first map or took its first client;
+ * and whether forks are counted. There is one of each in a program. */
+#ifdef __GNUC__
+extern unsigned facing_forks;
+extern int facing_watches_forks;
+__attribute__((weak)) unsigned facing_forks;
+__attribute__((weak)) int facing_watches_forks;
+#else
+static unsigned facing_forks;
+static int facing_watches_forks;
+#endif
+
+FACING_INNER void facing_count_fork(void) {
+    facing_forks++;
+}
+
+/* Lets each fork from now on be counted in the child. Returns FACING_NO_MEMORY where the system cannot. */
+FACING_CHECKED FACING_INNER uint32_t facing_watch_forks(void) {
+    if (__atomic_load_n(&facing_watches_forks, __ATOMIC_SEQ_CST) != 0
+        || __atomic_exchange_n(&facing_watches_forks, 1, __ATOMIC_SEQ_CST) != 0
+        || pthread_atfork(FACING_NULL, FACING_NULL, facing_count_fork) == 0)
+        return FACING_DONE;
+    __atomic_store_n(&facing_watches_forks, 0, __ATOMIC_SEQ_CST);
+    return FACING_NO_MEMORY;
+}
+
+/* Whether this process has one thread. */
+FACING_INNER int facing_is_alone(void) {
+    struct stat threads;
+    return stat("/proc/self/task", &threads) == 0 && threads.st_nlink == 3;
+}
+
+/* Backs off before the next try, and returns the next round. It returns FACING_NEVER where no try will succeed: this is the
+ * child of a fork, and what the call waits for was in use by a thread that the fork left behind. In a child of one thread
+ * that is sure; in one of more threads it is taken to be so after ten seconds. */
+enum { FACING_NEVER = 0, FACING_FIRST_SLEEP = 64, FACING_LAST_SLEEP = 10064 };
+#ifdef __GNUC__
+__attribute__((cold))
+#endif
+FACING_INNER unsigned facing_next_round(unsigned round, unsigned forks_before) {
+    facing_wait(round);
+    if (round < FACING_FIRST_SLEEP) return round + 1;
+    if (facing_forks == forks_before) return FACING_FIRST_SLEEP;
+    if (round >= FACING_LAST_SLEEP || facing_is_alone()) return FACING_NEVER;
+    return round + 1;
+}
+
 /* What an export takes of a handle. */
 FACING_INNER facing_handle facing_lend(void *at, uint32_t library) {
     facing_handle lent;
@@ -280,8 +347,10 @@ FACING_INNER uint32_t facing_fill(void **at, facing_handle made, uint32_t librar
 }
 
 FACING_INNER uint32_t facing_any_client(void **map, void **client, uint32_t library) {
-    facing_handle lent = facing_lend(*map, library), back = {FACING_NULL}, made = {FACING_NULL};
-    uint32_t status;
+    facing_handle lent, back = {FACING_NULL}, made = {FACING_NULL};
+    uint32_t status = facing_watch_forks();
+    if (status != FACING_DONE) return status;
+    lent = facing_lend(*map, library);
     FACING_ENTER(0);
     status = facing_c_client(lent, &back, &made);
     FACING_LEAVE(0);
@@ -312,8 +381,10 @@ FACING_INNER uint32_t facing_any_close(void **map, uint32_t library) {
 }
 
 FACING_INNER uint32_t facing_any_reopen(void **closed, uint32_t clients, void **map, uint32_t library) {
-    facing_handle lent = facing_lend(*closed, library), back = {FACING_NULL}, made = {FACING_NULL};
-    uint32_t status;
+    facing_handle lent, back = {FACING_NULL}, made = {FACING_NULL};
+    uint32_t status = facing_watch_forks();
+    if (status != FACING_DONE) return status;
+    lent = facing_lend(*closed, library);
     FACING_ENTER(0);
     status = facing_c_reopen(lent, &back, clients, &made);
     FACING_LEAVE(0);

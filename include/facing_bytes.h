@@ -128,6 +128,8 @@ FACING_CHECKED FACING_API uint32_t facing_bytes_open_seeded(size_t capacity, uin
     if (map == FACING_NULL) return FACING_BAD_ARGUMENT;
     map->at = FACING_NULL;
     if (seed == FACING_NULL) return FACING_BAD_ARGUMENT;
+    status = facing_watch_forks();
+    if (status != FACING_DONE) return status;
     FACING_ENTER(0);
     status = facing_c_bytes_open(capacity, clients, seed[0], seed[1], &made);
     FACING_LEAVE(0);
@@ -151,7 +153,9 @@ FACING_CHECKED FACING_API uint32_t facing_bytes_open(size_t capacity, uint32_t c
  * the longest key that it was called with.
  * Returns FACING_NO_CLIENT where all are in use, FACING_NO_MEMORY, or FACING_WRONG_HANDLE; the handle is null then. */
 FACING_CHECKED FACING_API uint32_t facing_bytes_client(facing_bytes_handle *map, facing_bytes_handle *client) {
-    if (map == FACING_NULL || client == FACING_NULL || map == client) return FACING_BAD_ARGUMENT;
+    if (client == FACING_NULL || map == client) return FACING_BAD_ARGUMENT;
+    client->at = FACING_NULL;
+    if (map == FACING_NULL) return FACING_BAD_ARGUMENT;
     return facing_any_client(&map->at, &client->at, FACING_BYTES);
 }
 
@@ -165,7 +169,7 @@ FACING_INNER void facing_bytes_tell(facing_bytes_answer *answer, facing_answer t
 /* == Calls of a client ==
  *
  * Each call locks the bucket of its key, and no other lock; while another thread has that lock it spins, then yields, then
- * sleeps for a millisecond at a time. It returns FACING_TOO_LONG, FACING_NO_MEMORY, FACING_CLIENT_FULL or
+ * sleeps for a millisecond at a time. It returns FACING_TOO_LONG, FACING_NO_MEMORY, FACING_CLIENT_FULL, FACING_AFTER_FORK or
  * FACING_WRONG_HANDLE, and then the call was not made. Each value that a call is given is copied, in one allocation; a call
  * that adds a key allocates the key and a node too, and one with a longer key than the client had before, room for it.
  * facing_bytes_get and facing_bytes_contains allocate nothing for key and value. Any call may allocate parts of a table that
@@ -175,8 +179,8 @@ FACING_INNER void facing_bytes_tell(facing_bytes_answer *answer, facing_answer t
     unsigned round = 0;                                                                                                     \
     facing_handle lent, back;                                                                                               \
     facing_answer told = {0, 0};                                                                                            \
-    if (client == FACING_NULL || (is_wrong)) return FACING_BAD_ARGUMENT;                                                    \
     facing_bytes_tell(answer, told);                                                                                        \
+    if (client == FACING_NULL || (is_wrong)) return FACING_BAD_ARGUMENT;                                                    \
     do {                                                                                                                    \
         lent = facing_lend(client->at, FACING_BYTES);                                                                       \
         back.at = FACING_NULL;                                                                                              \
@@ -188,8 +192,8 @@ FACING_INNER void facing_bytes_tell(facing_bytes_answer *answer, facing_answer t
             facing_bytes_tell(answer, told);                                                                                \
             return status;                                                                                                  \
         }                                                                                                                   \
-        facing_wait(round);                                                                                                 \
-        round += round < 64;                                                                                                \
+        round = facing_next_round(round, 0);                                                                                \
+        if (round == FACING_NEVER) return FACING_AFTER_FORK;                                                                \
     } while (1)
 
 /* Copies the value at the key into `room`, once the bucket is unlocked. Where the value is longer than the room nothing is
@@ -210,10 +214,10 @@ FACING_CHECKED FACING_API uint32_t facing_bytes_hold(facing_bytes_handle *client
     facing_answer told = {0, 0}, none = {0, 0};
     uint32_t status;
     unsigned round = 0;
-    if (held == FACING_NULL || client == FACING_NULL || FACING_ADDRESS(held) == FACING_ADDRESS(client)
-        || facing_bytes_are_none(key, key_len))
-        return FACING_BAD_ARGUMENT;
     facing_bytes_tell(answer, none);
+    if (held == FACING_NULL || held == client) return FACING_BAD_ARGUMENT;
+    held->at = FACING_NULL;
+    if (client == FACING_NULL || facing_bytes_are_none(key, key_len)) return FACING_BAD_ARGUMENT;
     do {
         lent = facing_lend(client->at, FACING_BYTES);
         back.at = FACING_NULL;
@@ -221,9 +225,9 @@ FACING_CHECKED FACING_API uint32_t facing_bytes_hold(facing_bytes_handle *client
         status = facing_c_bytes_try_hold(lent, &back, facing_bytes_at(key), key_len, &made, &told);
         FACING_LEAVE(FACING_BYTES_PLACE(key, key_len));
         client->at = facing_back(client->at, lent.at, back.at);
-        if (status == FACING_BUSY) facing_wait(round);
-        round += round < 64;
-    } while (status == FACING_BUSY);
+        if (status == FACING_BUSY) round = facing_next_round(round, 0);
+    } while (status == FACING_BUSY && round != FACING_NEVER);
+    if (status == FACING_BUSY) status = FACING_AFTER_FORK;
     status = facing_fill(&held->at, made, FACING_BYTES, status);
     facing_bytes_tell(answer, status == FACING_DONE ? told : none);
     return status;
@@ -236,6 +240,7 @@ FACING_CHECKED FACING_API uint32_t facing_bytes_read(facing_bytes_handle *held, 
     facing_handle lent, back = {FACING_NULL};
     facing_answer told = {0, 0};
     uint32_t status;
+    facing_bytes_tell(answer, told);
     if (held == FACING_NULL || facing_bytes_are_none(room, room_len)) return FACING_BAD_ARGUMENT;
     lent = facing_lend(held->at, FACING_BYTES);
     FACING_ENTER(0);
@@ -337,6 +342,7 @@ FACING_CHECKED FACING_API uint32_t facing_bytes_find(facing_bytes_handle *closed
     facing_handle lent, back = {FACING_NULL};
     facing_answer told = {0, 0};
     uint32_t status;
+    facing_bytes_tell(answer, told);
     if (closed == FACING_NULL || answer == FACING_NULL || facing_bytes_are_wrong(key, key_len, room, room_len))
         return FACING_BAD_ARGUMENT;
     lent = facing_lend(closed->at, FACING_BYTES);
@@ -375,8 +381,8 @@ FACING_CHECKED FACING_API uint32_t facing_bytes_sizes_of(facing_bytes_handle *an
             round = 0;
             status = FACING_DONE;
         } else if (status == FACING_BUSY) {
-            facing_wait(round);
-            round += round < 64;
+            round = facing_next_round(round, 0);
+            if (round == FACING_NEVER) status = FACING_AFTER_FORK;
         }
     } while (status == FACING_BUSY || (status == FACING_DONE && at != UINT64_MAX));
     FACING_SEE_ALL();
@@ -384,10 +390,10 @@ FACING_CHECKED FACING_API uint32_t facing_bytes_sizes_of(facing_bytes_handle *an
     return status;
 }
 
-/* Copies the pairs of the next buckets, as facing_pairs does, of a closed map or, by a client, of an open one. Keys and
- * values are copied into `room`, each key before its value, and their lengths into `key_lens` and `value_lens`, which have
- * room for `len` of them. Stores in `copied` how many pairs and bytes were copied. Where the next bucket alone is too large
- * the status is FACING_NO_ROOM, `copied` is what it needs, and the cursor is at it. */
+/* Copies the pairs of the next buckets, at most 1,024, as facing_pairs does, of a closed map or, by a client, of an open
+ * one. Keys and values are copied into `room`, each key before its value, and their lengths into `key_lens` and
+ * `value_lens`, which have room for `len` of them. Stores in `copied` how many pairs and bytes were copied. Where the next
+ * bucket alone is too large the status is FACING_NO_ROOM, `copied` is what it needs, and the cursor is at it. */
 FACING_CHECKED FACING_API uint32_t facing_bytes_pairs(facing_bytes_handle *any, facing_cursor *cursor, uint64_t *key_lens,
                                                       uint64_t *value_lens, size_t len, void *room, size_t room_len,
                                                       facing_bytes_sizes *copied) {
@@ -395,7 +401,7 @@ FACING_CHECKED FACING_API uint32_t facing_bytes_pairs(facing_bytes_handle *any, 
     facing_bytes_sizes step = {0, 0};
     uint64_t next;
     uint32_t status;
-    unsigned round = 0;
+    unsigned round = 0, buckets = 0;
     if (copied == FACING_NULL) return FACING_BAD_ARGUMENT;
     *copied = step;
     if (any == FACING_NULL || cursor == FACING_NULL || key_lens == FACING_NULL || value_lens == FACING_NULL || len >> 57 != 0
@@ -417,12 +423,14 @@ FACING_CHECKED FACING_API uint32_t facing_bytes_pairs(facing_bytes_handle *any, 
             copied->pairs += step.pairs;
             copied->bytes += step.bytes;
             cursor->at = next;
+            buckets++;
             round = 0;
         } else if (status == FACING_BUSY) {
-            facing_wait(round);
-            round += round < 64;
+            round = facing_next_round(round, 0);
+            if (round == FACING_NEVER) status = FACING_AFTER_FORK;
         }
-    } while (status == FACING_BUSY || (status == FACING_DONE && cursor->at != UINT64_MAX));
+    } while (status == FACING_BUSY
+             || (status == FACING_DONE && cursor->at != UINT64_MAX && buckets < FACING_MOST_BUCKETS));
     FACING_SEE_ALL();
     if (copied->pairs != 0) return FACING_DONE;
     if (status == FACING_NO_ROOM) *copied = step;
@@ -433,7 +441,9 @@ FACING_CHECKED FACING_API uint32_t facing_bytes_pairs(facing_bytes_handle *any, 
  * does, but never with FACING_NO_SEED. */
 FACING_CHECKED FACING_API uint32_t facing_bytes_reopen(facing_bytes_handle *closed, uint32_t clients,
                                                        facing_bytes_handle *map) {
-    if (closed == FACING_NULL || map == FACING_NULL || closed == map) return FACING_BAD_ARGUMENT;
+    if (map == FACING_NULL || closed == map) return FACING_BAD_ARGUMENT;
+    map->at = FACING_NULL;
+    if (closed == FACING_NULL) return FACING_BAD_ARGUMENT;
     return facing_any_reopen(&closed->at, clients, &map->at, FACING_BYTES);
 }
 

@@ -55,6 +55,8 @@ FACING_CHECKED FACING_API uint32_t facing_counts_open_seeded(size_t capacity, ui
     if (map == FACING_NULL) return FACING_BAD_ARGUMENT;
     map->at = FACING_NULL;
     if (seed == FACING_NULL) return FACING_BAD_ARGUMENT;
+    status = facing_watch_forks();
+    if (status != FACING_DONE) return status;
     FACING_ENTER(0);
     status = facing_c_counts_open(capacity, clients, seed[0], seed[1], &made);
     FACING_LEAVE(0);
@@ -78,14 +80,16 @@ FACING_CHECKED FACING_API uint32_t facing_counts_open(size_t capacity, uint32_t 
  * the longest key that it was called with.
  * Returns FACING_NO_CLIENT where all are in use, FACING_NO_MEMORY, or FACING_WRONG_HANDLE; the handle is null then. */
 FACING_CHECKED FACING_API uint32_t facing_counts_client(facing_counts_handle *map, facing_counts_handle *client) {
-    if (map == FACING_NULL || client == FACING_NULL || map == client) return FACING_BAD_ARGUMENT;
+    if (client == FACING_NULL || map == client) return FACING_BAD_ARGUMENT;
+    client->at = FACING_NULL;
+    if (map == FACING_NULL) return FACING_BAD_ARGUMENT;
     return facing_any_client(&map->at, &client->at, FACING_COUNTS);
 }
 
 /* == Calls of a client ==
  *
  * Each call locks the bucket of its key, and no other lock; while another thread has that lock it spins, then yields, then
- * sleeps for a millisecond at a time. It returns FACING_TOO_LONG, FACING_NO_MEMORY, FACING_CLIENT_FULL or
+ * sleeps for a millisecond at a time. It returns FACING_TOO_LONG, FACING_NO_MEMORY, FACING_CLIENT_FULL, FACING_AFTER_FORK or
  * FACING_WRONG_HANDLE, and then the call was not made. A call that adds a key allocates it and a node, and one with a longer
  * key than the client had before, room for it; others allocate nothing for key and value. Any call may allocate parts of a
  * table that grows, and goes on where there is no memory for them. */
@@ -94,10 +98,10 @@ FACING_CHECKED FACING_API uint32_t facing_counts_client(facing_counts_handle *ma
     unsigned round = 0;                                                                                                     \
     facing_handle lent, back;                                                                                               \
     facing_answer dropped;                                                                                                  \
-    if (client == FACING_NULL || facing_bytes_are_none(key, key_len)) return FACING_BAD_ARGUMENT;                           \
     if (answer == FACING_NULL) answer = &dropped;                                                                           \
     answer->found = 0;                                                                                                      \
     answer->value = 0;                                                                                                      \
+    if (client == FACING_NULL || facing_bytes_are_none(key, key_len)) return FACING_BAD_ARGUMENT;                           \
     do {                                                                                                                    \
         lent = facing_lend(client->at, FACING_COUNTS);                                                                      \
         back.at = FACING_NULL;                                                                                              \
@@ -106,8 +110,8 @@ FACING_CHECKED FACING_API uint32_t facing_counts_client(facing_counts_handle *ma
         FACING_LEAVE(FACING_BYTES_PLACE(key, key_len));                                                                     \
         client->at = facing_back(client->at, lent.at, back.at);                                                             \
         if (status != FACING_BUSY) return status;                                                                           \
-        facing_wait(round);                                                                                                 \
-        round += round < 64;                                                                                                \
+        round = facing_next_round(round, 0);                                                                                \
+        if (round == FACING_NEVER) return FACING_AFTER_FORK;                                                                \
     } while (1)
 
 /* The answer is the value at the key. */
@@ -190,7 +194,7 @@ FACING_CHECKED FACING_API uint32_t facing_counts_set(facing_counts_handle *clien
 FACING_INNER int facing_counts_are_wrong(const uint64_t *key_lens, size_t len, const void *keys, size_t keys_len,
                                          const void *others) {
     size_t i;
-    if (len != 0 && (key_lens == FACING_NULL || others == FACING_NULL)) return 1;
+    if (len >> 59 != 0 || (len != 0 && (key_lens == FACING_NULL || others == FACING_NULL))) return 1;
     if (facing_bytes_are_none(keys, keys_len)) return 1;
     for (i = 0; i < len && key_lens[i] <= keys_len; i++)
         keys_len -= key_lens[i];
@@ -204,7 +208,8 @@ FACING_CHECKED FACING_API uint32_t facing_counts_put_all(facing_counts_handle *c
     const uint8_t *key = facing_bytes_at(keys);
     size_t i = 0;
     uint32_t status = FACING_DONE;
-    if (facing_counts_are_wrong(key_lens, len, keys, keys_len, values)) status = FACING_BAD_ARGUMENT;
+    if (client == FACING_NULL || facing_counts_are_wrong(key_lens, len, keys, keys_len, values))
+        status = FACING_BAD_ARGUMENT;
     while (status == FACING_DONE && i < len) {
         status = facing_counts_put(client, key, key_lens[i], values[i], FACING_NULL);
         key += key_lens[i];
@@ -221,13 +226,15 @@ FACING_CHECKED FACING_API uint32_t facing_counts_get_all(facing_counts_handle *c
     const uint8_t *key = facing_bytes_at(keys);
     size_t i = 0;
     uint32_t status = FACING_DONE;
-    if (facing_counts_are_wrong(key_lens, len, keys, keys_len, answers)) status = FACING_BAD_ARGUMENT;
+    if (client == FACING_NULL || facing_counts_are_wrong(key_lens, len, keys, keys_len, answers))
+        status = FACING_BAD_ARGUMENT;
     while (status == FACING_DONE && i < len) {
         status = facing_counts_get(client, key, key_lens[i], &answers[i]);
         key += key_lens[i];
         i += status == FACING_DONE;
     }
     if (done != FACING_NULL) *done = i;
+    facing_answer_none(answers, i, len);
     return status;
 }
 
@@ -238,7 +245,8 @@ FACING_CHECKED FACING_API uint32_t facing_counts_add_all(facing_counts_handle *c
     const uint8_t *key = facing_bytes_at(keys);
     size_t i = 0;
     uint32_t status = FACING_DONE;
-    if (facing_counts_are_wrong(key_lens, len, keys, keys_len, values)) status = FACING_BAD_ARGUMENT;
+    if (client == FACING_NULL || facing_counts_are_wrong(key_lens, len, keys, keys_len, values))
+        status = FACING_BAD_ARGUMENT;
     while (status == FACING_DONE && i < len) {
         status = facing_counts_add(client, key, key_lens[i], values[i], FACING_NULL);
         key += key_lens[i];
@@ -272,9 +280,10 @@ FACING_CHECKED FACING_API uint32_t facing_counts_find(facing_counts_handle *clos
                                                       facing_answer *answer) {
     facing_handle lent, back = {FACING_NULL};
     uint32_t status;
-    if (closed == FACING_NULL || answer == FACING_NULL || facing_bytes_are_none(key, key_len)) return FACING_BAD_ARGUMENT;
+    if (answer == FACING_NULL) return FACING_BAD_ARGUMENT;
     answer->found = 0;
     answer->value = 0;
+    if (closed == FACING_NULL || facing_bytes_are_none(key, key_len)) return FACING_BAD_ARGUMENT;
     lent = facing_lend(closed->at, FACING_COUNTS);
     FACING_ENTER(0);
     status = facing_c_counts_find(lent, &back, facing_bytes_at(key), key_len, answer);
@@ -310,8 +319,8 @@ FACING_CHECKED FACING_API uint32_t facing_counts_sizes_of(facing_counts_handle *
             round = 0;
             status = FACING_DONE;
         } else if (status == FACING_BUSY) {
-            facing_wait(round);
-            round += round < 64;
+            round = facing_next_round(round, 0);
+            if (round == FACING_NEVER) status = FACING_AFTER_FORK;
         }
     } while (status == FACING_BUSY || (status == FACING_DONE && at != UINT64_MAX));
     FACING_SEE_ALL();
@@ -319,10 +328,10 @@ FACING_CHECKED FACING_API uint32_t facing_counts_sizes_of(facing_counts_handle *
     return status;
 }
 
-/* Copies the pairs of the next buckets, as facing_pairs does, of a closed map or, by a client, of an open one. Keys are
- * copied into `room`, one after another, and their lengths and values into `key_lens` and `values`, which have room for
- * `len` of them. Stores in `copied` how many pairs, and bytes of keys, were copied. Where the next bucket alone is too large
- * the status is FACING_NO_ROOM, `copied` is what it needs, and the cursor is at it. */
+/* Copies the pairs of the next buckets, at most 1,024, as facing_pairs does, of a closed map or, by a client, of an open
+ * one. Keys are copied into `room`, one after another, and their lengths and values into `key_lens` and `values`, which have
+ * room for `len` of them. Stores in `copied` how many pairs, and bytes of keys, were copied. Where the next bucket alone is
+ * too large the status is FACING_NO_ROOM, `copied` is what it needs, and the cursor is at it. */
 FACING_CHECKED FACING_API uint32_t facing_counts_pairs(facing_counts_handle *any, facing_cursor *cursor, uint64_t *key_lens,
                                                        uint64_t *values, size_t len, void *room, size_t room_len,
                                                        facing_bytes_sizes *copied) {
@@ -330,7 +339,7 @@ FACING_CHECKED FACING_API uint32_t facing_counts_pairs(facing_counts_handle *any
     facing_bytes_sizes step = {0, 0};
     uint64_t next;
     uint32_t status;
-    unsigned round = 0;
+    unsigned round = 0, buckets = 0;
     if (copied == FACING_NULL) return FACING_BAD_ARGUMENT;
     *copied = step;
     if (any == FACING_NULL || cursor == FACING_NULL || key_lens == FACING_NULL || values == FACING_NULL || len >> 57 != 0
@@ -352,12 +361,14 @@ FACING_CHECKED FACING_API uint32_t facing_counts_pairs(facing_counts_handle *any
             copied->pairs += step.pairs;
             copied->bytes += step.bytes;
             cursor->at = next;
+            buckets++;
             round = 0;
         } else if (status == FACING_BUSY) {
-            facing_wait(round);
-            round += round < 64;
+            round = facing_next_round(round, 0);
+            if (round == FACING_NEVER) status = FACING_AFTER_FORK;
         }
-    } while (status == FACING_BUSY || (status == FACING_DONE && cursor->at != UINT64_MAX));
+    } while (status == FACING_BUSY
+             || (status == FACING_DONE && cursor->at != UINT64_MAX && buckets < FACING_MOST_BUCKETS));
     FACING_SEE_ALL();
     if (copied->pairs != 0) return FACING_DONE;
     if (status == FACING_NO_ROOM) *copied = step;
@@ -368,7 +379,9 @@ FACING_CHECKED FACING_API uint32_t facing_counts_pairs(facing_counts_handle *any
  * does, but never with FACING_NO_SEED. */
 FACING_CHECKED FACING_API uint32_t facing_counts_reopen(facing_counts_handle *closed, uint32_t clients,
                                                         facing_counts_handle *map) {
-    if (closed == FACING_NULL || map == FACING_NULL || closed == map) return FACING_BAD_ARGUMENT;
+    if (map == FACING_NULL || closed == map) return FACING_BAD_ARGUMENT;
+    map->at = FACING_NULL;
+    if (closed == FACING_NULL) return FACING_BAD_ARGUMENT;
     return facing_any_reopen(&closed->at, clients, &map->at, FACING_COUNTS);
 }
 

@@ -4,22 +4,26 @@ bytes to bytes (BytesMap).
 They stand on the shared library that tools/install makes. ctypes lets other threads run during each call. A client serves one
 call at a time, for which it has a lock; give each thread a client of its own. Where all threads spend their time in Python code a
 dict under a lock is faster: a call from Python takes microseconds, most of them on the way to the library. put_all, get_all and
-add_all pass many keys at once."""
+add_all pass many keys at once.
+
+Processes do not share a map. In a process that was forked, a map and its clients raise AfterFork; a closed map can be read."""
 import array
 import collections.abc
 import ctypes
-import ctypes.util
 import operator
 import os
 import threading
+import weakref
 
 U64, U32, SIZE = ctypes.c_uint64, ctypes.c_uint32, ctypes.c_size_t
 LONGEST = 65536
 LAST = 2**64 - 1
 NAMES = (
     "DONE BUSY NO_MEMORY CLIENT_FULL BAD_CAPACITY BAD_CLIENTS CLIENT_OUT BIN_MISSING WRONG_HANDLE BAD_ARGUMENT TOO_LONG NO_CLIENT "
-    "NO_SEED NO_ROOM"
+    "NO_SEED NO_ROOM AFTER_FORK"
 ).split()
+# The first two numbers of the library's version, which are in its name.
+ABI = "0.1"
 
 
 class Fault(Exception):
@@ -32,6 +36,17 @@ class Fault(Exception):
 
 class NoMemory(Fault, MemoryError):
     """Out of memory."""
+
+
+class AfterFork(Fault):
+    """The map or the client belongs to the process that this one was forked from."""
+
+    def __init__(self, owner):
+        super().__init__(NAMES.index("AFTER_FORK"))
+        self.args = (
+            f"process {owner} opened this map, and process {os.getpid()} was forked from it, so they do not share it. Open the map in "
+            "the process that uses it, or send the pairs",
+        )
 
 
 class _Handle(ctypes.Structure):
@@ -51,23 +66,25 @@ class _Sizes(ctypes.Structure):
 
 
 def _places():
-    """The paths at which the shared library may lie, the likeliest first."""
-    if "FACING" in os.environ:
+    """Where the shared library may be, the likeliest first: paths, and names that the linker looks for."""
+    if os.environ.get("FACING"):
         return [os.environ["FACING"]]
     here = os.path.dirname(os.path.realpath(__file__))
-    beside = [os.path.join(here, "libfacing.so"), os.path.join(here, "..", "..", "libfacing.so")]
-    return [it for it in beside if os.path.exists(it)] + [it for it in [ctypes.util.find_library("facing")] if it]
+    names = [f"libfacing.so.{ABI}", "libfacing.so"]
+    beside = [os.path.join(here, *up, name) for up in ([], ["..", ".."]) for name in names]
+    return [it for it in beside if os.path.exists(it)] + names
 
 
 def _load():
+    refused = []
     for place in _places():
         try:
             return ctypes.CDLL(place)
         except OSError as why:
-            raise ImportError(f"facing: {why}") from None
+            refused.append(str(why))
     raise ImportError(
-        "facing: libfacing.so lies neither beside this module nor where the linker looks. Install it with tools/install PREFIX, or "
-        "set FACING to its path"
+        f"facing: {'; '.join(refused)}. Install the library with tools/install PREFIX, and put it beside this module or where the "
+        "linker looks, or set FACING to its path"
     )
 
 
@@ -102,9 +119,10 @@ def _declare():
     for name, form in forms.items():
         function = getattr(_LIB, name)
         function.argtypes, function.restype = form, None if name.endswith("_free") else U32
+    return {name: getattr(_LIB, name) for name in forms}
 
 
-_declare()
+_FUNCTIONS = _declare()
 
 
 def version():
@@ -128,12 +146,18 @@ def text(value):
 
 
 def numbers(values):
-    """Returns values as an array that the library can read."""
+    """Returns values as an array, and what stands for it in a call."""
     try:
         packed = array.array("Q", values)
     except OverflowError:
         raise OverflowError("a number is not of 64 bits: 0 to 2**64 - 1") from None
-    return packed, ctypes.cast(packed.buffer_info()[0] or None, ctypes.POINTER(U64))
+    return packed, U64.from_buffer(packed) if packed else None
+
+
+def _parted(pairs):
+    """Returns the keys and the values of a mapping or of pairs."""
+    pairs = list(pairs.items() if isinstance(pairs, collections.abc.Mapping) else pairs)
+    return [key for key, _ in pairs], [value for _, value in pairs]
 
 
 def _check(status):
@@ -149,7 +173,7 @@ class _Owned:
     _kind = "facing"
 
     def __init__(self):
-        self._handle, self._lock = _Handle(), threading.Lock()
+        self._handle, self._lock, self._process = _Handle(), threading.Lock(), os.getpid()
 
     def __enter__(self):
         return self
@@ -171,13 +195,21 @@ class _Owned:
         return self.__copy__()
 
     def free(self):
-        """Frees what the handle stands for. A client goes back to its map."""
+        """Frees what the handle stands for. A client goes back to its map. In a process that was forked it does nothing."""
+        if self._process != os.getpid():
+            return
         with self._lock:
-            getattr(_LIB, f"{self._kind}_free")(self._handle)
+            _FUNCTIONS[f"{self._kind}_free"](self._handle)
+
+    def _own(self):
+        """Raises where this belongs to the process that this one was forked from: there its lock may be held for ever."""
+        if self._process != os.getpid():
+            raise AfterFork(self._process)
 
     def _status(self, name, *arguments):
+        self._own()
         with self._lock:
-            return getattr(_LIB, f"{self._kind}_{name}")(self._handle, *arguments)
+            return _FUNCTIONS[f"{self._kind}_{name}"](self._handle, *arguments)
 
     def _do(self, name, *arguments):
         _check(self._status(name, *arguments))
@@ -209,15 +241,28 @@ class _Owned:
         return pairs
 
 
-class Map(_Owned):
-    """An open map of numbers, with a table of so many buckets to begin with, and so many clients."""
+class _Pairs:
+    """What a mapping has besides its calls, of an open map."""
+
+    # (without it Python would ask for the keys 0, 1, 2 .. in turn)
+    __iter__ = None
+
+    def copy(self):
+        """Returns a dict of the pairs: each bucket as it is when it is read."""
+        return dict(self.items())
+
+
+class Map(_Pairs, _Owned):
+    """An open map of numbers, with a table of so many buckets to begin with, and so many clients.
+
+    `in`, items, copy and update take a client for as long as they run."""
 
     def __init__(self, capacity=16, clients=4, salt=0):
         super().__init__()
         self._open(capacity, clients, number(salt) & 0xFFFFFFFF)
 
     def _open(self, capacity, clients, *salt):
-        _check(getattr(_LIB, f"{self._kind}_open")(number(capacity), min(number(clients), 2**32 - 1), *salt, self._handle))
+        _check(_FUNCTIONS[f"{self._kind}_open"](number(capacity), min(number(clients), 2**32 - 1), *salt, self._handle))
 
     def client(self):
         """Returns a client that is not in use, for one thread at a time."""
@@ -236,6 +281,23 @@ class Map(_Owned):
         """Returns how many keys there are; an estimate while calls run."""
         return self._count()
 
+    def __len__(self):
+        return self._count()
+
+    def __contains__(self, key):
+        with self.client() as client:
+            return key in client
+
+    def items(self):
+        """Goes over the pairs, some buckets at a time: each bucket as it is when it is read."""
+        with self.client() as client:
+            yield from client.items()
+
+    def update(self, pairs):
+        """Stores each pair of a mapping or of a list of pairs."""
+        with self.client() as client:
+            client.update(pairs)
+
     def _client(self):
         return Client()
 
@@ -243,7 +305,7 @@ class Map(_Owned):
         return Closed()
 
 
-class _Calls(_Owned):
+class _Calls(_Pairs, _Owned):
     """The calls of a client over keys and values as they are."""
 
     def __getitem__(self, key):
@@ -265,9 +327,19 @@ class _Calls(_Owned):
         """Returns how many keys the map has; an estimate while calls run."""
         return self._count()
 
-    def pairs(self):
+    def __len__(self):
+        return self._count()
+
+    def items(self):
         """Goes over the pairs of the open map, some buckets at a time: each bucket as it is when it is read."""
         return self._walk()
+
+    pairs = items
+
+    def update(self, pairs):
+        """Stores each pair of a mapping or of a list of pairs."""
+        for key, value in zip(*_parted(pairs)):
+            self.put(key, value)
 
 
 class Client(_Calls):
@@ -345,10 +417,14 @@ class Client(_Calls):
         """Adds each pair's value to the one at its key. A collections.Counter is such a mapping."""
         self._all("add_all", pairs)
 
+    def update(self, pairs):
+        """Stores each pair of a mapping or of a list of pairs."""
+        self._all("put_all", pairs)
+
     def _all(self, name, pairs):
-        pairs = list(pairs.items() if isinstance(pairs, collections.abc.Mapping) else pairs)
-        given, kept, count = self._packed(it for it, _ in pairs)
-        values, at_values = numbers(it for _, it in pairs)
+        keys, values = _parted(pairs)
+        given, kept, count = self._packed(keys)
+        values, at_values = numbers(values)
         self._many(name, given, at_values, count)
         del kept, values
 
@@ -358,10 +434,12 @@ class Client(_Calls):
     def get_all(self, keys):
         """Returns the values at the keys, None where there is none."""
         given, kept, count = self._packed(keys)
-        answers = (_Answer * max(count, 1))()
-        self._many("get_all", given, answers, count)
+        answers = bytearray(ctypes.sizeof(_Answer) * max(count, 1))
+        self._many("get_all", given, _Answer.from_buffer(answers), count)
         del kept
-        return [it.value if it.found else None for it in answers[:count]]
+        found, words = answers[:: ctypes.sizeof(_Answer)][:count], array.array("Q", bytes(answers))
+        values = words[1::2].tolist()[:count]
+        return [value if it else None for it, value in zip(found, values)] if 0 in found else values
 
 
 def _number_pairs(owned, cursor, count):
@@ -385,7 +463,7 @@ class CountsClient(Client):
         return key, len(key)
 
     def _packed(self, keys):
-        keys = [text(it) for it in keys]
+        keys = [it if type(it) is bytes else text(it) for it in keys]
         lens, at_lens = numbers(map(len, keys))
         joined = b"".join(keys)
         return (at_lens, len(keys), joined, len(joined)), (lens, joined), len(keys)
@@ -394,10 +472,28 @@ class CountsClient(Client):
         self._do(name, *given, values, SIZE())
 
 
+# The closed maps, by what `id` says of them.
+_CLOSED = weakref.WeakValueDictionary()
+
+
+def _take_over():
+    """In a process that was forked: takes over its copies of the closed maps that no thread was reading during the fork."""
+    for it in list(_CLOSED.values()):
+        if not it._lock.locked():
+            it._process = os.getpid()
+
+
+os.register_at_fork(after_in_child=_take_over)
+
+
 class _Mapping(_Owned, collections.abc.Mapping):
-    """A closed map, as a mapping that does not change."""
+    """A closed map, as a mapping that does not change. A process that is forked has a copy, which it can read."""
 
     __hash__ = None
+
+    def __init__(self):
+        super().__init__()
+        _CLOSED[id(self)] = self
 
     def __len__(self):
         return self._count()
@@ -495,11 +591,12 @@ class BytesClient(_Calls):
         self._room = ctypes.create_string_buffer(LONGEST)
 
     def _call(self, name, *data, room=True):
-        answer = _Answer()
+        answer, function = _Answer(), _FUNCTIONS[f"facing_bytes_{name}"]
         given = [part for it in map(text, data) for part in (it, len(it))]
+        self._own()
         with self._lock:
             more = [self._room, LONGEST] if room else []
-            _check(getattr(_LIB, f"facing_bytes_{name}")(self._handle, *given, *more, answer))
+            _check(function(self._handle, *given, *more, answer))
             if not room:
                 return answer.found == 1
             return ctypes.string_at(self._room, answer.value) if answer.found else None

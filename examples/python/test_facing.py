@@ -1,10 +1,35 @@
 """What calls answer, and what is refused."""
 import collections
 import copy
+import os
 import pickle
+import signal
 import unittest
 
 import facing
+
+
+def child_of(work):
+    """Does the work in a process that is forked, and returns its exit status; it is ended after a minute."""
+    if (child := os.fork()) == 0:
+        signal.alarm(60)
+        try:
+            os._exit(work())
+        except BaseException:
+            os._exit(99)
+    return os.waitstatus_to_exitcode(os.waitpid(child, 0)[1])
+
+
+def raises_after_fork(*calls):
+    """Returns how many of these calls did not raise that the map belongs to the parent."""
+    failed = 0
+    for call in calls:
+        try:
+            call()
+            failed += 1
+        except facing.AfterFork as why:
+            failed += why.name != "AFTER_FORK" or str(os.getppid()) not in str(why)
+    return failed
 
 
 class Calls(unittest.TestCase):
@@ -78,11 +103,61 @@ class Calls(unittest.TestCase):
             self.assertTrue(1 in client)
             self.assertFalse(2 in client)
             self.assertEqual((client[1], client.get(2, 7)), (5, 7))
+            client.update({2: 6, 3: 7})
+            client.update([(3, 8)])
+            self.assertEqual((len(client), client.copy()), (3, {1: 5, 2: 6, 3: 8}))
+            self.assertEqual({key: value for key, value in client.items()}, {1: 5, 2: 6, 3: 8})
+            with self.assertRaises(TypeError):
+                iter(client)
+            with self.assertRaises(ValueError):
+                client.update([(1, 2, 3)])
+            del client[2], client[3]
             with self.assertRaises(KeyError):
                 client[2]
             del client[1]
             with self.assertRaises(KeyError):
                 del client[1]
+
+    def test_a_map_is_like_a_mapping_while_a_client_is_free(self):
+        with facing.Map(16, 1) as shared:
+            shared.update({1: 5, 2: 6})
+            self.assertEqual((len(shared), 1 in shared, 3 in shared), (2, True, False))
+            self.assertEqual({key: value for key, value in shared.items()}, {1: 5, 2: 6})
+            self.assertEqual(shared.copy(), {1: 5, 2: 6})
+            with self.assertRaises(TypeError):
+                iter(shared)
+            with shared.client():
+                self.refuses("NO_CLIENT", shared.copy)
+        with facing.BytesMap(16, 1) as shared:
+            shared.update({b"a": b"one"})
+            self.assertEqual((len(shared), b"a" in shared, shared.copy()), (1, True, {b"a": b"one"}))
+
+    def test_a_child_does_not_hang_on_what_its_parent_uses(self):
+        with facing.Map(16, 1) as shared, shared.client() as client, facing.BytesMap(16, 1) as texts, texts.client() as text:
+            client.put(1, 5)
+            calls = [lambda: client.get(1), client.copy, lambda: client.put_all({1: 2}), shared.count, shared.client, shared.close]
+            with client._lock, text._lock:
+                self.assertEqual(child_of(lambda: raises_after_fork(*calls, lambda: text.get(b"a"))), 0)
+                self.assertEqual(child_of(lambda: client.free() or shared.free() or 0), 0)
+            self.assertEqual(client.get(1), 5)
+
+    def test_a_child_reads_closed_maps_and_opens_its_own(self):
+        with facing.Map(16, 1) as shared:
+            shared.update({1: 5})
+            with shared.close() as closed:
+                self.assertEqual(child_of(lambda: closed[1] + len(closed)), 6)
+                with closed._lock:
+                    self.assertEqual(child_of(lambda: raises_after_fork(lambda: closed[1])), 0)
+                self.assertEqual(closed[1], 5)
+
+        def work():
+            with facing.Map(16, 1) as own, own.client() as client:
+                return client.add(1, 7)
+
+        self.assertEqual(child_of(work), 7)
+
+    def test_the_librarys_name_has_its_version(self):
+        self.assertEqual(facing.version().split()[0].rsplit(".", 1)[0], facing.ABI)
 
     def test_many_keys_at_once(self):
         with facing.Map(16, 1) as shared:
@@ -91,6 +166,10 @@ class Calls(unittest.TestCase):
                 client.add_all(collections.Counter({1: 1, 3: 9}))
                 client.add_all([])
                 self.assertEqual(client.get_all([1, 2, 3, 4]), [6, 6, 9, None])
+                self.assertEqual(client.get_all(iter([2, 1])), [6, 6])
+                self.assertIsNone(client.put(9, 0))
+                self.assertEqual(client.get_all((9, 8)), [0, None])
+                del client[9]
                 self.assertEqual(client.get_all([]), [])
             with shared.close() as closed:
                 self.assertEqual(dict(closed), {1: 6, 2: 6, 3: 9})

@@ -63,8 +63,9 @@ static void open_map(struct slot *it) {
 
 static void take_client(struct slot *it, struct slot *to) {
     if (it == to || seldom()) {
-        want_status(facing_bytes_client(below(2) ? &it->handle : NULL, it == to ? &it->handle : NULL), FACING_BAD_ARGUMENT,
-                    "client");
+        facing_bytes_handle *from = below(2) ? &it->handle : NULL, *into = it == to ? &it->handle : NULL;
+        if (from == NULL && into != NULL) free_slot(it);
+        want_status(facing_bytes_client(from, into), FACING_BAD_ARGUMENT, "client");
     } else {
         uint32_t expected;
         free_slot(to);
@@ -135,12 +136,15 @@ static void make_call(struct slot *it) {
         k.at = NULL;
         k.len += k.len == 0;
         want_status(call(kind, &it->handle, k, v, w, len, &answer), FACING_BAD_ARGUMENT, "a key that lies nowhere");
+        want(answer.found == 0 && answer.len == 0, "the answer to a key that lies nowhere");
     } else if (seldom() && len != 0 && !is_truth(kind)) {
         k.at = room + below(len);
         k.len = 1;
         want_status(call(kind, &it->handle, k, v, w, len, &answer), FACING_BAD_ARGUMENT, "a key in the room");
+        want(answer.found == 0 && answer.len == 0, "the answer to a key in the room");
     } else if (seldom()) {
         want_status(call(kind, NULL, k, v, w, len, &answer), FACING_BAD_ARGUMENT, "a call of nothing");
+        want(answer.found == 0 && answer.len == 0, "the answer to a call of nothing");
     } else if (seldom()) {
         int is_key = kind < 2 || kind == 4 || below(2);
         if (expected == FACING_DONE) expected = FACING_TOO_LONG;
@@ -274,6 +278,7 @@ static void hold_value(struct slot *it, struct slot *to) {
     facing_bytes_answer answer = {7, 7};
     if (it == to || seldom()) {
         want_status(facing_bytes_hold(&it->handle, k.at, k.len, it == to ? &it->handle : NULL, &answer), FACING_BAD_ARGUMENT, "hold");
+        want(answer.found == 0 && answer.len == 0, "the answer of a hold that is wrong");
         return;
     }
     free_slot(to);
@@ -305,8 +310,9 @@ static void read_value(struct slot *it) {
 static void open_again(struct slot *it, struct slot *to) {
     uint32_t clients = (uint32_t)below(4) + 1;
     if (it == to || seldom()) {
-        want_status(facing_bytes_reopen(below(2) ? &it->handle : NULL, clients, it == to ? &it->handle : NULL),
-                    FACING_BAD_ARGUMENT, "reopen");
+        facing_bytes_handle *from = below(2) ? &it->handle : NULL, *into = it == to ? &it->handle : NULL;
+        if (from == NULL && into != NULL) free_slot(it);
+        want_status(facing_bytes_reopen(from, clients, into), FACING_BAD_ARGUMENT, "reopen");
     } else {
         uint32_t expected = it->kind == CLOSED ? FACING_DONE : FACING_WRONG_HANDLE;
         free_slot(to);

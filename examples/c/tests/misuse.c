@@ -52,6 +52,7 @@ static void take_client(struct slot *it, struct slot *to) {
     uint32_t expected = it->kind != MAP ? FACING_WRONG_HANDLE : it->of->out == it->of->clients ? FACING_NO_CLIENT : FACING_DONE;
     if (it == to || seldom()) {
         any_handle *one = it == to || below(2) ? &it->handle : NULL;
+        if (one == NULL) free_slot(to);
         want_status(DO(client)(one, one == NULL ? &to->handle : below(2) ? one : NULL), FACING_BAD_ARGUMENT, "client");
     } else {
         free_slot(to);
@@ -132,7 +133,9 @@ static void make_call(struct slot *it) {
     uint64_t key = below(KEYS), value = seldom() ? UINT64_MAX - below(3) : below(4);
     facing_answer answer = {7, 7}, expected = {0, 0};
     if (seldom()) {
-        want_status(call(kind, NULL, key, value, below(2) ? &answer : NULL), FACING_BAD_ARGUMENT, "a call");
+        want_status(call(kind, NULL, key, value, NULL), FACING_BAD_ARGUMENT, "a call");
+        want_status(call(kind, NULL, key, value, &answer), FACING_BAD_ARGUMENT, "a call");
+        want(answer.found == 0 && answer.value == 0, "the answer of a call without a client");
         want_kept(it);
         return;
     }
@@ -180,14 +183,13 @@ static void close_map(struct slot *it) {
 
 static void find_key(struct slot *it) {
     uint64_t key = below(KEYS);
-    int is_null = seldom(), is_closed = it->kind == CLOSED;
+    int is_null = seldom(), is_closed = it->kind == CLOSED && !is_null;
     facing_answer answer = {7, 7};
-    want_status(DO(find)(is_null ? NULL : &it->handle, KEY(key), is_null && below(2) ? NULL : &answer),
+    if (is_null) want_status(DO(find)(NULL, KEY(key), NULL), FACING_BAD_ARGUMENT, "find");
+    want_status(DO(find)(is_null ? NULL : &it->handle, KEY(key), &answer),
                 is_null ? FACING_BAD_ARGUMENT : is_closed ? FACING_DONE : FACING_WRONG_HANDLE, "find");
-    if (!is_null) {
-        want(answer.found == (uint32_t)(is_closed && it->of->has[key]), "whether it is found");
-        want(answer.value == (is_closed && it->of->has[key] ? it->of->values[key] : 0), "what is found");
-    }
+    want(answer.found == (uint32_t)(is_closed && it->of->has[key]), "whether it is found");
+    want(answer.value == (is_closed && it->of->has[key] ? it->of->values[key] : 0), "what is found");
     want_kept(it);
 }
 
@@ -249,6 +251,7 @@ static void open_again(struct slot *it, struct slot *to) {
     uint32_t expected = FACING_DONE, clients = some_clients(&expected);
     if (it == to || seldom()) {
         any_handle *one = it == to || below(2) ? &it->handle : NULL;
+        if (one == NULL) free_slot(to);
         want_status(DO(reopen)(one, clients, one == NULL ? &to->handle : below(2) ? one : NULL), FACING_BAD_ARGUMENT, "reopen");
     } else {
         free_slot(to);
