@@ -36,8 +36,13 @@ PARTS = (
     ("chm", "The closed map (`facingberyl::Quiet`)", CLOSED, ()),
     ("chm", "The map and its passes apart (`facingberyl::Map`)", (), CLOSED + ("debug.rt", "fault.rt", "laws.rt")),
     ("count_ledger", "Passes (`facingberyl::Pass`)", ("tokens.rt",), ()),
-    ("functions", "Values with several owners (`facingberyl::Shared`)", ("shared.rt",), ()),
+    ("hashkeys", "Keys, and what they are looked up by (`facingberyl::HashKey`)", (), ()),
+    ("bin_history", "Calls as values (`facingberyl::Call`)", ("call.rt", "key_arg.rt"), ()),
+    ("functions", "Functions and values that are ready to use (`facingberyl::Add`)", (), ()),
+    ("seeded_keys", "Keys under a secret seed (`seeded_keys`)", (), ()),
 )
+# The crate that a program names.
+LIBRARY = "facingberyl"
 # A type whose calls are those of another, which are listed: its folder, and what is said of it.
 ALIKE = ("crates/facingberyl/src/owned/", "An `OwnedClient` has all calls of a `Client` besides, with the same promises ([owned](../crates/facingberyl/src/owned)).")
 
@@ -174,8 +179,41 @@ def unlisted(path):
     return [it for it in calls_in(path) if it.name not in others]
 
 
+def exports_of(crate):
+    """Returns what a crate exports: of each name where it takes it from, which is a crate or a module of its own, and its name there."""
+    found = {}
+    for used in re.finditer(r"(?ms)^\s*pub use ([\w:]+?)(?:::\{(.*?)\}|);", sources.text_of(f"crates/{crate}/src/lib.rt")):
+        path, names = (used[1], used[2]) if used[2] else used[1].rpartition("::")[::2]
+        for name in filter(None, (it.strip() for it in names.split(","))):
+            there, _, here = name.partition(" as ")
+            found[here or there] = path.split("::")[0], there
+    return found
+
+
+def definition_of(crate, name):
+    """Returns where a type, a trait or a constant that a crate exports is defined, and the first sentence of its comment."""
+    origin, there = exports_of(crate).get(name, ("", name))
+    if origin in sources.crates():
+        return definition_of(origin, there)
+    module = {f"crates/{crate}/src/{origin}.rt"} if origin else set()
+    for path in sorted(sources.sources_of(crate), key=lambda it: it not in module):
+        lines = sources.text_of(path).splitlines()
+        for index, line in enumerate(lines):
+            if re.match(rf"pub (?:struct|enum|trait|type|const) {there}\b", line):
+                said = sections(comment_before(lines, index))[""]
+                return path, index + 1, re.split(r"(?<=\.)\s", said, maxsplit=1)[0]
+    raise LookupError(f"{crate} exports {name}, and no file of it defines {there}")
+
+
+def export_lines():
+    """Returns a line for each type, trait and constant that the library exports."""
+    for name in (it for it in exports_of(LIBRARY) if not it.islower()):
+        path, number, first = definition_of(LIBRARY, name)
+        yield wrapped(f"- [`{name}`](../{path}#L{number}): {first}" if first else f"- [`{name}`](../{path}#L{number})", "  ")
+
+
 def page():
-    out = [HEAD]
+    out = [HEAD, "## Types, traits and constants that `facingberyl` exports\n", *export_lines(), ""]
     for crate, title, files, without in PARTS:
         out.append(f"## {title}\n")
         for path in sources.sources_of(crate):
