@@ -15,7 +15,8 @@ It proves nothing. It checks that
   each crate of crates.txt has a README;
   the rows of wrong_bodies.csv name clauses and tests that exist; each stored edit has its row, and changes the sources;
   API.md, TESTS.md and crates/README.md are what api.py, tests.py and crates.py make of the sources, and refusals.csv what
-    refusals.py finds; SPEED.md has the figures of bench/measured;
+    refusals.py finds; SPEED.md has the figures of bench/measured; the pictures are what drawings.py draws, and how long
+    proving takes is what the last gate from nothing measured;
   VERSION has the version that mapcli prints, and bin/words.py the texts, names and ranges that the programs print;
   KIT names the toolchain of this machine, and the top README names it too.
 It prints a line for each fault, and ends with status 1 if there is one. With --fix it first writes the generated pages
@@ -30,9 +31,11 @@ import sys
 
 import api
 import crates
+import drawings
 import figures
 import sources
 import tests
+import times
 from sources import is_file, text_of
 
 COLUMNS = 200
@@ -357,6 +360,10 @@ def old_pages():
         if not is_file(made.PATH) or text_of(made.PATH) != made.page():
             yield f"{made.PATH}: the sources say something else; python3 docs/check.py --fix"
     yield from (f"docs/tests.py: there is no test {name}" for name in tests.lost(list(tests.all_tests())))
+    for path, draw in drawings.PICTURES.items():
+        if not is_file(path) or text_of(path) != draw():
+            yield f"{path}: docs/drawings.py draws something else; python3 docs/check.py --fix"
+    yield from times.faults()
     if text_of(figures.PATH) != figures.page():
         yield f"{figures.PATH}: {figures.DATA} has other figures; python3 docs/check.py --fix"
 
@@ -382,8 +389,9 @@ def other_kit():
 
 def fix(pages):
     fixed = {made.PATH: made.page() for made in (api, crates, tests)}
-    fixed |= {it: mended(it) for it in pages if it not in (*sources.GENERATED, figures.PATH)}
+    fixed |= {it: times.right(it, mended(it)) for it in pages if it not in (*sources.GENERATED, figures.PATH)}
     fixed[figures.PATH] = figures.page()
+    fixed |= {path: draw() for path, draw in drawings.PICTURES.items()}
     for page, text in fixed.items():
         if not is_file(page) or text != text_of(page):
             with open(f"{sources.TOP}/{page}", "w", encoding="utf-8") as it:
