@@ -1,2 +1,3 @@
 pub mod Glances
+pub mod Fitting
 pub mod Shared

@@ -5,6 +5,8 @@ ghost use Rattle.hashkeys.specs.Limits.{most_bins};
 ghost use Rattle.bin_history.specs.Calls.{after};
 ghost use Rattle.bin_history.specs.Copies.{IsExact};
 ghost use Rattle.bin_history.specs.Lawful.{IsLawful};
+ghost use Rattle.bin_history.specs.Limits.{most_recorded_bins};
+ghost use Rattle.bin_history.specs.declared.form.Form.TheVariants.{Recorded};
 ghost use Rattle.bin_layout.specs.Places.{AreAt};
 ghost use Rattle.bin_layout.specs.Views.{IsPlaceOf};
 ghost use Rattle.bin_store.specs.Places.{home_of, tag_of};
@@ -127,6 +129,7 @@ impl<'a, K: HashKey, V: Value, F: Remap<K, V>, A: Allocator + Clone> Held<'a, K,
             self.bin self.role }
         requires ledger { self.role.ledger ≡ ledger.now.id }
         requires size { self.bin.class.n < most_bins }
+        requires few { self.bin.form ≡ Recorded → self.bin.class.n < most_recorded_bins }
         ensures bin { IfErr result (λ e. e.0.bin ≡ self.entry.bin) }
         ensures role { IfErr result (λ e. e.0.role ≡ self.entry.role) }
         ensures place { IfErr result (λ e. tag_of e.0.place ≡ tag_of self.entry.place) }

@@ -1,9 +1,10 @@
 //! The bins of a map that nobody else has, taken out in walk order.
-ghost use Rattle.std.specs.Prelude.{◌≡◌, true, IfSome};
+ghost use Rattle.std.specs.Prelude.{◌≡◌, true, All, IfSome};
 ghost use Rattle.bin_history.specs.Calls.{after};
 ghost use Rattle.count_ledger.specs.Books.{classes_of_roles};
 ghost use Rattle.bin_layout.specs.BinsWithRoles.{AreBinsWithRoles, classes_of_bins};
 ghost use Rattle.bin_layout.specs.Walks.{IsWalk};
+ghost use Rattle.generations.specs.Generations.{FitsForm};
 
 use crate::store::{BinStore, StoreKind};
 use bin_history::{Bin, Remap, Value};
@@ -39,6 +40,7 @@ impl<K: HashKey, V: Value, F: Remap<K, V>, A: Allocator + Clone> BinStore<K, V, 
             p.0.items p.1.items) }
         ensures classes { IfSome result
             (λ p. classes_of_roles p.1.items ≡ classes_of_bins p.0.items) }
+        ensures few { IfSome result (λ p. All (λ b. FitsForm self b.class.n) p.0.items) }
     {
         match self.kind {
             StoreKind::Recorded(home) => home.into_leaves(room),

@@ -26,6 +26,7 @@ impl<K: HashKey, V: Value, F: Remap<K, V>, A: Allocator + Clone> BinStore<K, V, 
         requires ledger { ledger.now.id ≡ self.now.ledger }
         requires least { self.now.n ≤ class.n }
         requires size { class.n < most_bins }
+        requires few { self.now.form ≡ Recorded → class.n < most_recorded_bins }
     {
         match &self.kind {
             StoreKind::Recorded(home) => home.try_forward(ledger, class),

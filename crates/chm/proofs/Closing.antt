@@ -6,11 +6,15 @@ use Rattle.std.proofs.lemmas.Bool.{eq-eqb}
 use Rattle.std.proofs.lemmas.Int.{ints}
 use Rattle.std.proofs.lemmas.List.{length-append}
 use Rattle.std.proofs.lemmas.List.Elements.{All-nil, All-cons, All-head, All-tail, All-weaker}
-use Rattle.hashkeys.specs.Classes.{IsTableSize}
+use Rattle.hashkeys.specs.Classes.{ClassView, IsClass, IsTableSize}
+use Rattle.hashkeys.specs.Limits.{most_bins}
 use Rattle.bin_history.specs.Deltas.{sum_of_deltas}
 use Rattle.bin_history.specs.Entries.{replay}
 use Rattle.bin_history.specs.Lawful.{BinView}
+use Rattle.bin_history.specs.Limits.{most_recorded_bins}
 use Rattle.bin_history.specs.declared.call.Call.{Call}
+use Rattle.bin_history.specs.declared.form.Form.{Form}
+use Rattle.bin_history.specs.declared.form.Form.TheVariants.{Recorded, Lean}
 use Rattle.count_ledger.specs.Books.{IsPassOf}
 use Rattle.count_ledger.specs.Settled.{AreReconciled}
 use Rattle.count_ledger.specs.Views.{LedgerView, PassView, RoleView}
@@ -23,12 +27,42 @@ use Rattle.count_ledger.proofs.WordSums.{total_made_all, word_of-add, word_of_na
 use Rattle.bin_layout.specs.BinsWithRoles.{AreBinsWithRoles, classes_of_bins}
 use Rattle.bin_layout.specs.Views.{HomeView}
 use Rattle.bin_layout.specs.Walks.{IsWalk}
+use Rattle.bin_layout.proofs.Sizes.{size_few}
+use Rattle.generations.specs.Generations.{FitsForm}
 use Rattle.chm.specs.Closing.{IsNotClosedFor, passes_with}
 use Rattle.chm.specs.declared.closed.close.Rest.{Rest}
 use Rattle.chm.proofs.Passes.{total_made-left}
 use Rattle.chm.specs.Headline.{QuietView, entries_of, IsQuiet}
+use Rattle.chm.specs.Sizes.{most_bins_of}
 use Rattle.chm.specs.Views.{MapView, bins_of}
 use Rattle.chm.specs.declared.fault.Fault.TheVariants.{NoMemory, PassMissing, BinMissing}
+
+module _ {K V F : Type 0} where
+  lean_few : (bins : List (BinView K V F)) → All IsClass (classes_of_bins bins) → All (λ b. b.class.n ≤ most_bins) bins
+  lean_few [] classes = All-nil (λ (b : BinView K V F). b.class.n ≤ most_bins)
+  lean_few (b ∷ bs) classes =
+      All-cons (λ (b : BinView K V F). b.class.n ≤ most_bins) b bs
+      (size_few b.class.n (All-head IsClass b.class (classes_of_bins bs) classes).0)
+      (lean_few bs (All-tail IsClass b.class (classes_of_bins bs) classes))
+
+  -- no bin is of a table wider than the map's form has
+  pub few_bins : (home : HomeView) (form : Form) (n : ℕ) (bins : List (BinView K V F)) → home.form ≡ form
+      → home.n ≤ most_bins_of form → IsWalk n (classes_of_bins bins) → All (λ b. FitsForm home b.class.n) bins
+      → All (λ b. b.class.n ≤ most_bins_of form) bins
+  few_bins home Recorded n bins is wide walk fits =
+      All-weaker (λ (b : BinView K V F). FitsForm home b.class.n)
+      (λ (b : BinView K V F). b.class.n ≤ most_recorded_bins)
+      (λ b fit. elim (fit is) [ inl opening ↦ omega (arith, opening, wide) | inr few ↦ few ]) bins fits
+  few_bins home Lean n bins is wide walk fits = lean_few bins walk.each_class
+
+  -- so the map did not open with a wider one
+  pub opening_few : (n most : ℕ) (bins : List (BinView K V F)) → IsWalk n (classes_of_bins bins)
+      → All (λ b. b.class.n ≤ most) bins → n ≤ most
+  opening_few n most [] walk few = absurd (let none : ◌≡◌ {A = ℕ} 0 1 = walk.each_hash 0 in omega arith)
+  opening_few n most (b ∷ bs) walk few =
+      let least = All-head (λ (c : ClassView). n ≤ c.n) b.class (classes_of_bins bs) walk.least in
+      let most = All-head (λ (b : BinView K V F). b.class.n ≤ most) b bs few in
+      omega (arith, least, most)
 
 module _ {K V F : Type 0} (same : K → K → Bool) (tells : (x y : K) → Decides (same x y) (x ≡ y)) (code : K → ℕ)
     (after : Call K V F → Option V → Option V)
@@ -73,10 +107,11 @@ module _ {K V F : Type 0} (same : K → K → Bool) (tells : (x y : K) → Decid
   pub IsQuiet-closed : (n : ℕ) (l ledger : LedgerView K V) (bins : List (BinView K V F))
       (rs roles : List (RoleView K V F)) (ps passes : List (PassView K V F))
       → l ≡ ledger → rs ≡ roles → ps ≡ passes → n ≡ g.n → g ≡ bins_of (record { ledger = ledger; n = g.n })
-      → IsTableSize g.n → IsWalk g.n (classes_of_bins bins) → AreBinsWithRoles same code after g bins roles →
+      → IsTableSize g.n → IsWalk g.n (classes_of_bins bins) → g.n ≤ most_bins_of ledger.form
+      → All (λ b. FitsForm g b.class.n) bins → AreBinsWithRoles same code after g bins roles →
       AreReconciled code ledger passes roles
       → IsQuiet same code after (record { ledger = l; n = n; bins = bins; roles = rs; passes = ps })
-  IsQuiet-closed n l ledger bins rs roles ps passes is_l is_rs is_ps is_n home size walk with_roles books =
+  IsQuiet-closed n l ledger bins rs roles ps passes is_l is_rs is_ps is_n home size walk wide fits with_roles books =
       let Whole : QuietView K V F → Type 0 = IsQuiet same code after in
       let called : ◌≡◌ {A = QuietView K V F}
       (record { ledger = ledger; n = g.n; bins = bins; roles = roles; passes = passes })
@@ -85,6 +120,7 @@ module _ {K V F : Type 0} (same : K → K → Bool) (tells : (x y : K) → Decid
       subst Whole called (record {
         size = size;
         walk = walk;
+        few = few_bins g ledger.form g.n bins (ap (λ (h : HomeView). h.form) home) wide walk fits;
         with_roles = subst (λ h. AreBinsWithRoles same code after h bins roles) home with_roles;
         books = books;
       })

@@ -1,14 +1,18 @@
 -- A visit of a part of a bin.
-use Rattle.std.proofs.Common.{◌≡◌, ℕ, Bool, true, false, cond, Decides, List, [], ◌∷◌, filter, refl, sym, ap, ◌∙◌}
+use Rattle.std.proofs.Common.{◌≡◌, ℕ, Bool, true, false, cond, Decides, List, [], ◌∷◌, All, filter, refl, sym, ap}
+use Rattle.std.proofs.Common.{subst, ◌∙◌}
 use Rattle.std.proofs.lemmas.Bool.{false≢true}
 use Rattle.std.proofs.lemmas.List.Elements.{filter_passes}
 use Rattle.hashkeys.specs.Classes.{ClassView, covers, is_of}
 use Rattle.hashkeys.specs.Hashing.{hash_of}
+use Rattle.hashkeys.specs.declared.hashing.Salt.{Salt}
 use Rattle.bin_history.specs.Entries.{HasDistinctKeys, replay}
+use Rattle.bin_history.specs.Lawful.{BinView}
 use Rattle.bin_history.specs.Part.{part_of_entries}
 use Rattle.bin_history.specs.Records.{RecordView}
 use Rattle.bin_history.proofs.Parts.{HasDistinctKeys-part}
 use Rattle.count_ledger.specs.Views.{LedgerView}
+use Rattle.chm.specs.Histories.{IsMet}
 use Rattle.chm.specs.Visits.{IsVisit}
 
 module _ {X : Type 0} (p q : X → Bool) (narrow : (x : X) → p x ≡ true → q x ≡ true) where
@@ -51,3 +55,20 @@ module _ {K V F : Type 0} (same : K → K → Bool) (tells : (x y : K) → Decid
         of_class = filter_passes (λ (e : K × V). is_of code ledger.salt class e.0) entries;
         entries = part-of-part code ledger whole class entries (replay same ledger.opening front) is narrow;
       }
+
+  -- a bin of a class of its own that was met shows its part in a class within that one
+  pub IsVisit-met : (own class : ClassView) (b : BinView K V F) → b.class ≡ own → HasDistinctKeys same b.entries →
+      IsMet same code ledger front b → ((hash : ℕ) → covers class hash ≡ true → covers own hash ≡ true) →
+      IsVisit same code ledger front
+      (record { class = class; entries = part_of_entries (is_of code ledger.salt class) b.entries })
+  IsVisit-met own class b is distinct met narrow =
+      IsVisit-part b.class class b.entries distinct met.entries
+      (λ hash of. subst (λ (k : ClassView). covers k hash ≡ true) (sym is) (narrow hash of))
+
+-- the same entries are of the same class
+pub all_of : {K V : Type 0} (code : K → ℕ) (es fs : List (K × V)) (s t : Salt) (k l : ClassView) → s ≡ t → k ≡ l →
+    fs ≡ es → All (λ e. is_of code t l e.0 ≡ true) es → All (λ e. is_of code s k e.0 ≡ true) fs
+all_of {K} {V} code es fs s t k l salt class is all =
+    subst (λ (xs : List (K × V)). All (λ e. is_of code s k e.0 ≡ true) xs) (sym is)
+    (subst (λ (x : Salt). All (λ (e : K × V). is_of code x k e.0 ≡ true) es) (sym salt)
+    (subst (λ (x : ClassView). All (λ (e : K × V). is_of code t x e.0 ≡ true) es) (sym class) all))

@@ -1,6 +1,7 @@
 -- What a retain takes away and what it keeps.
 use Rattle.std.proofs.Common.{◌≡◌, ◌≢◌, ℕ, ◌<◌, Bool, true, false, Decides, cond, filter, Option, Some, None, List, []}
-use Rattle.std.proofs.Common.{◌∷◌, ◌++◌, length, IsSomeAnd, All, refl, sym, ap, subst, ◌∙◌, arith}
+use Rattle.std.proofs.Common.{◌∷◌, ◌++◌, length, IsSomeAnd, All, Result, Ok, Err, OnOk, OnErr, refl, sym, ap, subst, ◌∙◌}
+use Rattle.std.proofs.Common.{arith}
 use Rattle.std.proofs.lemmas.Option.{none-some}
 use Rattle.std.proofs.lemmas.List.Elements.{All-nil, All-cons, All-head, All-tail, All-append, All-weaker, filter-append}
 use Rattle.hashkeys.specs.Classes.{ClassView, is_of}
@@ -97,6 +98,15 @@ module _ {K V F : Type 0} (same : K → K → Bool) (tells : (x y : K) → Decid
         (r ∷ [], All-cons (IsDrop says) r [] drop (All-nil (IsDrop says)), All-cons C r [] its_class (All-nil C), has),
         omega (arith, left, less),
       )
+
+-- of a result, what follows where it is one or the other
+pub on_ok : {T E P Q : Type 0} (r : Result T E) → (P → Q) → OnOk r P → OnOk r Q
+on_ok (Ok _) f is = f is
+on_ok (Err _) f is = tt
+
+pub on_err : {T E P Q : Type 0} (r : Result T E) → (P → Q) → OnErr r P → OnErr r Q
+on_err (Ok _) f is = tt
+on_err (Err _) f is = f is
 
 not_nil : {X : Type 0} (fore rest : List X) (e : X) → fore ++ e ∷ rest ≢ []
 not_nil {X} [] rest e is =

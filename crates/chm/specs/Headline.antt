@@ -30,6 +30,7 @@ use Rattle.count_ledger.specs.Views.{LedgerView, PassView, RoleView}
 use Rattle.bin_layout.specs.BinsWithRoles.{AreBinsWithRoles, classes_of_bins}
 use Rattle.bin_layout.specs.Walks.{IsWalk}
 use Rattle.chm.specs.Refusals.{IsOfCall}
+use Rattle.chm.specs.Sizes.{most_bins_of}
 use Rattle.chm.specs.Views.{bins_of}
 use Rattle.chm.specs.declared.fault.Fault.{Fault}
 use Rattle.chm.specs.declared.fault.Fault.TheVariants.{PassFull}
@@ -103,11 +104,12 @@ entries_of bins = flat_map (λ b. b.entries) bins
 
 module _ {K V F : Type 0} (same_key : K → K → Bool) (code : K → ℕ) (after : Call K V F → Option V → Option V) where
   -- all that is known of a closed map: the bins stand in walk order, every hash is of one of them, and none is of a
-  -- table smaller than the opening one; each is lawful and agrees with its role; and the books of the roles and of the
-  -- passes of all clients agree
+  -- table smaller than the opening one or wider than its form has; each is lawful and agrees with its role; and the books
+  -- of the roles and of the passes of all clients agree
   pub record IsQuiet (q : QuietView K V F) : Type 0 where
     pub size : IsTableSize q.n
     pub walk : IsWalk q.n (classes_of_bins q.bins)
+    pub few : All (λ b. b.class.n ≤ most_bins_of q.ledger.form) q.bins
     pub with_roles : AreBinsWithRoles same_key code after
         (bins_of (record { ledger = q.ledger; n = q.n })) q.bins q.roles
     pub books : AreReconciled code q.ledger q.passes q.roles

@@ -20,3 +20,7 @@ wide_bins = 1024
 -- in a wide table a client looks once for so many keys that it adds
 abbrev pub keys_per_look : ℕ
 keys_per_look = 16
+
+-- a lean bin of so many keys is crowded
+abbrev pub crowded_keys : ℕ
+crowded_keys = 8

@@ -19,10 +19,6 @@ abbrev pub HasComeAt : {K V : Type 0} → ℕ → ℕ → List (VisitView K V) �
 HasComeAt n number shown =
     (next : Option ClassView) × (number ≡ number_of next) × HasCome (record { n = n; next = next }) shown
 
--- these visits have been shown, of a map that opened with n bins, and the next bin is of the class
-abbrev pub HasComeBefore : {K V : Type 0} → ℕ → ClassView → List (VisitView K V) → Type 0
-HasComeBefore n class shown = HasCome (record { n = n; next = Some class }) shown
-
 -- from 2^26 on a number is of no bin, and a walk is at its end
 abbrev pub IsEnd : ℕ → ℕ → Type 0
 IsEnd number then = (most_bins ≤ number) × (then ≡ end_of_walk)

@@ -12,6 +12,7 @@ ghost use Rattle.bin_history.specs.declared.form.Form.TheVariants.{Recorded, Lea
 ghost use Rattle.chm.specs.Limits.{most_pairs};
 ghost use Rattle.chm.specs.Opened.{IsLimited, IsNew};
 ghost use Rattle.chm.specs.Refusals.{AreClients, IsCapacity, IsCapacityOf};
+ghost use Rattle.chm.specs.Sizes.{most_bins_of};
 
 use crate::fault::Fault;
 use crate::resize::policy::most_capacity;
@@ -229,6 +230,7 @@ impl<K: HashKey, V: Value, F: Remap<K, V>, A: Allocator + Clone> Map<K, V, F, A>
         requires values { IsExact V.is_clone }
         requires clients { AreClients (most_clients form) clients }
         requires size { IsTableSize (length bases.items) }
+        requires wide { length bases.items ≤ most_bins_of form }
         requires distinct { All (λ base. HasDistinctKeys K.eq base.items) bases.items }
         requires of_class { AreOfTheirClasses K.code salt (lists_of bases) }
         requires opened { opened ≡ length (flat_map (λ base. base) (lists_of bases)) }

@@ -2,8 +2,11 @@
 
 mod clear;
 pub(crate) mod cursor;
+mod drop_in_place;
+mod in_place;
 pub(crate) mod numbered;
 mod of_class;
 mod part;
 mod retain;
+mod show;
 pub(crate) mod visit;

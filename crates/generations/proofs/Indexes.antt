@@ -12,7 +12,7 @@ use Rattle.std.proofs.lemmas.List.FromFn.{get_or-map-range_with_len}
 use Rattle.std.proofs.lemmas.Nat.{and_mask}
 use Rattle.boxcar.specs.Slot.{Named}
 use Rattle.hashkeys.specs.Classes.{IsTableSize, covers}
-use Rattle.generations.specs.Generations.{IsTable, IsSlotOf}
+use Rattle.generations.specs.Generations.{FitsForm, IsTable, IsSlotOf}
 use Rattle.bin_layout.proofs.Sizes.{size_pos}
 use Rattle.bin_layout.specs.Views.{HomeView, place_of}
 use Rattle.bin_layout.specs.declared.tag.PlaceTag.{PlaceTag}
@@ -21,11 +21,12 @@ use Rattle.bin_layout.specs.declared.tag.PlaceTag.{PlaceTag}
 abbrev pub tag_at : HomeView → ℕ → ℕ → PlaceTag
 tag_at m n i = place_of m (record { n = n; index = i })
 
-pub IsTable-all : (m : HomeView) (n : ℕ) (places : List PlaceTag) → IsTableSize n → m.n ≤ n → length places ≡ n
+pub IsTable-all : (m : HomeView) (n : ℕ) (places : List PlaceTag) → IsTableSize n → m.n ≤ n → FitsForm m n → length places ≡ n
     → places ≡ map (tag_at m n) (range_with_len 0 n) → IsTable m n places
-IsTable-all m n places size least count is = record {
+IsTable-all m n places size least few count is = record {
   size = size;
   least = least;
+  few = few;
   count = count;
   by_index = λ i d lt. ap (λ (l : List PlaceTag). get_or l i d) is ∙ get_or-map-range_with_len
       (tag_at m n) 0 n i i d lt (omega arith);

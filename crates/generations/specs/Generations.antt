@@ -1,9 +1,11 @@
 -- The places of a map, in tables by size.
-use Rattle.std.specs.Prelude.{◌≡◌, ℕ, ◌<◌, ◌≤◌, ◌^◌, List, [], ◌∷◌, length, slice_index_or}
+use Rattle.std.specs.Prelude.{◌≡◌, ℕ, ◌<◌, ◌≤◌, ◌^◌, ◌⊎◌, List, [], ◌∷◌, length, slice_index_or}
 use Rattle.boxcar.specs.Slot.{Named}
 use Rattle.hashkeys.specs.Classes.{IsTableSize}
 use Rattle.hashkeys.specs.declared.hashing.Salt.{Salt}
+use Rattle.bin_history.specs.Limits.{most_recorded_bins}
 use Rattle.bin_history.specs.declared.form.Form.{Form}
+use Rattle.bin_history.specs.declared.form.Form.TheVariants.{Recorded}
 use Rattle.count_ledger.specs.Views.{LedgerId}
 use Rattle.bin_layout.specs.Names.{home_named}
 use Rattle.bin_layout.specs.Views.{HomeView, place_of}
@@ -12,11 +14,17 @@ use Rattle.bin_layout.specs.declared.tag.PlaceTag.{PlaceTag}
 abbrev pub generations_view : LedgerId → Form → Salt → List PlaceTag → HomeView
 generations_view ledger form salt opening = record { ledger = ledger; form = form; salt = salt; n = length opening }
 
+-- a table of n places is not too wide for the map's form: a recorded map has no wider one than the most that such a map
+-- has, but for the one that it opened with
+abbrev pub FitsForm : HomeView → ℕ → Type 0
+FitsForm home n = home.form ≡ Recorded → (n ≡ home.n) ⊎ (n ≤ most_recorded_bins)
+
 -- a table of n places of the map, no smaller than its opening one: the place at each index is for the class of that
 -- index among n
 pub record IsTable (home : HomeView) (n : ℕ) (places : List PlaceTag) : Type 0 where
   pub size : IsTableSize n
   pub least : home.n ≤ n
+  pub few : FitsForm home n
   pub count : length places ≡ n
   pub by_index : (i : ℕ) (d : PlaceTag) → i < n →
       slice_index_or places i d ≡ place_of home (record { n = n; index = i })

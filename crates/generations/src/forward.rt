@@ -2,6 +2,8 @@
 ghost use Rattle.std.specs.Prelude.{◌≡◌, ◌<◌, ◌≤◌};
 ghost use Rattle.hashkeys.specs.Limits.{most_bins};
 ghost use Rattle.bin_history.specs.Copies.{IsExact};
+ghost use Rattle.bin_history.specs.Limits.{most_recorded_bins};
+ghost use Rattle.bin_history.specs.declared.form.Form.TheVariants.{Recorded};
 
 use crate::generations::Generations;
 use bin_history::{Remap, Value};
@@ -25,6 +27,7 @@ impl<K: HashKey, V: Value, F: Remap<K, V>, A: Allocator + Clone> Generations<K, 
         requires ledger { ledger.now.id ≡ self.now.ledger }
         requires least { self.now.n ≤ class.n }
         requires size { class.n < most_bins }
+        requires few { self.now.form ≡ Recorded → class.n < most_recorded_bins }
     {
         let (place, met) = self.find(class.index());
         let size = met.n();
@@ -63,6 +66,7 @@ impl<K: HashKey, V: Value, F: Remap<K, V>, A: Allocator + Clone> Generations<K, 
         requires ledger { ledger.now.id ≡ self.now.ledger }
         requires least { self.now.n ≤ class.n }
         requires size { class.n < most_bins }
+        requires few { self.now.form ≡ Recorded → class.n < most_recorded_bins }
     {
         let backoff = Backoff::new();
         for _ in rt.forever() {

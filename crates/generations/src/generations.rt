@@ -4,7 +4,7 @@ ghost use Rattle.hashkeys.specs.Classes.{covers, low_half, high_half, IsTableSiz
 ghost use Rattle.hashkeys.specs.Limits.{most_bins};
 ghost use Rattle.bin_history.specs.Limits.{most_recorded_bins};
 ghost use Rattle.bin_history.specs.declared.form.Form.TheVariants.{Recorded};
-ghost use Rattle.generations.specs.Generations.{IsTable};
+ghost use Rattle.generations.specs.Generations.{FitsForm, IsTable};
 ghost use Rattle.bin_layout.specs.Views.{HomeView, IsPlaceOf, place_of};
 
 use crate::place::{Place, leave_new};
@@ -26,7 +26,8 @@ use std::sync::atomic::Ordering::SeqCst;
 pub struct Generations<K: HashKey, V: Value, F: Remap<K, V>, A: Allocator> {
     opening: Vec<Place<K, V, F, A>, A>,
     tables: Slots<K, V, F, A>,
-    /// The exponent of the widest table that was made. It saves time and no more.
+    /// The exponent of the widest table that was made, or more. A search goes from there to narrower
+    /// tables: were it less, bins of wider ones would not be found.
     widest: AtomicU64,
     pub(crate) form: Form,
     pub(crate) salt: Salt,
@@ -58,6 +59,8 @@ fn place_in<'a, K: HashKey, V: Value, F: Remap<K, V>, A: Allocator>(
         IsPlaceOf map result.0.now }
     ensures covers { covers result.0.now.class hash ≡ true }
     ensures class { result.1 ≡ result.0.now.class }
+    ensures few { (map : HomeView) (n : ℕ) → IsTable map n places.now.items →
+        FitsForm map result.1.n }
 {
     let n = places.len() as u32;
     let index = hash & (n - 1);
@@ -122,6 +125,7 @@ impl<K: HashKey, V: Value, F: Remap<K, V>, A: Allocator> Generations<K, V, F, A>
         ensures of_map { IsPlaceOf self.now result.0.now }
         ensures covers { covers result.0.now.class hash ≡ true }
         ensures class { result.1 ≡ result.0.now.class }
+        ensures few { FitsForm self.now result.1.n }
     {
         let widest = self.widest.load(SeqCst).min(u64::from(SIZES)) as u32;
         for narrower in 0..widest {
@@ -171,6 +175,7 @@ impl<K: HashKey, V: Value, F: Remap<K, V>, A: Allocator + Clone> Generations<K, 
     /// A table of places with nothing in them.
     fn new_table(&self, size: u32) -> Result<Places<K, V, F, A>, AllocError>
         requires size { IsTableSize size }
+        requires few { self.now.form ≡ Recorded → size ≤ most_recorded_bins }
         requires least { self.now.n ≤ size }
         ensures { IfOk result (λ t. IsTable self.now size t.items) }
     {
@@ -196,6 +201,7 @@ impl<K: HashKey, V: Value, F: Remap<K, V>, A: Allocator + Clone> Generations<K, 
     /// thread puts the same table in.
     fn table_made(&self, size: u32) -> Result<&Places<K, V, F, A>, Refused>
         requires size { IsTableSize size }
+        requires few { self.now.form ≡ Recorded → size ≤ most_recorded_bins }
         requires least { self.now.n ≤ size }
         ensures { IfOk result (λ t. IsTable self.now size t.now.items) }
     {
@@ -216,6 +222,7 @@ impl<K: HashKey, V: Value, F: Remap<K, V>, A: Allocator + Clone> Generations<K, 
     pub(crate) fn claim_halves(&self, class: Class) -> Result<Halves<'_, K, V, F, A>, Refused>
         requires least { self.now.n ≤ class.n }
         requires size { class.n < most_bins }
+        requires few { self.now.form ≡ Recorded → class.n < most_recorded_bins }
         ensures low { IfOk result
             (λ c. (c.0.right ≡ 2) × (c.0.tag ≡ place_of self.now (low_half class))) }
         ensures high { IfOk result

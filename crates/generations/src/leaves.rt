@@ -1,10 +1,11 @@
 //! The bins of a map that nobody else has, taken out in walk order.
-ghost use Rattle.std.specs.Prelude.{◌≡◌, true, IsTrue, IfSome, [], ◌∷◌, ◌++◌};
+ghost use Rattle.std.specs.Prelude.{◌≡◌, true, All, IsTrue, IfSome, [], ◌∷◌, ◌++◌};
 ghost use Rattle.bin_history.specs.Calls.{after};
 ghost use Rattle.count_ledger.specs.Books.{classes_of_roles};
 ghost use Rattle.bin_layout.specs.BinsWithRoles.{IsBinWithRole, AreBinsWithRoles, classes_of_bins};
 ghost use Rattle.bin_layout.specs.Views.{IsPlaceOf};
 ghost use Rattle.bin_layout.specs.Walks.{IsWalk};
+ghost use Rattle.generations.specs.Generations.{FitsForm};
 
 use crate::generations::Generations;
 use crate::place::Place;
@@ -51,6 +52,7 @@ impl<K: HashKey, V: Value, F: Remap<K, V>, A: Allocator + Clone> Generations<K, 
         ensures with_roles { IsTrue result →
             AreBinsWithRoles K.eq K.code (after V.eq F.remapped F.merged) self.now bins.new.items
             roles.new.items }
+        ensures few { IsTrue result → All (λ b. FitsForm self.now b.class.n) bins.new.items }
     {
         let n = self.n();
         let mut next = Class::new(n, 0);
@@ -95,6 +97,7 @@ impl<K: HashKey, V: Value, F: Remap<K, V>, A: Allocator + Clone> Generations<K, 
             p.0.items p.1.items) }
         ensures classes { IfSome result
             (λ p. classes_of_roles p.1.items ≡ classes_of_bins p.0.items) }
+        ensures few { IfSome result (λ p. All (λ b. FitsForm self b.class.n) p.0.items) }
     {
         let Room {
             mut bins,

@@ -54,7 +54,8 @@ fn stride_from(first: u32) -> usize
 pub struct LeanBins<K: HashKey, V: Value, F: Remap<K, V>, A: Allocator> {
     pub(crate) opening: LockedSlots<BinSlot<K, V, F, A>, A>,
     pub(crate) tables: Tables<K, V, F, A>,
-    /// The exponent of the widest table that bins are moved to. It saves time and no more.
+    /// The exponent of the widest table that bins are moved to, or more. A search goes from there to
+    /// narrower tables: were it less, bins of wider ones would not be found.
     pub(crate) widest: AtomicU64,
     pub(crate) n: u32,
     pub(crate) salt: Salt,

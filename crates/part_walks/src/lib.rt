@@ -14,5 +14,5 @@ pub use joining::join_all;
 pub use seats::{Room, Seat, room_for, seat_all, unseat_all};
 pub use shares::{bound, share_of};
 pub use stepping::Stepper;
-pub use taker::{Taker, is_same, show_part};
+pub use taker::{Taker, is_same, show_entries};
 pub use walk::{PartWalk, narrower};

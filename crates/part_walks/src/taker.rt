@@ -1,10 +1,10 @@
 //! What takes entries one after the other.
-ghost use Rattle.std.specs.Prelude.{◌≡◌, ◌++◌, ◌∷◌, [], List, true};
+ghost use Rattle.std.specs.Prelude.{◌≡◌, ◌++◌, ◌∷◌, [], List, All, true};
 ghost use Rattle.hashkeys.specs.Classes.{is_of};
 ghost use Rattle.bin_history.specs.Part.{part_of_entries};
 
-use bin_history::{Bin, Remap, Value, Walk};
-use hashkeys::{Class, HashKey};
+use bin_history::Walk;
+use hashkeys::{Class, HashKey, Salt};
 use std::alloc::Allocator;
 
 /// What takes entries one after the other, and has come to some part after each.
@@ -25,6 +25,7 @@ pub trait Taker<K, V> {
 }
 
 /// Adds all entries of a bucket.
+#[inline(always)]
 fn add_all<K, V, A: Allocator, T: Taker<K, V>>(
     taker: &T,
     part: T::Part,
@@ -41,20 +42,21 @@ fn add_all<K, V, A: Allocator, T: Taker<K, V>>(
     part
 }
 
-/// Adds those entries of a bucket whose keys are of a class.
-fn add_some<K: HashKey, V: Value, F: Remap<K, V>, A: Allocator + Clone, T: Taker<K, V>>(
+/// Adds those entries of a bucket whose keys are of a class. Each key is hashed.
+#[inline(always)]
+fn add_some<K: HashKey, V, A: Allocator, T: Taker<K, V>>(
     taker: &T,
     part: T::Part,
-    bin: &Bin<K, V, F, A>,
+    walk: Walk<'_, K, V, A>,
+    salt: Salt,
     class: Class,
 ) -> T::Part
     requires { (es : List (K × V)) × T.reached taker.now es part }
     ensures { (es : List (K × V)) → T.reached taker.now es part → T.reached taker.now
-        (es ++ part_of_entries (is_of K.code bin.now.salt class) bin.now.entries) result }
+        (es ++ part_of_entries (is_of K.code salt class) walk.entry) result }
 {
-    let salt = bin.salt();
     let mut part = part;
-    for (key, value) in bin.walk() {
+    for (key, value) in walk {
         if class.covers(salt.hash_of(key)) {
             part = taker.add(part, key, value);
         }
@@ -70,21 +72,24 @@ pub fn is_same(class: Class, other: Class) -> bool
     class.n() == other.n() && class.index() == other.index()
 }
 
-/// Adds those entries of a bucket whose keys are of a class, in order. The keys are looked at where
-/// the class is not that of the bucket.
-pub fn show_part<K: HashKey, V: Value, F: Remap<K, V>, A: Allocator + Clone, T: Taker<K, V>>(
+/// Adds those entries of a bucket of its own class whose keys are of another one, in order. The keys
+/// are hashed only if the two classes differ.
+#[inline(always)]
+pub fn show_entries<K: HashKey, V, A: Allocator, T: Taker<K, V>>(
     taker: &T,
     part: T::Part,
-    bin: &Bin<K, V, F, A>,
+    walk: Walk<'_, K, V, A>,
+    salt: Salt,
+    own: Class,
     class: Class,
 ) -> T::Part
-    requires { (es : List (K × V)) × T.reached taker.now es part }
+    requires own { All (λ e. is_of K.code salt own e.0 ≡ true) walk }
+    requires part { (es : List (K × V)) × T.reached taker.now es part }
     ensures { (es : List (K × V)) → T.reached taker.now es part → T.reached taker.now
-        (es ++ part_of_entries (is_of K.code bin.now.salt class) bin.now.entries) result }
+        (es ++ part_of_entries (is_of K.code salt class) walk.entry) result }
 {
-    bin.lawful();
-    if is_same(class, bin.class()) {
-        return add_all(taker, part, bin.walk());
+    if is_same(class, own) {
+        return add_all(taker, part, walk);
     }
-    add_some(taker, part, bin, class)
+    add_some(taker, part, walk, salt, class)
 }

@@ -1,4 +1,6 @@
 //! How many bins there are, with growth and after opening again.
+ghost use Rattle.std.specs.Prelude.{◌<◌};
+
 use crate::maps::{assert_same, count_all, filled, numbered, put_numbers, records_of};
 use crate::steps::{Act, Found, Row, left_by};
 use bin_history::{Form, Reply};
@@ -142,6 +144,34 @@ fn a_wide_lean_table_grows_whatever_comes_between_puts(rt: HostRuntime) {
     for (count, wanted) in [(1535, 1024), (1536, 1056)] {
         let bins = put_and_get(&rt, rt.alloc(), count);
         assert_same(&rt, &(count, bins), &(count, wanted));
+    }
+}
+
+/// How many bins and keys a map of 1,024 lean bins has, once each of 4,096 clients has put 15 new keys,
+/// so many at each of its turns.
+fn put_by_many<R: Wait + Abort>(rt: &R, memory: Global, puts: u32) -> (usize, u64)
+    requires { 0 < puts }
+{
+    let mut rows: Vec<Row> = Vec::new(memory);
+    let mut number = 0u32;
+    for _turn in 0..15 / puts {
+        for client in 0..4096usize {
+            let row = (client, Act::PutNumbers(number, puts), Found::Done);
+            assert!(rt; rows.push(row).is_ok());
+            number = number.wrapping_add(puts);
+        }
+    }
+    let (bins, keys, _) = left_by(rt, memory, (Form::Lean, 1024, 4096), &rows, &[]);
+    (bins, keys)
+}
+
+#[test]
+fn many_clients_that_put_few_keys_each_leave_few_keys_in_a_bin(rt: HostRuntime) {
+    // No client adds a sixteenth key, by which it would look whether the table is full.
+    for puts in [15, 5, 1] {
+        let (bins, keys) = put_by_many(&rt, rt.alloc(), puts);
+        assert_same(&rt, &(puts, keys), &(puts, 61_440));
+        assert!(rt; bins >= 15_360, "{bins} bins have more than 4 keys each");
     }
 }
 

@@ -13,6 +13,8 @@ mod cursors;
 #[cfg(test)]
 mod examples;
 #[cfg(test)]
+mod filling;
+#[cfg(test)]
 mod growth;
 #[cfg(test)]
 mod live_examples;
@@ -50,6 +52,8 @@ mod sizes;
 mod steps;
 #[cfg(test)]
 mod threads;
+#[cfg(test)]
+mod trying;
 #[cfg(test)]
 mod updating;
 #[cfg(test)]

@@ -140,7 +140,7 @@ fn change_of(edit: Edit) -> Change<u64> {
 
 /// Changes a value by a function that returns what it was shown. One that borrows its key counts its
 /// calls.
-fn update<R: Wait + Abort, A: Allocator + Clone>(
+pub(crate) fn update<R: Wait + Abort, A: Allocator + Clone>(
     rt: &R,
     map: &KeyMap<A>,
     pass: &mut KeyPass,

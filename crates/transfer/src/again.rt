@@ -15,18 +15,19 @@ use std::alloc::{AllocError, Allocator};
 use std::marker::Model;
 use std::snapshot::Snapshot;
 
-/// A mover that is in its client's place. It is of the move, whatever it did there.
+/// A mover that is in its client's place. It is of the move, whatever it did there, and was not told
+/// that no range is left.
 #[derive(Drop)]
 struct Resting {
     mover: Mover,
 }
 
 impl Fits for Resting {
-    ghost use Rattle.std.specs.Prelude.{◌≡◌};
+    ghost use Rattle.std.specs.Prelude.{◌≡◌, false};
 
     type Tag = Snapshot<Mover>;
 
-    ghost fits = { λ tag r. r.mover.strides ≡ tag.value.strides };
+    ghost fits = { λ tag r. (r.mover.strides ≡ tag.value.strides) × (r.mover.got_none ≡ false) };
 }
 
 /// A place is FREE while its mover is in it, and MARKED while the mover is out.
@@ -53,6 +54,7 @@ impl<A: Allocator> Model for SharedStrides<A> {
 
 /// A place with a mover in it.
 fn place_of(mover: Mover) -> Place
+    requires { mover.got_none ≡ false }
     ensures { result.value.strides ≡ mover.strides }
 {
     let tag = Snapshot::of(&mover);
@@ -61,7 +63,8 @@ fn place_of(mover: Mover) -> Place
 
 /// The mover of a place, if it is there.
 fn take(place: &Place) -> Option<Mover>
-    ensures { IfSome result (λ m. m.strides ≡ place.now.value.strides) }
+    ensures strides { IfSome result (λ m. m.strides ≡ place.now.value.strides) }
+    ensures ready { IfSome result (λ m. m.got_none ≡ false) }
 {
     if place.load() != FREE {
         return None;
@@ -77,7 +80,8 @@ fn take(place: &Place) -> Option<Mover>
 
 /// Puts a mover back into its place. Where that is not empty the mover ends.
 fn put_back(place: &Place, mover: Mover)
-    requires { mover.strides ≡ place.now.value.strides }
+    requires strides { mover.strides ≡ place.now.value.strides }
+    requires ready { mover.got_none ≡ false }
 {
     let (found, claim) = place.turn(MARKED, TAKEN);
     if found != MARKED {
@@ -115,7 +119,8 @@ impl<A: Allocator> SharedStrides<A> {
     /// The mover of a client, below the number of clients. There is none while it is out, nor once
     /// it was told that no range is left.
     pub fn enter(&self, client: usize) -> Option<Mover>
-        ensures { IfSome result (λ m. m.strides ≡ self.now) }
+        ensures strides { IfSome result (λ m. m.strides ≡ self.now) }
+        ensures ready { IfSome result (λ m. m.got_none ≡ false) }
     {
         take(self.places.get(client)?)
     }

@@ -4,7 +4,6 @@ ghost use Rattle.hashkeys.specs.Classes.{covers, is_of};
 ghost use Rattle.bin_history.specs.Calls.{after};
 ghost use Rattle.bin_history.specs.Copies.{IsExact};
 ghost use Rattle.bin_history.specs.Hashes.{hash_by};
-ghost use Rattle.bin_history.specs.Lawful.{BinView};
 ghost use Rattle.bin_history.specs.Leans.{as_bin};
 ghost use Rattle.bin_history.specs.Ops.{call_on, key_in};
 ghost use Rattle.bin_history.specs.Sure.{IsSpared, IsSure};
@@ -18,6 +17,7 @@ ghost use Rattle.chm.specs.Histories.{IsCalledOn, IsMet};
 ghost use Rattle.chm.specs.Views.{bins_of};
 
 use crate::map::Map;
+use crate::resize::policy::Growth;
 use bin_history::{Bin, KeyArg, Op, Remap, Reply, Value, lawful_entries};
 use count_ledger::{BinRole, Pass};
 use hashkeys::{Class, HashKey};
@@ -35,7 +35,7 @@ impl<K: HashKey, V: Value, F: Remap<K, V>, A: Allocator + Clone> Map<K, V, F, A>
         hash: u32,
         key: KeyArg<'_, K>,
         op: Op<V, F>,
-    ) -> Result<(Reply<V>, bool), AllocError>
+    ) -> Result<(Reply<V>, Growth), AllocError>
         requires keys { IsExact K.is_clone }
         requires values { IsExact V.is_clone }
         requires pass { pass.old.ledger ≡ self.now.ledger.id }
@@ -62,12 +62,12 @@ impl<K: HashKey, V: Value, F: Remap<K, V>, A: Allocator + Clone> Map<K, V, F, A>
         let alloc = self.resizer.allocator();
         let (reply, trace) = bin.make_on(alloc, hash, key, op, pass.client(), pass.made())?;
         self.ledger.post_trace(pass, role, &trace);
-        Ok((reply, trace.delta() == 1))
+        Ok((reply, Growth::recorded(trace.delta())))
     }
 
     /// Makes a call on what lies at the place of a lean bin of the class, on a key of this hash, and
-    /// posts it. It replies, and says whether the call made its key present. The bin and its role
-    /// stay there. For want of memory nothing is posted or changed.
+    /// posts it. It replies, and says whether the call made its key present, and whether the bin is
+    /// crowded since. The bin and its role stay there. For want of memory nothing is posted or changed.
     #[inline(always)]
     pub(crate) fn call_in_place(
         &self,
@@ -77,7 +77,7 @@ impl<K: HashKey, V: Value, F: Remap<K, V>, A: Allocator + Clone> Map<K, V, F, A>
         hash: u32,
         key: KeyArg<'_, K>,
         op: Op<V, F>,
-    ) -> Result<(Reply<V>, bool), AllocError>
+    ) -> Result<(Reply<V>, Growth), AllocError>
         requires keys { IsExact K.is_clone }
         requires values { IsExact V.is_clone }
         requires pass { pass.old.ledger ≡ self.now.ledger.id }
@@ -86,9 +86,10 @@ impl<K: HashKey, V: Value, F: Remap<K, V>, A: Allocator + Clone> Map<K, V, F, A>
             (place_of (bins_of self.now) class) bin_slot.old }
         requires hash { hash ≡ hash_by K.code self.now.ledger.salt (key_in key) }
         requires covers { covers class hash ≡ true }
-        ensures met { IfOk result (λ r. (left : BinView K V F)
-            × IsCalledOn K.eq K.code V.eq F.remapped F.merged self.now.ledger
-            (as_bin bin_slot.old.entries) left (call_on (key_in key.entry) op) pass.old pass.new r.0) }
+        ensures met { IfOk result
+            (λ r. IsCalledOn K.eq K.code V.eq F.remapped F.merged self.now.ledger
+            (as_bin bin_slot.old.entries) (as_bin bin_slot.new.entries)
+            (call_on (key_in key.entry) op) pass.old pass.new r.0) }
         ensures called { IfOk result
             (λ r. IsCalled K.eq V.eq F.remapped F.merged self.now.ledger
             (call_on (key_in key.entry) op) pass.old pass.new r.0) }
@@ -112,7 +113,7 @@ impl<K: HashKey, V: Value, F: Remap<K, V>, A: Allocator + Clone> Map<K, V, F, A>
         let mut role = bin_slot.take_role(class);
         self.ledger.post_trace(pass, &mut role, &trace);
         bin_slot.put_role(role);
-        Ok((reply, trace.delta() == 1))
+        Ok((reply, Growth::lean(trace.delta(), bin_slot)))
     }
 
     /// The pass sees all calls so far, and the bin that is held has what they left in its class.

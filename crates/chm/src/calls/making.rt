@@ -69,8 +69,8 @@ impl<K: HashKey, V: Value, F: Remap<K, V>, A: Allocator + Clone> Map<K, V, F, A>
         let class = bin.class();
         let made = self.call_by_value(pass, bin, &mut lent.role, hash, key, op);
         held.release();
-        let (reply, grew) = made?;
-        let effect = self.landed_on(class, pass, grew);
+        let (reply, growth) = made?;
+        let effect = self.landed_on(class, pass, growth);
         Ok((reply, effect))
     }
 
@@ -153,8 +153,8 @@ impl<K: HashKey, V: Value, F: Remap<K, V>, A: Allocator + Clone> Map<K, V, F, A>
         let class = held.class;
         let made = self.call_in_place(pass, held.inner.value(), class, hash, key, op);
         held.release();
-        let (reply, grew) = made?;
-        let effect = self.landed_on(class, pass, grew);
+        let (reply, growth) = made?;
+        let effect = self.landed_on(class, pass, growth);
         Ok((reply, effect))
     }
 

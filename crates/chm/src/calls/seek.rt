@@ -110,6 +110,7 @@ impl<K: HashKey, V: Value, F: Remap<K, V>, A: Allocator + Clone> Map<K, V, F, A>
                 class,
                 client,
                 grown: None,
+                crowded: false,
             },
         ))
     }

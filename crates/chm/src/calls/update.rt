@@ -20,6 +20,7 @@ ghost use Rattle.chm.specs.Views.{bins_of};
 use crate::fault::Fault;
 use crate::map::Map;
 use crate::resize::moving::CallEffect;
+use crate::resize::policy::Growth;
 use bin_history::{KeyArg, Op, Remap, Value};
 use bin_store::{Held, StoreKind};
 use count_ledger::Pass;
@@ -327,13 +328,13 @@ impl<K: HashKey, V: Value, F: Remap<K, V>, A: Allocator + Clone> Map<K, V, F, A>
         let class = held.class;
         let made = self.update_in_place(pass, held.inner.value(), class, hash, key, f);
         held.release();
-        let (answer, grew) = made?;
-        let effect = self.landed_on(class, pass, grew);
+        let (answer, growth) = made?;
+        let effect = self.landed_on(class, pass, growth);
         Ok((answer, effect))
     }
 
     /// Updates the value at the key in what lies at the place of a lean bucket of the class. Returns
-    /// the rest of what the function returns, and whether the call made its key present.
+    /// the rest of what the function returns, and what the call did to the number of keys there.
     #[inline(always)]
     fn update_in_place<T: Drop, G: FnOnce(Option<&V>) -> (Change<V>, T)>(
         &self,
@@ -343,7 +344,7 @@ impl<K: HashKey, V: Value, F: Remap<K, V>, A: Allocator + Clone> Map<K, V, F, A>
         hash: u32,
         key: KeyArg<'_, K>,
         f: G,
-    ) -> Result<(T, bool), AllocError>
+    ) -> Result<(T, Growth), AllocError>
         requires keys { IsExact K.is_clone }
         requires values { IsExact V.is_clone }
         requires callable { G.IsAlwaysCallable f }
@@ -364,8 +365,8 @@ impl<K: HashKey, V: Value, F: Remap<K, V>, A: Allocator + Clone> Map<K, V, F, A>
         let asked = key.get();
         let (change, answer) = f(bin_slot.entries.get(hash, asked));
         let op = change.into_op::<K, F>();
-        let (reply, grew) = self.call_in_place(pass, bin_slot, class, hash, key, op)?;
+        let (reply, growth) = self.call_in_place(pass, bin_slot, class, hash, key, op)?;
         drop(reply);
-        Ok((answer, grew))
+        Ok((answer, growth))
     }
 }

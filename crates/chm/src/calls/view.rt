@@ -20,7 +20,7 @@ ghost use Rattle.chm.specs.Visits.{IsShown};
 
 use crate::fault::Fault;
 use crate::map::Map;
-use bin_history::{Remap, Value, lawful_entries};
+use bin_history::{Remap, Value};
 use bin_store::{Held, StoreKind};
 use count_ledger::Pass;
 use hashkeys::{AsKey, Class, HashKey};
@@ -239,11 +239,8 @@ impl<K: HashKey, V: Value, F: Remap<K, V>, A: Allocator + Clone> Map<K, V, F, A>
         ensures lies { IsInSlot K.eq (after V.eq F.remapped F.merged)
             (place_of (bins_of self.now) class) bin_slot.new }
     {
-        lawful_entries::<K, V, F, A>(&bin_slot.entries);
         let answer = f(bin_slot.entries.get_as(hash, query));
-        let mut role = bin_slot.take_role(class);
-        self.ledger.meet(pass, &mut role);
-        bin_slot.put_role(role);
+        self.meet_in_place(pass, bin_slot, class);
         answer
     }
 

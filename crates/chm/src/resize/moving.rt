@@ -10,7 +10,7 @@ ghost use Rattle.chm.specs.Sizes.{most_bins_of};
 ghost use Rattle.transfer.specs.Views.{IsUnfinished};
 
 use crate::map::Map;
-use crate::resize::policy::{helps, is_due, is_full, most_bins};
+use crate::resize::policy::{Growth, helps, is_due, is_full, most_bins};
 use crate::resize::resizer::{Resize, ResizeState};
 use bin_history::{Remap, Value};
 use bin_layout::Refused;
@@ -19,12 +19,14 @@ use hashkeys::{Class, HashKey};
 use std::alloc::Allocator;
 use transfer::{Finish, Mover, Range};
 
-/// What a call met, whose it was, and its client's balance where it made its key present.
+/// What a call met, whose it was, and its client's balance where it made its key present; and whether
+/// its bin is crowded since.
 #[derive(Drop)]
 pub(crate) struct CallEffect {
     pub(crate) class: Class,
     pub(crate) client: u32,
     pub(crate) grown: Option<u64>,
+    pub(crate) crowded: bool,
 }
 
 impl<K: HashKey, V: Value, F: Remap<K, V>, A: Allocator + Clone> Map<K, V, F, A> {
@@ -40,7 +42,7 @@ impl<K: HashKey, V: Value, F: Remap<K, V>, A: Allocator + Clone> Map<K, V, F, A>
             self.catch_up(table, effect.class, effect.client);
         }
         if let Some(balance) = effect.grown {
-            self.look_whether_full(table, effect.client, balance);
+            self.look_whether_full(table, effect.client, balance, effect.crowded);
         }
     }
 
@@ -59,13 +61,14 @@ impl<K: HashKey, V: Value, F: Remap<K, V>, A: Allocator + Clone> Map<K, V, F, A>
         }
     }
 
-    /// Opens a move where the table is full, if it is the client's turn to look, which has this balance.
+    /// Opens a move where the table is full, if it is the client's turn to look, which has this balance,
+    /// or the call's bin is crowded.
     #[inline(never)]
-    fn look_whether_full(&self, table: ResizeState, client: u32, balance: u64)
+    fn look_whether_full(&self, table: ResizeState, client: u32, balance: u64, crowded: bool)
         requires exact { AreExact K.is_clone V.is_clone F.is_clone }
         requires table { table.exponent ≤ most_exponent }
     {
-        if is_due(self.form(), table.n(), balance) {
+        if is_due(self.form(), table.n(), balance, crowded) {
             self.grow_if_full(table, client);
         }
     }
@@ -81,20 +84,27 @@ impl<K: HashKey, V: Value, F: Remap<K, V>, A: Allocator + Clone> Map<K, V, F, A>
     }
 
     /// What a call met on the bin of this class, whose it was, and its client's balance where it
-    /// made its key present.
+    /// made its key present; and whether the bin is crowded since.
     #[inline(always)]
-    pub(crate) fn landed_on(&self, class: Class, pass: &mut Pass<K, V, F>, grew: bool) -> CallEffect
+    pub(crate) fn landed_on(
+        &self,
+        class: Class,
+        pass: &mut Pass<K, V, F>,
+        growth: Growth,
+    ) -> CallEffect
         requires pass { pass.old.ledger ≡ self.now.ledger.id }
         ensures same { pass.new ≡ pass.old }
         ensures balance { result.grown
-            ≡ cond grew (Some (word_of (sum_of_deltas pass.old.made))) None }
+            ≡ cond growth.grew (Some (word_of (sum_of_deltas pass.old.made))) None }
+        ensures crowded { result.crowded ≡ growth.crowded }
     {
-        let grown = self.count_if(grew, pass);
+        let grown = self.count_if(growth.grew, pass);
         let client = pass.client();
         CallEffect {
             class,
             client,
             grown,
+            crowded: growth.crowded,
         }
     }
 

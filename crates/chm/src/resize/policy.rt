@@ -1,12 +1,16 @@
 //! What differs by the form of a map: for how many bins it is opened, how wide its table grows, when,
 //! and which calls help.
-ghost use Rattle.std.specs.Prelude.{◌≡◌, ◌≤◌, true, false, ◌↔◌};
+ghost use Rattle.std.specs.Prelude.{◌≡◌, ◌≤◌, true, false, ◌↔◌, pos, length};
 ghost use Rattle.hashkeys.specs.Limits.{most_bins};
 ghost use Rattle.chm.specs.Refusals.{most_capacity};
 ghost use Rattle.chm.specs.Growing.{IsDue, helps};
+ghost use Rattle.chm.specs.Limits.{crowded_keys};
 ghost use Rattle.chm.specs.Sizes.{IsWideEnough, most_bins_of, threshold};
 
-use bin_history::Form;
+use bin_history::{Form, Remap, Value};
+use hashkeys::HashKey;
+use lean_bins::BinSlot;
+use std::alloc::Allocator;
 
 /// A table of a recorded map has no more bins than this.
 pub const MOST_RECORDED_BINS: u32 = 65_536;
@@ -16,6 +20,9 @@ const WIDE: u32 = 1024;
 
 /// A table of fewer lean bins than this is narrow.
 const NARROW: u32 = 256;
+
+/// A lean bin of so many keys is crowded.
+const CROWDED: u32 = 8;
 
 /// How many bins a table of the form has at most.
 pub(crate) fn most_bins(form: Form) -> u32
@@ -73,12 +80,68 @@ pub(crate) fn helps(form: Form, met_moved: bool) -> bool
 
 /// Whether a call that made its key present looks whether the table of `n` bins is full, where its
 /// client has this balance. To count all keys is to look at all count words, so in a wide table of
-/// lean bins each client does it once for 16 keys that it adds.
-pub(crate) fn is_due(form: Form, n: u32, balance: u64) -> bool
-    ensures { result ≡ true ↔ IsDue form n balance }
+/// lean bins each client does it once for 16 keys that it adds; and whoever adds a key to a crowded
+/// bin does it, so that many clients which add few keys each do not fill the table unnoticed.
+pub(crate) fn is_due(form: Form, n: u32, balance: u64, crowded: bool) -> bool
+    ensures { result ≡ true ↔ IsDue form n balance crowded }
 {
     match form {
         Form::Recorded => true,
-        Form::Lean => n < WIDE || balance % 16 == 0,
+        Form::Lean => n < WIDE || crowded || balance % 16 == 0,
+    }
+}
+
+/// Whether what lies at the place of a lean bin has 8 keys or more. It looks at no more of them.
+fn is_crowded<K: HashKey, V: Value, F: Remap<K, V>, A: Allocator>(
+    bin_slot: &BinSlot<K, V, F, A>,
+) -> bool
+    ensures { (result ≡ true) ↔ (crowded_keys ≤ length bin_slot.now.entries.entries) }
+{
+    let mut left = bin_slot.entries.walk();
+    for _key in 0..CROWDED {
+        if left.next().is_none() {
+            return false;
+        }
+    }
+    true
+}
+
+/// What a call did to the number of keys in its bin.
+#[derive(Clone, Copy, Drop)]
+pub(crate) struct Growth {
+    /// Whether it made its key present.
+    pub(crate) grew: bool,
+    /// Whether the bin is crowded since.
+    pub(crate) crowded: bool,
+}
+
+impl Growth {
+    /// What a call that changed the number of keys by this did to a bin of a recorded map, of whose keys
+    /// nobody asks how many there are.
+    pub(crate) fn recorded(delta: i64) -> Growth
+        ensures grew { (result.grew ≡ true) ↔ (delta ≡ pos 1) }
+        ensures crowded { result.crowded ≡ false }
+    {
+        Growth {
+            grew: delta == 1,
+            crowded: false,
+        }
+    }
+
+    /// What a call that changed the number of keys by this did to what lies at the place of a lean bin.
+    #[inline(always)]
+    pub(crate) fn lean<K: HashKey, V: Value, F: Remap<K, V>, A: Allocator>(
+        delta: i64,
+        bin_slot: &BinSlot<K, V, F, A>,
+    ) -> Growth
+        ensures grew { (result.grew ≡ true) ↔ (delta ≡ pos 1) }
+        ensures crowded { (result.crowded ≡ true)
+            ↔ ((delta ≡ pos 1) × (crowded_keys ≤ length bin_slot.now.entries.entries)) }
+    {
+        let grew = delta == 1;
+        Growth {
+            grew,
+            crowded: grew && is_crowded(bin_slot),
+        }
     }
 }

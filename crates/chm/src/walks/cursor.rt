@@ -2,11 +2,11 @@
 //! make calls between two buckets, and may stop early.
 use crate::fault::Fault;
 use crate::map::Map;
-use crate::walks::of_class::{copies_of_class, use_at_class};
+use crate::walks::of_class::copies_of_class;
 use crate::walks::visit::Visit;
 use bin_history::{Remap, Value};
 use bin_layout::{next_in_walk, walk_laws};
-use bin_store::Held;
+use bin_store::{Held, StoreKind};
 use count_ledger::Pass;
 use hashkeys::{Class, HashKey};
 use part_walks::narrower;
@@ -76,7 +76,6 @@ impl Cursor {
 impl<K: HashKey, V: Value, F: Remap<K, V>, A: Allocator + Clone> Map<K, V, F, A> {
     ghost use Rattle.std.specs.Prelude.{◌≡◌, ◌++◌, [], ◌∷◌, ℕ, List, Some, None, true, false, IfOk, IfSome, IfNone};
     ghost use Rattle.std.specs.Prelude.{IfErr, IsOk, IsSomeAnd, OnErr};
-    ghost use Rattle.std.specs.List.{FoldsTo};
     ghost use Rattle.hashkeys.specs.Classes.{covers};
     ghost use Rattle.bin_history.specs.Calls.{after};
     ghost use Rattle.bin_history.specs.Copies.{IsExact};
@@ -85,7 +84,7 @@ impl<K: HashKey, V: Value, F: Remap<K, V>, A: Allocator + Clone> Map<K, V, F, A>
     ghost use Rattle.bin_store.specs.Places.{tag_of};
     ghost use Rattle.bin_layout.specs.Places.{AreAt};
     ghost use Rattle.part_walks.specs.Parts.{IsFirstOf};
-    ghost use Rattle.chm.specs.Cursors.{AreShown, HasCome, IsUsedAt, list_of};
+    ghost use Rattle.chm.specs.Cursors.{AreShown, HasCome, list_of};
     ghost use Rattle.chm.specs.Visits.{IsVisit, VisitView};
 
     /// Returns a cursor at the beginning of a walk in the order in which buckets lie in the table
@@ -140,6 +139,8 @@ impl<K: HashKey, V: Value, F: Remap<K, V>, A: Allocator + Clone> Map<K, V, F, A>
         ensures visit { IfOk result (λ v. IfSome v (λ v.
             HasSeen K.eq (after V.eq F.remapped F.merged) self.now.ledger pass.old pass.new
             × IsVisit K.eq K.code self.now.ledger pass.new.seen v)) }
+        ensures first { IfOk result (λ v. IfSome v (λ v.
+            IsSomeAnd cursor.old.next (λ next. IsFirstOf next v.class))) }
         ensures come { (shown : List (VisitView K V)) → HasCome cursor.old shown →
             IfOk result (λ v. HasCome cursor.new (shown ++ list_of v)) }
         ensures shown { (start : PassView K V F) (shown : List (VisitView K V)) →
@@ -154,11 +155,7 @@ impl<K: HashKey, V: Value, F: Remap<K, V>, A: Allocator + Clone> Map<K, V, F, A>
         ensures faults { IfErr result (λ fault. fault ≡ Fault.NoMemory) }
     {
         match cursor.next {
-            Some(next) => {
-                let held = self.bins.hold(rt, next.index());
-                let class = narrower(next, held.bin.class());
-                Ok(Some(self.visit_held(held, pass, cursor, class)?))
-            }
+            Some(next) => Ok(Some(self.visit_class(rt, pass, cursor, next)?)),
             None => Ok(None),
         }
     }
@@ -183,6 +180,8 @@ impl<K: HashKey, V: Value, F: Remap<K, V>, A: Allocator + Clone> Map<K, V, F, A>
         ensures visit { IfSome result (λ tried. IfOk tried (λ v. IfSome v (λ v.
             HasSeen K.eq (after V.eq F.remapped F.merged) self.now.ledger pass.old pass.new
             × IsVisit K.eq K.code self.now.ledger pass.new.seen v))) }
+        ensures first { IfSome result (λ tried. IfOk tried (λ v. IfSome v (λ v.
+            IsSomeAnd cursor.old.next (λ next. IsFirstOf next v.class)))) }
         ensures come { (shown : List (VisitView K V)) → HasCome cursor.old shown →
             IfSome result (λ tried. IfOk tried (λ v. HasCome cursor.new (shown ++ list_of v))) }
         ensures shown { (start : PassView K V F) (shown : List (VisitView K V)) →
@@ -202,28 +201,96 @@ impl<K: HashKey, V: Value, F: Remap<K, V>, A: Allocator + Clone> Map<K, V, F, A>
         let Some(next) = cursor.next else {
             return Some(Ok(None));
         };
-        let held = self.bins.try_hold(next.index())?;
-        let class = narrower(next, held.bin.class());
-        match self.visit_held(held, pass, cursor, class) {
+        let tried = self.try_visit_class(pass, cursor, next)?;
+        match tried {
             Ok(visit) => Some(Ok(Some(visit))),
             Err(AllocError) => Some(Err(Fault::NoMemory)),
         }
     }
 
-    /// Copies those entries of a locked bucket that are of the class, goes past them and unlocks the
-    /// bucket.
-    pub(crate) fn visit_held(
+    /// Waits for the bucket of the class that is next, copies those of its entries that are of the class
+    /// or of the first that it has become, and goes past them.
+    fn visit_class<R: Wait>(
         &self,
-        mut held: Held<'_, K, V, F, A>,
+        rt: &R,
         pass: &mut Pass<K, V, F>,
         cursor: &mut Cursor,
-        class: Class,
+        next: Class,
     ) -> Result<Visit<K, V, A>, AllocError>
         requires keys { IsExact K.is_clone }
         requires values { IsExact V.is_clone }
         requires pass { pass.old.ledger ≡ self.now.ledger.id }
-        requires first { IsSomeAnd cursor.old.next (λ next. IsFirstOf next class) }
-        requires within { (hash : ℕ) → covers class hash ≡ true → covers held.bin.class hash ≡ true }
+        requires next { cursor.old.next ≡ Some next }
+        ensures seen { HasSeen K.eq (after V.eq F.remapped F.merged) self.now.ledger pass.old
+            pass.new }
+        ensures visit { IfOk result (IsVisit K.eq K.code self.now.ledger pass.new.seen) }
+        ensures first { IfOk result (λ v. IsFirstOf next v.class) }
+        ensures come { (shown : List (VisitView K V)) → HasCome cursor.old shown →
+            IfOk result (λ v. HasCome cursor.new (shown ++ v ∷ [])) }
+        ensures n { cursor.new.n ≡ cursor.old.n }
+        ensures same { OnErr result (cursor.new ≡ cursor.old) }
+    {
+        match &self.bins.kind {
+            StoreKind::Recorded(_) => {
+                let held = self.bins.hold(rt, next.index());
+                self.visit_held(held, pass, cursor, next)
+            }
+            StoreKind::Lean(home) => {
+                let held = home.hold_in_place(rt, next.index());
+                self.visit_guarded(held, pass, cursor, next)
+            }
+        }
+    }
+
+    /// Tries to do what `visit_class` does, and waits for nobody. Returns none where the bucket is locked
+    /// just then: the pass and the cursor are as they were.
+    fn try_visit_class(
+        &self,
+        pass: &mut Pass<K, V, F>,
+        cursor: &mut Cursor,
+        next: Class,
+    ) -> Option<Result<Visit<K, V, A>, AllocError>>
+        requires keys { IsExact K.is_clone }
+        requires values { IsExact V.is_clone }
+        requires pass { pass.old.ledger ≡ self.now.ledger.id }
+        requires next { cursor.old.next ≡ Some next }
+        ensures seen { IfSome result (λ _. HasSeen K.eq (after V.eq F.remapped F.merged)
+            self.now.ledger pass.old pass.new) }
+        ensures visit { IfSome result (λ tried. IfOk tried
+            (IsVisit K.eq K.code self.now.ledger pass.new.seen)) }
+        ensures first { IfSome result (λ tried. IfOk tried (λ v. IsFirstOf next v.class)) }
+        ensures come { (shown : List (VisitView K V)) → HasCome cursor.old shown →
+            IfSome result (λ tried. IfOk tried (λ v. HasCome cursor.new (shown ++ v ∷ []))) }
+        ensures n { cursor.new.n ≡ cursor.old.n }
+        ensures same { IfSome result (λ tried. OnErr tried (cursor.new ≡ cursor.old)) }
+        ensures busy { IfNone result ((pass.new ≡ pass.old) × (cursor.new ≡ cursor.old)) }
+    {
+        match &self.bins.kind {
+            StoreKind::Recorded(_) => {
+                let held = self.bins.try_hold(next.index())?;
+                Some(self.visit_held(held, pass, cursor, next))
+            }
+            StoreKind::Lean(home) => {
+                let held = home.try_hold_in_place(next.index())?;
+                Some(self.visit_guarded(held, pass, cursor, next))
+            }
+        }
+    }
+
+    /// Copies those entries of a bucket that was taken out to lock it that are of the class that is
+    /// next, or of the first that it has become; goes past them and puts the bucket back.
+    fn visit_held(
+        &self,
+        mut held: Held<'_, K, V, F, A>,
+        pass: &mut Pass<K, V, F>,
+        cursor: &mut Cursor,
+        next: Class,
+    ) -> Result<Visit<K, V, A>, AllocError>
+        requires keys { IsExact K.is_clone }
+        requires values { IsExact V.is_clone }
+        requires pass { pass.old.ledger ≡ self.now.ledger.id }
+        requires next { cursor.old.next ≡ Some next }
+        requires covers { covers held.bin.class next.index ≡ true }
         requires at { AreAt K.eq (after V.eq F.remapped F.merged) (tag_of held.place) held.bin
             held.role }
         requires ledger { held.role.ledger ≡ self.now.ledger.id }
@@ -231,7 +298,7 @@ impl<K: HashKey, V: Value, F: Remap<K, V>, A: Allocator + Clone> Map<K, V, F, A>
         ensures seen { HasSeen K.eq (after V.eq F.remapped F.merged) self.now.ledger pass.old
             pass.new }
         ensures visit { IfOk result (IsVisit K.eq K.code self.now.ledger pass.new.seen) }
-        ensures class { IfOk result (λ v. v.class ≡ class) }
+        ensures first { IfOk result (λ v. IsFirstOf next v.class) }
         ensures come { (shown : List (VisitView K V)) → HasCome cursor.old shown →
             IfOk result (λ v. HasCome cursor.new (shown ++ v ∷ [])) }
         ensures n { cursor.new.n ≡ cursor.old.n }
@@ -240,90 +307,12 @@ impl<K: HashKey, V: Value, F: Remap<K, V>, A: Allocator + Clone> Map<K, V, F, A>
         let lent = &mut held;
         let bin = &lent.bin;
         bin.lawful();
+        let class = narrower(next, bin.class());
         let copies = copies_of_class(self.resizer.allocator(), bin, class);
         self.meet_under(pass, bin, &mut lent.role);
         held.release();
         let entries = copies?;
         cursor.go_past(class);
         Ok(Visit { class, entries })
-    }
-
-    /// Gives the function each entry of the next bucket of a walk, in order, where it lies, as all
-    /// calls before had left the bucket, which the pass has then seen. Returns whether there was a
-    /// bucket left, empty ones among them: false is the end of the walk. Nothing is copied, posted or
-    /// allocated, so nothing can fail. In all else it is a step of a walk as `visit_next` is.
-    ///
-    /// It waits for the bucket, which is locked while the function runs: a function that takes long
-    /// keeps other clients out of the bucket, and one that calls the map, by whatever pass, deadlocks
-    /// where its key is of the same bucket.
-    ///
-    ///     let mut cursor = map.cursor();
-    ///     let mut most = 0;
-    ///     let mut look = |_key: &u64, value: &u64| most = most.max(*value);
-    ///     let some = map.show_next(rt, pass, &mut cursor, &mut look);
-    ///     some && most <= 5
-    pub fn show_next<R: Wait, G: FnMut(&K, &V)>(
-        &self,
-        rt: &R,
-        pass: &mut Pass<K, V, F>,
-        cursor: &mut Cursor,
-        f: &mut G,
-    ) -> bool
-        requires callable { G.IsAlwaysCallable f.old }
-        requires pass { pass.old.ledger ≡ self.now.ledger.id }
-        ensures shown { result ≡ true → (v : VisitView K V)
-            × HasSeen K.eq (after V.eq F.remapped F.merged) self.now.ledger pass.old pass.new
-            × IsVisit K.eq K.code self.now.ledger pass.new.seen v
-            × FoldsTo (IsUsedAt G.step) f.old v.entries f.new
-            × ((shown : List (VisitView K V)) → HasCome cursor.old shown →
-            HasCome cursor.new (shown ++ v ∷ [])) }
-        ensures end { result ≡ false → (cursor.old.next ≡ None) × (pass.new ≡ pass.old)
-            × (f.new ≡ f.old) × (cursor.new ≡ cursor.old) }
-        ensures callable { G.IsAlwaysCallable f.new }
-        ensures n { cursor.new.n ≡ cursor.old.n }
-    {
-        let Some(next) = cursor.next else {
-            return false;
-        };
-        let held = self.bins.hold(rt, next.index());
-        let class = narrower(next, held.bin.class());
-        self.show_held(held, pass, cursor, class, f);
-        true
-    }
-
-    /// Gives the function those entries of a locked bucket that are of the class, goes past them and
-    /// unlocks the bucket.
-    fn show_held<G: FnMut(&K, &V)>(
-        &self,
-        mut held: Held<'_, K, V, F, A>,
-        pass: &mut Pass<K, V, F>,
-        cursor: &mut Cursor,
-        class: Class,
-        f: &mut G,
-    )
-        requires callable { G.IsAlwaysCallable f.old }
-        requires pass { pass.old.ledger ≡ self.now.ledger.id }
-        requires first { IsSomeAnd cursor.old.next (λ next. IsFirstOf next class) }
-        requires within { (hash : ℕ) → covers class hash ≡ true → covers held.bin.class hash ≡ true }
-        requires at { AreAt K.eq (after V.eq F.remapped F.merged) (tag_of held.place) held.bin
-            held.role }
-        requires ledger { held.role.ledger ≡ self.now.ledger.id }
-        requires salt { held.bin.salt ≡ self.now.ledger.salt }
-        ensures shown { (v : VisitView K V)
-            × HasSeen K.eq (after V.eq F.remapped F.merged) self.now.ledger pass.old pass.new
-            × IsVisit K.eq K.code self.now.ledger pass.new.seen v
-            × FoldsTo (IsUsedAt G.step) f.old v.entries f.new
-            × ((shown : List (VisitView K V)) → HasCome cursor.old shown →
-            HasCome cursor.new (shown ++ v ∷ [])) }
-        ensures callable { G.IsAlwaysCallable f.new }
-        ensures n { cursor.new.n ≡ cursor.old.n }
-    {
-        let lent = &mut held;
-        let bin = &lent.bin;
-        bin.lawful();
-        use_at_class(bin, class, f);
-        self.meet_under(pass, bin, &mut lent.role);
-        held.release();
-        cursor.go_past(class);
     }
 }

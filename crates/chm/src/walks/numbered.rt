@@ -1,6 +1,7 @@
 //! A walk whose cursor is a number, which a program may keep, send and forget.
-ghost use Rattle.std.specs.Prelude.{◌≡◌};
-ghost use Rattle.chm.specs.Numbered.{number_of};
+ghost use Rattle.std.specs.Prelude.{◌≤◌, ◌<◌};
+ghost use Rattle.hashkeys.specs.Classes.{IsTableSize};
+ghost use Rattle.hashkeys.specs.Limits.{most_bins};
 
 use crate::fault::Fault;
 use crate::map::Map;
@@ -9,8 +10,8 @@ use crate::walks::visit::Visit;
 use bin_history::{Remap, Value};
 use bin_layout::walk_laws;
 use count_ledger::Pass;
-use hashkeys::{HashKey, MOST_BINS};
-use std::alloc::{AllocError, Allocator};
+use hashkeys::{Class, HashKey, MOST_BINS};
+use std::alloc::Allocator;
 
 /// The number of the end of a walk. A walk begins at 0.
 pub const END_OF_WALK: u64 = 18_446_744_073_709_551_615;
@@ -19,7 +20,40 @@ pub const END_OF_WALK: u64 = 18_446_744_073_709_551_615;
 /// walk goes on at.
 pub type Step<K, V, A> = (Option<Visit<K, V, A>>, u64);
 
+/// Returns the size of the widest class of a table of `n` buckets, or of a wider one, that begins at the
+/// hash.
+fn size_at(n: u32, hash: u32) -> u32
+    requires size { IsTableSize n }
+    requires few { hash < most_bins }
+    ensures size { IsTableSize result }
+    ensures within { hash < result }
+    ensures least { n ≤ result }
+{
+    if hash < n {
+        return n;
+    }
+    1u32 << (hash.ilog2() + 1)
+}
+
 impl Cursor {
+    ghost use Rattle.std.specs.Prelude.{◌≡◌, ◌<◌, IsSomeAnd};
+    ghost use Rattle.hashkeys.specs.Classes.{IsTableSize};
+    ghost use Rattle.hashkeys.specs.Limits.{most_bins};
+    ghost use Rattle.chm.specs.Numbered.{number_of};
+
+    /// Returns a cursor of a walk over a table of `n` buckets, at the widest class that begins at the hash.
+    fn at_hash(n: u32, hash: u32) -> Cursor
+        requires size { IsTableSize n }
+        requires few { hash < most_bins }
+        ensures n { result.n ≡ n }
+        ensures next { IsSomeAnd result.next (λ next. next.index ≡ hash) }
+    {
+        Cursor {
+            n,
+            next: Some(Class::new(size_at(n, hash), hash)),
+        }
+    }
+
     /// The number of the place: the first hash of the class that is next, or that of the end.
     pub(crate) fn number(&self) -> u64
         ensures { result ≡ number_of self.now.next }
@@ -39,7 +73,7 @@ impl<K: HashKey, V: Value, F: Remap<K, V>, A: Allocator + Clone> Map<K, V, F, A>
     ghost use Rattle.bin_history.specs.Calls.{after};
     ghost use Rattle.bin_history.specs.Copies.{IsExact};
     ghost use Rattle.count_ledger.specs.Fronts.{HasSeen, HasSeenMore};
-    ghost use Rattle.chm.specs.Numbered.{HasComeAt, HasComeBefore, IsEnd};
+    ghost use Rattle.chm.specs.Numbered.{HasComeAt, IsEnd};
     ghost use Rattle.chm.specs.Visits.{IsVisit, VisitView};
 
     /// Tries to return copies of the entries of the bucket that has the hash of this number, in order,
@@ -47,10 +81,10 @@ impl<K: HashKey, V: Value, F: Remap<K, V>, A: Allocator + Clone> Map<K, V, F, A>
     /// goes on at behind it. Returns none where the bucket is locked just then: the pass is as it
     /// was. From 2^26 on a number is the end of a walk: there is no bucket then.
     ///
-    /// A walk begins at 0. Where it goes from step to step by these numbers alone, each bucket
-    /// begins at its number, what the steps return stands in walk order, no key comes twice, and
-    /// at the end every key has come. The number is of no map: where another map, or a number of
-    /// another origin, names a hash within a bucket, the whole bucket is shown.
+    /// A walk begins at 0, and goes from step to step by these numbers. What the steps return stands in
+    /// walk order, no key comes twice, and at the end every key has come. The number is of no map. If
+    /// the hash of a number is within a bucket, as it may be of a number that another map returned, the
+    /// step shows the widest part of the bucket that begins at the hash.
     ///
     /// It waits for nobody, and takes memory for the copies of the entries alone.
     ///
@@ -66,15 +100,12 @@ impl<K: HashKey, V: Value, F: Remap<K, V>, A: Allocator + Clone> Map<K, V, F, A>
         requires values { IsExact V.is_clone }
         requires pass { pass.old.ledger ≡ self.now.ledger.id }
         ensures visit { IfSome result (λ tried. IfOk tried (λ step. IfSome step.0 (λ v.
-            (covers v.class number ≡ true)
+            (v.class.index ≡ number)
+            × (covers v.class number ≡ true)
             × HasSeen K.eq (after V.eq F.remapped F.merged) self.now.ledger pass.old pass.new
             × IsVisit K.eq K.code self.now.ledger pass.new.seen v))) }
         ensures come { (shown : List (VisitView K V)) → HasComeAt self.now.n number shown →
             IfSome result (λ tried. IfOk tried (λ step. IfSome step.0 (λ v.
-            v.class.index ≡ number → HasComeAt self.now.n step.1 (shown ++ v ∷ [])))) }
-        ensures behind { (shown : List (VisitView K V)) →
-            IfSome result (λ tried. IfOk tried (λ step. IfSome step.0 (λ v.
-            HasComeBefore self.now.n v.class shown →
             HasComeAt self.now.n step.1 (shown ++ v ∷ [])))) }
         ensures end { IfSome result (λ tried. IfOk tried (λ step. IfNone step.0
             (IsEnd number step.1 × (pass.new ≡ pass.old)))) }
@@ -87,20 +118,11 @@ impl<K: HashKey, V: Value, F: Remap<K, V>, A: Allocator + Clone> Map<K, V, F, A>
         if number >= u64::from(MOST_BINS) {
             return Some(Ok((None, END_OF_WALK)));
         }
-        let held = self.bins.try_hold(number as u32)?;
-        let class = held.bin.class();
-        let n = self.bins.n();
-        if class.n() < n {
-            held.release();
-            return None;
-        }
-        let mut cursor = Cursor {
-            n,
-            next: Some(class),
-        };
-        match self.visit_held(held, pass, &mut cursor, class) {
-            Ok(visit) => Some(Ok((Some(visit), cursor.number()))),
-            Err(AllocError) => Some(Err(Fault::NoMemory)),
+        let mut cursor = Cursor::at_hash(self.bins.n(), number as u32);
+        let tried = self.try_visit_next(pass, &mut cursor)?;
+        match tried {
+            Ok(visit) => Some(Ok((visit, cursor.number()))),
+            Err(fault) => Some(Err(fault)),
         }
     }
 

@@ -1,32 +1,32 @@
 //! What a walk does with those entries of a locked bucket that are of a class. The class is that of
 //! the bucket, or of a part of it.
-ghost use Rattle.std.specs.Prelude.{◌≡◌, IfOk};
+ghost use Rattle.std.specs.Prelude.{◌≡◌, ◌++◌, List, All, IfNone, IfOk, IfSome, true, false};
 ghost use Rattle.std.specs.List.{FoldsTo};
 ghost use Rattle.hashkeys.specs.Classes.{is_of};
 ghost use Rattle.bin_history.specs.Copies.{IsExact};
 ghost use Rattle.bin_history.specs.Part.{part_of_entries};
 ghost use Rattle.chm.specs.Cursors.{IsUsedAt};
+ghost use Rattle.chm.specs.Retained.{HasEntry, SaysAt};
 
-use bin_history::{Bin, Remap, Value};
-use hashkeys::{Class, HashKey};
-use part_walks::is_same;
+use bin_history::{Bin, LeanEntries, Remap, Value, Walk};
+use hashkeys::{Class, HashKey, Salt};
+use part_walks::{Taker, is_same, show_entries};
 use std::alloc::{AllocError, Allocator};
 
-/// Copies those entries of a bucket whose keys are of a class, in order. Each key's hash is looked
-/// at.
-fn copies_of_some<K: HashKey, V: Value, F: Remap<K, V>, A: Allocator + Clone>(
+/// Copies those of these entries whose keys are of a class, in order. Each key is hashed.
+fn copies_of_some<K: HashKey, V: Value, A: Allocator + Clone>(
     alloc: &A,
-    bin: &Bin<K, V, F, A>,
+    walk: Walk<'_, K, V, A>,
+    salt: Salt,
     class: Class,
 ) -> Result<Vec<(K, V), A>, AllocError>
     requires keys { IsExact K.is_clone }
     requires values { IsExact V.is_clone }
     ensures { IfOk result (λ copies. copies.items
-        ≡ part_of_entries (is_of K.code bin.now.salt class) bin.now.entries) }
+        ≡ part_of_entries (is_of K.code salt class) walk.entry) }
 {
-    let salt = bin.salt();
     let mut copies = Vec::new(alloc.clone()?);
-    for (key, value) in bin.walk() {
+    for (key, value) in walk {
         if class.covers(salt.hash_of(key)) {
             let copied_key = key.clone()?;
             let copied_value = value.clone()?;
@@ -51,38 +51,58 @@ pub(crate) fn copies_of_class<K: HashKey, V: Value, F: Remap<K, V>, A: Allocator
     if is_same(class, bin.class()) {
         return bin.copy_entries(alloc);
     }
-    copies_of_some(alloc, bin, class)
+    copies_of_some(alloc, bin.walk(), bin.salt(), class)
 }
 
-/// Gives the function each entry of a bucket, in order.
-fn use_at_each<K: HashKey, V: Value, F: Remap<K, V>, A: Allocator + Clone, G: FnMut(&K, &V)>(
-    bin: &Bin<K, V, F, A>,
-    f: &mut G,
-)
+/// Copies those entries of a lean bucket of its own class whose keys are of another one, in order.
+/// The keys are hashed only if the two classes differ.
+#[inline(always)]
+pub(crate) fn copies_of_entries<K: HashKey, V: Value, A: Allocator + Clone>(
+    alloc: &A,
+    entries: &LeanEntries<K, V, A>,
+    salt: Salt,
+    own: Class,
+    class: Class,
+) -> Result<Vec<(K, V), A>, AllocError>
+    requires keys { IsExact K.is_clone }
+    requires values { IsExact V.is_clone }
+    requires own { All (λ e. is_of K.code salt own e.0 ≡ true) entries.now.entries }
+    ensures { IfOk result (λ copies. copies.items
+        ≡ part_of_entries (is_of K.code salt class) entries.now.entries) }
+{
+    if is_same(class, own) {
+        return entries.copies(alloc.clone()?);
+    }
+    copies_of_some(alloc, entries.walk(), salt, class)
+}
+
+/// Gives the function each of these entries, in order.
+#[inline(always)]
+fn use_at_each<K, V, A: Allocator, G: FnMut(&K, &V)>(walk: Walk<'_, K, V, A>, f: &mut G)
     requires { G.IsAlwaysCallable f.old }
-    ensures used { FoldsTo (IsUsedAt G.step) f.old bin.now.entries f.new }
+    ensures used { FoldsTo (IsUsedAt G.step) f.old walk.entry f.new }
     ensures callable { G.IsAlwaysCallable f.new }
 {
-    let mut left = bin.walk();
+    let mut left = walk;
     while let Some(entry) = left.next() {
         f(&entry.0, &entry.1);
     }
 }
 
-/// Gives the function those entries of a bucket whose keys are of a class, in order. Each key's hash
-/// is looked at.
-fn use_at_some<K: HashKey, V: Value, F: Remap<K, V>, A: Allocator + Clone, G: FnMut(&K, &V)>(
-    bin: &Bin<K, V, F, A>,
+/// Gives the function those of these entries whose keys are of a class, in order. Each key is hashed.
+#[inline(always)]
+fn use_at_some<K: HashKey, V, A: Allocator, G: FnMut(&K, &V)>(
+    walk: Walk<'_, K, V, A>,
+    salt: Salt,
     class: Class,
     f: &mut G,
 )
     requires { G.IsAlwaysCallable f.old }
     ensures used { FoldsTo (IsUsedAt G.step) f.old
-        (part_of_entries (is_of K.code bin.now.salt class) bin.now.entries) f.new }
+        (part_of_entries (is_of K.code salt class) walk.entry) f.new }
     ensures callable { G.IsAlwaysCallable f.new }
 {
-    let salt = bin.salt();
-    let mut left = bin.walk();
+    let mut left = walk;
     while let Some(entry) = left.next() {
         if class.covers(salt.hash_of(&entry.0)) {
             f(&entry.0, &entry.1);
@@ -90,8 +110,31 @@ fn use_at_some<K: HashKey, V: Value, F: Remap<K, V>, A: Allocator + Clone, G: Fn
     }
 }
 
+/// Gives the function those entries of a bucket of its own class whose keys are of another one, in
+/// order. The keys are hashed only if the two classes differ.
+#[inline(always)]
+pub(crate) fn use_at_class<K: HashKey, V, A: Allocator, G: FnMut(&K, &V)>(
+    walk: Walk<'_, K, V, A>,
+    salt: Salt,
+    own: Class,
+    class: Class,
+    f: &mut G,
+)
+    requires own { All (λ e. is_of K.code salt own e.0 ≡ true) walk }
+    requires callable { G.IsAlwaysCallable f.old }
+    ensures used { FoldsTo (IsUsedAt G.step) f.old
+        (part_of_entries (is_of K.code salt class) walk.entry) f.new }
+    ensures callable { G.IsAlwaysCallable f.new }
+{
+    if is_same(class, own) {
+        use_at_each(walk, f);
+    } else {
+        use_at_some(walk, salt, class, f);
+    }
+}
+
 /// Gives the function those entries of a bucket whose keys are of a class, in order.
-pub(crate) fn use_at_class<
+pub(crate) fn use_at_bin<
     K: HashKey,
     V: Value,
     F: Remap<K, V>,
@@ -104,9 +147,109 @@ pub(crate) fn use_at_class<
     ensures callable { G.IsAlwaysCallable f.new }
 {
     bin.lawful();
-    if is_same(class, bin.class()) {
-        use_at_each(bin, f);
-    } else {
-        use_at_some(bin, class, f);
+    use_at_class(bin.walk(), bin.salt(), bin.class(), class, f);
+}
+
+/// Gives the taker those entries of a bucket whose keys are of a class, in order.
+pub(crate) fn add_of_bin<
+    K: HashKey,
+    V: Value,
+    F: Remap<K, V>,
+    A: Allocator + Clone,
+    T: Taker<K, V>,
+>(taker: &T, part: T::Part, bin: &Bin<K, V, F, A>, class: Class) -> T::Part
+    requires { (es : List (K × V)) × T.reached taker.now es part }
+    ensures { (es : List (K × V)) → T.reached taker.now es part → T.reached taker.now
+        (es ++ part_of_entries (is_of K.code bin.now.salt class) bin.now.entries) result }
+{
+    bin.lawful();
+    show_entries(taker, part, bin.walk(), bin.salt(), bin.class(), class)
+}
+
+/// Whether an entry is to be taken away: its key is of the class, and the function returns false.
+/// The key's hash is not looked at where all are of the class.
+fn is_dropped<K: HashKey, V, G: Fn(&K, &V) -> bool>(
+    entry: &(K, V),
+    salt: Salt,
+    class: Class,
+    whole: bool,
+    keeps: &G,
+) -> bool
+    requires { G.IsAlwaysCallable keeps.now }
+    ensures of { result ≡ true → whole ≡ false → is_of K.code salt class entry.now.0 ≡ true }
+    ensures dropped { result ≡ true → SaysAt (G.post keeps.now) entry.now false }
+    ensures kept { result ≡ false → is_of K.code salt class entry.now.0 ≡ true →
+        SaysAt (G.post keeps.now) entry.now true }
+{
+    if !whole && !class.covers(salt.hash_of(&entry.0)) {
+        return false;
     }
+    !keeps(&entry.0, &entry.1)
+}
+
+/// The first of these entries, which are of a bucket of its own class, whose key is of another one and
+/// to which the function returns false.
+fn first_of_walk<'a, K: HashKey, V, A: Allocator, G: Fn(&K, &V) -> bool>(
+    walk: Walk<'a, K, V, A>,
+    salt: Salt,
+    own: Class,
+    class: Class,
+    keeps: &G,
+) -> Option<&'a (K, V)>
+    requires own { All (λ e. is_of K.code salt own e.0 ≡ true) walk }
+    requires callable { G.IsAlwaysCallable keeps.now }
+    ensures found { IfSome result (λ e. HasEntry walk.entry e.now) }
+    ensures of { IfSome result (λ e. is_of K.code salt class e.now.0 ≡ true) }
+    ensures dropped { IfSome result (λ e. SaysAt (G.post keeps.now) e.now false) }
+    ensures none { IfNone result (All (λ e. SaysAt (G.post keeps.now) e true)
+        (part_of_entries (is_of K.code salt class) walk.entry)) }
+{
+    let whole = is_same(class, own);
+    let mut left = walk;
+    while let Some(entry) = left.next() {
+        if is_dropped(entry, salt, class, whole, keeps) {
+            return Some(entry);
+        }
+    }
+    None
+}
+
+/// The first entry of a bucket whose key is of the class and to which the function returns false.
+pub(crate) fn first_dropped<
+    'a,
+    K: HashKey,
+    V: Value,
+    F: Remap<K, V>,
+    A: Allocator + Clone,
+    G: Fn(&K, &V) -> bool,
+>(bin: &'a Bin<K, V, F, A>, class: Class, keeps: &G) -> Option<&'a (K, V)>
+    requires { G.IsAlwaysCallable keeps.now }
+    ensures found { IfSome result (λ e. HasEntry bin.now.entries e.now) }
+    ensures of { IfSome result (λ e. is_of K.code bin.now.salt class e.now.0 ≡ true) }
+    ensures dropped { IfSome result (λ e. SaysAt (G.post keeps.now) e.now false) }
+    ensures none { IfNone result (All (λ e. SaysAt (G.post keeps.now) e true)
+        (part_of_entries (is_of K.code bin.now.salt class) bin.now.entries)) }
+{
+    bin.lawful();
+    first_of_walk(bin.walk(), bin.salt(), bin.class(), class, keeps)
+}
+
+/// The first entry of a lean bucket of its own class whose key is of another one and to which the
+/// function returns false.
+pub(crate) fn first_of_entries<'a, K: HashKey, V: Value, A: Allocator, G: Fn(&K, &V) -> bool>(
+    entries: &'a LeanEntries<K, V, A>,
+    salt: Salt,
+    own: Class,
+    class: Class,
+    keeps: &G,
+) -> Option<&'a (K, V)>
+    requires own { All (λ e. is_of K.code salt own e.0 ≡ true) entries.now.entries }
+    requires callable { G.IsAlwaysCallable keeps.now }
+    ensures found { IfSome result (λ e. HasEntry entries.now.entries e.now) }
+    ensures of { IfSome result (λ e. is_of K.code salt class e.now.0 ≡ true) }
+    ensures dropped { IfSome result (λ e. SaysAt (G.post keeps.now) e.now false) }
+    ensures none { IfNone result (All (λ e. SaysAt (G.post keeps.now) e true)
+        (part_of_entries (is_of K.code salt class) entries.now.entries)) }
+{
+    first_of_walk(entries.walk(), salt, own, class, keeps)
 }

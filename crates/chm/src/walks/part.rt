@@ -9,11 +9,12 @@ ghost use Rattle.bin_layout.specs.Places.{AreAt};
 ghost use Rattle.chm.specs.Visits.{IsVisit, VisitView};
 
 use crate::map::Map;
+use crate::walks::of_class::add_of_bin;
 use bin_history::{Remap, Value};
-use bin_store::Held;
+use bin_store::{Held, StoreKind};
 use count_ledger::Pass;
 use hashkeys::HashKey;
-use part_walks::{PartWalk, Taker, show_part};
+use part_walks::{PartWalk, Taker};
 use std::alloc::Allocator;
 use std::sync::Wait;
 
@@ -63,11 +64,20 @@ impl<K: HashKey, V: Value, F: Remap<K, V>, A: Allocator + Clone> Map<K, V, F, A>
         ensures hi { walk.new.hi ≡ walk.old.hi }
     {
         let next = walk.next();
-        let held = self.bins.hold(rt, next.index());
-        self.part_held(held, pass, walk, taker, part)
+        match &self.bins.kind {
+            StoreKind::Recorded(_) => {
+                let held = self.bins.hold(rt, next.index());
+                self.part_held(held, pass, walk, taker, part)
+            }
+            StoreKind::Lean(home) => {
+                let held = home.hold_in_place(rt, next.index());
+                self.part_guarded(held, pass, walk, taker, part)
+            }
+        }
     }
 
-    /// Gives the taker what is next of a bucket that is locked, goes past it and unlocks the bucket.
+    /// Gives the taker what is next of a bucket that was taken out to lock it, goes past it and puts the
+    /// bucket back.
     fn part_held<T: Taker<K, V>>(
         &self,
         mut held: Held<'_, K, V, F, A>,
@@ -99,7 +109,7 @@ impl<K: HashKey, V: Value, F: Remap<K, V>, A: Allocator + Clone> Map<K, V, F, A>
         let bin = &lent.bin;
         bin.lawful();
         let class = walk.class_in(bin.class());
-        let more = show_part(taker, part, bin, class);
+        let more = add_of_bin(taker, part, bin, class);
         self.meet_under(pass, bin, &mut lent.role);
         held.release();
         walk.go_past(class);

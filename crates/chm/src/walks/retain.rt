@@ -1,72 +1,19 @@
 //! Keeping the entries of a map that a function says are to stay, and removing the others, bucket by
 //! bucket.
-ghost use Rattle.std.specs.Prelude.{◌≡◌, true, false, All, IfNone, IfSome};
-ghost use Rattle.hashkeys.specs.Classes.{is_of};
-ghost use Rattle.bin_history.specs.Part.{part_of_entries};
-ghost use Rattle.chm.specs.Retained.{HasEntry, SaysAt};
-
 use crate::fault::Fault;
 use crate::map::Map;
 use crate::walks::cursor::Cursor;
+use crate::walks::of_class::first_dropped;
 use bin_history::{Bin, KeyArg, Op, Remap, Value};
-use bin_store::Held;
+use bin_store::{Held, StoreKind};
 use count_ledger::{BinRole, Pass};
-use hashkeys::{Class, HashKey, Salt};
-use part_walks::{is_same, narrower};
+use hashkeys::{Class, HashKey};
+use part_walks::narrower;
 use std::alloc::Allocator;
 use std::sync::Wait;
 
-/// Whether an entry is to be taken away: its key is of the class, and the function returns false.
-/// The key's hash is not looked at where all are of the class.
-fn is_dropped<K: HashKey, V, G: Fn(&K, &V) -> bool>(
-    entry: &(K, V),
-    salt: Salt,
-    class: Class,
-    whole: bool,
-    keeps: &G,
-) -> bool
-    requires { G.IsAlwaysCallable keeps.now }
-    ensures of { result ≡ true → whole ≡ false → is_of K.code salt class entry.now.0 ≡ true }
-    ensures dropped { result ≡ true → SaysAt (G.post keeps.now) entry.now false }
-    ensures kept { result ≡ false → is_of K.code salt class entry.now.0 ≡ true →
-        SaysAt (G.post keeps.now) entry.now true }
-{
-    if !whole && !class.covers(salt.hash_of(&entry.0)) {
-        return false;
-    }
-    !keeps(&entry.0, &entry.1)
-}
-
-/// The first entry of a bucket whose key is of the class and to which the function returns false.
-fn first_dropped<
-    'a,
-    K: HashKey,
-    V: Value,
-    F: Remap<K, V>,
-    A: Allocator + Clone,
-    G: Fn(&K, &V) -> bool,
->(bin: &'a Bin<K, V, F, A>, class: Class, keeps: &G) -> Option<&'a (K, V)>
-    requires { G.IsAlwaysCallable keeps.now }
-    ensures found { IfSome result (λ e. HasEntry bin.now.entries e.now) }
-    ensures of { IfSome result (λ e. is_of K.code bin.now.salt class e.now.0 ≡ true) }
-    ensures dropped { IfSome result (λ e. SaysAt (G.post keeps.now) e.now false) }
-    ensures none { IfNone result (All (λ e. SaysAt (G.post keeps.now) e true)
-        (part_of_entries (is_of K.code bin.now.salt class) bin.now.entries)) }
-{
-    bin.lawful();
-    let salt = bin.salt();
-    let whole = is_same(class, bin.class());
-    let mut left = bin.walk();
-    while let Some(entry) = left.next() {
-        if is_dropped(entry, salt, class, whole, keeps) {
-            return Some(entry);
-        }
-    }
-    None
-}
-
 impl<K: HashKey, V: Value, F: Remap<K, V>, A: Allocator + Clone> Map<K, V, F, A> {
-    ghost use Rattle.std.specs.Prelude.{◌≡◌, ◌<◌, ◌≤◌, ◌++◌, [], ◌∷◌, ℕ, List, length, None, true, false, All};
+    ghost use Rattle.std.specs.Prelude.{◌≡◌, ◌<◌, ◌≤◌, ◌++◌, [], ◌∷◌, ℕ, List, length, Some, None, true, false, All};
     ghost use Rattle.std.specs.Prelude.{IfOk, IfErr, IsErrOf, IsOk, IsSomeAnd, OnOk, OnErr};
     ghost use Rattle.hashkeys.specs.Classes.{ClassView, covers, is_of};
     ghost use Rattle.bin_history.specs.Calls.{after};
@@ -227,6 +174,54 @@ impl<K: HashKey, V: Value, F: Remap<K, V>, A: Allocator + Clone> Map<K, V, F, A>
         Ok(())
     }
 
+    /// Waits for the bucket of the class that is next, and goes through those of its entries that are of
+    /// the class or of the first that it has become: takes those away to which the function returns
+    /// false and, where no call failed, goes past them.
+    fn retain_class<R: Wait, G: Fn(&K, &V) -> bool>(
+        &self,
+        rt: &R,
+        pass: &mut Pass<K, V, F>,
+        cursor: &mut Cursor,
+        next: Class,
+        keeps: &G,
+    ) -> Result<(), Fault>
+        requires keys { IsExact K.is_clone }
+        requires values { IsExact V.is_clone }
+        requires callable { G.IsAlwaysCallable keeps.now }
+        requires pass { pass.old.ledger ≡ self.now.ledger.id }
+        requires next { cursor.old.next ≡ Some next }
+        ensures dropped { HasDropped (SaysAt (G.post keeps.now)) pass.old pass.new }
+        ensures kept { OnOk result ((class : ClassView)
+            × HasDroppedIn (SaysAt (G.post keeps.now)) K.code self.now.ledger.salt class pass.old
+            pass.new
+            × IsKeptIn K.eq K.code (after V.eq F.remapped F.merged) (SaysAt (G.post keeps.now))
+            self.now.ledger pass.new class
+            × ((classes : List ClassView) → HasPassed cursor.old classes →
+            HasPassed cursor.new (classes ++ class ∷ []))) }
+        ensures n { cursor.new.n ≡ cursor.old.n }
+        ensures same { OnErr result (cursor.new ≡ cursor.old) }
+        ensures full { IsErrOf result Fault.PassFull →
+            most_calls self.now.ledger.form self.now.ledger.clients ≤ length pass.new.made }
+        ensures left { OnErr result (IsSomeAnd cursor.old.next (λ next.
+            HasStoppedAt K.eq K.code (after V.eq F.remapped F.merged) (SaysAt (G.post keeps.now))
+            self.now.ledger next pass.old pass.new)) }
+        ensures sure { self.now.ledger.form ≡ Lean → IsNeverRefused K.is_infallible →
+            IsNeverRefused V.is_infallible → IsMadeOrFull result }
+        ensures faults { IfErr result IsOfCall }
+    {
+        match &self.bins.kind {
+            StoreKind::Recorded(_) => {
+                let held = self.bins.hold(rt, next.index());
+                let class = narrower(next, held.bin.class());
+                self.retain_held(held, pass, cursor, class, keeps)
+            }
+            StoreKind::Lean(home) => {
+                let held = home.hold_in_place(rt, next.index());
+                self.retain_guarded(held, pass, cursor, next, keeps)
+            }
+        }
+    }
+
     /// Goes through the next bucket of a walk and removes each entry to which the function returns
     /// false: it is a remove in the order of calls. Returns whether there was a bucket left, empty
     /// ones among them: false is the end of the walk. Steps with a cursor of its own drop entries in
@@ -282,9 +277,7 @@ impl<K: HashKey, V: Value, F: Remap<K, V>, A: Allocator + Clone> Map<K, V, F, A>
         let Some(next) = cursor.next else {
             return Ok(false);
         };
-        let held = self.bins.hold(rt, next.index());
-        let class = narrower(next, held.bin.class());
-        self.retain_held(held, pass, cursor, class, keeps)?;
+        self.retain_class(rt, pass, cursor, next, keeps)?;
         Ok(true)
     }
 

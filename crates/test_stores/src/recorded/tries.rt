@@ -6,7 +6,7 @@ use crate::recorded::maps::{
 };
 use bin_history::Form;
 use bin_layout::{Moved, Refused};
-use hashkeys::{Class, Key, MOST_BINS, Salt};
+use hashkeys::{Class, Key, Salt};
 use std::alloc::{AllocError, Allocator, Global};
 use std::process::Abort;
 use std::sync::Wait;
@@ -147,7 +147,7 @@ fn halved<R: Wait, A: Allocator + Clone>(
     requires { ledger.now.id ≡ map.now.ledger }
 {
     let held = map.hold(rt, 1);
-    if held.bin.class().n() >= MOST_BINS {
+    if held.bin.class().n() >= 65_536 {
         held.release();
         return Ok(());
     }

@@ -1,4 +1,4 @@
-use Rattle.std.proofs.Common.{◌≡◌, ◌-◌, ◌<◌, [], ◌∷◌, ◌++◌, length, map, Vec, ap, sym, subst, ◌∙◌, arith}
+use Rattle.std.proofs.Common.{◌≡◌, ◌-◌, ◌<◌, [], ◌∷◌, ◌++◌, inl, refl, length, map, Vec, ap, sym, subst, ◌∙◌, arith}
 use Rattle.std.specs.List.{range_with_len}
 use Rattle.std.specs.Vec.Iter.{into_iter_items}
 use Rattle.std.proofs.lemmas.List.{length-map}
@@ -112,7 +112,7 @@ returns-clause-places g c = λ ledger e.
     let all : c.loop-index.index ≡ c.args.n = omega (arith, c.loop-index-test.false, c.loop-index.auto.index-end) in
     IsTable-all (record { ledger = ledger; form = c.args.form; salt = c.args.salt; n = c.args.n }) c.args.n
     c.loop-index.places.items c.requires.size
-    (omega arith) (omega (arith, c.loop-index.places.ok.0, kept.len, all))
+    (omega arith) (λ recorded. inl refl) (omega (arith, c.loop-index.places.ok.0, kept.len, all))
     (kept.places ledger e
     ∙ ap (λ (m : _). map
     (tag_at (record { ledger = ledger; form = c.args.form; salt = c.args.salt; n = c.args.n }) c.args.n)

@@ -1,8 +1,6 @@
 use Rattle.std.proofs.Common.{◌≡◌, ◌++◌, ◌∷◌, [], Bool, true, false, List, subst, sym, ap, ◌∙◌, append_assoc}
 use Rattle.std.proofs.lemmas.List.{append-nil}
 use Rattle.hashkeys.specs.Classes.{covers, is_of}
-use Rattle.hashkeys.specs.Hashing.{hash_of}
-use Rattle.hashkeys.specs.declared.hashing.Salt.{Salt}
 use Rattle.bin_history.specs.Part.{part_of_entries}
 use Rattle.part_walks.proofs.Taking.{filter-kept, filter-left}
 use Rattle.part_walks.proofs.taker.add_some.Goals as goal
@@ -13,7 +11,7 @@ loop-key-init g c = (
   tt,
   (
     [],
-    c.into_iter-key-iterator.ensures.into_iter_gives ∙ c.walk-key-items.ensures,
+    c.into_iter-key-iterator.ensures.into_iter_gives,
     λ es h. subst (λ (l : List (g.row.K.Denot × g.row.V.Denot)). g.T.Taker.reached c.args.taker.now l c.args.part)
         (sym (append-nil es)) h,
   ),
@@ -26,10 +24,9 @@ loop-key-preserved-then-covers g c =
     let (can, finite, kept) = c.loop-key.invariant in
     let (done, cut, reached) = kept in
     let e = c.in-Some.field-0.now in
-    let test : g.row.K.Denot × g.row.V.Denot → Bool = λ x. is_of code c.args.bin.now.salt class x.0 in
-    let passes : test e ≡ true = ap (λ (s : Salt). covers class (hash_of s (code e.0))) (sym c.salt-salt.ensures)
-    ∙ ap (covers class) (sym c.hash_of.ensures.hash) ∙ sym c.covers.ensures ∙ c.if-covers.true in
-    let front = part_of_entries (is_of code c.args.bin.now.salt class) done in (
+    let test : g.row.K.Denot × g.row.V.Denot → Bool = λ x. is_of code c.args.salt class x.0 in
+    let passes : test e ≡ true = ap (covers class) (sym c.hash_of.ensures.hash) ∙ sym c.covers.ensures ∙ c.if-covers.true in
+    let front = part_of_entries (is_of code c.args.salt class) done in (
       tt,
       tt,
       (
@@ -50,9 +47,8 @@ loop-key-preserved g c =
     let (can, finite, kept) = c.loop-key.invariant in
     let (done, cut, reached) = kept in
     let e = c.in-Some.field-0.now in
-    let test : g.row.K.Denot × g.row.V.Denot → Bool = λ x. is_of code c.args.bin.now.salt class x.0 in
-    let fails : test e ≡ false = ap (λ (s : Salt). covers class (hash_of s (code e.0))) (sym c.salt-salt.ensures)
-    ∙ ap (covers class) (sym c.hash_of.ensures.hash) ∙ sym c.covers.ensures ∙ c.if-covers.false in (
+    let test : g.row.K.Denot × g.row.V.Denot → Bool = λ x. is_of code c.args.salt class x.0 in
+    let fails : test e ≡ false = ap (covers class) (sym c.hash_of.ensures.hash) ∙ sym c.covers.ensures ∙ c.if-covers.false in (
       tt,
       tt,
       (

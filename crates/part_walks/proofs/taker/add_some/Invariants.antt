@@ -8,6 +8,6 @@ abbrev pub invariant-loop-key : goal.invariant-loop-key
 invariant-loop-key g l =
     (goal.iterator-loop-key g).can_next l.key-iterator
     × (goal.iterator-loop-key g).is_finite l.key-iterator
-    × ((done : List (g.row.K.Denot × g.row.V.Denot)) × (done ++ l.key-iterator ≡ l.fn.bin.entries)
+    × ((done : List (g.row.K.Denot × g.row.V.Denot)) × (done ++ l.key-iterator ≡ l.fn.walk)
     × ((es : List (g.row.K.Denot × g.row.V.Denot)) → g.T.Taker.reached l.taker es l.initial.part
-    → g.T.Taker.reached l.taker (es ++ part_of_entries (is_of g.K.HashKey.code l.fn.bin.salt l.fn.class) done) l.part))
+    → g.T.Taker.reached l.taker (es ++ part_of_entries (is_of g.K.HashKey.code l.fn.salt l.fn.class) done) l.part))

@@ -2,7 +2,7 @@ use Rattle.std.proofs.Common.{◌≡◌, [], ◌∷◌, refl, sym, ap, subst, �
 use Rattle.hashkeys.specs.Classes.{covers}
 use Rattle.hashkeys.specs.Hashing.{hash_of}
 use Rattle.bin_history.specs.Calls.{after, key_of}
-use Rattle.bin_history.specs.Leans.{as_bin}
+use Rattle.bin_history.specs.Leans.{LeanView, as_bin}
 use Rattle.bin_history.specs.Ops.{call_on, key_in}
 use Rattle.bin_history.proofs.Changes.{key-call_on}
 use Rattle.bin_history.proofs.Keys.{key_tells}
@@ -110,13 +110,14 @@ returns-clause-met g c =
     g.F.Remap.merged (key_tells g.met.K.Eq.laws g.met.K.HashKey.equal_is_same) c.self.inside.ledger call
     c.args.pass.now c.post_trace.new.pass c.in_ok-reply.reply bin (as_bin c.make_on.new.entries)
     c.take_role-role.result c.in_ok-reply.trace c.client.result c.made.result posted.0 at.agree c.lawful_entries.ensures refl
-    c.post_trace.ensures.of_role c.in_ok-reply.ensures.made c.client.ensures.value c.made.ensures.value posted.1 in (
-      as_bin c.make_on.new.entries,
-      subst
-          (λ (l : LedgerView _ _). IsCalledOn g.K.PartialEq.eq g.K.HashKey.code g.V.PartialEq.eq g.F.Remap.remapped
-          g.F.Remap.merged l bin (as_bin c.make_on.new.entries) call c.args.pass.now c.post_trace.new.pass
-          c.in_ok-reply.reply) own called,
-    )
+    c.post_trace.ensures.of_role c.in_ok-reply.ensures.made c.client.ensures.value c.made.ensures.value posted.1 in
+    let left : c.put_role.new.self.entries ≡ c.make_on.new.entries =
+    c.put_role.ensures.entries ∙ c.take_role-role.ensures.entries in
+    let On : LedgerView _ _ → LeanView _ _ → Type 0 = λ l e. IsCalledOn g.K.PartialEq.eq g.K.HashKey.code
+    g.V.PartialEq.eq g.F.Remap.remapped g.F.Remap.merged l bin (as_bin e) call c.args.pass.now c.post_trace.new.pass
+    c.in_ok-reply.reply in
+    subst (λ (e : LeanView _ _). On c.args.self.now.ledger e) (sym left)
+    (subst (λ (l : LedgerView _ _). On l c.make_on.new.entries) own called)
 
 pub returns-clause-lies : goal.returns-clause-lies
 returns-clause-lies g c =

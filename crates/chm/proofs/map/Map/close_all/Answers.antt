@@ -89,7 +89,7 @@ invariant_of-result g c =
     c.of-kept.result.value.items c.in-Some.roles.items
     (passes_with c.of-2.result.value c.of.result.value.items) (passes_with c.args.rest c.args.passes.items)
     c.of-books.ensures roles_are passes_are c.n-n.ensures.value home c.n-n.ensures.size
-    c.in-Some.ensures.walk c.in-Some.ensures.with_roles all in
+    c.in-Some.ensures.walk c.self.invariant.wide c.in-Some.ensures.few c.in-Some.ensures.with_roles all in
     let sum = c.settle_all-total.ensures.sum
     ∙ ap word_of (sym (total_made-with c.args.rest c.args.passes.items)) in
     let count = word_of_count g.K.HashKey.code c.self.inside.ledger (passes_with c.args.rest c.args.passes.items)
@@ -124,7 +124,8 @@ returns-clause-known g c =
     c.of-kept.result.value.items c.in-Some.roles.items
     (passes_with c.of-2.result.value c.of.result.value.items) (passes_with c.args.rest c.args.passes.items)
     c.of-books.ensures roles_are passes_are c.n-n.ensures.value home c.n-n.ensures.size
-    c.in-Some.ensures.walk c.in-Some.ensures.with_roles c.settle_all-total.ensures.agree in
+    c.in-Some.ensures.walk c.self.invariant.wide c.in-Some.ensures.few c.in-Some.ensures.with_roles
+    c.settle_all-total.ensures.agree in
     let (calls, order, begins) = c.settle_all-total.ensures.known in
     let order_is : IsOrder g.K.HashKey.code c.of-books.result.value
     (passes_with c.of-2.result.value c.of.result.value.items) c.of-kept.result.value.items calls =

@@ -1,4 +1,4 @@
-use Rattle.std.proofs.Common.{◌≡◌, ◌++◌, List, sym, ap, subst}
+use Rattle.std.proofs.Common.{◌≡◌, ◌++◌, List, sym, subst}
 use Rattle.hashkeys.specs.Classes.{is_of}
 use Rattle.hashkeys.specs.declared.hashing.Salt.{Salt}
 use Rattle.bin_history.specs.Calls.{after}
@@ -8,7 +8,7 @@ use Rattle.count_ledger.specs.Views.{RoleView}
 use Rattle.bin_store.specs.Places.{tag_of}
 use Rattle.bin_layout.specs.Places.{AreAt}
 use Rattle.chm.specs.Visits.{VisitView}
-use Rattle.chm.proofs.PartVisits.{IsVisit-part}
+use Rattle.chm.proofs.PartVisits.{IsVisit-met}
 use Rattle.chm.proofs.map.Map.part_held.Goals as goal
 
 pub release-requires : goal.release-requires
@@ -26,12 +26,11 @@ returns-clause-shown g c =
     let v : VisitView _ _ = record { class = class; entries = part_of_entries (is_of code ledger.salt class) bin.entries } in (
       v,
       c.meet_under.ensures.seen,
-      IsVisit-part g.K.PartialEq.eq (key_tells g.met.K.Eq.laws g.met.K.HashKey.equal_is_same) code ledger
-          c.meet_under.new.pass.seen bin.class class bin.entries c.lawful.ensures.lawful.distinct
-          c.meet_under.ensures.met.entries
-          (λ hash of. rw c.class.ensures at (c.class_in-class.ensures.within hash of)),
+      IsVisit-met g.K.PartialEq.eq (key_tells g.met.K.Eq.laws g.met.K.HashKey.equal_is_same) code ledger
+          c.meet_under.new.pass.seen c.class.result class bin (sym c.class.ensures)
+          c.lawful.ensures.lawful.distinct c.meet_under.ensures.met c.class_in-class.ensures.within,
       λ es reached. subst (λ (s : Salt). g.T.Taker.reached c.args.taker.now
-          (es ++ part_of_entries (is_of code s class) bin.entries) c.show_part-more.result) c.requires.salt
-          (c.show_part-more.ensures es reached),
+          (es ++ part_of_entries (is_of code s class) bin.entries) c.add_of_bin-more.result) c.requires.salt
+          (c.add_of_bin-more.ensures es reached),
       λ classes walked. c.go_past.ensures.walked classes walked,
     )

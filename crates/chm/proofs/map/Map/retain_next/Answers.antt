@@ -9,13 +9,10 @@ pub returns-in_default-clause-dropped : goal.returns-in_default-clause-dropped
 returns-in_default-clause-dropped g c =
     none_dropped (SaysAt (goal.G-post g c.args.keeps.now)) c.args.pass.now c.args.pass.now refl
 
-pub returns-in_err-retain_held-clause-sure : goal.returns-in_err-retain_held-clause-sure
-returns-in_err-retain_held-clause-sure g c = λ lean keys values.
+pub returns-in_err-retain_class-clause-sure : goal.returns-in_err-retain_class-clause-sure
+returns-in_err-retain_class-clause-sure g c = λ lean keys values.
     IsMadeOrFull-of c.from_residual.result _ c.from_residual.ensures.1
-    (c.in_err-retain_held.ensures.sure lean keys values)
+    (c.in_err-retain_class.ensures.sure lean keys values)
 
-pub returns-in_err-retain_held-clause-left : goal.returns-in_err-retain_held-clause-left
-returns-in_err-retain_held-clause-left g c = OnErr-of c.from_residual.result c.in_err-retain_held.ensures.left
-
-pub retain_held-requires-clause-within : goal.retain_held-requires-clause-within
-retain_held-requires-clause-within g c = λ hash of. rw c.class.ensures at (c.narrower-class.ensures.within hash of)
+pub returns-in_err-retain_class-clause-left : goal.returns-in_err-retain_class-clause-left
+returns-in_err-retain_class-clause-left g c = OnErr-of c.from_residual.result c.in_err-retain_class.ensures.left

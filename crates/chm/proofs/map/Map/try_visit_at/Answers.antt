@@ -1,43 +1,40 @@
-use Rattle.std.proofs.Common.{◌≡◌, ℕ, rules, Some, ◌∷◌, [], ◌++◌, refl, sym, ap, subst, ◌∙◌, arith}
-use Rattle.hashkeys.specs.Classes.{ClassView, covers}
-use Rattle.chm.specs.Cursors.{HasCome}
-use Rattle.chm.proofs.Stepping.{HasCome-at, HasComeAt-of, first-own}
+use Rattle.std.proofs.Common.{◌≡◌, ◌++◌, Option, None, rules, ◌∙◌, arith}
+use Rattle.std.specs.Prelude.{IfSome, IfNone, IsSomeAnd}
+use Rattle.bin_history.specs.Calls.{after}
+use Rattle.count_ledger.specs.Fronts.{HasSeen}
+use Rattle.part_walks.specs.Parts.{IsFirstOf}
+use Rattle.chm.specs.Cursors.{HasCome, list_of}
+use Rattle.chm.specs.Visits.{VisitView, IsVisit}
+use Rattle.chm.proofs.Stepping.{HasCome-there, come-at, ok_is, shown-at, shown-some}
 use Rattle.chm.proofs.map.Map.try_visit_at.Goals as goal
 
-pub visit_held-requires-clause-first : goal.visit_held-requires-clause-first
-visit_held-requires-clause-first g c = first-own c.class-class.result _ refl c.n.ensures.class
-
-pub visit_held-requires-clause-within : goal.visit_held-requires-clause-within
-visit_held-requires-clause-within g c = λ hash of. rw c.class-class.ensures at of
-
 pub returns-in-Ok-clause-visit : goal.returns-in-Ok-clause-visit
-returns-in-Ok-clause-visit g c = (
-  ap (λ (k : ClassView). covers k c.args.number) (c.in-Ok.ensures.class ∙ c.class-class.ensures)
-      ∙ c.in_ok-held.ensures.covers,
-  c.visit_held.ensures.seen,
-  c.in-Ok.ensures.visit,
-)
+returns-in-Ok-clause-visit g c =
+    let next = c.at_hash-cursor.result.next in
+    let Seen : VisitView g.row.K.Denot g.row.V.Denot → Type 0 = λ _. HasSeen g.K.PartialEq.eq
+    (after g.V.PartialEq.eq g.F.Remap.remapped g.F.Remap.merged) c.args.self.now.ledger c.args.pass.now
+    c.try_visit_next.new.pass in
+    let Shown : VisitView g.row.K.Denot g.row.V.Denot → Type 0 = λ v. IsVisit g.K.PartialEq.eq g.K.HashKey.code
+    c.args.self.now.ledger c.try_visit_next.new.pass.seen v in
+    shown-at Seen Shown c.args.number next c.in-Ok.visit c.at_hash-cursor.ensures.next
+    (ok_is (λ (o : Option (VisitView g.row.K.Denot g.row.V.Denot)). IfSome o (λ v. IsSomeAnd next (λ k. IsFirstOf k v.class)))
+    c.in_ok-tried.tried c.in-Ok.visit c.in-Ok.is c.in_ok-tried.ensures.first)
+    (ok_is (λ (o : Option (VisitView g.row.K.Denot g.row.V.Denot)). IfSome o (λ v. Seen v × Shown v)) c.in_ok-tried.tried
+    c.in-Ok.visit c.in-Ok.is c.in_ok-tried.ensures.visit)
 
 pub returns-in-Ok-clause-come : goal.returns-in-Ok-clause-come
-returns-in-Ok-clause-come g c shown came begins =
-    let n : c.n-n.result ≡ c.args.self.now.n = search rules in
-    let at : c.class-class.result.index ≡ c.args.number =
-    ap (λ (k : ClassView). k.index) (sym c.in-Ok.ensures.class) ∙ begins in
-    let k : ClassView = c.class-class.result in
-    let came' : HasCome (record { n = c.n-n.result; next = Some k }) shown =
-    subst (λ (m : ℕ). HasCome (record { n = m; next = Some k }) shown) (sym n)
-    (HasCome-at c.args.self.now.n c.args.number shown k (omega (arith, c.if-number-from.false)) at came) in
-    HasComeAt-of c.args.self.now.n c.number.result c.visit_held.new.cursor (shown ++ c.in-Ok.visit ∷ [])
-    (c.visit_held.ensures.n ∙ n) c.number.ensures (c.in-Ok.ensures.come shown came')
+returns-in-Ok-clause-come g c shown come =
+    let n : c.n.result ≡ c.args.self.now.n = search rules in
+    let there = HasCome-there c.args.self.now.n c.args.number c.at_hash-cursor.result.n c.at_hash-cursor.result.next shown
+    (omega (arith, c.if-number-from.false)) (c.at_hash-cursor.ensures.n ∙ n) c.at_hash-cursor.ensures.next come in
+    come-at c.args.self.now.n c.number.result c.try_visit_next.new.cursor shown c.in-Ok.visit
+    (c.try_visit_next.ensures.n ∙ c.at_hash-cursor.ensures.n ∙ n) c.number.ensures
+    (ok_is (λ (o : Option (VisitView g.row.K.Denot g.row.V.Denot)). HasCome c.try_visit_next.new.cursor (shown ++ list_of o))
+    c.in_ok-tried.tried c.in-Ok.visit c.in-Ok.is (c.in_ok-tried.ensures.come shown there))
 
-pub returns-in-Ok-clause-behind : goal.returns-in-Ok-clause-behind
-returns-in-Ok-clause-behind g c shown came =
-    let n : c.n-n.result ≡ c.args.self.now.n = search rules in
-    let k : ClassView = c.class-class.result in
-    let same : c.in-Ok.visit.class ≡ k = c.in-Ok.ensures.class in
-    let of_class : HasCome (record { n = c.args.self.now.n; next = Some k }) shown =
-    subst (λ (x : ClassView). HasCome (record { n = c.args.self.now.n; next = Some x }) shown) same came in
-    let came' : HasCome (record { n = c.n-n.result; next = Some k }) shown =
-    subst (λ (m : ℕ). HasCome (record { n = m; next = Some k }) shown) (sym n) of_class in
-    HasComeAt-of c.args.self.now.n c.number.result c.visit_held.new.cursor (shown ++ c.in-Ok.visit ∷ [])
-    (c.visit_held.ensures.n ∙ n) c.number.ensures (c.in-Ok.ensures.come shown came')
+pub returns-in-Ok-clause-end : goal.returns-in-Ok-clause-end
+returns-in-Ok-clause-end g c =
+    let next = c.at_hash-cursor.result.next in
+    shown-some (c.try_visit_next.new.pass ≡ c.args.pass.now) _ _ next c.in-Ok.visit c.at_hash-cursor.ensures.next
+    (ok_is (λ (o : Option (VisitView g.row.K.Denot g.row.V.Denot)). IfNone o ((next ≡ None)
+    × (c.try_visit_next.new.pass ≡ c.args.pass.now))) c.in_ok-tried.tried c.in-Ok.visit c.in-Ok.is c.in_ok-tried.ensures.end)

@@ -26,13 +26,13 @@ returns-clause-updated g c =
     let class = class_at g.K.PartialEq.eq (after g.V.PartialEq.eq g.F.Remap.remapped g.F.Remap.merged)
     (place_of (bins_of c.args.self.now) c.args.class) c.args.bin_slot.now.entries c.args.bin_slot.now.role
     c.requires.lies in
-    let met = c.in_ok-reply.ensures.met in
     let on = (λ i. covers (class i) (hash_of c.args.self.now.ledger.salt (g.K.HashKey.code key)))
     ∙ ap (covers c.args.class) (sym c.requires.hash)
     ∙ c.requires.covers in
     IsUpdated-called g.K.PartialEq.eq g.K.HashKey.code g.V.PartialEq.eq g.F.Remap.remapped g.F.Remap.merged
     (goal.G-post g c.args.f) c.args.self.now.ledger key c.into_op-op.result c.f-change.result.0 c.f-change.result.1
-    c.args.pass.now c.call_in_place.new.pass c.in_ok-reply.reply bin met.0 c.get.result met.1
+    c.args.pass.now c.call_in_place.new.pass c.in_ok-reply.reply bin
+    (as_bin c.call_in_place.new.bin_slot.entries) c.get.result c.in_ok-reply.ensures.met
     (c.into_op-op.ensures.call key) on (rw c.get-asked.ensures at c.get.ensures) c.f-change.ensures
 
 pub returns-in_err-reply-clause-sets : goal.returns-in_err-reply-clause-sets

@@ -1,17 +1,10 @@
-use Rattle.std.proofs.Common.{◌≡◌, refl, sym, ap, subst, ◌∙◌}
+use Rattle.std.proofs.Common.{◌≡◌, sym, ap, ◌∙◌}
 use Rattle.hashkeys.specs.Classes.{covers}
 use Rattle.hashkeys.specs.Hashing.{hash_of}
 use Rattle.bin_history.specs.Calls.{after}
-use Rattle.bin_history.specs.Leans.{as_bin}
-use Rattle.bin_history.proofs.Keys.{key_tells}
-use Rattle.count_ledger.specs.Fronts.{HasSeen}
-use Rattle.count_ledger.specs.Views.{LedgerView, RoleView}
-use Rattle.bin_layout.specs.Places.{AreAt}
 use Rattle.bin_layout.specs.Views.{place_of}
-use Rattle.chm.specs.Histories.{IsMet}
-use Rattle.chm.specs.Views.{MapView, bins_of}
-use Rattle.chm.proofs.InPlace.{at_role, role_at, same_at, class_at, salt_at, role_class}
-use Rattle.chm.proofs.Meeting.{IsMet-front}
+use Rattle.chm.specs.Views.{bins_of}
+use Rattle.chm.proofs.InPlace.{class_at, salt_at}
 use Rattle.chm.proofs.map.Map.view_in_place.Goals as goal
 
 pub get_as-requires : goal.get_as-requires
@@ -21,55 +14,13 @@ get_as-requires g c =
     c.requires.lies in
     record { hash = c.requires.hash ∙ (λ i. hash_of (sym salt i) (g.K.HashKey.code (g.Q.AsKey.stands_for c.args.query))) }
 
-pub take_role-role-requires : goal.take_role-role-requires
-take_role-role-requires g c =
-    role_class g.K.PartialEq.eq (after g.V.PartialEq.eq g.F.Remap.remapped g.F.Remap.merged)
-    (place_of (bins_of c.args.self.now) c.args.class) c.args.bin_slot.now.entries c.args.bin_slot.now.role
-    c.requires.lies
-
-pub meet-requires-clause-role : goal.meet-requires-clause-role
-meet-requires-clause-role g c =
-    let at = at_role g.K.PartialEq.eq (after g.V.PartialEq.eq g.F.Remap.remapped g.F.Remap.merged)
-    (place_of (bins_of c.args.self.now) c.args.class) c.args.bin_slot.now.entries c.args.bin_slot.now.role
-    c.take_role-role.result c.take_role-role.ensures.role c.requires.lies in
-    at.ledger ∙ sym (ap (λ (m : MapView _ _). m.ledger.id) c.self.view_is)
-
-pub returns-clause-seen : goal.returns-clause-seen
-returns-clause-seen g c =
-    let own : c.self.inside.ledger ≡ c.args.self.now.ledger = ap (λ (m : MapView _ _). m.ledger) c.self.view_is in
-    let L : LedgerView _ _ → Type 0 = λ l. HasSeen g.K.PartialEq.eq
-    (after g.V.PartialEq.eq g.F.Remap.remapped g.F.Remap.merged) l c.args.pass.now c.meet.new.pass in
-    subst L own c.meet.ensures.seen
-
 pub returns-clause-shown : goal.returns-clause-shown
 returns-clause-shown g c =
-    let after_is = after g.V.PartialEq.eq g.F.Remap.remapped g.F.Remap.merged in
     let key = g.Q.AsKey.stands_for c.args.query in
-    let bin = as_bin c.args.bin_slot.now.entries in
-    let at = at_role g.K.PartialEq.eq after_is
+    let class = class_at g.K.PartialEq.eq (after g.V.PartialEq.eq g.F.Remap.remapped g.F.Remap.merged)
     (place_of (bins_of c.args.self.now) c.args.class) c.args.bin_slot.now.entries c.args.bin_slot.now.role
-    c.take_role-role.result c.take_role-role.ensures.role c.requires.lies in
-    let own : c.self.inside.ledger ≡ c.args.self.now.ledger = ap (λ (m : MapView _ _). m.ledger) c.self.view_is in
-    let L : LedgerView _ _ → Type 0 = λ l. IsMet g.K.PartialEq.eq g.K.HashKey.code l c.meet.new.pass.seen bin in
-    let met = subst L own
-    (IsMet-front g.K.PartialEq.eq (key_tells g.met.K.Eq.laws g.met.K.HashKey.equal_is_same) g.K.HashKey.code after_is
-    bin c.take_role-role.result at.agree c.lawful_entries.ensures refl c.self.inside.ledger c.meet.ensures.of_role
-    c.meet.new.pass.seen c.meet.ensures.kept) in
-    let on = (λ i. covers (at.class i) (hash_of c.args.self.now.ledger.salt (g.K.HashKey.code key)))
+    c.requires.lies in
+    let on = (λ i. covers (class i) (hash_of c.args.self.now.ledger.salt (g.K.HashKey.code key)))
     ∙ ap (covers c.args.class) (sym c.requires.hash)
     ∙ c.requires.covers in
-    (c.get_as.result, c.get_as.ensures ∙ met.same_map key on, c.f-answer.ensures)
-
-pub returns-clause-lies : goal.returns-clause-lies
-returns-clause-lies g c =
-    let same = g.K.PartialEq.eq in
-    let after_is = after g.V.PartialEq.eq g.F.Remap.remapped g.F.Remap.merged in
-    let p = place_of (bins_of c.args.self.now) c.args.class in
-    let at = at_role same after_is p c.args.bin_slot.now.entries c.args.bin_slot.now.role
-    c.take_role-role.result c.take_role-role.ensures.role c.requires.lies in
-    let left = c.put_role.new.self in
-    same_at same after_is p left.entries c.args.bin_slot.now.entries left.role
-    (c.put_role.ensures.entries ∙ c.take_role-role.ensures.entries)
-    (role_at same after_is p c.args.bin_slot.now.entries left.role c.meet.new.role c.put_role.ensures.role
-    (subst (λ (r : RoleView _ _ _). AreAt same after_is p (as_bin c.args.bin_slot.now.entries) r)
-    (sym c.meet.ensures.same_role) at))
+    (c.get_as.result, c.get_as.ensures ∙ c.meet_in_place.ensures.met.same_map key on, c.f-answer.ensures)

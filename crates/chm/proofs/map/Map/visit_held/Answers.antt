@@ -1,4 +1,5 @@
 use Rattle.std.proofs.Common.{◌≡◌, List, sym, subst}
+use Rattle.std.specs.Option.{IsSomeAnd}
 use Rattle.hashkeys.specs.Classes.{is_of}
 use Rattle.hashkeys.specs.declared.hashing.Salt.{Salt}
 use Rattle.bin_history.specs.Calls.{after}
@@ -7,9 +8,10 @@ use Rattle.bin_history.proofs.Keys.{key_tells}
 use Rattle.count_ledger.specs.Views.{RoleView}
 use Rattle.bin_store.specs.Places.{tag_of}
 use Rattle.bin_layout.specs.Places.{AreAt}
+use Rattle.part_walks.specs.Parts.{IsFirstOf}
 use Rattle.chm.specs.Visits.{IsVisit, classes_of_visits}
 use Rattle.chm.proofs.Cursors.{HasCome-push}
-use Rattle.chm.proofs.PartVisits.{IsVisit-part}
+use Rattle.chm.proofs.PartVisits.{IsVisit-met}
 use Rattle.chm.proofs.map.Map.visit_held.Goals as goal
 
 pub release-requires : goal.release-requires
@@ -18,23 +20,31 @@ release-requires g c =
     (after g.V.PartialEq.eq g.F.Remap.remapped g.F.Remap.merged) (tag_of c.args.held.place) c.args.held.bin r in
     subst At (sym c.meet_under.ensures.same_role) c.requires.at
 
+pub go_past-requires : goal.go_past-requires
+go_past-requires g c =
+    record {
+      first = subst (λ o. IsSomeAnd o (λ k. IsFirstOf k c.narrower-class.result)) (sym c.requires.next)
+          c.narrower-class.ensures.first;
+    }
+
 pub returns-clause-visit : goal.returns-clause-visit
 returns-clause-visit g c =
     let code = g.K.HashKey.code in
     let bin = c.args.held.bin in
     let ledger = c.args.self.now.ledger in
-    let class = c.args.class in
+    let class = c.narrower-class.result in
     let copies = c.in_ok-entries.entries.items in
     let is : copies ≡ part_of_entries (is_of code ledger.salt class) bin.entries =
     subst (λ (s : Salt). copies ≡ part_of_entries (is_of code s class) bin.entries) c.requires.salt
     c.in_ok-entries.ensures in
     subst (λ (es : List (_ × _)). IsVisit g.K.PartialEq.eq code ledger c.meet_under.new.pass.seen
     (record { class = class; entries = es })) (sym is)
-    (IsVisit-part g.K.PartialEq.eq (key_tells g.met.K.Eq.laws g.met.K.HashKey.equal_is_same) code ledger
-    c.meet_under.new.pass.seen bin.class class bin.entries c.lawful.ensures.lawful.distinct
-    c.meet_under.ensures.met.entries c.requires.within)
+    (IsVisit-met g.K.PartialEq.eq (key_tells g.met.K.Eq.laws g.met.K.HashKey.equal_is_same) code ledger
+    c.meet_under.new.pass.seen c.class.result class bin (sym c.class.ensures) c.lawful.ensures.lawful.distinct
+    c.meet_under.ensures.met c.narrower-class.ensures.within)
 
 pub returns-clause-come : goal.returns-clause-come
 returns-clause-come g c = λ shown come.
-    HasCome-push c.go_past.new.self shown (record { class = c.args.class; entries = c.in_ok-entries.entries.items })
+    HasCome-push c.go_past.new.self shown
+    (record { class = c.narrower-class.result; entries = c.in_ok-entries.entries.items })
     (c.go_past.ensures.passed (classes_of_visits shown) come)

@@ -2,11 +2,8 @@ use Rattle.bin_history.specs.Calls.{after}
 use Rattle.chm.proofs.Cursors.{AreShown-push}
 use Rattle.chm.proofs.map.Map.visit_next.Goals as goal
 
-pub returns-in_ok-visit_held-in-Some-clause-shown : goal.returns-in_ok-visit_held-in-Some-clause-shown
-returns-in_ok-visit_held-in-Some-clause-shown g c = λ start shown are.
+pub returns-in_ok-visit_class-in-Some-clause-shown : goal.returns-in_ok-visit_class-in-Some-clause-shown
+returns-in_ok-visit_class-in-Some-clause-shown g c = λ start shown are.
     AreShown-push g.K.PartialEq.eq g.K.HashKey.code (after g.V.PartialEq.eq g.F.Remap.remapped g.F.Remap.merged)
-    c.args.self.now.ledger start c.args.pass.now c.visit_held.new.pass shown c.in_ok-visit_held-in-Some.field-0 are
-    c.visit_held.ensures.seen c.in_ok-visit_held-in-Some.ensures.visit
-
-pub visit_held-requires-clause-within : goal.visit_held-requires-clause-within
-visit_held-requires-clause-within g c = λ hash of. rw c.class.ensures at (c.narrower-class.ensures.within hash of)
+    c.args.self.now.ledger start c.args.pass.now c.visit_class.new.pass shown c.in_ok-visit_class-in-Some.field-0 are
+    c.visit_class.ensures.seen c.in_ok-visit_class-in-Some.ensures.visit

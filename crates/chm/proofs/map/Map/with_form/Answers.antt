@@ -1,6 +1,8 @@
-use Rattle.std.proofs.Common.{List, length, flat_map, ap, sym, subst, ◌∙◌}
+use Rattle.std.proofs.Common.{◌≤◌, arith, List, length, flat_map, ap, sym, subst, ◌∙◌}
 use Rattle.hashkeys.specs.Classes.{IsTableSize}
 use Rattle.chm.specs.Sizes.{IsSizeFor}
+use Rattle.chm.specs.Refusals.{most_capacity}
+use Rattle.chm.proofs.Sizes.{size_for-wide}
 use Rattle.chm.proofs.Empty.{flat_map-empty, length-empty, distinct-empty}
 use Rattle.count_ledger.specs.Opening.{left_in}
 use Rattle.chm.proofs.Passes.{new_passes-ledger, new_roster}
@@ -10,6 +12,14 @@ pub open-requires-clause-size : goal.open-requires-clause-size
 open-requires-clause-size g c =
     subst IsTableSize (sym (length-empty c.in_ok-bases.bases.items c.size_for.result c.in_ok-bases.ensures))
     c.size_for.ensures.size
+
+pub open-requires-clause-wide : goal.open-requires-clause-wide
+open-requires-clause-wide g c =
+    let len = length-empty c.in_ok-bases.bases.items c.size_for.result c.in_ok-bases.ensures in
+    let capacity : c.args.capacity ≤ most_capacity c.args.form =
+    (let many = c.if-capacity-most_capacity.false in let most = c.most_capacity.ensures.value in omega arith) in
+    let wide = size_for-wide c.args.form c.args.capacity c.size_for.result capacity c.size_for.ensures in
+    omega (arith, len, wide)
 
 pub open-requires-clause-distinct : goal.open-requires-clause-distinct
 open-requires-clause-distinct g c =

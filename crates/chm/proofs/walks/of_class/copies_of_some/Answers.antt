@@ -1,8 +1,6 @@
 use Rattle.std.proofs.Common.{◌≡◌, ◌++◌, ◌∷◌, [], Bool, true, false, List, subst, sym, ap, ◌∙◌, append_assoc}
 use Rattle.std.proofs.lemmas.List.{append-nil}
 use Rattle.hashkeys.specs.Classes.{covers, is_of}
-use Rattle.hashkeys.specs.Hashing.{hash_of}
-use Rattle.hashkeys.specs.declared.hashing.Salt.{Salt}
 use Rattle.bin_history.specs.Part.{part_of_entries}
 use Rattle.part_walks.proofs.Taking.{filter-kept, filter-left}
 use Rattle.chm.proofs.walks.of_class.copies_of_some.Goals as goal
@@ -13,7 +11,7 @@ loop-key-init g c = (
   tt,
   (
     [],
-    c.into_iter-key-iterator.ensures.into_iter_gives ∙ c.walk-key-items.ensures,
+    c.into_iter-key-iterator.ensures.into_iter_gives,
     c.new-copies.ensures.items,
   ),
 )
@@ -25,9 +23,8 @@ loop-key-preserved-in_ok-push g c =
     let (can, finite, kept) = c.loop-key.invariant in
     let (done, cut, copied) = kept in
     let e = c.in-Some.field-0.now in
-    let test : g.row.K.Denot × g.row.V.Denot → Bool = λ x. is_of code c.args.bin.now.salt class x.0 in
-    let passes : test e ≡ true = ap (λ (s : Salt). covers class (hash_of s (code e.0))) (sym c.salt-salt.ensures)
-    ∙ ap (covers class) (sym c.hash_of.ensures.hash) ∙ sym c.covers.ensures ∙ c.if-covers.true in
+    let test : g.row.K.Denot × g.row.V.Denot → Bool = λ x. is_of code c.args.salt class x.0 in
+    let passes : test e ≡ true = ap (covers class) (sym c.hash_of.ensures.hash) ∙ sym c.covers.ensures ∙ c.if-covers.true in
     let key = c.requires.keys e.0 c.in_ok-copied_key.copied_key c.in_ok-copied_key.ensures.cases in
     let value = c.requires.values e.1 c.in_ok-copied_value.copied_value c.in_ok-copied_value.ensures.cases in (
       tt,
@@ -38,9 +35,9 @@ loop-key-preserved-in_ok-push g c =
         c.in_ok-push.ensures.items
             ∙ ap (λ (l : List (g.row.K.Denot × g.row.V.Denot)). l
             ++ (c.in_ok-copied_key.copied_key, c.in_ok-copied_value.copied_value) ∷ []) copied
-            ∙ ap (λ (k : g.row.K.Denot). part_of_entries (is_of code c.args.bin.now.salt class) done
+            ∙ ap (λ (k : g.row.K.Denot). part_of_entries (is_of code c.args.salt class) done
             ++ (k, c.in_ok-copied_value.copied_value) ∷ []) key
-            ∙ ap (λ (v : g.row.V.Denot). part_of_entries (is_of code c.args.bin.now.salt class) done
+            ∙ ap (λ (v : g.row.V.Denot). part_of_entries (is_of code c.args.salt class) done
             ++ (e.0, v) ∷ []) value
             ∙ sym (filter-kept test done e passes),
       ),
@@ -53,9 +50,8 @@ loop-key-preserved g c =
     let (can, finite, kept) = c.loop-key.invariant in
     let (done, cut, copied) = kept in
     let e = c.in-Some.field-0.now in
-    let test : g.row.K.Denot × g.row.V.Denot → Bool = λ x. is_of code c.args.bin.now.salt class x.0 in
-    let fails : test e ≡ false = ap (λ (s : Salt). covers class (hash_of s (code e.0))) (sym c.salt-salt.ensures)
-    ∙ ap (covers class) (sym c.hash_of.ensures.hash) ∙ sym c.covers.ensures ∙ c.if-covers.false in (
+    let test : g.row.K.Denot × g.row.V.Denot → Bool = λ x. is_of code c.args.salt class x.0 in
+    let fails : test e ≡ false = ap (covers class) (sym c.hash_of.ensures.hash) ∙ sym c.covers.ensures ∙ c.if-covers.false in (
       tt,
       tt,
       (
@@ -69,5 +65,5 @@ pub returns : goal.returns
 returns g c =
     let (can, finite, kept) = c.loop-key.invariant in
     let (done, cut, copied) = kept in
-    copied ∙ ap (part_of_entries (is_of g.K.HashKey.code c.args.bin.now.salt c.args.class))
+    copied ∙ ap (part_of_entries (is_of g.K.HashKey.code c.args.salt c.args.class))
     (sym (append-nil done) ∙ ap (λ (l : List _). done ++ l) (sym c.in-None.ensures.steps.0) ∙ cut)

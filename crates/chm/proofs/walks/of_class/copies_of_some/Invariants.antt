@@ -8,5 +8,5 @@ abbrev pub invariant-loop-key : goal.invariant-loop-key
 invariant-loop-key g l =
     (goal.iterator-loop-key g).can_next l.key-iterator
     × (goal.iterator-loop-key g).is_finite l.key-iterator
-    × ((done : List (g.row.K.Denot × g.row.V.Denot)) × (done ++ l.key-iterator ≡ l.fn.bin.entries)
-    × (l.copies.items ≡ part_of_entries (is_of g.K.HashKey.code l.fn.bin.salt l.fn.class) done))
+    × ((done : List (g.row.K.Denot × g.row.V.Denot)) × (done ++ l.key-iterator ≡ l.fn.walk)
+    × (l.copies.items ≡ part_of_entries (is_of g.K.HashKey.code l.fn.salt l.fn.class) done))

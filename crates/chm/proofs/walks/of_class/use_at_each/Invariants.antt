@@ -8,4 +8,4 @@ abbrev pub invariant-loop-entry : goal.invariant-loop-entry
 invariant-loop-entry g l =
     always_mut g.G.FnMut l.f
     × ((last : _) → FoldsTo (IsUsedAt (goal.G-step g)) l.f l.left last →
-    FoldsTo (IsUsedAt (goal.G-step g)) l.initial.f l.fn.bin.entries last)
+    FoldsTo (IsUsedAt (goal.G-step g)) l.initial.f l.fn.walk last)

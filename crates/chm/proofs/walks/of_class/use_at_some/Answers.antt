@@ -1,8 +1,6 @@
 use Rattle.std.proofs.Common.{◌≡◌, Bool, true, false, cond, List, ◌∷◌, refl, sym, ap, subst, ◌∙◌, of_calls}
 use Rattle.std.specs.List.{FoldsTo}
 use Rattle.hashkeys.specs.Classes.{covers, is_of}
-use Rattle.hashkeys.specs.Hashing.{hash_of}
-use Rattle.hashkeys.specs.declared.hashing.Salt.{Salt}
 use Rattle.bin_history.specs.Part.{part_of_entries}
 use Rattle.chm.specs.Cursors.{IsUsedAt}
 use Rattle.chm.proofs.walks.of_class.use_at_some.Goals as goal
@@ -13,11 +11,10 @@ loop-entry-preserved-then-covers g c =
     let class = c.args.class in
     let code = g.K.HashKey.code in
     let e = c.in-Some.entry.now in
-    let rest = part_of_entries (is_of code c.args.bin.now.salt class) c.next.new.self in
-    let passes : is_of code c.args.bin.now.salt class e.0 ≡ true =
-    ap (λ (s : Salt). covers class (hash_of s (code e.0))) (sym c.salt-salt.ensures)
-    ∙ ap (covers class) (sym c.hash_of.ensures.hash) ∙ sym c.covers.ensures ∙ c.if-covers.true in
-    let parts = ap (part_of_entries (is_of code c.args.bin.now.salt class)) c.in-Some.ensures.steps
+    let rest = part_of_entries (is_of code c.args.salt class) c.next.new.self in
+    let passes : is_of code c.args.salt class e.0 ≡ true =
+    ap (covers class) (sym c.hash_of.ensures.hash) ∙ sym c.covers.ensures ∙ c.if-covers.true in
+    let parts = ap (part_of_entries (is_of code c.args.salt class)) c.in-Some.ensures.steps
     ∙ ap (λ (b : Bool). cond b (e ∷ rest) rest) passes in (
       search of_calls,
       λ last folds. fold last
@@ -31,11 +28,10 @@ loop-entry-preserved g c =
     let class = c.args.class in
     let code = g.K.HashKey.code in
     let e = c.in-Some.entry.now in
-    let rest = part_of_entries (is_of code c.args.bin.now.salt class) c.next.new.self in
-    let fails : is_of code c.args.bin.now.salt class e.0 ≡ false =
-    ap (λ (s : Salt). covers class (hash_of s (code e.0))) (sym c.salt-salt.ensures)
-    ∙ ap (covers class) (sym c.hash_of.ensures.hash) ∙ sym c.covers.ensures ∙ c.if-covers.false in
-    let parts = ap (part_of_entries (is_of code c.args.bin.now.salt class)) c.in-Some.ensures.steps
+    let rest = part_of_entries (is_of code c.args.salt class) c.next.new.self in
+    let fails : is_of code c.args.salt class e.0 ≡ false =
+    ap (covers class) (sym c.hash_of.ensures.hash) ∙ sym c.covers.ensures ∙ c.if-covers.false in
+    let parts = ap (part_of_entries (is_of code c.args.salt class)) c.in-Some.ensures.steps
     ∙ ap (λ (b : Bool). cond b (e ∷ rest) rest) fails in (
       can,
       λ last folds. fold last

@@ -10,6 +10,6 @@ abbrev pub invariant-loop-entry : goal.invariant-loop-entry
 invariant-loop-entry g l =
     always_mut g.G.FnMut l.f
     × ((last : _) → FoldsTo (IsUsedAt (goal.G-step g)) l.f
-    (part_of_entries (is_of g.K.HashKey.code l.fn.bin.salt l.fn.class) l.left) last →
+    (part_of_entries (is_of g.K.HashKey.code l.fn.salt l.fn.class) l.left) last →
     FoldsTo (IsUsedAt (goal.G-step g)) l.initial.f
-    (part_of_entries (is_of g.K.HashKey.code l.fn.bin.salt l.fn.class) l.fn.bin.entries) last)
+    (part_of_entries (is_of g.K.HashKey.code l.fn.salt l.fn.class) l.fn.walk) last)

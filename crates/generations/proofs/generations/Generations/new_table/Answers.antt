@@ -1,4 +1,4 @@
-use Rattle.std.proofs.Common.{◌≡◌, ℕ, ◌++◌, [], ◌∷◌, map, ap, sym, ◌∙◌, arith}
+use Rattle.std.proofs.Common.{◌≡◌, ℕ, ◌++◌, [], ◌∷◌, inr, map, ap, sym, ◌∙◌, arith}
 use Rattle.std.specs.List.{range_with_len}
 use Rattle.std.proofs.lemmas.List.FromFn.{map-range_with_len_more}
 use Rattle.hashkeys.specs.Classes.{ClassView}
@@ -25,5 +25,6 @@ returns g c =
     let kept = c.loop-index.invariant in
     let all : c.loop-index.index ≡ c.args.size = omega (arith, c.loop-index-test.false, c.loop-index.auto.index-end) in
     IsTable-all c.args.self.now c.args.size c.loop-index.places.items c.requires.size c.requires.least
+    (λ recorded. inr (c.requires.few recorded))
     (omega (arith, c.loop-index.places.ok.0, kept.len, all))
     (kept.places ∙ ap (λ (m : ℕ). map (tag_at c.args.self.now c.args.size) (range_with_len 0 m)) all)

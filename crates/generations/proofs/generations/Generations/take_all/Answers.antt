@@ -5,6 +5,7 @@ use Rattle.bin_layout.specs.BinsWithRoles.{classes_of_bins}
 use Rattle.bin_layout.specs.Walks.{IsWalk}
 use Rattle.bin_layout.proofs.Lists.{AreBinsWithRoles-more, AreBinsWithRoles-none, IsWalkTo-none, IsWalkTo-more}
 use Rattle.bin_layout.proofs.Lists.{IsWalk-all}
+use Rattle.generations.proofs.Forms.{fits-more, fits-none}
 use Rattle.generations.proofs.generations.Generations.take_all.Goals as goal
 
 pub loop-roles-init : goal.loop-roles-init
@@ -14,6 +15,7 @@ loop-roles-init g c = record {
   with_roles = AreBinsWithRoles-none g.K.PartialEq.eq g.K.HashKey.code
       (after g.V.PartialEq.eq g.F.Remap.remapped g.F.Remap.merged) c.args.self.now
       c.args.bins.now.items c.args.roles.now.items c.requires.bins c.requires.roles;
+  few = fits-none c.args.self.now c.args.bins.now.items c.requires.bins;
 }
 
 pub loop-roles-smaller : goal.loop-roles-smaller
@@ -53,6 +55,9 @@ loop-roles-preserved g c =
           c.in-Some.bin c.in-Some.role c.loop-roles.invariant.with_roles c.in-Some.ensures.with_role
           c.push_reserved.ensures.items
           c.push_reserved-in-loop-roles.ensures.items;
+      few = fits-more c.args.self.now c.loop-roles.bins.items c.push_reserved.new.self.items c.in-Some.bin
+          c.find-class.result.1 c.loop-roles.invariant.few (c.in-Some.ensures.class ∙ sym class_is)
+          c.find-class.ensures.few c.push_reserved.ensures.items;
     }
 
 pub returns-in-None-clause-walk : goal.returns-in-None-clause-walk
@@ -82,3 +87,9 @@ returns-in-None-clause-with_roles g c = λ ok.
     c.in-Some.bin c.in-Some.role c.loop-roles.invariant.with_roles c.in-Some.ensures.with_role
     c.push_reserved.ensures.items
     c.push_reserved-in-loop-roles.ensures.items
+
+pub returns-in-None-clause-few : goal.returns-in-None-clause-few
+returns-in-None-clause-few g c = λ ok.
+    fits-more c.args.self.now c.loop-roles.bins.items c.push_reserved.new.self.items c.in-Some.bin c.find-class.result.1
+    c.loop-roles.invariant.few (c.in-Some.ensures.class ∙ sym c.find-class.ensures.class) c.find-class.ensures.few
+    c.push_reserved.ensures.items

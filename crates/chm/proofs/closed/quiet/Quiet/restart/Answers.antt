@@ -11,7 +11,9 @@ use Rattle.chm.specs.Headline.{QuietView, entries_of}
 use Rattle.bin_history.specs.Limits.{most_clients}
 use Rattle.chm.specs.Refusals.{AreClients}
 use Rattle.chm.specs.Reopened.{in_classes}
-use Rattle.chm.specs.Sizes.{IsSizeFrom}
+use Rattle.chm.specs.Sizes.{IsSizeFrom, most_bins_of}
+use Rattle.chm.proofs.Closing.{opening_few}
+use Rattle.chm.proofs.Sizes.{size_from-wide}
 use Rattle.chm.proofs.Dealing.{positive, length-parts_by_class, distinct-parts_by_class, of_class-parts_by_class}
 use Rattle.chm.proofs.Limits.{IsLimited-ok, IsLimited-refused}
 use Rattle.chm.proofs.Passes.{new_passes-ledger, new_roster}
@@ -26,6 +28,23 @@ open-requires-clause-size g c =
     ∙ ap (λ (l : List (List _)). length l) c.in_ok-bases.ensures.dealt
     ∙ length-parts_by_class g.K.HashKey.code c.args.salt c.size_from-n.result c.entries.result in
     subst IsTableSize (sym len) c.size_from-n.ensures.size
+
+pub open-requires-clause-wide : goal.open-requires-clause-wide
+open-requires-clause-wide g c =
+    let len : length c.in_ok-bases.bases.items ≡ c.size_from-n.result =
+    sym (length-map c.in_ok-bases.bases.items (λ b. b.items))
+    ∙ ap (λ (l : List (List _)). length l) c.in_ok-bases.ensures.dealt
+    ∙ length-parts_by_class g.K.HashKey.code c.args.salt c.size_from-n.result c.entries.result in
+    let form_is : c.form-form.result ≡ c.args.self.now.ledger.form = c.form-form.ensures in
+    let own : c.self.inside.n ≡ c.args.self.now.n = ap (λ (q : QuietView _ _ _). q.n) c.self.view_is in
+    let opening : c.args.self.now.n ≤ most_bins_of c.args.self.now.ledger.form =
+    opening_few c.args.self.now.n (most_bins_of c.args.self.now.ledger.form) c.args.self.now.bins c.lawful.ensures.walk
+    c.lawful.ensures.few in
+    let wide : c.size_from-n.result ≤ most_bins_of c.form-form.result =
+    size_from-wide c.form-form.result c.self.inside.n c.mapping_count-count.result c.size_from-n.result
+    (subst (λ (f : Form). c.self.inside.n ≤ most_bins_of f) (sym form_is) (omega (arith, own, opening)))
+    c.size_from-n.ensures in
+    omega (arith, len, wide)
 
 pub open-requires-clause-distinct : goal.open-requires-clause-distinct
 open-requires-clause-distinct g c =

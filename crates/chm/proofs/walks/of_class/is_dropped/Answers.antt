@@ -1,7 +1,7 @@
 use mathlib.Core.Bool.{not}
 use Rattle.std.proofs.Common.{◌≡◌, Bool, true, false, refl, sym}
 use Rattle.std.proofs.lemmas.Bool.{false≢true}
-use Rattle.chm.proofs.walks.retain.is_dropped.Goals as goal
+use Rattle.chm.proofs.walks.of_class.is_dropped.Goals as goal
 
 no : (b : Bool) → not b ≡ true → b ≡ false
 no false is = refl

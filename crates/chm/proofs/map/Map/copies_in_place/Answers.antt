@@ -1,0 +1,41 @@
+use Rattle.std.proofs.Common.{◌≡◌, List, refl, sym, subst, ◌∙◌}
+use Rattle.std.proofs.lemmas.Result.{IfOk-weaker}
+use Rattle.hashkeys.specs.Classes.{is_of}
+use Rattle.hashkeys.specs.declared.hashing.Salt.{Salt}
+use Rattle.bin_history.specs.Calls.{after}
+use Rattle.bin_history.specs.Leans.{as_bin}
+use Rattle.bin_history.specs.Part.{part_of_entries}
+use Rattle.bin_history.proofs.Keys.{key_tells}
+use Rattle.bin_layout.specs.Views.{place_of}
+use Rattle.chm.specs.Views.{bins_of}
+use Rattle.chm.specs.Visits.{IsVisit}
+use Rattle.chm.proofs.InPlace.{class_at, salt_at}
+use Rattle.chm.proofs.PartVisits.{IsVisit-met, all_of}
+use Rattle.chm.proofs.map.Map.copies_in_place.Goals as goal
+
+pub copies_of_entries-copies-requires-clause-own : goal.copies_of_entries-copies-requires-clause-own
+copies_of_entries-copies-requires-clause-own g c =
+    let x = c.args.bin_slot.now in
+    let after_is = after g.V.PartialEq.eq g.F.Remap.remapped g.F.Remap.merged in
+    let p = place_of (bins_of c.args.self.now) c.args.own in
+    let salt = salt_at g.K.PartialEq.eq after_is p x.entries x.role c.requires.lies in
+    let class = class_at g.K.PartialEq.eq after_is p x.entries x.role c.requires.lies in
+    all_of g.K.HashKey.code x.entries.entries x.entries.entries c.salt.result x.entries.salt c.args.own x.entries.class
+    (c.salt.ensures ∙ sym salt) (sym class) refl c.lawful_entries.ensures.of_class
+
+pub returns-clause-visit : goal.returns-clause-visit
+returns-clause-visit g c =
+    let x = c.args.bin_slot.now in
+    let code = g.K.HashKey.code in
+    let ledger = c.args.self.now.ledger in
+    let after_is = after g.V.PartialEq.eq g.F.Remap.remapped g.F.Remap.merged in
+    let p = place_of (bins_of c.args.self.now) c.args.own in
+    let own = class_at g.K.PartialEq.eq after_is p x.entries x.role c.requires.lies in
+    let visit = IsVisit-met g.K.PartialEq.eq (key_tells g.met.K.Eq.laws g.met.K.HashKey.equal_is_same) code ledger
+    c.meet_in_place.new.pass.seen c.args.own c.args.class (as_bin x.entries) own c.lawful_entries.ensures.distinct
+    c.meet_in_place.ensures.met c.requires.within in
+    IfOk-weaker c.copies_of_entries-copies.result _ _
+    (λ copies is. subst (λ (es : List (_ × _)). IsVisit g.K.PartialEq.eq code ledger c.meet_in_place.new.pass.seen
+    (record { class = c.args.class; entries = es }))
+    (sym (subst (λ (s : Salt). copies.items ≡ part_of_entries (is_of code s c.args.class) x.entries.entries)
+    c.salt.ensures is)) visit) c.copies_of_entries-copies.ensures
