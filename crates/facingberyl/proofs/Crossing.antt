@@ -130,7 +130,10 @@ module _ (K V F A : RattleType) (hash : HashKey.Ghosts K.Denot) (key_eq : Eq.Gho
     map_send,
     (
       search (sendable, slot_send, roster_send, roster_sync) depth 30,
-      (search (sendable, crosses, row_send) depth 30, (search (sendable, atomic.the_send) depth 20, tt)),
+      (
+        search (sendable, crosses, row_send) depth 30,
+        (search (sendable, atomic.the_send) depth 20, (search (sendable, atomic.the_send) depth 20, tt)),
+      ),
     ),
   )
 
@@ -142,7 +145,10 @@ module _ (K V F A : RattleType) (hash : HashKey.Ghosts K.Denot) (key_eq : Eq.Gho
         alloc sk sv sf sa yk yv yf ya frees,
     (
       search (sendable, slot_sync, roster_send, roster_sync) depth 30,
-      (search (sendable, crosses, row_sync) depth 30, (search (sendable, atomic.the_sync) depth 20, tt)),
+      (
+        search (sendable, crosses, row_sync) depth 30,
+        (search (sendable, atomic.the_sync) depth 20, (search (sendable, atomic.the_sync) depth 20, tt)),
+      ),
     ),
   )
 

@@ -1,12 +1,12 @@
 -- What comes back of a map that was not closed is what there was.
 use Rattle.std.proofs.Common.{◌≡◌, ◌⊎◌, inl, inr, ◌<◌, ℕ, Option, None, Some, List, length, ap, subst, ◌∙◌, arith}
-use Rattle.std.proofs.Common.{IfSome, IsSomeAnd}
+use Rattle.std.proofs.Common.{IfSome, IsSomeAnd, Result, Ok, Err, IfErr}
 use Rattle.count_ledger.specs.Views.{MomentView, PassView, RosterView}
 use Rattle.chm.specs.Closing.{IsNotClosed, IsNotClosedFor, IsNotClosedWith, NotClosedView, NotClosedWithView}
 use Rattle.chm.specs.Views.{MapView}
 use Rattle.chm.specs.declared.fault.Fault.{Fault}
 use Rattle.chm.specs.declared.fault.Fault.TheVariants.{NoMemory, BinMissing}
-use Rattle.facingberyl.specs.PassPools.{UnsharedView}
+use Rattle.facingberyl.specs.PassPools.{IsKept, UnsharedView}
 use Rattle.facingberyl.specs.Teams.{TeamView}
 
 -- what could not be closed came back as it was, or bins were missing
@@ -97,3 +97,19 @@ module _ {K V F : Type 0} where
               IfSome o (λ m. IsSomeAnd u (λ u. (u.map ≡ m) × (u.passes ≡ e.passes) × (u.roster ≡ e.roster)))) back.1 some),
         )
       ]
+
+  unshared-of : (u : Option (UnsharedView K V F)) (it : UnsharedView K V F) (map : MapView K V) → it.map ≡ map →
+      IsSomeAnd u (λ b. b ≡ it) → IsSomeAnd u (λ b. b.map ≡ map)
+  unshared-of None it map same is = is
+  unshared-of (Some b) it map same is = ap (λ (v : UnsharedView K V F). v.map) is ∙ same
+
+  -- a map that was shared no more, and could not be closed, is what the shared map was
+  pub kept-shared : {Q E : Type 0} (fault : E → Fault) (shared : E → Option (MapView K V))
+      (unshared : E → Option (UnsharedView K V F)) (map : MapView K V) (it : UnsharedView K V F) (r : Result Q E) →
+      it.map ≡ map → IfErr r (λ e. IsBack (fault e) (unshared e) it) → IfErr r (λ e. shared e ≡ None) →
+      IfErr r (λ e. IsKept map (fault e) (shared e) (unshared e))
+  kept-shared fault shared unshared map it (Ok q) same back none = tt
+  kept-shared fault shared unshared map it (Err e) same back none = elim back [
+    | inl gone ↦ inr (inr (gone.0, none, gone.1))
+    | inr there ↦ inr (inl (there.0, none, unshared-of (unshared e) it map same there.1))
+  ]

@@ -1,3 +1,5 @@
+mod AllPasses
+mod Rows
 pub mod Passes
 mod Computing
 mod ManyPuts

@@ -6,6 +6,7 @@
 mod calls;
 mod clearing;
 mod client;
+mod client_fault;
 mod computed;
 mod filling;
 mod folding;
@@ -38,6 +39,7 @@ pub use chm::{
     Started, Value, Visit, retire_all,
 };
 pub use client::{Client, Loan};
+pub use client_fault::ClientFault;
 pub use computed::Computed;
 pub use functions::{Add, Greatest, NoFunction, Set, Shared};
 pub use letter::{About, Letter};

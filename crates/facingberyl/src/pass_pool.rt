@@ -1,15 +1,15 @@
 //! What a shared map and its clients have together: the map, a pass slot for the pass of each client
 //! that was taken, and the roster of the others.
-ghost use Rattle.std.specs.Prelude.{◌≡◌, ◌<◌, ◌⊎◌, ◌∷◌, [], All, IfSome, IfOk, IfErr, length};
+ghost use Rattle.std.specs.Prelude.{◌≡◌, ◌+◌, ◌/◌, ◌%◌, ◌^◌, ◌≤◌, ◌<◌, ◌⊎◌, ◌∷◌, [], All, IfSome, IfOk, IfErr, length};
 ghost use Rattle.bin_history.specs.Limits.{most_lean_clients};
 ghost use Rattle.count_ledger.specs.Names.{numbers_of};
 ghost use Rattle.facingberyl.specs.Teams.{AreInOrder};
 
-use crate::pass_slot::{PassSlot, Row, new_rows, with_number};
+use crate::pass_slot::{Made, PassSlot, Row, new_rows, row_of, with_number};
 use crate::slot::Slot;
 use bin_history::{Remap, Value};
 use boxcar::tag::{Names, Tag};
-use chm::{Fault, Map, Pass, Roster};
+use chm::{Fault, MOST_LEAN_CLIENTS, Map, Pass, Roster};
 use hashkeys::HashKey;
 use std::alloc::{AllocError, Allocator};
 use std::hint::spin_loop;
@@ -24,23 +24,31 @@ const MOST_TRIES: u32 = 1_000;
 const HALF: u64 = 4_294_967_296;
 
 /// The number in the low half of the word.
-fn number_in(word: u64) -> u32 {
+fn number_in(word: u64) -> u32
+    ensures { result ≡ word % 2 ^ 32 }
+{
     (word % HALF) as u32
 }
 
-/// The word that stands for this number after the other.
-fn turned(word: u64, number: u32) -> u64 {
+/// The word that stands for this number after the other: its high half has turned, so a thread that
+/// looked at the other word finds that it was changed, even where the same pass slot is the top one again.
+fn turned(word: u64, number: u32) -> u64
+    ensures number { result % 2 ^ 32 ≡ number }
+    ensures turned { result / 2 ^ 32 ≡ (word / 2 ^ 32 + 1) % 2 ^ 32 }
+{
     (word / HALF + 1) % HALF * HALF + number as u64
 }
 
 /// A map, a pass slot for the pass of each client that was taken, and the roster of the others.
 /// The pass slots whose pass is in form a stack: 0 stands for its end, and n + 1 for client n's pass slot.
+/// Those whose pass came back full are not in it, and are counted.
 #[derive(Drop)]
 pub(crate) struct PassPool<K: HashKey, V: Value, F: Remap<K, V>, A: Allocator> {
     map: Map<K, V, F, A>,
     roster: Slot<Roster<K, V, F>>,
     rows: Vec<Row<K, V, F, A>, A>,
     free: AtomicU64,
+    full: AtomicU64,
 }
 
 impl<K: HashKey, V: Value, F: Remap<K, V>, A: Allocator> Model for PassPool<K, V, F, A> {
@@ -80,6 +88,7 @@ impl<K: HashKey, V: Value, F: Remap<K, V>, A: Allocator> PassPool<K, V, F, A> {
             roster: _,
             rows: _,
             free: _,
+            full: _,
         } = self;
         map
     }
@@ -89,16 +98,31 @@ impl<K: HashKey, V: Value, F: Remap<K, V>, A: Allocator> PassPool<K, V, F, A> {
         self.rows.allocator()
     }
 
-    /// The client's pass slot, if it was made.
+    /// The row that has the client's pass slot.
+    fn row(&self, client: u32) -> &Row<K, V, F, A>
+        requires { client < most_lean_clients }
+        ensures first { result.now.first ≤ client }
+        ensures last { client < result.now.first + result.now.len }
+        ensures ledger { result.now.ledger ≡ numbers_of self.now.ledger.id }
+    {
+        &self.rows[row_of(client)]
+    }
+
+    /// The client's pass slot, if its row is made.
     fn pass_slot(&self, client: u32) -> Option<&PassSlot<K, V, F>>
         ensures { IfSome result (λ c. c.now ≡ client ∷ numbers_of self.now.ledger.id) }
     {
-        for row in &self.rows {
-            if row.is_for(client) {
-                return row.pass_slot(client);
-            }
+        if client >= MOST_LEAN_CLIENTS {
+            return None;
         }
-        None
+        let row = self.row(client);
+        let made = row.made()?;
+        Some(row.pass_slot(client, &made))
+    }
+
+    /// Whether the passes of all clients that the map may have came back full, so that none is ever free.
+    pub(crate) fn are_all_full(&self) -> bool {
+        self.full.load(Ordering::SeqCst) >= u64::from(self.map.clients())
     }
 
     /// Puts the client's pass slot on top of those whose pass is in, unless it is among them: one whose
@@ -150,20 +174,24 @@ impl<K: HashKey, V: Value, F: Remap<K, V>, A: Allocator> PassPool<K, V, F, A> {
     }
 
     /// Brings a pass back to its client's pass slot. One that has made all the calls that it may is not
-    /// taken again. It takes no memory and waits for nobody.
+    /// taken again, and is counted once. It takes no memory and waits for nobody.
     pub(crate) fn bring(&self, pass: Pass<K, V, F>)
         requires { pass.ledger ≡ self.now.ledger.id }
     {
         let client = pass.client();
         let is_full = pass.made() >= self.map.most_calls();
-        match self.pass_slot(client) {
-            Some(pass_slot) => {
-                pass_slot.bring(pass);
-                if !is_full {
-                    self.set_free(pass_slot, client);
-                }
-            }
-            None => pass.retire(),
+        let row = self.row(client);
+        let Some(made) = row.made() else {
+            // (the row was made before the pass was taken)
+            pass.retire();
+            return;
+        };
+        let pass_slot = row.pass_slot(client, &made);
+        pass_slot.bring(pass);
+        if !is_full {
+            self.set_free(pass_slot, client);
+        } else if pass_slot.fill() {
+            self.full.fetch_add(1, Ordering::SeqCst);
         }
     }
 
@@ -228,18 +256,16 @@ impl<K: HashKey, V: Value, F: Remap<K, V>, A: Allocator + Clone> PassPool<K, V, 
             roster: place,
             rows,
             free: AtomicU64::new(0),
+            full: AtomicU64::new(0),
         })
     }
 
-    /// Makes the client's pass slot, unless it is there.
-    fn lay(&self, client: u32) -> Result<(), AllocError> {
+    /// Makes the row of the client's pass slot, unless it is there, and returns what shows that it is.
+    fn lay(&self, client: u32) -> Result<Made<K, V, F, A>, AllocError>
+        requires { client < most_lean_clients }
+    {
         let tag = Tag::of::<Map<K, V, F, A>, OfMap>(&self.map);
-        for row in &self.rows {
-            if row.is_for(client) {
-                return row.lay(self.rows.allocator().clone()?, &tag);
-            }
-        }
-        Ok(())
+        self.row(client).lay(self.rows.allocator().clone()?, &tag)
     }
 
     /// The first pass of the roster, for which there is a pass slot then. The roster is in again.
@@ -250,9 +276,14 @@ impl<K: HashKey, V: Value, F: Remap<K, V>, A: Allocator + Clone> PassPool<K, V, 
         ensures faults { IfErr result
             (λ fault. (fault ≡ Fault.NoMemory) ⊎ (fault ≡ Fault.NoClient)) }
     {
-        let joined = match self.lay(roster.taken()) {
-            Ok(()) => self.map.join(&mut roster).ok_or(Fault::NoClient),
-            Err(error) => Err(error.into()),
+        let client = roster.taken();
+        let joined = if client < self.map.clients() {
+            match self.lay(client) {
+                Ok(_made) => self.map.join(&mut roster).ok_or(Fault::NoClient),
+                Err(error) => Err(error.into()),
+            }
+        } else {
+            Err(Fault::NoClient)
         };
         self.roster.bring(roster);
         joined

@@ -1,10 +1,11 @@
 //! Pass slots, each for the pass of one client, in rows that are made as they are needed.
-ghost use Rattle.std.specs.Prelude.{◌≡◌, ◌+◌, ◌<◌, ◌^◌, ◌∷◌, ℕ, List, IfOk, IfSome, length, slice_index_or};
+ghost use Rattle.std.specs.Prelude.{◌≡◌, ◌+◌, ◌*◌, ◌≤◌, ◌<◌, ◌^◌, ◌∷◌, ℕ, List, IfOk, IfSome, length, slice_index_or};
+ghost use Rattle.bin_history.specs.Limits.{most_lean_clients};
 ghost use Rattle.count_ledger.specs.Names.{numbers_of};
 ghost use Rattle.facingberyl.specs.PassPools.{ArePassSlots, AreRows};
 
 use crate::slot::{Slot, Waits};
-use boxcar::slot::{OnceSlot, SlotRule};
+use boxcar::slot::{OnceSlot, SlotRule, Written};
 use boxcar::tag::{Names, Tag};
 use chm::{Pass, Roster};
 use std::alloc::{AllocError, Allocator};
@@ -15,14 +16,14 @@ use std::sync::atomic::{AtomicU64, Ordering};
 /// of n pass slots begins with the pass slot of client n - 8.
 const FIRST: u32 = 8;
 
-/// How many pass slots the last row has. The rows are enough for 65,536 clients.
-const LAST: u32 = 65_536;
+/// How many rows there are. They are enough for 65,536 clients.
+const ROWS: u32 = 14;
 
 /// What stands below a pass slot that is not in the stack of those whose pass is in.
 const NOT_IN: u64 = 4_294_967_296;
 
-/// How many rows there are.
-const ROWS: usize = 14;
+/// What stands below a pass slot whose pass came back full. It is not in the stack either.
+const FULL: u64 = 4_294_967_297;
 
 impl<K, V, F> Waits for Pass<K, V, F> {
     ghost use Rattle.std.specs.Prelude.{◌∷◌};
@@ -95,6 +96,14 @@ impl<K, V, F> PassSlot<K, V, F> {
             .is_ok()
     }
 
+    /// Whether the pass slot, which is not in the stack, was not known to be full. It is from now on, and
+    /// never comes into the stack.
+    pub(crate) fn fill(&self) -> bool {
+        self.below
+            .compare_exchange(NOT_IN, FULL, Ordering::SeqCst, Ordering::SeqCst)
+            .is_ok()
+    }
+
     /// The pass slot is not in the stack any more.
     pub(crate) fn leave(&self) {
         self.below.store(NOT_IN, Ordering::SeqCst);
@@ -151,7 +160,8 @@ fn new_pass_slots<K, V, F, A: Allocator>(
     len: u32,
 ) -> Result<Vec<PassSlot<K, V, F>, A>, AllocError>
     requires { first + len < 2 ^ 32 }
-    ensures { IfOk result (λ pass_slots. ArePassSlots (first ∷ tag.now.numbers) pass_slots.items) }
+    ensures { IfOk result
+        (λ pass_slots. ArePassSlots (first ∷ len ∷ tag.now.numbers) pass_slots.items) }
 {
     let mut pass_slots = Vec::with_capacity(alloc, len as usize)?;
     for at in 0..len {
@@ -160,7 +170,7 @@ fn new_pass_slots<K, V, F, A: Allocator>(
     Ok(pass_slots)
 }
 
-/// The pass slots of a row are for the clients from the first on.
+/// A row has so many pass slots, for the clients from its first on.
 struct InRow;
 
 impl<K, V, F, A: Allocator> SlotRule<Vec<PassSlot<K, V, F>, A>> for InRow {
@@ -169,8 +179,10 @@ impl<K, V, F, A: Allocator> SlotRule<Vec<PassSlot<K, V, F>, A>> for InRow {
     ghost holds = { λ tag pass_slots. ArePassSlots tag pass_slots.items };
 }
 
-/// A row of pass slots for the clients from a number on, once it is made. Contracts see the numbers of
-/// the ledger whose passes they are for.
+/// What shows that a row of pass slots is made.
+pub(crate) type Made<K, V, F, A> = Written<Vec<PassSlot<K, V, F>, A>>;
+
+/// A row of pass slots for the clients from a number on, once it is made.
 #[derive(Drop)]
 pub(crate) struct Row<K, V, F, A: Allocator> {
     first: u32,
@@ -179,45 +191,88 @@ pub(crate) struct Row<K, V, F, A: Allocator> {
 }
 
 impl<K, V, F, A: Allocator> Model for Row<K, V, F, A> {
-    ghost use Rattle.std.specs.Prelude.{◌≡◌, ◌+◌, ◌<◌, ◌^◌, ◌∷◌, List, ℕ};
-    ghost use Rattle.facingberyl.specs.PassPools.{others};
+    ghost use Rattle.std.specs.Prelude.{◌≡◌, ◌+◌, ◌<◌, ◌^◌, ◌∷◌};
+    ghost use Rattle.facingberyl.specs.PassPools.{RowView, ledger_in};
 
-    ghost Value = { List ℕ };
+    ghost Value = { RowView };
 
-    ghost view = { λ r. others r.pass_slots.tag };
+    ghost view = { λ r. record {
+      first = r.first;
+      len = r.len;
+      ledger = ledger_in r.pass_slots.tag;
+      place = r.pass_slots.id;
+    } };
 
-    ghost invariant = { λ r. (r.pass_slots.tag ≡ r.first ∷ others r.pass_slots.tag)
+    ghost invariant = { λ r. (r.pass_slots.tag ≡ r.first ∷ r.len ∷ ledger_in r.pass_slots.tag)
         × (r.first + r.len < 2 ^ 32) };
 }
 
 impl<K, V, F, A: Allocator> Row<K, V, F, A> {
-    /// Whether the row is the first that has a pass slot for the client.
-    pub(crate) fn is_for(&self, client: u32) -> bool {
-        client < self.first + self.len
-    }
-
-    /// The client's pass slot, where the row is made and has it.
-    pub(crate) fn pass_slot(&self, client: u32) -> Option<&PassSlot<K, V, F>>
-        ensures { IfSome result (λ c. c.now ≡ client ∷ self.now) }
+    /// A row that is not made, for so many clients from a number on.
+    fn new(tag: &Tag, first: u32, len: u32) -> Row<K, V, F, A>
+        requires { first + len < 2 ^ 32 }
+        ensures first { result.first ≡ first }
+        ensures len { result.len ≡ len }
+        ensures ledger { result.ledger ≡ tag.now.numbers }
     {
-        let at = client.checked_sub(self.first)?;
-        self.pass_slots.get()?.get(at as usize)
+        Row {
+            first,
+            len,
+            pass_slots: OnceSlot::new(&with_number(first, &with_number(len, tag))),
+        }
     }
 
-    /// Makes the row, unless it is there.
+    /// What shows that the row is made, where it is.
+    pub(crate) fn made(&self) -> Option<Made<K, V, F, A>>
+        ensures { IfSome result (λ made. made.of ≡ self.now.place) }
+    {
+        self.pass_slots.witness()
+    }
+
+    /// The client's pass slot, in a row that is made.
+    pub(crate) fn pass_slot<'a>(
+        &'a self,
+        client: u32,
+        made: &Made<K, V, F, A>,
+    ) -> &'a PassSlot<K, V, F>
+        requires made { made.now.of ≡ self.now.place }
+        requires first { self.now.first ≤ client }
+        requires last { client < self.now.first + self.now.len }
+        ensures { result.now ≡ client ∷ self.now.ledger }
+    {
+        let at = client - self.first;
+        &self.pass_slots.value(made)[at as usize]
+    }
+
+    /// Makes the row, unless it is there, and returns what shows that it is.
     ///
     /// # Errors
     ///
-    /// `AllocError`.
-    pub(crate) fn lay(&self, alloc: A, tag: &Tag) -> Result<(), AllocError>
-        requires { tag.now.numbers ≡ self.now }
+    /// `AllocError`; it also comes where another thread makes the row just then, which none does while
+    /// this one has the roster out.
+    pub(crate) fn lay(&self, alloc: A, tag: &Tag) -> Result<Made<K, V, F, A>, AllocError>
+        requires { tag.now.numbers ≡ self.now.ledger }
+        ensures { IfOk result (λ made. made.of ≡ self.now.place) }
     {
-        if self.pass_slots.get().is_none() {
-            let pass_slots = new_pass_slots(alloc, tag, self.first, self.len)?;
-            drop(self.pass_slots.set_written(pass_slots));
+        if let Some(made) = self.made() {
+            return Ok(made);
         }
-        Ok(())
+        let pass_slots = new_pass_slots(alloc, tag, self.first, self.len)?;
+        match self.pass_slots.set_written(pass_slots) {
+            Ok(made) => Ok(made),
+            Err(_others) => self.made().ok_or(AllocError),
+        }
     }
+}
+
+/// The number of the row that has the client's pass slot.
+pub(crate) fn row_of(client: u32) -> usize
+    requires { client < most_lean_clients }
+    ensures row { result < 14 }
+    ensures first { 8 * 2 ^ result ≤ client + 8 }
+    ensures last { client + 8 < 2 * (8 * 2 ^ result) }
+{
+    (client / FIRST + 1).ilog2() as usize
 }
 
 /// Rows for all clients, none of which is made.
@@ -231,16 +286,10 @@ pub(crate) fn new_rows<K, V, F, A: Allocator>(
 ) -> Result<Vec<Row<K, V, F, A>, A>, AllocError>
     ensures { IfOk result (λ rows. AreRows tag.now.numbers rows.items) }
 {
-    let mut rows = Vec::with_capacity(alloc, ROWS)?;
-    let mut len = FIRST;
-    while len <= LAST {
-        let first = len - FIRST;
-        rows.push(Row {
-            first,
-            len,
-            pass_slots: OnceSlot::new(&with_number(first, tag)),
-        })?;
-        len *= 2;
+    let mut rows = Vec::with_capacity(alloc, ROWS as usize)?;
+    for row in 0..ROWS {
+        let len = FIRST << row;
+        rows.push_reserved(Row::new(tag, len - FIRST, len));
     }
     Ok(rows)
 }

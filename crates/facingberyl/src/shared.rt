@@ -11,10 +11,11 @@ ghost use Rattle.chm.specs.Opened.{IsLimited, IsNew};
 ghost use Rattle.bin_history.specs.Limits.{most_clients, most_lean_clients};
 ghost use Rattle.chm.specs.Refusals.{IsCapacityOf};
 ghost use Rattle.chm.specs.Reopened.{IsReopened};
-ghost use Rattle.facingberyl.specs.PassPools.{IsKept};
+ghost use Rattle.facingberyl.specs.PassPools.{AreOfAll, IsKept};
 
 mod lending;
 
+use crate::client_fault::ClientFault;
 use crate::owned::OwnedClient;
 use crate::pass_pool::PassPool;
 use crate::unshared::{SharedNotClosed, Unshared};
@@ -170,8 +171,8 @@ impl<K: HashKey, V: Value, F: Remap<K, V>, A: Allocator + Clone> SharedMap<K, V,
     ///
     /// # Errors
     ///
-    /// `NoClient` where all clients are out; and where other threads were taking or bringing
-    /// clients all the time that it tried, for which `client_when_in` waits. `NoMemory`.
+    /// `NoClient` where all clients are out, or came back full; and where other threads were taking or
+    /// bringing clients all the time that it tried, for which `client_when_in` waits. `NoMemory`.
     pub fn client(&self) -> Result<OwnedClient<K, V, F, A>, Fault>
         ensures map { IfOk result (λ c. c.map ≡ self.now) }
         ensures faults { IfErr result
@@ -191,17 +192,22 @@ impl<K: HashKey, V: Value, F: Remap<K, V>, A: Allocator + Clone> SharedMap<K, V,
     ///
     /// # Errors
     ///
-    /// `NoMemory`.
-    pub fn client_when_in<R: Wait>(&self, rt: &R) -> Result<OwnedClient<K, V, F, A>, Fault>
+    /// `ClientsFull` where all clients that the map may have came back full, so that none is ever
+    /// free again; and `NoMemory`.
+    pub fn client_when_in<R: Wait>(&self, rt: &R) -> Result<OwnedClient<K, V, F, A>, ClientFault>
         ensures map { IfOk result (λ c. c.map ≡ self.now) }
-        ensures faults { IfErr result (λ fault. fault ≡ Fault.NoMemory) }
     {
         let backoff = Backoff::new();
         for _ in rt.forever() {
             match self.client() {
                 Ok(client) => return Ok(client),
-                Err(Fault::NoClient) => backoff.snooze(),
-                Err(fault) => return Err(fault),
+                Err(Fault::NoClient) => {
+                    if self.pass_pool.are_all_full() {
+                        return Err(ClientFault::ClientsFull);
+                    }
+                    backoff.snooze();
+                }
+                Err(_) => return Err(ClientFault::NoMemory),
             }
         }
         unreachable!()
@@ -252,9 +258,10 @@ impl<K: HashKey, V: Value, F: Remap<K, V>, A: Allocator + Clone> SharedMap<K, V,
         }
     }
 
-    /// Closes the map, as `Map::close` does, where all clients are in and no other handle is of it.
-    /// It allocates the lists of the closed map, takes time linear in the buckets and the passes,
-    /// and waits for nobody.
+    /// Closes the map, as `Map::close` does, where all clients are in and no other handle is of it. The
+    /// closed map has the pass of each client that was ever taken, with all calls that the client made.
+    /// It allocates the lists of the closed map, takes time linear in the buckets and the passes, and
+    /// waits for nobody.
     ///
     ///     let closed = map.close()?;
     ///     assert_eq!(closed.mapping_count(), 1);
@@ -267,6 +274,7 @@ impl<K: HashKey, V: Value, F: Remap<K, V>, A: Allocator + Clone> SharedMap<K, V,
     pub fn close(self) -> Result<Quiet<K, V, F, A>, SharedNotClosed<K, V, F, A>>
         ensures ledger { IfOk result (λ q. q.ledger ≡ self.ledger) }
         ensures n { IfOk result (λ q. q.n ≡ self.n) }
+        ensures all { IfOk result (λ q. AreOfAll self.ledger.clients q.passes) }
         ensures kept { IfErr result (λ e. IsKept self e.fault e.shared e.unshared) }
     {
         self.unshare()?.close()
@@ -290,6 +298,7 @@ impl<K: HashKey, V: Value, F: Remap<K, V>, A: Allocator + Clone> SharedMap<K, V,
         requires { moment.ledger ≡ self.ledger.id }
         ensures ledger { IfOk result (λ q. q.ledger ≡ self.ledger) }
         ensures n { IfOk result (λ q. q.n ≡ self.n) }
+        ensures all { IfOk result (λ q. AreOfAll self.ledger.clients q.passes) }
         ensures known { IfOk result (IsKnown K.eq K.code (after V.eq F.remapped F.merged) moment.seen) }
         ensures kept { IfErr result (λ e. IsKept self e.fault e.shared e.unshared) }
     {

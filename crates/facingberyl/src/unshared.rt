@@ -3,6 +3,7 @@ ghost use Rattle.std.specs.Prelude.{◌≡◌, ◌⊎◌, ◌++◌, None, All, I
 ghost use Rattle.bin_history.specs.Calls.{after};
 ghost use Rattle.chm.specs.Closing.{IsKnown};
 ghost use Rattle.count_ledger.specs.Opening.{left_in};
+ghost use Rattle.facingberyl.specs.PassPools.{AreOfAll};
 ghost use Rattle.facingberyl.specs.Teams.{AreInOrder};
 
 use crate::shared::SharedMap;
@@ -143,8 +144,9 @@ fn refused<K: HashKey, V: Value, F: Remap<K, V>, A: Allocator>(
 }
 
 impl<K: HashKey, V: Value, F: Remap<K, V>, A: Allocator + Clone> Unshared<K, V, F, A> {
-    /// Closes the map, as `Map::close_with` does. It allocates the lists of the closed map, takes
-    /// time linear in the buckets and the passes, and waits for nobody.
+    /// Closes the map, as `Map::close_with` does: the closed map has the pass of each client, with the
+    /// calls that the client made. It allocates the lists of the closed map, takes time linear in the
+    /// buckets and the passes, and waits for nobody.
     ///
     ///     let unshared = map.unshare()?;
     ///     let closed = unshared.close()?;
@@ -156,6 +158,7 @@ impl<K: HashKey, V: Value, F: Remap<K, V>, A: Allocator + Clone> Unshared<K, V, 
         ensures ledger { IfOk result (λ q. q.ledger ≡ self.map.ledger) }
         ensures n { IfOk result (λ q. q.n ≡ self.map.n) }
         ensures passes { IfOk result (λ q. q.passes ≡ self.passes ++ left_in self.roster) }
+        ensures all { IfOk result (λ q. AreOfAll self.map.ledger.clients q.passes) }
         ensures kept { IfErr result
             (λ e. ((e.fault ≡ Fault.BinMissing) × (e.unshared ≡ None))
             ⊎ ((e.fault ≡ Fault.NoMemory) × IsSomeAnd e.unshared (λ u. u ≡ self))) }
@@ -166,11 +169,13 @@ impl<K: HashKey, V: Value, F: Remap<K, V>, A: Allocator + Clone> Unshared<K, V, 
             passes,
             roster,
         } = self;
+        let _taken = roster.taken();
         match map.close_with(roster, passes) {
             Ok(quiet) => Ok(quiet),
             Err(not_closed) => Err(refused(not_closed)),
         }
     }
+
     /// Closes the map, as `close` does, and says that the calls that the moment knows are in it: they
     /// are the first of all calls, in one order.
     ///
@@ -185,6 +190,7 @@ impl<K: HashKey, V: Value, F: Remap<K, V>, A: Allocator + Clone> Unshared<K, V, 
         ensures ledger { IfOk result (λ q. q.ledger ≡ self.map.ledger) }
         ensures n { IfOk result (λ q. q.n ≡ self.map.n) }
         ensures passes { IfOk result (λ q. q.passes ≡ self.passes ++ left_in self.roster) }
+        ensures all { IfOk result (λ q. AreOfAll self.map.ledger.clients q.passes) }
         ensures known { IfOk result (IsKnown K.eq K.code (after V.eq F.remapped F.merged) moment.seen) }
         ensures kept { IfErr result
             (λ e. ((e.fault ≡ Fault.BinMissing) × (e.unshared ≡ None))
@@ -196,6 +202,7 @@ impl<K: HashKey, V: Value, F: Remap<K, V>, A: Allocator + Clone> Unshared<K, V, 
             passes,
             roster,
         } = self;
+        let _taken = roster.taken();
         match map.close_knowing(roster, moment, passes) {
             Ok(quiet) => Ok(quiet),
             Err(not_closed) => Err(refused(not_closed)),

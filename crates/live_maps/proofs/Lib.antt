@@ -1,3 +1,4 @@
 mod Clients
-mod InOrder
 mod Ended
+mod InOrder
+mod Learned

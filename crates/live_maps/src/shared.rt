@@ -1,34 +1,20 @@
 //! Bulk operations on a shared map that others call meanwhile.
-ghost use Rattle.std.specs.Prelude.{◌≡◌, ◌≤◌, List, All, IfErr, IfOk, IsErrOf, length};
+ghost use Rattle.std.specs.Prelude.{List, IfOk, IsErrOf};
 ghost use Rattle.bin_history.specs.Calls.{after};
 ghost use Rattle.count_ledger.specs.Views.{PassView};
 ghost use Rattle.live_bulk.specs.Plans.{IsPlanned};
 ghost use Rattle.live_bulk.specs.Shared.{AreTooMany, IsActed, IsFound, IsReduced};
 
+use crate::moments::any_moment;
+use crate::ordered::{live_for_each_after, live_reduce_after, live_search_after};
 use bin_history::{Remap, Value};
 use bulk_tasks::{Action, Gate, Plan, Probe, Reducer};
-use chm::Pass;
 use facingberyl::SharedMap;
 use hashkeys::HashKey;
 use live_bulk::LiveFault;
 use std::alloc::Allocator;
 use std::sync::Wait;
 use std::thread::Threads;
-
-/// Takes up to this many passes. It waits for nobody.
-fn take_some<K: HashKey, V: Value, F: Remap<K, V>, A: Allocator + Clone>(
-    map: &SharedMap<K, V, F, A>,
-    wanted: usize,
-) -> Result<Vec<Pass<K, V, F>, A>, LiveFault>
-    ensures own { IfOk result (λ v. All (λ p. p.ledger ≡ map.now.ledger.id) v.items) }
-    ensures few { IfOk result (λ v. length v.items ≤ wanted) }
-    ensures faults { IfErr result (λ fault. fault ≡ LiveFault.NoMemory) }
-{
-    match map.lend_passes(wanted) {
-        Ok(passes) => Ok(passes),
-        Err(_) => Err(LiveFault::NoMemory),
-    }
-}
 
 /// Returns the value of the map's entries by the reducer, none of no entries, while others go on
 /// calling. As many clients as the plan has workers, or those that are free, each walk over a share of
@@ -71,11 +57,8 @@ where
         × (news : List (PassView K V F)) × AreTooMany K.eq K.code (after V.eq F.remapped F.merged)
         map.now.ledger olds news }
 {
-    let wanted = live_bulk::clients_for(map.map(), plan)?;
-    let mut passes = take_some(map, wanted)?;
-    let reduced = live_bulk::live_reduce(rt, map.map(), &mut passes, plan, reducer);
-    map.bring_passes(passes);
-    reduced
+    let mut moment = any_moment(map, plan)?;
+    live_reduce_after(rt, map, &mut moment, plan, reducer)
 }
 
 /// Returns something that the probe finds in an entry of the map, or none, while others go on
@@ -116,11 +99,8 @@ where
     ensures workers { IsPlanned plan.now.workers result }
     ensures few_enough { IsErrOf result LiveFault.TooMany → ⊥ }
 {
-    let wanted = live_bulk::clients_for(map.map(), plan)?;
-    let mut passes = take_some(map, wanted)?;
-    let found = live_bulk::live_search(rt, map.map(), &mut passes, plan, probe);
-    map.bring_passes(passes);
-    found
+    let mut moment = any_moment(map, plan)?;
+    live_search_after(rt, map, &mut moment, plan, probe)
 }
 
 /// Does the action with each entry of the map, while others go on calling, and returns what it
@@ -160,9 +140,6 @@ where
     ensures workers { IsPlanned plan.now.workers result }
     ensures few_enough { IsErrOf result LiveFault.TooMany → ⊥ }
 {
-    let wanted = live_bulk::clients_for(map.map(), plan)?;
-    let mut passes = take_some(map, wanted)?;
-    let list = live_bulk::live_for_each(rt, map.map(), &mut passes, plan, action);
-    map.bring_passes(passes);
-    list
+    let mut moment = any_moment(map, plan)?;
+    live_for_each_after(rt, map, &mut moment, plan, action)
 }

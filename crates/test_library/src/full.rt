@@ -1,8 +1,10 @@
 //! What follows when a client has made all the calls that it may: 1,000,000 in a recorded map.
 use crate::asserts::assert_same;
-use facingberyl::{Add, Change, Fault, KeyArg, Map, Op, OwnedClient, SharedMap};
+use facingberyl::{Add, Change, ClientFault, Fault, KeyArg, Map, Op, OwnedClient, SharedMap};
 use std::alloc::Global;
 use std::sync::Wait;
+use std::thread;
+use std::thread::Threads;
 
 /// A shared map of these tests.
 type Numbers = SharedMap<u64, u64, Add, Global>;
@@ -105,4 +107,47 @@ fn a_full_client_is_followed_by_the_next(rt: HostRuntime) {
     drop(closed);
     assert_same(&rt, &told, &Ok(([1, 1], Some(Fault::NoClient), Some(5))));
     assert_same(&rt, &left, &Some(6));
+}
+
+/// Gives a client back after a while.
+fn drop_late(client: Owned) {
+    for _turn in 0..1_000u32 {
+        thread::yield_now();
+    }
+    drop(client);
+}
+
+/// The numbers of the clients that are waited for while the first of two is full, and why none is once
+/// both are. A close that fails meanwhile, since another handle is out, counts the first once.
+fn wait_for_each<R: Wait + Threads + Sync>(
+    rt: &R,
+    map: Numbers,
+) -> Result<([usize; 2], Option<Fault>, Option<ClientFault>), Fault> {
+    let mut first = map.client()?;
+    use_up(rt, &mut first)?;
+    drop(first);
+    let second = map.client_when_in(rt)?;
+    let number = second.number();
+    let other = map.again()?;
+    let fault = map.close().err().map(|refused| refused.give_up());
+    let (waited, _) = thread::join(rt, || other.client_when_in(rt), || drop_late(second));
+    let mut second = waited?;
+    let again = second.number();
+    use_up(rt, &mut second)?;
+    drop(second);
+    let none = other.client_when_in(rt).err();
+    Ok(([number, again], fault, none))
+}
+
+/// Once all clients came back full, whoever waits for one is told so.
+#[test]
+fn nobody_waits_for_a_client_once_all_are_full(rt: HostRuntime) {
+    let map = share_recorded(rt.alloc()).expect(&rt, "no fault");
+    let told = wait_for_each(&rt, map);
+    let wanted = (
+        [1, 1],
+        Some(Fault::PassMissing),
+        Some(ClientFault::ClientsFull),
+    );
+    assert_same(&rt, &told, &Ok(wanted));
 }

@@ -9,6 +9,8 @@ mod asserts;
 #[cfg(test)]
 mod closed;
 #[cfg(test)]
+mod crowds;
+#[cfg(test)]
 mod examples;
 #[cfg(test)]
 mod full;
@@ -22,6 +24,8 @@ mod lending;
 mod letters;
 #[cfg(test)]
 mod live;
+#[cfg(test)]
+mod meeting;
 #[cfg(test)]
 mod moments;
 #[cfg(test)]
@@ -38,5 +42,7 @@ mod shown;
 mod slices;
 #[cfg(test)]
 mod teams;
+#[cfg(test)]
+mod trying;
 #[cfg(test)]
 mod updates;

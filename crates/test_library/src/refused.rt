@@ -1,6 +1,8 @@
 //! Shared maps and teams where requests for memory are refused: what was there is there still.
 use crate::asserts::assert_same;
-use facingberyl::{Add, Fault, Quiet, Salt, SharedMap, SharedNotClosed, Team, TeamNotClosed};
+use facingberyl::{
+    Add, ClientFault, Fault, Quiet, Salt, SharedMap, SharedNotClosed, Team, TeamNotClosed,
+};
 use std::alloc::{Allocator, Global};
 use std::sync::Wait;
 use test_support::Refusing;
@@ -122,4 +124,67 @@ fn a_client_that_was_refused_is_taken_later(rt: HostRuntime) {
     let alloc = Refusing::new(rt.alloc());
     let told = take_twice((&alloc, &alloc));
     assert_same(&rt, &told, &Ok((Some(Fault::NoMemory), 0)));
+}
+
+/// Why no client is waited for while its pass slot cannot be made, and the number of the client that is
+/// taken later.
+fn wait_twice<R: Wait, A: Allocator + Clone>(
+    rt: &R,
+    (switch, alloc): (&Refusing<Global>, A),
+) -> Result<(Option<ClientFault>, usize), Fault> {
+    let map: Numbers<A> = SharedMap::with_salt(alloc, 1, 2, Salt(0))?;
+    switch.refuse_after(0);
+    let none = map.client_when_in(rt).err();
+    switch.refuse_after(u64::MAX);
+    Ok((none, map.client_when_in(rt)?.number()))
+}
+
+/// Whoever waits for a client is told that there is no memory for it, at the first try.
+#[test]
+fn a_wait_for_a_client_ends_without_memory(rt: HostRuntime) {
+    let alloc = Refusing::new(rt.alloc());
+    let told = wait_twice(&rt, (&alloc, &alloc));
+    assert_same(&rt, &told, &Ok((Some(ClientFault::NoMemory), 0)));
+}
+
+/// Wants nine passes to be lent while a request after so many is refused. Answers whether they were lent,
+/// or why not, and how many clients can be taken after that.
+fn lend_nine<A: Allocator + Clone>(
+    (switch, alloc): (&Refusing<Global>, A),
+    granted: u64,
+) -> Result<(Result<usize, Fault>, usize), Fault> {
+    let map: Numbers<A> = SharedMap::with_salt(alloc, 1, 9, Salt(0))?;
+    switch.refuse_after(granted);
+    let lent = map.lend_passes(9);
+    switch.refuse_after(u64::MAX);
+    let told = match lent {
+        Ok(passes) => {
+            let lent = passes.len();
+            map.bring_passes(passes);
+            Ok(lent)
+        }
+        Err(fault) => Err(fault),
+    };
+    let all = map.lend_passes(9)?;
+    let taken = all.len();
+    map.bring_passes(all);
+    map.close()?;
+    Ok((told, taken))
+}
+
+/// A loan asks for its list, for the places of the first eight clients and for those of the next: where a
+/// request is refused all that it took is back.
+#[test]
+fn a_loan_that_is_refused_gives_its_passes_back(rt: HostRuntime) {
+    let alloc = Refusing::new(rt.alloc());
+    for granted in 0..3 {
+        let told = lend_nine((&alloc, &alloc), granted);
+        assert_same(
+            &rt,
+            &(granted, told),
+            &(granted, Ok((Err(Fault::NoMemory), 9))),
+        );
+    }
+    let told = lend_nine((&alloc, &alloc), 3);
+    assert_same(&rt, &told, &Ok((Ok(9), 9)));
 }

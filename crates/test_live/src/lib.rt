@@ -9,6 +9,8 @@ mod examples;
 #[cfg(test)]
 mod growing;
 #[cfg(test)]
+mod ordered;
+#[cfg(test)]
 mod parts;
 #[cfg(test)]
 mod refused;

@@ -7,7 +7,7 @@ ghost use Rattle.bin_history.specs.Copies.{IsExact};
 ghost use Rattle.count_ledger.specs.Fronts.{HasSeen, HasSeenMore};
 ghost use Rattle.count_ledger.specs.Views.{PassView};
 ghost use Rattle.chm.specs.Cursors.{AreShown, HasCome, IsUsedAt, list_of};
-ghost use Rattle.chm.specs.Numbered.{HasComeAt, HasComeBefore, IsEnd};
+ghost use Rattle.chm.specs.Numbered.{HasComeAt, IsEnd};
 ghost use Rattle.chm.specs.Visits.{IsVisit, VisitView};
 ghost use Rattle.hashkeys.specs.Classes.{covers};
 ghost use Rattle.hashkeys.specs.Limits.{most_bins};
@@ -159,15 +159,12 @@ impl<K: HashKey, V: Value, F: Remap<K, V>, A: Allocator + Clone> OwnedClient<K, 
         requires keys { IsExact K.is_clone }
         requires values { IsExact V.is_clone }
         ensures visit { IfSome result (λ tried. IfOk tried (λ step. IfSome step.0 (λ v.
-            (covers v.class number ≡ true)
+            (v.class.index ≡ number)
+            × (covers v.class number ≡ true)
             × HasSeen K.eq (after V.eq F.remapped F.merged) self.old.map.ledger self.old.pass self.new.pass
             × IsVisit K.eq K.code self.old.map.ledger self.new.pass.seen v))) }
         ensures come { (shown : List (VisitView K V)) → HasComeAt self.old.map.n number shown →
             IfSome result (λ tried. IfOk tried (λ step. IfSome step.0 (λ v.
-            v.class.index ≡ number → HasComeAt self.old.map.n step.1 (shown ++ v ∷ [])))) }
-        ensures behind { (shown : List (VisitView K V)) →
-            IfSome result (λ tried. IfOk tried (λ step. IfSome step.0 (λ v.
-            HasComeBefore self.old.map.n v.class shown →
             HasComeAt self.old.map.n step.1 (shown ++ v ∷ [])))) }
         ensures end { IfSome result (λ tried. IfOk tried (λ step. IfNone step.0
             (IsEnd number step.1 × (self.new.pass ≡ self.old.pass)))) }

@@ -1,9 +1,11 @@
-use Rattle.std.proofs.Common.{◌≡◌, ◌≤◌, ◌-◌, ◌%◌}
-use Rattle.facingberyl.specs.PassPools.{AreRows}
+use Rattle.std.proofs.Common.{◌≡◌, ◌≤◌, ℕ, ◌<◌, length, slice_index_or, vec_capacity}
+use Rattle.facingberyl.specs.PassPools.{IsRow, RowView}
 use Rattle.facingberyl.proofs.pass_slot.new_rows.Given as goal
 
-abbrev pub invariant-loop-len : goal.invariant-loop-len
-invariant-loop-len g l = AreRows l.tag.numbers l.rows.items × (8 ≤ l.len) × (l.len ≤ 131072)
-
-abbrev pub decreases-loop-len : goal.decreases-loop-len
-decreases-loop-len g l = 131073 - l.len
+abbrev pub invariant-loop-row : goal.invariant-loop-row
+invariant-loop-row g l =
+    record {
+      len : length l.rows.items ≡ l.row;
+      room : 14 ≤ vec_capacity l.rows;
+      each : (i : ℕ) (r : RowView) → i < l.row → IsRow l.tag.numbers i (slice_index_or l.rows.items i r);
+    }

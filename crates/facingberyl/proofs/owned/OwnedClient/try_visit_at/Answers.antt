@@ -5,8 +5,3 @@ pub returns-clause-come : goal.returns-clause-come
 returns-clause-come g c =
     let map_is : c.map.result.now ≡ c.args.self.now.map = search rules in
     rw (map_is) at c.try_visit_at.ensures.come
-
-pub returns-clause-behind : goal.returns-clause-behind
-returns-clause-behind g c =
-    let map_is : c.map.result.now ≡ c.args.self.now.map = search rules in
-    rw (map_is) at c.try_visit_at.ensures.behind
