@@ -9,6 +9,7 @@ Without --proved the library is built without its proofs; with it it is the one 
 name. What needs a tool that is not there is left out and named; with --all that is a failure. The last line is
 `N passed, M failed, K left out`; the status is 1 where one failed."""
 import os
+import re
 import shutil
 import subprocess
 import sys
@@ -92,6 +93,24 @@ class Place:
         is_right, said = run(*programs)
         return is_right, f"{built} built, 0 wrong" if is_right else said
 
+    def leaks_no_macros(self):
+        """What the headers define, and is still there behind facing.hpp: nothing but what stands before each, and the version."""
+        need("c++")
+        headers = sorted(it for it in os.listdir(f"{self.prefix}/include") if it.startswith("facing"))
+        text = "".join(open(f"{self.prefix}/include/{it}", encoding="utf-8").read() for it in headers)
+        own = set(re.findall(r"(?m)^#define (\w+)", text))
+        expected = {it.upper().replace(".", "_") for it in headers} | {"FACING_VERSION_NUMBER"}
+        source = f"{self.folder}/behind.cpp"
+        with open(source, "w", encoding="utf-8") as it:
+            it.write("#include <facing.hpp>\n" + "".join(f"#include <{header}>\n" for header in headers))
+        left = set()
+        for flags in ([], ["-fsanitize=thread"], ["-DFACING_DEBUG=1"]):
+            words = ["c++", "-std=c++17", *flags, f"-I{self.prefix}/include", source]
+            self.built([*words, "-fsyntax-only", *WARNED])
+            ran = subprocess.run([*words, "-dM", "-E"], capture_output=True, text=True, check=True)
+            left |= own & set(re.findall(r"(?m)^#define (\w+)", ran.stdout))
+        return left == expected, "0 wrong" if left == expected else f"left: {' '.join(sorted(left ^ expected))}"
+
     def finds_race(self):
         """Whether ThreadSanitizer finds two threads that use one client."""
         ran = subprocess.run(self.watched(C, "c/tests/race.c"), capture_output=True, text=True, check=False, timeout=LONGEST)
@@ -125,6 +144,16 @@ class Place:
         need("cargo")
         more = {"CARGO_TARGET_DIR": f"{self.folder}/rust", "FACING_LIBS": f"{self.prefix}/lib"}
         return run(["cargo", words[0], "--release", "--quiet", "--offline", *words[1:]], cwd=f"{HERE}/rust", env={**os.environ, **more})
+
+    def packages(self):
+        """What others ship: packages that are made, unpacked and compiled against. Those of a proved library are made by hand."""
+        ran = subprocess.run([f"{TOP}/packaging/test"], capture_output=True, text=True, check=False, timeout=LONGEST)
+        said = ran.stdout.strip().splitlines() or [ran.stderr.strip()]
+        if ran.returncode:
+            return False, "; ".join(it for it in said if ": failed" in it) or said[-1]
+        if lacks := [it for it in said if ": left out, " in it]:
+            raise Lacking("; ".join(lacks))
+        return True, said[-1]
 
     def cache(self, kind):
         """The quick tests of the cache server, built in one way; a minute each."""
@@ -182,7 +211,12 @@ WORKS = [
     ("C, the first program by CMake", lambda it: it.by_cmake()),
     ("C++, the first program", lambda it: run(it.program(CPP17, "cpp/first.cpp"))),
     ("C++, calls", lambda it: run(it.program(CPP17, "cpp/calls.cpp"))),
+    ("C++, macros", lambda it: it.leaks_no_macros()),
+    ("C++, ThreadSanitizer, calls", lambda it: run(it.watched(CPP17, "cpp/calls.cpp"))),
     ("C++, sanitized, calls", lambda it: run(it.sanitized(CPP17, "cpp/calls.cpp"))),
+    ("packages", lambda it: it.packages()),
+    ("C, hooks of the heap", lambda it: run(it.program(C, "c/tests/hooks.c"))),
+    ("C, sanitized, hooks of the heap", lambda it: run(it.sanitized(C, "c/tests/hooks.c"))),
     ("C, word count", lambda it: run(it.program(C, "c/word_count.c"))),
     ("C++, word count", lambda it: run(it.program(CPP, "c/word_count.c"))),
     ("C, word count by byte strings", lambda it: run(it.program(C, "c/bytes.c"))),
@@ -199,9 +233,18 @@ WORKS = [
     ("C, children of a fork", lambda it: run(it.program(C, "c/tests/fork.c", more=STOPPED))),
     ("C, sanitized, children of a fork", lambda it: run(it.sanitized(C, "c/tests/fork.c", STOPPED))),
     ("C, sanitized, answers to wrong arguments", lambda it: run(it.sanitized(C, "c/tests/answers.c"))),
+    ("C, exchanges and bounded sums", lambda it: run(it.program(C, "c/tests/change.c"))),
+    ("C++, exchanges and bounded sums", lambda it: run(it.program(CPP, "c/tests/change.c"))),
+    ("C, sanitized, exchanges and bounded sums", lambda it: run(it.sanitized(C, "c/tests/change.c"))),
+    ("C, ThreadSanitizer, exchanges and bounded sums", lambda it: run(it.watched(C, "c/tests/change.c"))),
     ("C, misuses one by one", lambda it: run(it.program(C, "c/tests/rows.c"))),
     ("C++, sanitized, misuses one by one", lambda it: run(it.sanitized(CPP, "c/tests/rows.c"))),
+    ("C, seeds of maps of numbers", lambda it: run(it.program(C, "c/tests/seeds.c"))),
+    ("C++, sanitized, seeds of maps of numbers", lambda it: run(it.sanitized(CPP, "c/tests/seeds.c"))),
     ("C, handles of another kind, and no seed", lambda it: run(it.program(C, "c/tests/kinds.c", more=SEEDED))),
+    ("C, a closed map that several threads read", lambda it: run(it.program(C, "c/tests/again.c"))),
+    ("C++, sanitized, a closed map that several threads read", lambda it: run(it.sanitized(CPP, "c/tests/again.c"))),
+    ("C, ThreadSanitizer, a closed map that several threads read", lambda it: run(it.watched(C, "c/tests/again.c"))),
     ("C, a handle of another library and a freed one", lambda it: run(it.program(C, "c/tests/debug.c"))),
     ("C, sanitized, many keys at once", lambda it: run(it.sanitized(C, "c/tests/many.c"))),
     ("C, sanitized, handles of another kind", lambda it: run(it.sanitized(C, "c/tests/kinds.c", SEEDED))),
@@ -210,6 +253,7 @@ WORKS = [
     ("C, ThreadSanitizer, two threads that use one client", lambda it: it.finds_race()),
     ("bytes, C, threads", lambda it: run(it.program(C, "c/tests/bytes_threads.c"))),
     ("bytes, C, memory refused", lambda it: run(it.program(C, "c/tests/bytes_refused.c", more=WRAPPED))),
+    ("bytes, C, values of 512 MB", lambda it: run(it.program(C, "c/tests/large.c"))),
     ("bytes, C, misuses", lambda it: run(it.program(C, "c/tests/bytes_misuse.c"))),
     ("bytes, C, sanitized, threads", lambda it: run(it.sanitized(C, "c/tests/bytes_threads.c"))),
     ("bytes, C, sanitized, memory refused", lambda it: run(it.sanitized(C, "c/tests/bytes_refused.c", WRAPPED))),

@@ -16,6 +16,11 @@
  * or a call of many keys says so; an answer is {0, 0}, but where FACING_NO_ROOM tells a length; an output handle is null.
  * The `answer` of a client's call may be NULL.
  *
+ * The map draws a secret seed from the system when it is opened. It mixes each key with it, by a multiplication with a secret
+ * number, and not by SipHash as the maps of byte strings do: keys that were chosen without the seed collide no more than
+ * others. It is no cipher: nothing is promised against who learns the seed, or sees in which order facing_pairs copies the
+ * keys, or measures how long calls take, and chooses keys by that.
+ *
  * The child of a fork has a copy of each map, which the parent and other children do not see. It may open maps of its own,
  * read closed maps, and make calls by clients that no thread was using during the fork. If another thread had locked a
  * bucket during the fork, a call on that bucket fails with FACING_AFTER_FORK: nobody will unlock it in the child. While the
@@ -30,6 +35,8 @@ extern "C" {
 
 /* The exports, as facing_base.h says. */
 uint32_t facing_c_open(size_t capacity, uint32_t clients, uint32_t salt, facing_handle *out);
+uint32_t facing_c_open_seeded(size_t capacity, uint32_t clients, uint32_t salt, uint64_t seed0, uint64_t seed1,
+                              facing_handle *out);
 uint32_t facing_c_try_get(facing_handle client, facing_handle *out, uint64_t key, facing_answer *answer);
 uint32_t facing_c_try_contains(facing_handle client, facing_handle *out, uint64_t key, facing_answer *answer);
 uint32_t facing_c_try_put(facing_handle client, facing_handle *out, uint64_t key, uint64_t value, facing_answer *answer);
@@ -49,20 +56,38 @@ uint32_t facing_c_find(facing_handle closed, facing_handle *out, uint64_t key, f
 uint32_t facing_c_try_pairs(facing_handle any, facing_handle *out, uint64_t at, uint64_t *next, uint64_t *keys,
                             size_t keys_len, uint64_t *values, size_t values_len, facing_answer *answer);
 
+FACING_INNER uint32_t facing_open_with(size_t capacity, uint32_t clients, uint32_t salt, const uint64_t seed[2],
+                                       facing_handle *map) {
+    facing_handle made = {FACING_NULL};
+    uint32_t status = facing_watch_forks();
+    if (status != FACING_DONE) return status;
+    FACING_ENTER(0);
+    status = facing_c_open_seeded(capacity, clients, salt, seed[0], seed[1], &made);
+    FACING_LEAVE(0);
+    return facing_fill(&map->at, made, FACING_NUMBERS, status);
+}
+
+/* Opens a map as facing_open does, with a seed that is given: for tests, in which keys then lie in the same buckets in each
+ * run. Who knows the seed can choose keys that collide. */
+FACING_CHECKED FACING_API uint32_t facing_open_seeded(size_t capacity, uint32_t clients, const uint64_t seed[2],
+                                                      facing_handle *map) {
+    if (map == FACING_NULL) return FACING_BAD_ARGUMENT;
+    map->at = FACING_NULL;
+    if (seed == FACING_NULL) return FACING_BAD_ARGUMENT;
+    return facing_open_with(capacity, clients, 0, seed, map);
+}
+
 /* Opens an empty map for 1 to 65,536 clients, with a table of `capacity` buckets to begin with: 1 to 2^26, rounded up to a
  * power of two. A bucket takes some 32 bytes, so 2^26 of them take 2 GB at once; the table grows by itself, so begin small.
- * Returns FACING_BAD_CAPACITY, FACING_BAD_CLIENTS or FACING_NO_MEMORY, and the handle is null then. */
+ * The map's seed is drawn with getrandom; the salt is mixed in too, and is no secret: pass 0. Returns FACING_NO_SEED where
+ * the system gives none, FACING_BAD_CAPACITY, FACING_BAD_CLIENTS or FACING_NO_MEMORY, and the handle is null then. */
 FACING_CHECKED FACING_API uint32_t facing_open(size_t capacity, uint32_t clients, uint32_t salt, facing_handle *map) {
-    facing_handle made = {FACING_NULL};
+    uint64_t seed[2] = {0, 0};
     uint32_t status;
     if (map == FACING_NULL) return FACING_BAD_ARGUMENT;
     map->at = FACING_NULL;
-    status = facing_watch_forks();
-    if (status != FACING_DONE) return status;
-    FACING_ENTER(0);
-    status = facing_c_open(capacity, clients, salt, &made);
-    FACING_LEAVE(0);
-    return facing_fill(&map->at, made, FACING_NUMBERS, status);
+    status = facing_seed(seed);
+    return status == FACING_DONE ? facing_open_with(capacity, clients, salt, seed, map) : status;
 }
 
 /* Fills `client` with a client of the map that is not in use. Free it to give it back, in any thread.
@@ -73,6 +98,15 @@ FACING_CHECKED FACING_API uint32_t facing_client(facing_handle *map, facing_hand
     if (map == FACING_NULL) return FACING_BAD_ARGUMENT;
     return facing_any_client(&map->at, &client->at, FACING_NUMBERS);
 }
+
+/* Makes a call once. */
+#define FACING_TRY(export_and_arguments)                                                                                    \
+    lent = facing_lend(client->at, FACING_NUMBERS);                                                                         \
+    back.at = FACING_NULL;                                                                                                  \
+    FACING_ENTER(key);                                                                                                      \
+    status = export_and_arguments;                                                                                          \
+    FACING_LEAVE(key);                                                                                                      \
+    client->at = facing_back(client->at, lent.at, back.at)
 
 /* == Calls of a client ==
  *
@@ -89,17 +123,13 @@ FACING_CHECKED FACING_API uint32_t facing_client(facing_handle *map, facing_hand
     answer->found = 0;                                                                                                      \
     answer->value = 0;                                                                                                      \
     if (client == FACING_NULL) return FACING_BAD_ARGUMENT;                                                                  \
-    do {                                                                                                                    \
-        lent = facing_lend(client->at, FACING_NUMBERS);                                                                     \
-        back.at = FACING_NULL;                                                                                              \
-        FACING_ENTER(key);                                                                                                  \
-        status = export_and_arguments;                                                                                      \
-        FACING_LEAVE(key);                                                                                                  \
-        client->at = facing_back(client->at, lent.at, back.at);                                                             \
-        if (status != FACING_BUSY) return status;                                                                           \
+    FACING_TRY(export_and_arguments);                                                                                       \
+    while (status == FACING_BUSY) {                                                                                         \
         round = facing_next_round(round, 0);                                                                                \
         if (round == FACING_NEVER) return FACING_AFTER_FORK;                                                                \
-    } while (1)
+        FACING_TRY(export_and_arguments);                                                                                   \
+    }                                                                                                                       \
+    return status
 
 /* The answer is the value at the key. */
 FACING_CHECKED FACING_API uint32_t facing_get(facing_handle *client, uint64_t key, facing_answer *answer) {
@@ -213,6 +243,7 @@ FACING_CHECKED FACING_API uint32_t facing_add_all(facing_handle *client, const u
 }
 
 #undef FACING_CALL
+#undef FACING_TRY
 
 /* Counts the keys, by the handle of a map, a client or a closed map. Of an open map the count is an estimate: it adds the
  * clients' counters one by one. Of a closed map it is exact. */
@@ -305,6 +336,16 @@ FACING_CHECKED FACING_API uint32_t facing_reopen(facing_handle *closed, uint32_t
  * handle. A null handle is left alone. */
 FACING_API void facing_free(facing_handle *any) {
     if (any != FACING_NULL) facing_any_free(&any->at, FACING_NUMBERS);
+}
+
+/* Fills `more` with one more handle of a closed map, for another thread: each thread reads by a handle of its own, and the
+ * map ends with the last one. Returns FACING_WRONG_HANDLE where the handle is of another kind, or FACING_NO_MEMORY; the
+ * handle is null then. */
+FACING_CHECKED FACING_API uint32_t facing_again(facing_handle *closed, facing_handle *more) {
+    if (more == FACING_NULL || closed == more) return FACING_BAD_ARGUMENT;
+    more->at = FACING_NULL;
+    if (closed == FACING_NULL) return FACING_BAD_ARGUMENT;
+    return facing_any_again(&closed->at, &more->at, FACING_NUMBERS);
 }
 
 #ifdef __cplusplus

@@ -2,11 +2,13 @@
  * kind. Include one of those. */
 #ifndef FACING_BASE_H
 #define FACING_BASE_H
+#include <errno.h>
 #include <poll.h>
 #include <pthread.h>
 #include <sched.h>
 #include <stddef.h>
 #include <stdint.h>
+#include <sys/random.h>
 #include <sys/stat.h>
 #ifdef FACING_DEBUG
 #include <stdio.h>
@@ -38,6 +40,14 @@
 #define FACING_INNER static inline __attribute__((unused))
 #else
 #define FACING_INNER static inline
+#endif
+
+/* The same of what takes addresses of memory that it does not read. A compiler may warn that the memory is not set yet,
+ * unless it sees that in each place. */
+#ifdef __GNUC__
+#define FACING_SEEN FACING_INNER __attribute__((always_inline))
+#else
+#define FACING_SEEN FACING_INNER
 #endif
 
 /* A compiler warns where a status is dropped, unless FACING_CHECKED is defined as nothing. */
@@ -116,9 +126,9 @@ enum facing_status {
     FACING_BIN_MISSING,  /* of a close: the map ended, a part of it was not found; no run has met this */
     FACING_WRONG_HANDLE, /* the handle is null, or is of another kind */
     FACING_BAD_ARGUMENT, /* a pointer is null, two are the same, or a length is past 2^60 - 1 */
-    FACING_TOO_LONG,     /* of byte strings alone: a key or a value has more than 65,536 bytes */
+    FACING_TOO_LONG,     /* of byte strings alone: a key has more than 65,536 bytes, or a value more than 2^29 */
     FACING_NO_CLIENT,    /* of facing_client and its like alone: every client of the map is in use */
-    FACING_NO_SEED,      /* of the opening of byte maps alone: the system gave no random bytes */
+    FACING_NO_SEED,      /* of an opening alone: the system gave no random bytes */
     FACING_NO_ROOM,      /* the value, or the next bucket, is larger than the room; the call tells how large */
     FACING_AFTER_FORK    /* of the child of a fork: the bucket, or each client of the pool, was in use during the fork */
 };
@@ -136,7 +146,7 @@ FACING_API const char *facing_strerror(uint32_t status) {
     case FACING_BIN_MISSING: return "a part of the map is missing";
     case FACING_WRONG_HANDLE: return "the handle is null or of another kind";
     case FACING_BAD_ARGUMENT: return "an argument is null, the same as another, or too long";
-    case FACING_TOO_LONG: return "a key or a value is longer than 65,536 bytes";
+    case FACING_TOO_LONG: return "a key has more than 65,536 bytes, or a value more than 512 MB";
     case FACING_NO_CLIENT: return "every client of the map is in use";
     case FACING_NO_SEED: return "the system gave no random bytes";
     case FACING_NO_ROOM: return "the room is too small";
@@ -184,6 +194,7 @@ uint32_t facing_c_client(facing_handle map, facing_handle *out, facing_handle *c
 uint32_t facing_c_count(facing_handle any, facing_handle *out, facing_answer *answer);
 uint32_t facing_c_close(facing_handle map, facing_handle *out);
 uint32_t facing_c_reopen(facing_handle closed, facing_handle *out, uint32_t clients, facing_handle *map);
+uint32_t facing_c_again(facing_handle closed, facing_handle *out, facing_handle *more);
 void facing_c_free(facing_handle any);
 
 /* What a handle leads to, for the functions of the headers. The libraries are numbered.
@@ -317,16 +328,24 @@ FACING_INNER int facing_is_alone(void) {
 /* Backs off before the next try, and returns the next round. It returns FACING_NEVER where no try will succeed: this is the
  * child of a fork, and what the call waits for was in use by a thread that the fork left behind. In a child of one thread
  * that is sure; in one of more threads it is taken to be so after ten seconds. */
-enum { FACING_NEVER = 0, FACING_FIRST_SLEEP = 64, FACING_LAST_SLEEP = 10064 };
+enum { FACING_NEVER = 0, FACING_FIRST_YIELD = 7, FACING_FIRST_SLEEP = 64, FACING_LAST_SLEEP = 10064 };
 #ifdef __GNUC__
 __attribute__((cold))
 #endif
 FACING_INNER unsigned facing_next_round(unsigned round, unsigned forks_before) {
     facing_wait(round);
-    if (round < FACING_FIRST_SLEEP) return round + 1;
-    if (facing_forks == forks_before) return FACING_FIRST_SLEEP;
-    if (round >= FACING_LAST_SLEEP || facing_is_alone()) return FACING_NEVER;
+    if (facing_forks == forks_before) return round + (round < FACING_FIRST_SLEEP);
+    if (round >= FACING_LAST_SLEEP || (round >= FACING_FIRST_YIELD && facing_is_alone())) return FACING_NEVER;
     return round + 1;
+}
+
+/* Fills `seed` with 16 random bytes of the system. Returns FACING_NO_SEED where it gives none. */
+FACING_CHECKED FACING_INNER uint32_t facing_seed(uint64_t seed[2]) {
+    ssize_t got;
+    do
+        got = getrandom(seed, 16, 0);
+    while (got < 0 && errno == EINTR);
+    return got == 16 ? FACING_DONE : FACING_NO_SEED;
 }
 
 /* What an export takes of a handle. */
@@ -390,6 +409,16 @@ FACING_INNER uint32_t facing_any_reopen(void **closed, uint32_t clients, void **
     FACING_LEAVE(0);
     *closed = facing_back(*closed, lent.at, back.at);
     return facing_fill(map, made, library, status);
+}
+
+FACING_INNER uint32_t facing_any_again(void **closed, void **more, uint32_t library) {
+    facing_handle lent = facing_lend(*closed, library), back = {FACING_NULL}, made = {FACING_NULL};
+    uint32_t status;
+    FACING_ENTER(0);
+    status = facing_c_again(lent, &back, &made);
+    FACING_LEAVE(0);
+    *closed = facing_back(*closed, lent.at, back.at);
+    return facing_fill(more, made, library, status);
 }
 
 FACING_INNER void facing_any_free(void **any, uint32_t library) {

@@ -1,16 +1,14 @@
 /* A concurrent hash map from byte strings to byte strings. C99 or later, C++98 or later; Linux.
  *
- * A key and a value have 0 to 65,536 bytes each; a longer one fails with FACING_TOO_LONG. The rules at the head of facing.h
- * hold here too. A key, a value and the room for a value are a pointer and a number of bytes; the pointer may be NULL where
- * the number is 0. The functions copy keys and values; they reject room that overlaps a key or a value.
+ * A key has 0 to 65,536 bytes, and a value 0 to 2^29 (512 MB); a longer one fails with FACING_TOO_LONG. The rules at the
+ * head of facing.h hold here too. A key, a value and the room for a value are a pointer and a number of bytes; the pointer
+ * may be NULL where the number is 0. The functions copy keys and values; they reject room that overlaps a key or a value.
  *
  * The map draws a secret seed from the system when it is opened, and hashes keys with SipHash-1-3: who does not know the
  * seed cannot choose keys that collide. */
 #ifndef FACING_BYTES_H
 #define FACING_BYTES_H
 #include "facing.h"
-#include <errno.h>
-#include <sys/random.h>
 
 #ifdef __cplusplus
 #define FACING_ADDRESS(at) reinterpret_cast<uintptr_t>(at)
@@ -22,7 +20,7 @@ extern "C" {
 #endif
 
 /* The most bytes of a key, and of a value. */
-enum { FACING_LONGEST = 65536 };
+enum { FACING_LONGEST = 65536, FACING_LONGEST_VALUE = 536870912 };
 
 /* A handle of an open map, of one of its clients, of a closed map, or of a value. It begins as {0}, or where a call fills
  * it. */
@@ -73,6 +71,9 @@ uint32_t facing_c_bytes_find(facing_handle closed, facing_handle *out, const uin
 uint32_t facing_c_bytes_try_pairs(facing_handle any, facing_handle *out, uint64_t at, uint64_t *next, uint64_t *key_lens,
                                   size_t key_lens_len, uint64_t *value_lens, size_t value_lens_len, uint8_t *room,
                                   size_t room_len, facing_bytes_sizes *copied);
+uint32_t facing_c_bytes_try_heads(facing_handle any, facing_handle *out, uint64_t at, size_t most, uint64_t *next,
+                                  uint64_t *key_lens, size_t key_lens_len, uint64_t *value_lens, size_t value_lens_len,
+                                  uint8_t *room, size_t room_len, facing_bytes_sizes *copied);
 
 #ifdef FACING_WATCHED
 /* A number of a key, for ThreadSanitizer: calls on one key are ordered. */
@@ -88,35 +89,26 @@ FACING_INNER uint64_t facing_bytes_place(const void *key, size_t len) {
 #endif
 
 /* Whether bytes cannot be an argument: there are too many for an array, or they lie nowhere. */
-FACING_INNER int facing_bytes_are_none(const void *at, size_t len) {
+FACING_SEEN int facing_bytes_are_none(const void *at, size_t len) {
     return (at == FACING_NULL && len != 0) || len >> 60 != 0;
 }
 
 /* Whether bytes lie over each other. */
-FACING_INNER int facing_bytes_meet(const void *a, size_t a_len, const void *b, size_t b_len) {
+FACING_SEEN int facing_bytes_meet(const void *a, size_t a_len, const void *b, size_t b_len) {
     uintptr_t x = FACING_ADDRESS(a), y = FACING_ADDRESS(b);
     return a_len != 0 && b_len != 0 && x < y + b_len && y < x + a_len;
 }
 
 /* Whether there are bytes that cannot be an argument, or that lie over the room. */
-FACING_INNER int facing_bytes_are_wrong(const void *at, size_t len, const void *room, size_t room_len) {
+FACING_SEEN int facing_bytes_are_wrong(const void *at, size_t len, const void *room, size_t room_len) {
     return facing_bytes_are_none(at, len) || facing_bytes_are_none(room, room_len)
            || facing_bytes_meet(at, len, room, room_len);
 }
 
 /* Bytes that an export may be handed: where there are none they lie somewhere all the same. */
-FACING_INNER uint8_t *facing_bytes_at(const void *at) {
+FACING_SEEN uint8_t *facing_bytes_at(const void *at) {
     static uint8_t somewhere;
     return at != FACING_NULL ? FACING_AS_BYTES(at) : &somewhere;
-}
-
-/* Fills `seed` with 16 random bytes of the system. Returns FACING_NO_SEED where it gives none. */
-FACING_CHECKED FACING_INNER uint32_t facing_seed(uint64_t seed[2]) {
-    ssize_t got;
-    do
-        got = getrandom(seed, 16, 0);
-    while (got < 0 && errno == EINTR);
-    return got == 16 ? FACING_DONE : FACING_NO_SEED;
 }
 
 /* Opens a map as facing_bytes_open does, with a seed that is given: for tests, whose hashes are then the same in each run.
@@ -166,14 +158,23 @@ FACING_INNER void facing_bytes_tell(facing_bytes_answer *answer, facing_answer t
     answer->len = told.value;
 }
 
+/* Makes a call once. */
+#define FACING_TRY(export_and_arguments)                                                                                    \
+    lent = facing_lend(client->at, FACING_BYTES);                                                                           \
+    back.at = FACING_NULL;                                                                                                  \
+    FACING_ENTER(FACING_BYTES_PLACE(key, key_len));                                                                         \
+    status = export_and_arguments;                                                                                          \
+    FACING_LEAVE(FACING_BYTES_PLACE(key, key_len));                                                                         \
+    client->at = facing_back(client->at, lent.at, back.at)
+
 /* == Calls of a client ==
  *
  * Each call locks the bucket of its key, and no other lock; while another thread has that lock it spins, then yields, then
  * sleeps for a millisecond at a time. It returns FACING_TOO_LONG, FACING_NO_MEMORY, FACING_CLIENT_FULL, FACING_AFTER_FORK or
- * FACING_WRONG_HANDLE, and then the call was not made. Each value that a call is given is copied, in one allocation; a call
- * that adds a key allocates the key and a node too, and one with a longer key than the client had before, room for it.
- * facing_bytes_get and facing_bytes_contains allocate nothing for key and value. Any call may allocate parts of a table that
- * grows, and goes on where there is no memory for them. */
+ * FACING_WRONG_HANDLE, and then the call was not made. Each value that a call is given is copied, in one allocation, or in two
+ * where it has more than 318 bytes; a call that adds a key allocates the key and a node too, and one with a longer key than
+ * the client had before, room for it. facing_bytes_get and facing_bytes_contains allocate nothing for key and value. Any
+ * call may allocate parts of a table that grows, and goes on where there is no memory for them. */
 #define FACING_BYTES_CALL(is_wrong, export_and_arguments)                                                                   \
     uint32_t status;                                                                                                        \
     unsigned round = 0;                                                                                                     \
@@ -181,20 +182,14 @@ FACING_INNER void facing_bytes_tell(facing_bytes_answer *answer, facing_answer t
     facing_answer told = {0, 0};                                                                                            \
     facing_bytes_tell(answer, told);                                                                                        \
     if (client == FACING_NULL || (is_wrong)) return FACING_BAD_ARGUMENT;                                                    \
-    do {                                                                                                                    \
-        lent = facing_lend(client->at, FACING_BYTES);                                                                       \
-        back.at = FACING_NULL;                                                                                              \
-        FACING_ENTER(FACING_BYTES_PLACE(key, key_len));                                                                     \
-        status = export_and_arguments;                                                                                      \
-        FACING_LEAVE(FACING_BYTES_PLACE(key, key_len));                                                                     \
-        client->at = facing_back(client->at, lent.at, back.at);                                                             \
-        if (status != FACING_BUSY) {                                                                                        \
-            facing_bytes_tell(answer, told);                                                                                \
-            return status;                                                                                                  \
-        }                                                                                                                   \
+    FACING_TRY(export_and_arguments);                                                                                       \
+    while (status == FACING_BUSY) {                                                                                         \
         round = facing_next_round(round, 0);                                                                                \
         if (round == FACING_NEVER) return FACING_AFTER_FORK;                                                                \
-    } while (1)
+        FACING_TRY(export_and_arguments);                                                                                   \
+    }                                                                                                                       \
+    facing_bytes_tell(answer, told);                                                                                        \
+    return status
 
 /* Copies the value at the key into `room`, once the bucket is unlocked. Where the value is longer than the room nothing is
  * copied, the status is FACING_NO_ROOM, and the answer is {1, its length}; the rest of the room is as it was. */
@@ -316,6 +311,7 @@ FACING_CHECKED FACING_API uint32_t facing_bytes_replace_if(facing_bytes_handle *
 }
 
 #undef FACING_BYTES_CALL
+#undef FACING_TRY
 
 /* == Without a client == */
 
@@ -390,14 +386,25 @@ FACING_CHECKED FACING_API uint32_t facing_bytes_sizes_of(facing_bytes_handle *an
     return status;
 }
 
-/* Copies the pairs of the next buckets, at most 1,024, as facing_pairs does, of a closed map or, by a client, of an open
- * one. Keys and values are copied into `room`, each key before its value, and their lengths into `key_lens` and
- * `value_lens`, which have room for `len` of them. Stores in `copied` how many pairs and bytes were copied. Where the next
- * bucket alone is too large the status is FACING_NO_ROOM, `copied` is what it needs, and the cursor is at it. */
-FACING_CHECKED FACING_API uint32_t facing_bytes_pairs(facing_bytes_handle *any, facing_cursor *cursor, uint64_t *key_lens,
-                                                      uint64_t *value_lens, size_t len, void *room, size_t room_len,
-                                                      facing_bytes_sizes *copied) {
-    facing_handle lent, back;
+/* Tries to copy the pairs of one bucket behind those that were copied, of values at most so many bytes. */
+FACING_INNER uint32_t facing_bytes_try_copy(facing_bytes_handle *any, uint64_t at, uint64_t *next, size_t most,
+                                            uint64_t *key_lens, uint64_t *value_lens, size_t len, uint8_t *room,
+                                            size_t room_len, facing_bytes_sizes *step) {
+    facing_handle lent = facing_lend(any->at, FACING_BYTES), back = {FACING_NULL};
+    uint32_t status;
+    FACING_ENTER(0);
+    if (most == SIZE_MAX)
+        status = facing_c_bytes_try_pairs(lent, &back, at, next, key_lens, len, value_lens, len, room, room_len, step);
+    else
+        status = facing_c_bytes_try_heads(lent, &back, at, most, next, key_lens, len, value_lens, len, room, room_len, step);
+    FACING_LEAVE(0);
+    any->at = facing_back(any->at, lent.at, back.at);
+    return status;
+}
+
+FACING_INNER uint32_t facing_bytes_copy(facing_bytes_handle *any, facing_cursor *cursor, size_t most, uint64_t *key_lens,
+                                        uint64_t *value_lens, size_t len, void *room, size_t room_len,
+                                        facing_bytes_sizes *copied) {
     facing_bytes_sizes step = {0, 0};
     uint64_t next;
     uint32_t status;
@@ -411,14 +418,9 @@ FACING_CHECKED FACING_API uint32_t facing_bytes_pairs(facing_bytes_handle *any, 
         return FACING_BAD_ARGUMENT;
     do {
         next = cursor->at;
-        lent = facing_lend(any->at, FACING_BYTES);
-        back.at = FACING_NULL;
-        FACING_ENTER(0);
-        status = facing_c_bytes_try_pairs(lent, &back, cursor->at, &next, key_lens + copied->pairs, len - copied->pairs,
-                                          value_lens + copied->pairs, len - copied->pairs,
-                                          facing_bytes_at(room) + copied->bytes, room_len - copied->bytes, &step);
-        FACING_LEAVE(0);
-        any->at = facing_back(any->at, lent.at, back.at);
+        status = facing_bytes_try_copy(any, cursor->at, &next, most, key_lens + copied->pairs, value_lens + copied->pairs,
+                                       len - copied->pairs, facing_bytes_at(room) + copied->bytes, room_len - copied->bytes,
+                                       &step);
         if (status == FACING_DONE) {
             copied->pairs += step.pairs;
             copied->bytes += step.bytes;
@@ -437,6 +439,24 @@ FACING_CHECKED FACING_API uint32_t facing_bytes_pairs(facing_bytes_handle *any, 
     return status;
 }
 
+/* Copies the pairs of the next buckets, at most 1,024, as facing_pairs does, of a closed map or, by a client, of an open
+ * one. Keys and values are copied into `room`, each key before its value, and their lengths into `key_lens` and
+ * `value_lens`, which have room for `len` of them. Stores in `copied` how many pairs and bytes were copied. Where the next
+ * bucket alone is too large the status is FACING_NO_ROOM, `copied` is what it needs, and the cursor is at it. */
+FACING_CHECKED FACING_API uint32_t facing_bytes_pairs(facing_bytes_handle *any, facing_cursor *cursor, uint64_t *key_lens,
+                                                      uint64_t *value_lens, size_t len, void *room, size_t room_len,
+                                                      facing_bytes_sizes *copied) {
+    return facing_bytes_copy(any, cursor, SIZE_MAX, key_lens, value_lens, len, room, room_len, copied);
+}
+
+/* Copies keys as facing_bytes_pairs copies pairs, and of each value only its first bytes, at most `most`; with 0 the keys
+ * alone. A value's length in `value_lens` is that of the whole value. */
+FACING_CHECKED FACING_API uint32_t facing_bytes_heads(facing_bytes_handle *any, facing_cursor *cursor, size_t most,
+                                                      uint64_t *key_lens, uint64_t *value_lens, size_t len, void *room,
+                                                      size_t room_len, facing_bytes_sizes *copied) {
+    return facing_bytes_copy(any, cursor, most, key_lens, value_lens, len, room, room_len, copied);
+}
+
 /* Opens a map with copies of the pairs of a closed one, which stays as it is, and with its seed. Fails as facing_bytes_open
  * does, but never with FACING_NO_SEED. */
 FACING_CHECKED FACING_API uint32_t facing_bytes_reopen(facing_bytes_handle *closed, uint32_t clients,
@@ -451,6 +471,14 @@ FACING_CHECKED FACING_API uint32_t facing_bytes_reopen(facing_bytes_handle *clos
  * map ends with its last handle. A null handle is left alone. */
 FACING_API void facing_bytes_free(facing_bytes_handle *any) {
     if (any != FACING_NULL) facing_any_free(&any->at, FACING_BYTES);
+}
+
+/* Fills `more` with one more handle of a closed map, as facing_again does. */
+FACING_CHECKED FACING_API uint32_t facing_bytes_again(facing_bytes_handle *closed, facing_bytes_handle *more) {
+    if (more == FACING_NULL || closed == more) return FACING_BAD_ARGUMENT;
+    more->at = FACING_NULL;
+    if (closed == FACING_NULL) return FACING_BAD_ARGUMENT;
+    return facing_any_again(&closed->at, &more->at, FACING_BYTES);
 }
 
 #ifdef __cplusplus

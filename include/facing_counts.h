@@ -86,6 +86,15 @@ FACING_CHECKED FACING_API uint32_t facing_counts_client(facing_counts_handle *ma
     return facing_any_client(&map->at, &client->at, FACING_COUNTS);
 }
 
+/* Makes a call once. */
+#define FACING_TRY(export_and_arguments)                                                                                    \
+    lent = facing_lend(client->at, FACING_COUNTS);                                                                          \
+    back.at = FACING_NULL;                                                                                                  \
+    FACING_ENTER(FACING_BYTES_PLACE(key, key_len));                                                                         \
+    status = export_and_arguments;                                                                                          \
+    FACING_LEAVE(FACING_BYTES_PLACE(key, key_len));                                                                         \
+    client->at = facing_back(client->at, lent.at, back.at)
+
 /* == Calls of a client ==
  *
  * Each call locks the bucket of its key, and no other lock; while another thread has that lock it spins, then yields, then
@@ -102,17 +111,13 @@ FACING_CHECKED FACING_API uint32_t facing_counts_client(facing_counts_handle *ma
     answer->found = 0;                                                                                                      \
     answer->value = 0;                                                                                                      \
     if (client == FACING_NULL || facing_bytes_are_none(key, key_len)) return FACING_BAD_ARGUMENT;                           \
-    do {                                                                                                                    \
-        lent = facing_lend(client->at, FACING_COUNTS);                                                                      \
-        back.at = FACING_NULL;                                                                                              \
-        FACING_ENTER(FACING_BYTES_PLACE(key, key_len));                                                                     \
-        status = export_and_arguments;                                                                                      \
-        FACING_LEAVE(FACING_BYTES_PLACE(key, key_len));                                                                     \
-        client->at = facing_back(client->at, lent.at, back.at);                                                             \
-        if (status != FACING_BUSY) return status;                                                                           \
+    FACING_TRY(export_and_arguments);                                                                                       \
+    while (status == FACING_BUSY) {                                                                                         \
         round = facing_next_round(round, 0);                                                                                \
         if (round == FACING_NEVER) return FACING_AFTER_FORK;                                                                \
-    } while (1)
+        FACING_TRY(export_and_arguments);                                                                                   \
+    }                                                                                                                       \
+    return status
 
 /* The answer is the value at the key. */
 FACING_CHECKED FACING_API uint32_t facing_counts_get(facing_counts_handle *client, const void *key, size_t key_len,
@@ -182,6 +187,7 @@ FACING_CHECKED FACING_API uint32_t facing_counts_set(facing_counts_handle *clien
 }
 
 #undef FACING_COUNTS_CALL
+#undef FACING_TRY
 
 /* == Many calls at once ==
  *
@@ -191,8 +197,8 @@ FACING_CHECKED FACING_API uint32_t facing_counts_set(facing_counts_handle *clien
  * the key behind those failed, and those after it were not made. */
 
 /* Whether these are no keys: there is nothing where something must be, or the keys have more bytes than there are. */
-FACING_INNER int facing_counts_are_wrong(const uint64_t *key_lens, size_t len, const void *keys, size_t keys_len,
-                                         const void *others) {
+FACING_SEEN int facing_counts_are_wrong(const uint64_t *key_lens, size_t len, const void *keys, size_t keys_len,
+                                        const void *others) {
     size_t i;
     if (len >> 59 != 0 || (len != 0 && (key_lens == FACING_NULL || others == FACING_NULL))) return 1;
     if (facing_bytes_are_none(keys, keys_len)) return 1;
@@ -389,6 +395,14 @@ FACING_CHECKED FACING_API uint32_t facing_counts_reopen(facing_counts_handle *cl
  * map ends with its last handle. A null handle is left alone. */
 FACING_API void facing_counts_free(facing_counts_handle *any) {
     if (any != FACING_NULL) facing_any_free(&any->at, FACING_COUNTS);
+}
+
+/* Fills `more` with one more handle of a closed map, as facing_again does. */
+FACING_CHECKED FACING_API uint32_t facing_counts_again(facing_counts_handle *closed, facing_counts_handle *more) {
+    if (more == FACING_NULL || closed == more) return FACING_BAD_ARGUMENT;
+    more->at = FACING_NULL;
+    if (closed == FACING_NULL) return FACING_BAD_ARGUMENT;
+    return facing_any_again(&closed->at, &more->at, FACING_COUNTS);
 }
 
 #ifdef __cplusplus

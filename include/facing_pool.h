@@ -13,6 +13,7 @@
 #define FACING_POOL_H
 #include "facing.h"
 #include "facing_bytes.h"
+#include "facing_change.h"
 #include "facing_counts.h"
 #include <pthread.h>
 #include <stdlib.h>
@@ -76,12 +77,16 @@ FACING_API void facing_pool_give(facing_pool_slot *slot) {
 /* Without a slot the call is handed null, and stores that there is no answer. */
 #define FACING_POOL_CALL(handle, member, call)                                                                              \
     facing_pool_slot *slot = pool != FACING_NULL ? facing_slot(pool->slots, pool->clients, pool->forks) : FACING_NULL;      \
-    handle *client = slot != FACING_NULL ? &slot->client.member : FACING_NULL;                                              \
-    uint32_t status = call;                                                                                                 \
-    if (slot != FACING_NULL)                                                                                                \
-        facing_pool_give(slot);                                                                                             \
-    else if (pool != FACING_NULL && pool->clients != 0)                                                                     \
-        status = FACING_AFTER_FORK;                                                                                         \
+    handle *client = FACING_NULL;                                                                                           \
+    uint32_t status;                                                                                                        \
+    if (slot == FACING_NULL) {                                                                                              \
+        status = call;                                                                                                      \
+        if (pool != FACING_NULL && pool->clients != 0) status = FACING_AFTER_FORK;                                          \
+        return status;                                                                                                      \
+    }                                                                                                                       \
+    client = &slot->client.member;                                                                                          \
+    status = call;                                                                                                          \
+    facing_pool_give(slot);                                                                                                 \
     return status
 #define FACING_BY_NUMBERS(call) FACING_POOL_CALL(facing_handle, numbers, call)
 #define FACING_BY_BYTES(call) FACING_POOL_CALL(facing_bytes_handle, bytes, call)
@@ -173,6 +178,16 @@ FACING_CHECKED FACING_API uint32_t facing_pool_greatest(facing_pool *pool, uint6
 
 FACING_CHECKED FACING_API uint32_t facing_pool_set(facing_pool *pool, uint64_t key, uint64_t value, facing_answer *answer) {
     FACING_BY_NUMBERS(facing_set(client, key, value, answer));
+}
+
+FACING_CHECKED FACING_API uint32_t facing_pool_exchange(facing_pool *pool, uint64_t key, const uint64_t *expected,
+                                                        const uint64_t *value, facing_seen *seen) {
+    FACING_BY_NUMBERS(facing_exchange(client, key, expected, value, seen));
+}
+
+FACING_CHECKED FACING_API uint32_t facing_pool_add_up_to(facing_pool *pool, uint64_t key, uint64_t amount, uint64_t most,
+                                                         facing_answer *answer) {
+    FACING_BY_NUMBERS(facing_add_up_to(client, key, amount, most, answer));
 }
 
 FACING_CHECKED FACING_API uint32_t facing_pool_pairs(facing_pool *pool, facing_cursor *cursor, uint64_t *keys,
@@ -302,10 +317,23 @@ FACING_CHECKED FACING_API uint32_t facing_bytes_pool_replace_if(facing_bytes_poo
     FACING_BY_BYTES(facing_bytes_replace_if(client, key, key_len, old_value, old_len, new_value, new_len, answer));
 }
 
+FACING_CHECKED FACING_API uint32_t facing_bytes_pool_exchange(facing_bytes_pool *pool, const void *key, size_t key_len,
+                                                              const facing_bytes_view *expected,
+                                                              const facing_bytes_view *value, void *room, size_t room_len,
+                                                              facing_bytes_seen *seen) {
+    FACING_BY_BYTES(facing_bytes_exchange(client, key, key_len, expected, value, room, room_len, seen));
+}
+
 FACING_CHECKED FACING_API uint32_t facing_bytes_pool_pairs(facing_bytes_pool *pool, facing_cursor *cursor,
                                                            uint64_t *key_lens, uint64_t *value_lens, size_t len, void *room,
                                                            size_t room_len, facing_bytes_sizes *copied) {
     FACING_BY_BYTES(facing_bytes_pairs(client, cursor, key_lens, value_lens, len, room, room_len, copied));
+}
+
+FACING_CHECKED FACING_API uint32_t facing_bytes_pool_heads(facing_bytes_pool *pool, facing_cursor *cursor, size_t most,
+                                                           uint64_t *key_lens, uint64_t *value_lens, size_t len, void *room,
+                                                           size_t room_len, facing_bytes_sizes *copied) {
+    FACING_BY_BYTES(facing_bytes_heads(client, cursor, most, key_lens, value_lens, len, room, room_len, copied));
 }
 
 FACING_CHECKED FACING_API uint32_t facing_bytes_pool_count(facing_bytes_pool *pool, uint64_t *count) {
@@ -419,6 +447,17 @@ FACING_CHECKED FACING_API uint32_t facing_counts_pool_greatest(facing_counts_poo
 FACING_CHECKED FACING_API uint32_t facing_counts_pool_set(facing_counts_pool *pool, const void *key, size_t key_len,
                                                           uint64_t value, facing_answer *answer) {
     FACING_BY_COUNTS(facing_counts_set(client, key, key_len, value, answer));
+}
+
+FACING_CHECKED FACING_API uint32_t facing_counts_pool_exchange(facing_counts_pool *pool, const void *key, size_t key_len,
+                                                               const uint64_t *expected, const uint64_t *value,
+                                                               facing_seen *seen) {
+    FACING_BY_COUNTS(facing_counts_exchange(client, key, key_len, expected, value, seen));
+}
+
+FACING_CHECKED FACING_API uint32_t facing_counts_pool_add_up_to(facing_counts_pool *pool, const void *key, size_t key_len,
+                                                                uint64_t amount, uint64_t most, facing_answer *answer) {
+    FACING_BY_COUNTS(facing_counts_add_up_to(client, key, key_len, amount, most, answer));
 }
 
 FACING_CHECKED FACING_API uint32_t facing_counts_pool_pairs(facing_counts_pool *pool, facing_cursor *cursor,

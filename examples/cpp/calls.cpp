@@ -1,9 +1,11 @@
 // Each call of facing.hpp, and what fails.
 #include "facing.hpp"
 #include <cstdio>
+#include <map>
+#include <thread>
 #include <type_traits>
 
-static unsigned long long wrong;
+static std::atomic<unsigned long long> wrong;
 
 static void want(bool is_so) {
     wrong += !is_so;
@@ -35,6 +37,80 @@ template <class Client> static void calls(Client &client, typename Client::key_t
     want(client.remove_if(one, 4));
     want(!client.remove(one));
     want(!client.get(one));
+    want(client.add_up_to(one, 2, 3) && !client.add_up_to(one, 2, 3) && client.get(one) == 2u);
+    want(client.update(one, [](std::optional<std::uint64_t> seen) { return std::optional(*seen * 5); }) == 10u);
+    want(client.update(two, [](std::optional<std::uint64_t> seen) { return std::optional(seen ? 1u : 7u); }) == 7u);
+    want(!client.update(two, [](std::optional<std::uint64_t>) { return std::optional<std::uint64_t>(); }));
+    want(!client.get(two) && client.remove(one) == 10u);
+}
+
+// Two threads change one value by a function.
+static void update_together() {
+    facing::map map(16, 2);
+    {
+        const auto count = [](facing::client client) {
+            for (int i = 0; i < 10000; i++)
+                client.update(7, [](std::optional<std::uint64_t> seen) { return std::optional(seen.value_or(0) + 1); });
+        };
+        std::thread first(count, map.client()), second(count, map.client());
+        first.join();
+        second.join();
+    }
+    want(map.close().get(7) == 20000u);
+}
+
+// Four threads read closed maps, which are const.
+static void read_together(const facing::closed_map &numbers, const facing::closed_bytes &bytes) {
+    std::vector<std::thread> threads;
+    for (int i = 0; i < 4; i++)
+        threads.emplace_back([&numbers, &bytes] {
+            for (std::uint64_t key = 0; key < 1000; key++) {
+                want(numbers.get(key) == key && numbers.contains(key) && !numbers.get(key + 1000));
+                want(bytes.get(std::to_string(key)) == std::string(key, 'x'));
+            }
+            want(numbers.size() == 1000 && numbers.pairs().size() == 1000);
+        });
+    for (std::thread &it : threads) it.join();
+}
+
+static void read_closed() {
+    facing::map map;
+    facing::bytes_map bytes;
+    {
+        facing::client client = map.client();
+        facing::bytes_client text = bytes.client();
+        for (std::uint64_t key = 0; key < 1000; key++) {
+            client.put(key, key);
+            text.put(std::to_string(key), std::string(key, 'x'));
+        }
+    }
+    const facing::closed_map closed = map.close();
+    const facing::closed_bytes closed_bytes = bytes.close();
+    read_together(closed, closed_bytes);
+    // A string has room for itself, and not for the longest value.
+    want(closed_bytes.get("5")->capacity() < 100 && closed_bytes.get("900")->capacity() < 2000);
+    facing::closed_map moved = facing::map().close();
+    const facing::closed_map taken = std::move(moved);
+    want(status_of([&] { moved.get(1); }) == FACING_WRONG_HANDLE && taken.size() == 0);
+}
+
+// A map for long values, of which each client has room.
+static void call_long_values() {
+    const std::string longest(1 << 20, 'y');
+    facing::bytes_map map(16, 1, longest.size());
+    {
+        facing::bytes_client client = map.client();
+        want(!client.put("a", longest) && client.get("a") == longest && client.put("a", "b") == longest);
+        want(!client.put("c", longest) && client.remove("c") == longest);
+        want(status_of([&] { client.put("a", longest + "y"); }) == FACING_TOO_LONG && client.get("a") == "b");
+        client.put("a", longest);
+    }
+    const facing::closed_bytes closed = map.close();
+    want(closed.get("a") == longest);
+    facing::bytes_map again = closed.reopen(1);
+    want(again.client().remove("a") == longest);
+    want(status_of([] { facing::bytes_map none(16, 1, std::size_t{1} << 30); }) == FACING_TOO_LONG);
+    want(status_of([] { facing::bytes_map().client().put("a", std::string(FACING_LONGEST + 1, 'z')); }) == FACING_TOO_LONG);
 }
 
 static void call_bytes() {
@@ -60,6 +136,15 @@ static void call_bytes() {
         std::size_t pairs = 0;
         while (cursor.at != UINT64_MAX) pairs += client.pairs(cursor, 10).size();
         want(pairs == 100);
+        for (const auto &[key, value] : client.pairs()) {
+            want(std::stoi(key) < 100 && value == large);
+            pairs++;
+        }
+        want(pairs == 200);
+        want(client.update("0", [](const std::optional<std::string> &seen) { return std::optional(seen->substr(1) + "!"); })
+             == large.substr(1) + "!");
+        want(!client.update("0", [](const std::optional<std::string> &) { return std::optional<std::string>(); }));
+        want(client.update("0", [&](const std::optional<std::string> &seen) { return std::optional(seen ? "" : large); }) == large);
         for (int i = 1; i < 100; i++) client.remove(std::to_string(i));
     }
     facing::closed_bytes closed = map.close();
@@ -78,6 +163,9 @@ static void call_counts() {
         facing::counts_pairs pairs = client.pairs(cursor, 1);
         while (cursor.at != UINT64_MAX) pairs = client.pairs(cursor, 1000);
         client.set("", 7);
+        std::map<std::string, std::uint64_t> all;
+        for (auto [key, value] : client.pairs()) all[key] = value;
+        want(all.size() == 11 && all[""] == 7 && all["word 3" + std::string(1000, '.')] == 10);
     }
     facing::closed_counts closed = map.close();
     want(closed.size() == 11 && closed.get("") == 7u && !closed.get("one"));
@@ -98,6 +186,14 @@ int main() {
         client.put(1, 2);
         facing_cursor cursor{0};
         want(client.pairs(cursor, 10) == facing::number_pairs{{1, 2}} && cursor.at == UINT64_MAX);
+        cursor.at = 0;
+        want(client.pairs(cursor, SIZE_MAX) == facing::number_pairs{{1, 2}} && client.pairs(cursor, 10).empty());
+        unsigned pairs = 0;
+        for (const auto &[key, value] : client.pairs()) {
+            want(key == 1 && value == 2);
+            pairs++;
+        }
+        want(pairs == 1);
         client.remove(1);
         facing::client moved = std::move(client);
         moved.put(7, 8);
@@ -110,8 +206,14 @@ int main() {
     facing::map again = closed.reopen(2);
     want(again.client().add(7, 1) == 9);
     want(again.count() == 1);
+    facing::map empty(4096, 1);
+    facing::client of_empty = empty.client();
+    for (const auto &pair : of_empty.pairs()) want(pair.first > pair.second);
     call_bytes();
     call_counts();
-    std::printf("%llu wrong\n", wrong);
+    call_long_values();
+    update_together();
+    read_closed();
+    std::printf("%llu wrong\n", wrong.load());
     return wrong != 0;
 }

@@ -4,6 +4,7 @@ import copy
 import os
 import pickle
 import signal
+import threading
 import unittest
 
 import facing
@@ -132,6 +133,44 @@ class Calls(unittest.TestCase):
             shared.update({b"a": b"one"})
             self.assertEqual((len(shared), b"a" in shared, shared.copy()), (1, True, {b"a": b"one"}))
 
+    def test_values_are_changed_by_a_function(self):
+        with facing.Map(16, 1) as shared, shared.client() as client:
+            self.assertEqual(client.update(1, lambda seen: 3 if seen is None else None), 3)
+            self.assertEqual(client.update(1, lambda seen: seen * 5), 15)
+            self.assertIsNone(client.update(1, lambda seen: None))
+            self.assertIsNone(client.get(1))
+            self.assertEqual((client.add_up_to(1, 2, 3), client.add_up_to(1, 2, 3), client[1]), (True, False, 2))
+            with self.assertRaises(OverflowError):
+                client.update(1, lambda seen: -1)
+            with self.assertRaises(TypeError):
+                client.update(1)
+        with facing.CountsMap(16, 1) as shared, shared.client() as client:
+            self.assertEqual(client.update(b"a", lambda seen: (seen or 6) + 1), 7)
+            self.assertEqual((client.add_up_to(b"a", 1, 8), client.add_up_to(b"a", 1, 8), client[b"a"]), (True, False, 8))
+        with facing.BytesMap(16, 1) as shared:
+            self.assertEqual(shared.update(b"a", lambda seen: (seen or b"x") + b"y"), b"xy")
+            self.assertEqual(shared.update(b"a", lambda seen: bytearray(seen + b"z")), b"xyz")
+            self.assertEqual(shared.copy(), {b"a": b"xyz"})
+            self.refuses("TOO_LONG", shared.update, b"a", lambda seen: b"x" * 65537)
+            self.assertIsNone(shared.update(b"a", lambda seen: None))
+            self.assertEqual(len(shared), 0)
+
+    def test_threads_change_one_value(self):
+        def count(client):
+            for _ in range(500):
+                client.update(7, lambda seen: (seen or 0) + 1)
+
+        with facing.Map(16, 4) as shared:
+            clients = [shared.client() for _ in range(4)]
+            threads = [threading.Thread(target=count, args=(client,)) for client in clients]
+            for thread in threads:
+                thread.start()
+            for thread in threads:
+                thread.join()
+            self.assertEqual(clients[0][7], 2000)
+            for client in clients:
+                client.free()
+
     def test_a_child_does_not_hang_on_what_its_parent_uses(self):
         with facing.Map(16, 1) as shared, shared.client() as client, facing.BytesMap(16, 1) as texts, texts.client() as text:
             client.put(1, 5)
@@ -232,6 +271,24 @@ class Bytes(unittest.TestCase):
             with shared.close() as closed:
                 self.assertEqual(closed.items(), [(b"a", b"x" * 65536)])
                 self.assertEqual((len(closed), closed[b"a"], closed.get(b"b")), (1, b"x" * 65536, None))
+
+
+    def test_long_values(self):
+        longest = b"y" * (1 << 20)
+        with facing.BytesMap(16, 1, len(longest)) as shared:
+            with shared.client() as client:
+                self.assertIsNone(client.put(b"a", longest))
+                self.assertEqual(client.put(b"a", b"b"), longest)
+                with self.assertRaises(facing.Fault) as caught:
+                    client.put(b"a", longest + b"y")
+                self.assertEqual(caught.exception.name, "TOO_LONG")
+                client[b"a"] = longest
+            with shared.close() as closed:
+                self.assertEqual((closed[b"a"], closed.get(b"b")), (longest, None))
+                with closed.reopen(1) as again, again.client() as client:
+                    self.assertEqual(client.remove(b"a"), longest)
+        with self.assertRaises(facing.Fault):
+            facing.BytesMap(16, 1, 2**29 + 1)
 
 
 if __name__ == "__main__":

@@ -21,7 +21,7 @@ fn main() -> Result<(), Box<dyn std::error::Error>> {
         }
         threads.into_iter().try_for_each(|thread| thread.join().expect("a thread ended early"))
     })?;
-    let mut closed = map.close().map_err(|refused| refused.fault)?;
+    let closed = map.close().map_err(|refused| refused.fault)?;
     let mut want = HashMap::new();
     for word in text.iter().flat_map(|line| line.split_whitespace()) {
         *want.entry(word.as_bytes().to_vec()).or_insert(0u64) += 1;

@@ -20,7 +20,7 @@ nothing_sync = search sendable depth 20
 
 targets_send : EachSend (enum.shape Target.the_type).variants
 targets_send = (
-  (search (sendable, stage_within, merging_send, merging_sync) depth 20, tt),
+  (search sendable depth 20, (search (sendable, stage_within, merging_send, merging_sync) depth 20, tt)),
   (
     (
       keys_send,

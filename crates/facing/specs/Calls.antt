@@ -1,5 +1,5 @@
 -- Calls of clients of each kind, and what C is told.
-use Rattle.std.specs.Prelude.{◌≡◌, ◌⊎◌, ℕ, ◌≤◌, ⊤, nat_eq, max, length, drop, Option, Some, is_some, Result, Ok, Err}
+use Rattle.std.specs.Prelude.{◌≡◌, ◌⊎◌, ℕ, ◌≤◌, ⊤, nat_eq, length, drop, Option, Some, is_some, Result, Ok, Err}
 use Rattle.bin_history.specs.Calls.{after}
 use Rattle.bin_history.specs.Ops.{call_on}
 use Rattle.bin_history.specs.declared.call.Call.{Call}
@@ -9,22 +9,23 @@ use Rattle.functions.specs.declared.nothing.NoFunction.{NoFunction}
 use Rattle.facing_maps.specs.Answers.{Tried, status_of, answer_by}
 use Rattle.facing_maps.specs.Calls.{IsCalled, IsLooked}
 use Rattle.facing_maps.specs.Functions.{remapped, merged, no_value}
-use Rattle.facing_maps.specs.Keys.{Bytes, Key, key_of, same_key, same_bytes, longest, IsRefusal, IsTooLong}
+use Rattle.facing_maps.specs.Keys.{Bytes, Key, key_of, same_key, same_bytes, longest, AreAllowed, IsRefusal, IsRefusalOf, IsTooLong}
 use Rattle.facing_maps.specs.Rooms.{copied, room_of, IsShownWhole}
 use Rattle.facing_maps.specs.Statuses.{facing_done, facing_longest, facing_no_memory, facing_wrong_handle}
 use Rattle.facing_maps.specs.declared.merging.Merging.{Merging}
 use Rattle.facing_maps.specs.declared.stage.Stage.{Stage}
 use Rattle.facing_maps.specs.declared.status.FacingAnswer.{FacingAnswer}
+use Rattle.seeded_keys.specs.Mixing.{mixed}
 use Rattle.facing.specs.Handles.{IsFilled}
 use Rattle.facing.specs.declared.handle.FacingOut.{FacingOut}
 use Rattle.facing.specs.declared.target.Target.{Target}
 use Rattle.facing.specs.declared.target.Target.TheVariants as target
 
--- a client of a map of numbers tried the call; anything else is as it was, and a wrong handle
-abbrev pub IsNumberCalled : Target → Call ℕ ℕ Merging → Target → Tried ℕ → Type 0
-IsNumberCalled (target.Numbers s) call then tried = (t : Stage ℕ ℕ Merging) × (then ≡ target.Numbers t)
-    × IsCalled nat_eq nat_eq remapped merged ⊤ (λ _. ⊥) s call t tried
-IsNumberCalled other call then tried = (then ≡ other) × (tried ≡ Err facing_wrong_handle)
+-- a client of a map of numbers tried the call on the number that its seed makes of the key; anything else is as it was, and a wrong handle
+abbrev pub IsNumberCalled : Target → (ℕ → Call ℕ ℕ Merging) → ℕ → Target → Tried ℕ → Type 0
+IsNumberCalled (target.Numbers seed s) call key then tried = (t : Stage ℕ ℕ Merging) × (then ≡ target.Numbers seed t)
+    × IsCalled nat_eq nat_eq remapped merged ⊤ (λ _. ⊥) s (call (mixed seed key)) t tried
+IsNumberCalled other call key then tried = (then ≡ other) × (tried ≡ Err facing_wrong_handle)
 
 -- a client of a map from bytes to numbers tried the call on the key that its seed makes of the bytes
 abbrev pub IsCountCalled : Target → (Key → Call Key ℕ Merging) → Bytes → Target → Tried ℕ → Type 0
@@ -49,8 +50,8 @@ IsCountAsked other key then tried = (then ≡ other) × (tried ≡ Err facing_wr
 -- a client of a map of bytes tried the call on the key that its seed makes of the bytes
 abbrev pub IsBytesCalled : Target → Op Bytes NoFunction → Bytes → Target → Tried Bytes → Type 0
 IsBytesCalled (target.Bytes seed s) op key then tried = (t : Stage Key Bytes NoFunction) × (then ≡ target.Bytes seed t)
-    × IsCalled same_key same_bytes no_value no_value (max (length key) (longest op) ≤ facing_longest)
-    (IsRefusal (max (length key) (longest op))) s (call_on (key_of seed key) op) t tried
+    × IsCalled same_key same_bytes no_value no_value (AreAllowed key (longest op))
+    (IsRefusalOf key (longest op)) s (call_on (key_of seed key) op) t tried
 IsBytesCalled other op key then tried = (then ≡ other) × (tried ≡ Err facing_wrong_handle)
 
 -- it looked at the value of that key, which has an owner more
@@ -70,9 +71,9 @@ IsBytesAsked other key then tried = (then ≡ other) × (tried ≡ Err facing_wr
 abbrev pub IsTold : {V : Type 0} → (V → ℕ) → Tried V → ℕ → (before after : FacingAnswer) → Type 0
 IsTold told tried status before after = (status ≡ status_of tried) × (after ≡ answer_by told tried before)
 
-abbrev pub IsNumberTold : Target → Call ℕ ℕ Merging → Target → ℕ → (before after : FacingAnswer) → Type 0
-IsNumberTold old call new status before after =
-    (tried : Tried ℕ) × IsNumberCalled old call new tried × IsTold (λ v. v) tried status before after
+abbrev pub IsNumberTold : Target → (ℕ → Call ℕ ℕ Merging) → ℕ → Target → ℕ → (before after : FacingAnswer) → Type 0
+IsNumberTold old call key new status before after =
+    (tried : Tried ℕ) × IsNumberCalled old call key new tried × IsTold (λ v. v) tried status before after
 
 abbrev pub IsCountTold : Target → (Key → Call Key ℕ Merging) → Bytes → Target → ℕ → (before after : FacingAnswer) → Type 0
 IsCountTold old call key new status before after =

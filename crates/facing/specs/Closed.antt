@@ -7,6 +7,7 @@ use Rattle.facing_maps.specs.Keys.{Bytes, key_of, same_key, IsTooLong}
 use Rattle.facing_maps.specs.Rooms.{IsWhole}
 use Rattle.facing_maps.specs.Statuses.{facing_done, facing_longest, facing_wrong_handle}
 use Rattle.facing_maps.specs.declared.status.FacingAnswer.{FacingAnswer}
+use Rattle.seeded_keys.specs.Mixing.{mixed}
 use Rattle.facing.specs.Calls.{Shown}
 use Rattle.facing.specs.declared.target.Target.{Target}
 use Rattle.facing.specs.declared.target.Target.TheVariants as target
@@ -26,8 +27,8 @@ IsBytesFoundAs (Err other) status before after = (status ≡ other) × (after �
 
 -- of a closed map of the kind it is the value at the key; anything else is a wrong handle, and all is as it was
 abbrev pub IsNumberFound : Target → ℕ → ℕ → (before after : FacingAnswer) → Type 0
-IsNumberFound (target.Numbers s) key status before after = (found : Result (Option (Bor ℕ)) ℕ)
-    × IsFound nat_eq ⊤ (λ _. ⊥) s key found × IsNumberShown found status before after
+IsNumberFound (target.Numbers seed s) key status before after = (found : Result (Option (Bor ℕ)) ℕ)
+    × IsFound nat_eq ⊤ (λ _. ⊥) s (mixed seed key) found × IsNumberShown found status before after
 IsNumberFound _ key status before after = (status ≡ facing_wrong_handle) × (after ≡ before)
 
 abbrev pub IsCountFound : Target → Bytes → ℕ → (before after : FacingAnswer) → Type 0

@@ -3,3 +3,4 @@ pub mod Targets
 pub mod Calls
 pub mod Closed
 pub mod Pairs
+pub mod Changes

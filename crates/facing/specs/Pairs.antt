@@ -10,6 +10,7 @@ use Rattle.facing_maps.specs.Statuses.{facing_done, facing_no_room, facing_wrong
 use Rattle.facing_maps.specs.declared.merging.Merging.{Merging}
 use Rattle.facing_maps.specs.declared.stage.Stage.{Stage}
 use Rattle.facing_maps.specs.declared.status.FacingAnswer.{FacingAnswer}
+use Rattle.seeded_keys.specs.Mixing.{unmixed}
 use Rattle.facing.specs.declared.pairs.FacingSizes.{FacingSizes}
 use Rattle.facing.specs.declared.target.Target.{Target}
 use Rattle.facing.specs.declared.target.Target.TheVariants as target
@@ -22,13 +23,13 @@ IsCopyStatus n all status = ((status ≡ facing_done) × (n ≡ all)) ⊎ ((stat
 abbrev pub Told : Type 0
 Told = ℕ × List ℕ × List ℕ × FacingAnswer
 
-abbrev pub AreNumbersTold : Seen ℕ ℕ → (before after : Told) → ℕ → Type 0
-AreNumbersTold (Ok (Some pairs, next)) before after status = (after.0 ≡ next)
+abbrev pub AreNumbersTold : (ℕ → ℕ) → Seen ℕ ℕ → (before after : Told) → ℕ → Type 0
+AreNumbersTold key (Ok (Some pairs, next)) before after status = (after.0 ≡ next)
     × (after.3 ≡ record { found = 1; value = length pairs })
-    × (n : ℕ) × AreNumbers pairs (before.1, before.2) (after.1, after.2) n × IsCopyStatus n (length pairs) status
-AreNumbersTold (Ok (None, next)) before after status =
+    × (n : ℕ) × AreNumbers key pairs (before.1, before.2) (after.1, after.2) n × IsCopyStatus n (length pairs) status
+AreNumbersTold key (Ok (None, next)) before after status =
     (status ≡ facing_done) × (after ≡ (next, before.1, before.2, record { found = 1; value = 0 }))
-AreNumbersTold (Err other) before after status = (status ≡ other) × (after ≡ before)
+AreNumbersTold key (Err other) before after status = (status ≡ other) × (after ≡ before)
 
 -- the number that a walk goes on at, three rooms, and the sizes
 abbrev pub ToldBytes : Type 0
@@ -46,16 +47,18 @@ ArePairsTold number laid (Err other) before after status = (status ≡ other) ×
 -- of a closed map of the kind, or of a client of one, they are the pairs at this place; anything else is as it was, and a
 -- wrong handle
 abbrev pub AreNumbersOf : Target → ℕ → (before after : Told) → Target → ℕ → Type 0
-AreNumbersOf (target.Numbers s) at before after then status = (t : Stage ℕ ℕ Merging) × (then ≡ target.Numbers t)
+AreNumbersOf (target.Numbers seed s) at before after then status = (t : Stage ℕ ℕ Merging) × (then ≡ target.Numbers seed t)
     × (seen : Seen ℕ ℕ) × IsSeen nat_eq number_code (calls.after nat_eq remapped merged) s at t seen
-    × AreNumbersTold seen before after status
+    × AreNumbersTold (unmixed seed) seen before after status
 AreNumbersOf other at before after then status = (then ≡ other) × (status ≡ facing_wrong_handle) × (after ≡ before)
 
-abbrev pub AreBytesOf : Target → ℕ → (before after : ToldBytes) → Target → ℕ → Type 0
-AreBytesOf (target.Bytes seed s) at before after then status = (t : Stage Key Bytes NoFunction) × (then ≡ target.Bytes seed t)
+-- beside a key lie these numbers and bytes of its value
+abbrev pub AreBytesOf : (Bytes → ℕ) → (Bytes → Bytes) → Target → ℕ → (before after : ToldBytes) → Target → ℕ → Type 0
+AreBytesOf number laid (target.Bytes seed s) at before after then status = (t : Stage Key Bytes NoFunction)
+    × (then ≡ target.Bytes seed t)
     × (seen : Seen Key Bytes) × IsSeen same_key code_in (calls.after same_bytes no_value no_value) s at t seen
-    × ArePairsTold length (λ v. v) seen before after status
-AreBytesOf other at before after then status = (then ≡ other) × (status ≡ facing_wrong_handle) × (after ≡ before)
+    × ArePairsTold number laid seen before after status
+AreBytesOf number laid other at before after then status = (then ≡ other) × (status ≡ facing_wrong_handle) × (after ≡ before)
 
 abbrev pub AreCountsOf : Target → ℕ → (before after : ToldBytes) → Target → ℕ → Type 0
 AreCountsOf (target.Counts seed s) at before after then status = (t : Stage Key ℕ Merging) × (then ≡ target.Counts seed t)

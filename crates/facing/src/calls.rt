@@ -14,10 +14,10 @@ use hashkeys::Bytes;
 
 /// Tries a call of the client of a map of whole numbers that this is. It waits for nobody.
 pub(crate) fn try_number(target: &mut Target, key: u64, op: Op<u64, Merging>) -> Tried<u64>
-    ensures { IsNumberCalled target.old (call_on key op) target.new result }
+    ensures { IsNumberCalled target.old (λ k. call_on k op) key target.new result }
 {
     match target {
-        Target::Numbers(stage) => stage.try_call(KeyArg::Owned(key), op),
+        Target::Numbers(seed, stage) => stage.try_call(KeyArg::Owned(seed.mix(key)), op),
         Target::Bytes(_, _) => Err(WRONG_HANDLE),
         Target::Counts(_, _) => Err(WRONG_HANDLE),
         Target::Held(_) => Err(WRONG_HANDLE),
@@ -31,7 +31,7 @@ pub(crate) fn try_count(target: &mut Target, key: &[u8], op: Op<u64, Merging>) -
 {
     match target {
         Target::Counts(keys, stage) => try_on(stage, keys, key, op),
-        Target::Numbers(_) => Err(WRONG_HANDLE),
+        Target::Numbers(_, _) => Err(WRONG_HANDLE),
         Target::Bytes(_, _) => Err(WRONG_HANDLE),
         Target::Held(_) => Err(WRONG_HANDLE),
     }
@@ -43,7 +43,7 @@ pub(crate) fn try_look_count(target: &mut Target, key: &[u8]) -> Tried<u64>
 {
     match target {
         Target::Counts(keys, stage) => try_look(stage, keys, key),
-        Target::Numbers(_) => Err(WRONG_HANDLE),
+        Target::Numbers(_, _) => Err(WRONG_HANDLE),
         Target::Bytes(_, _) => Err(WRONG_HANDLE),
         Target::Held(_) => Err(WRONG_HANDLE),
     }
@@ -55,7 +55,7 @@ pub(crate) fn try_has_count(target: &mut Target, key: &[u8]) -> Tried<u64>
 {
     match target {
         Target::Counts(keys, stage) => try_has(stage, keys, key),
-        Target::Numbers(_) => Err(WRONG_HANDLE),
+        Target::Numbers(_, _) => Err(WRONG_HANDLE),
         Target::Bytes(_, _) => Err(WRONG_HANDLE),
         Target::Held(_) => Err(WRONG_HANDLE),
     }
@@ -71,7 +71,7 @@ pub(crate) fn try_byte(
 {
     match target {
         Target::Bytes(keys, stage) => try_bytes(stage, keys, key, op),
-        Target::Numbers(_) => Err(WRONG_HANDLE),
+        Target::Numbers(_, _) => Err(WRONG_HANDLE),
         Target::Counts(_, _) => Err(WRONG_HANDLE),
         Target::Held(_) => Err(WRONG_HANDLE),
     }
@@ -84,7 +84,7 @@ pub(crate) fn try_look_bytes(target: &mut Target, key: &[u8]) -> Tried<SharedByt
 {
     match target {
         Target::Bytes(keys, stage) => try_look(stage, keys, key),
-        Target::Numbers(_) => Err(WRONG_HANDLE),
+        Target::Numbers(_, _) => Err(WRONG_HANDLE),
         Target::Counts(_, _) => Err(WRONG_HANDLE),
         Target::Held(_) => Err(WRONG_HANDLE),
     }
@@ -96,7 +96,7 @@ pub(crate) fn try_has_bytes(target: &mut Target, key: &[u8]) -> Tried<SharedByte
 {
     match target {
         Target::Bytes(keys, stage) => try_has(stage, keys, key),
-        Target::Numbers(_) => Err(WRONG_HANDLE),
+        Target::Numbers(_, _) => Err(WRONG_HANDLE),
         Target::Counts(_, _) => Err(WRONG_HANDLE),
         Target::Held(_) => Err(WRONG_HANDLE),
     }

@@ -22,7 +22,7 @@ pub(crate) fn find_number(target: &Target, key: u64, answer: &mut FacingAnswer) 
     ensures { IsNumberFound target.now key result answer.old answer.new }
 {
     match target {
-        Target::Numbers(stage) => tell_found(stage.find_as(&key), answer),
+        Target::Numbers(seed, stage) => tell_found(stage.find_as(&seed.mix(key)), answer),
         Target::Bytes(_, _) => WRONG_HANDLE,
         Target::Counts(_, _) => WRONG_HANDLE,
         Target::Held(_) => WRONG_HANDLE,
@@ -35,7 +35,7 @@ pub(crate) fn find_count(target: &Target, key: &[u8], answer: &mut FacingAnswer)
 {
     match target {
         Target::Counts(keys, stage) => tell_found(find(stage, keys, key), answer),
-        Target::Numbers(_) => WRONG_HANDLE,
+        Target::Numbers(_, _) => WRONG_HANDLE,
         Target::Bytes(_, _) => WRONG_HANDLE,
         Target::Held(_) => WRONG_HANDLE,
     }
@@ -59,7 +59,7 @@ pub(crate) fn find_bytes(
             }
             Err(status) => status,
         },
-        Target::Numbers(_) => WRONG_HANDLE,
+        Target::Numbers(_, _) => WRONG_HANDLE,
         Target::Counts(_, _) => WRONG_HANDLE,
         Target::Held(_) => WRONG_HANDLE,
     }

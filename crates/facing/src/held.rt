@@ -73,7 +73,7 @@ fn read(target: &Target, from: usize, room: &mut [u8], answer: &mut FacingAnswer
             }
             DONE
         }
-        Target::Numbers(_) => WRONG_HANDLE,
+        Target::Numbers(_, _) => WRONG_HANDLE,
         Target::Bytes(_, _) => WRONG_HANDLE,
         Target::Counts(_, _) => WRONG_HANDLE,
     }

@@ -5,13 +5,14 @@
 //! functions of the headers then try again. A handle stands for an open map, for one of its clients, for
 //! a closed map, or for a value that is held. An export takes it and gives it back through `out`, so one
 //! call has it at a time. Null, or a handle of something else, is answered by a status, and nothing is
-//! touched then; so is a key or a value of more than 65,536 bytes.
+//! touched then; so is a key of more than 65,536 bytes, or a value of more than 2^29.
 #![tactic(auto)]
 
 mod bytes;
 mod calls;
 mod closed;
 mod counts;
+mod exchanges;
 mod handle;
 mod held;
 mod maps;

@@ -1,6 +1,7 @@
 //! Maps, from their opening to their close, whatever their keys and values are.
 ghost use Rattle.facing.specs.Targets.{IsClientOf, IsClientStatus, IsReopenedFrom, IsReopeningStatus};
-ghost use Rattle.facing.specs.Targets.{IsClosedAs, IsCounted, IsCountTold};
+ghost use Rattle.std.specs.Prelude.{◌≡◌};
+ghost use Rattle.facing.specs.Targets.{IsAgainStatus, IsClosedAs, IsCounted, IsCountTold};
 ghost use Rattle.facing_maps.specs.Stages.{IsMadeOr, status_in};
 
 use crate::target::Target;
@@ -12,8 +13,8 @@ pub(crate) fn client(target: &Target) -> Result<Target, u32>
     ensures status { IsClientStatus target.now (status_in result) }
 {
     match target {
-        Target::Numbers(stage) => match stage.client() {
-            Ok(made) => Ok(Target::Numbers(made)),
+        Target::Numbers(seed, stage) => match stage.client() {
+            Ok(made) => Ok(Target::Numbers(*seed, made)),
             Err(status) => Err(status),
         },
         Target::Bytes(keys, stage) => match stage.client() {
@@ -34,8 +35,8 @@ pub(crate) fn reopen(target: &Target, clients: u32) -> Result<Target, u32>
     ensures status { IsReopeningStatus target.now clients (status_in result) }
 {
     match target {
-        Target::Numbers(stage) => match stage.reopen(clients) {
-            Ok(made) => Ok(Target::Numbers(made)),
+        Target::Numbers(seed, stage) => match stage.reopen(clients) {
+            Ok(made) => Ok(Target::Numbers(*seed, made)),
             Err(status) => Err(status),
         },
         Target::Bytes(keys, stage) => match stage.reopen(clients) {
@@ -50,12 +51,35 @@ pub(crate) fn reopen(target: &Target, clients: u32) -> Result<Target, u32>
     }
 }
 
+/// One more owner of the closed map that this is, with the same seed.
+pub(crate) fn again(target: &mut Target) -> Result<Target, u32>
+    ensures same { target.new ≡ target.old }
+    ensures again { IsMadeOr (λ again. again ≡ target.old) result }
+    ensures status { IsAgainStatus target.old (status_in result) }
+{
+    match target {
+        Target::Numbers(seed, stage) => match stage.again() {
+            Ok(more) => Ok(Target::Numbers(*seed, more)),
+            Err(status) => Err(status),
+        },
+        Target::Bytes(keys, stage) => match stage.again() {
+            Ok(more) => Ok(Target::Bytes(keys.again(), more)),
+            Err(status) => Err(status),
+        },
+        Target::Counts(keys, stage) => match stage.again() {
+            Ok(more) => Ok(Target::Counts(keys.again(), more)),
+            Err(status) => Err(status),
+        },
+        Target::Held(_) => Err(WRONG_HANDLE),
+    }
+}
+
 /// Closes the map that this is, in its place. It waits for nobody.
 pub(crate) fn close(target: &mut Target) -> u32
     ensures { IsClosedAs target.old target.new result }
 {
     match target {
-        Target::Numbers(stage) => stage.close(),
+        Target::Numbers(_, stage) => stage.close(),
         Target::Bytes(_, stage) => stage.close(),
         Target::Counts(_, stage) => stage.close(),
         Target::Held(_) => WRONG_HANDLE,
@@ -67,7 +91,7 @@ fn counted(target: &Target) -> Result<u64, u32>
     ensures { IsCounted target.now result }
 {
     match target {
-        Target::Numbers(stage) => stage.count(),
+        Target::Numbers(_, stage) => stage.count(),
         Target::Bytes(_, stage) => stage.count(),
         Target::Counts(_, stage) => stage.count(),
         Target::Held(_) => Err(WRONG_HANDLE),

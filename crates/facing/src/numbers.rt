@@ -22,10 +22,38 @@ use crate::owners::give;
 use crate::target::Target;
 use bin_history::Op;
 use facing_maps::{FacingAnswer, Merging, Stage, WRONG_HANDLE, code_of, tell};
+use seeded_keys::NumberSeed;
 use std::alloc::Global;
 
 /// Opens a map without entries, for a number of clients: a table for so many bins, 1 to 2^26, and 1
-/// to 65,536 clients. The salt is mixed into the codes of keys.
+/// to 65,536 clients. Its keys lie in it under the seed of these two numbers. The salt is mixed into the
+/// codes of keys.
+#[unsafe(no_mangle)]
+pub extern "C" fn facing_c_open_seeded(
+    alloc: Global,
+    capacity: usize,
+    clients: u32,
+    salt: u32,
+    seed0: u64,
+    seed1: u64,
+    out: &mut FacingOut,
+) -> u32
+    ensures new { result ≡ facing_done → IsFilled out.new.ptr
+        × IsNumbersOpened seed0 seed1 salt capacity clients out.new.target }
+    ensures refused { result ≢ facing_done → out.new ≡ out.old }
+    ensures status { IsMakingStatus (IsCapacityOf Lean capacity) (most_clients Lean) clients result }
+{
+    match Stage::open(alloc, capacity, clients, salt) {
+        Ok(stage) => {
+            let seed = NumberSeed::of(seed0, seed1);
+            give(alloc, Target::Numbers(seed, stage), out)
+        }
+        Err(fault) => code_of(fault),
+    }
+}
+
+/// Opens a map as `facing_c_open_seeded` does, under the seed of 1 and 0, which leaves numbers near each
+/// other near each other.
 #[unsafe(no_mangle)]
 pub extern "C" fn facing_c_open(
     alloc: Global,
@@ -35,14 +63,11 @@ pub extern "C" fn facing_c_open(
     out: &mut FacingOut,
 ) -> u32
     ensures new { result ≡ facing_done → IsFilled out.new.ptr
-        × IsNumbersOpened salt capacity clients out.new.target }
+        × IsNumbersOpened 1 0 salt capacity clients out.new.target }
     ensures refused { result ≢ facing_done → out.new ≡ out.old }
     ensures status { IsMakingStatus (IsCapacityOf Lean capacity) (most_clients Lean) clients result }
 {
-    match Stage::open(alloc, capacity, clients, salt) {
-        Ok(stage) => give(alloc, Target::Numbers(stage), out),
-        Err(fault) => code_of(fault),
-    }
+    facing_c_open_seeded(alloc, capacity, clients, salt, 1, 0, out)
 }
 
 /// Tries a call of a client.
@@ -55,7 +80,7 @@ fn call(
 ) -> u32
     ensures filled { IsFilled client.ptr → IsFilled out.new.ptr }
     ensures told { IsFilled client.ptr →
-        IsNumberTold client.target (call_on key op) out.new.target result answer.old answer.new }
+        IsNumberTold client.target (λ k. call_on k op) key out.new.target result answer.old answer.new }
     ensures null { ¬ IsFilled client.ptr →
         (result ≡ facing_wrong_handle) × (out.new ≡ out.old) × (answer.new ≡ answer.old) }
 {
@@ -77,7 +102,7 @@ pub extern "C" fn facing_c_try_get(
 ) -> u32
     ensures filled { IsFilled client.ptr → IsFilled out.new.ptr }
     ensures told { IsFilled client.ptr →
-        IsNumberTold client.target (Get key) out.new.target result answer.old answer.new }
+        IsNumberTold client.target (λ k. Get k) key out.new.target result answer.old answer.new }
     ensures null { ¬ IsFilled client.ptr →
         (result ≡ facing_wrong_handle) × (out.new ≡ out.old) × (answer.new ≡ answer.old) }
 {
@@ -94,7 +119,7 @@ pub extern "C" fn facing_c_try_contains(
 ) -> u32
     ensures filled { IsFilled client.ptr → IsFilled out.new.ptr }
     ensures told { IsFilled client.ptr →
-        IsNumberTold client.target (Contains key) out.new.target result answer.old answer.new }
+        IsNumberTold client.target (λ k. Contains k) key out.new.target result answer.old answer.new }
     ensures null { ¬ IsFilled client.ptr →
         (result ≡ facing_wrong_handle) × (out.new ≡ out.old) × (answer.new ≡ answer.old) }
 {
@@ -112,7 +137,7 @@ pub extern "C" fn facing_c_try_put(
 ) -> u32
     ensures filled { IsFilled client.ptr → IsFilled out.new.ptr }
     ensures told { IsFilled client.ptr →
-        IsNumberTold client.target (Put key value) out.new.target result answer.old answer.new }
+        IsNumberTold client.target (λ k. Put k value) key out.new.target result answer.old answer.new }
     ensures null { ¬ IsFilled client.ptr →
         (result ≡ facing_wrong_handle) × (out.new ≡ out.old) × (answer.new ≡ answer.old) }
 {
@@ -130,7 +155,7 @@ pub extern "C" fn facing_c_try_put_if_absent(
 ) -> u32
     ensures filled { IsFilled client.ptr → IsFilled out.new.ptr }
     ensures told { IsFilled client.ptr →
-        IsNumberTold client.target (PutIfAbsent key value) out.new.target result answer.old answer.new }
+        IsNumberTold client.target (λ k. PutIfAbsent k value) key out.new.target result answer.old answer.new }
     ensures null { ¬ IsFilled client.ptr →
         (result ≡ facing_wrong_handle) × (out.new ≡ out.old) × (answer.new ≡ answer.old) }
 {
@@ -147,7 +172,7 @@ pub extern "C" fn facing_c_try_remove(
 ) -> u32
     ensures filled { IsFilled client.ptr → IsFilled out.new.ptr }
     ensures told { IsFilled client.ptr →
-        IsNumberTold client.target (Remove key) out.new.target result answer.old answer.new }
+        IsNumberTold client.target (λ k. Remove k) key out.new.target result answer.old answer.new }
     ensures null { ¬ IsFilled client.ptr →
         (result ≡ facing_wrong_handle) × (out.new ≡ out.old) × (answer.new ≡ answer.old) }
 {
@@ -165,7 +190,7 @@ pub extern "C" fn facing_c_try_remove_if(
 ) -> u32
     ensures filled { IsFilled client.ptr → IsFilled out.new.ptr }
     ensures told { IsFilled client.ptr →
-        IsNumberTold client.target (RemoveIf key value) out.new.target result answer.old answer.new }
+        IsNumberTold client.target (λ k. RemoveIf k value) key out.new.target result answer.old answer.new }
     ensures null { ¬ IsFilled client.ptr →
         (result ≡ facing_wrong_handle) × (out.new ≡ out.old) × (answer.new ≡ answer.old) }
 {
@@ -183,7 +208,7 @@ pub extern "C" fn facing_c_try_replace(
 ) -> u32
     ensures filled { IsFilled client.ptr → IsFilled out.new.ptr }
     ensures told { IsFilled client.ptr →
-        IsNumberTold client.target (Replace key value) out.new.target result answer.old answer.new }
+        IsNumberTold client.target (λ k. Replace k value) key out.new.target result answer.old answer.new }
     ensures null { ¬ IsFilled client.ptr →
         (result ≡ facing_wrong_handle) × (out.new ≡ out.old) × (answer.new ≡ answer.old) }
 {
@@ -202,7 +227,7 @@ pub extern "C" fn facing_c_try_replace_if(
 ) -> u32
     ensures filled { IsFilled client.ptr → IsFilled out.new.ptr }
     ensures told { IsFilled client.ptr →
-        IsNumberTold client.target (ReplaceIf key old new) out.new.target result answer.old answer.new }
+        IsNumberTold client.target (λ k. ReplaceIf k old new) key out.new.target result answer.old answer.new }
     ensures null { ¬ IsFilled client.ptr →
         (result ≡ facing_wrong_handle) × (out.new ≡ out.old) × (answer.new ≡ answer.old) }
 {
@@ -220,7 +245,7 @@ pub extern "C" fn facing_c_try_add(
 ) -> u32
     ensures filled { IsFilled client.ptr → IsFilled out.new.ptr }
     ensures told { IsFilled client.ptr →
-        IsNumberTold client.target (Merge key value Merging.Add) out.new.target result answer.old answer.new }
+        IsNumberTold client.target (λ k. Merge k value Merging.Add) key out.new.target result answer.old answer.new }
     ensures null { ¬ IsFilled client.ptr →
         (result ≡ facing_wrong_handle) × (out.new ≡ out.old) × (answer.new ≡ answer.old) }
 {
@@ -238,7 +263,7 @@ pub extern "C" fn facing_c_try_greatest(
 ) -> u32
     ensures filled { IsFilled client.ptr → IsFilled out.new.ptr }
     ensures told { IsFilled client.ptr →
-        IsNumberTold client.target (Merge key value Merging.Greatest) out.new.target result answer.old answer.new }
+        IsNumberTold client.target (λ k. Merge k value Merging.Greatest) key out.new.target result answer.old answer.new }
     ensures null { ¬ IsFilled client.ptr →
         (result ≡ facing_wrong_handle) × (out.new ≡ out.old) × (answer.new ≡ answer.old) }
 {
@@ -262,7 +287,7 @@ pub extern "C" fn facing_c_try_set(
 ) -> u32
     ensures filled { IsFilled client.ptr → IsFilled out.new.ptr }
     ensures told { IsFilled client.ptr →
-        IsNumberTold client.target (Merge key value Merging.Set) out.new.target result answer.old answer.new }
+        IsNumberTold client.target (λ k. Merge k value Merging.Set) key out.new.target result answer.old answer.new }
     ensures null { ¬ IsFilled client.ptr →
         (result ≡ facing_wrong_handle) × (out.new ≡ out.old) × (answer.new ≡ answer.old) }
 {

@@ -3,7 +3,7 @@ ghost use Rattle.std.specs.Prelude.{◌≡◌, ◌≢◌, ◌⊎◌};
 ghost use Rattle.facing_maps.specs.Statuses.{facing_done, facing_no_memory, facing_wrong_handle};
 ghost use Rattle.facing.specs.Handles.{IsFilled};
 ghost use Rattle.facing.specs.Targets.{IsReopenedFrom, IsClientOf, IsClosedAs, IsCountTold};
-ghost use Rattle.facing.specs.Targets.{IsReopeningStatus, IsClientStatus};
+ghost use Rattle.facing.specs.Targets.{IsReopeningStatus, IsClientStatus, IsAgainStatus};
 
 use crate::handle::{FacingHandle, FacingOut};
 use crate::maps;
@@ -114,6 +114,33 @@ pub extern "C" fn facing_c_reopen(
     };
     let status = match maps::reopen(target.as_ref(), clients) {
         Ok(made) => give(alloc, made, map),
+        Err(status) => status,
+    };
+    *out = FacingOut::of(target);
+    status
+}
+
+/// Gives one more handle of a closed map out, for another thread. The first time it takes memory for the
+/// number of the map's owners, and each time for the handle.
+#[unsafe(no_mangle)]
+pub extern "C" fn facing_c_again(
+    alloc: Global,
+    closed: FacingHandle,
+    out: &mut FacingOut,
+    more: &mut FacingOut,
+) -> u32
+    ensures filled { IsFilled closed.ptr → IsFilled out.new.ptr }
+    ensures same { IsFilled closed.ptr → out.new.target ≡ closed.target }
+    ensures again { result ≡ facing_done → IsFilled more.new.ptr × (more.new.target ≡ closed.target) }
+    ensures refused { result ≢ facing_done → more.new ≡ more.old }
+    ensures status { IsFilled closed.ptr → IsAgainStatus closed.target result }
+    ensures null { ¬ IsFilled closed.ptr → (result ≡ facing_wrong_handle) × (out.new ≡ out.old) }
+{
+    let Some(mut target) = closed.into_box() else {
+        return WRONG_HANDLE;
+    };
+    let status = match maps::again(target.as_mut()) {
+        Ok(made) => give(alloc, made, more),
         Err(status) => status,
     };
     *out = FacingOut::of(target);

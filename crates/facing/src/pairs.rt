@@ -1,15 +1,17 @@
 //! The exports that copy pairs out of a map, a bucket at a time.
-ghost use Rattle.std.specs.Prelude.{◌≡◌};
+ghost use Rattle.std.specs.Prelude.{◌≡◌, length, take};
 ghost use Rattle.facing_maps.specs.Statuses.{facing_wrong_handle};
 ghost use Rattle.facing.specs.Handles.{IsFilled};
 ghost use Rattle.facing.specs.Pairs.{AreNumbersTold, ArePairsTold, AreNumbersOf, AreCountsOf, AreBytesOf};
+ghost use Rattle.seeded_keys.specs.Mixing.{unmixed};
 
 use crate::handle::{FacingHandle, FacingOut};
 use crate::target::Target;
 use facing_maps::{
-    DONE, FacingAnswer, Laid, NO_ROOM, SeededKey, Seen, WRONG_HANDLE, copy_numbers, copy_pairs,
-    total,
+    DONE, FacingAnswer, Heads, Laying, NO_ROOM, SeededKey, Seen, SharedBytes, WRONG_HANDLE, Whole,
+    copy_numbers, copy_pairs, total,
 };
+use seeded_keys::NumberSeed;
 
 /// How many pairs a bucket has, and how many bytes their keys and values have.
 #[repr(C)]
@@ -22,12 +24,13 @@ pub struct FacingSizes {
 /// Tells what a step of a walk showed.
 fn tell_numbers(
     seen: Seen<u64, u64>,
+    seed: NumberSeed,
     next: &mut u64,
     keys: &mut [u64],
     values: &mut [u64],
     answer: &mut FacingAnswer,
 ) -> u32
-    ensures { AreNumbersTold seen (next.old, keys.old, values.old, answer.old)
+    ensures { AreNumbersTold (unmixed seed) seen (next.old, keys.old, values.old, answer.old)
         (next.new, keys.new, values.new, answer.new) result }
 {
     match seen {
@@ -36,7 +39,7 @@ fn tell_numbers(
                 let pairs = pairs.as_slice();
                 *next = then;
                 *answer = FacingAnswer::some(pairs.len() as u64);
-                let count = copy_numbers(pairs, keys, values);
+                let count = copy_numbers(pairs, seed, keys, values);
                 if count < pairs.len() { NO_ROOM } else { DONE }
             }
             None => {
@@ -49,16 +52,17 @@ fn tell_numbers(
     }
 }
 
-/// Tells what a step of a walk showed.
-fn tell_pairs<V: Laid>(
+/// Tells what a step of a walk showed, of values what `laying` copies.
+fn tell_pairs<V: Drop, L: Laying<V>>(
     seen: Seen<SeededKey, V>,
+    laying: &L,
     next: &mut u64,
     key_lens: &mut [u64],
     numbers: &mut [u64],
     room: &mut [u8],
     sizes: &mut FacingSizes,
 ) -> u32
-    ensures { ArePairsTold V.number V.laid seen (next.old, key_lens.old, numbers.old, room.old, sizes.old)
+    ensures { ArePairsTold (L.number laying.now) (L.laid laying.now) seen (next.old, key_lens.old, numbers.old, room.old, sizes.old)
         (next.new, key_lens.new, numbers.new, room.new, sizes.new) result }
 {
     match seen {
@@ -68,9 +72,9 @@ fn tell_pairs<V: Laid>(
                 *next = then;
                 *sizes = FacingSizes {
                     pairs: pairs.len() as u64,
-                    bytes: total(pairs),
+                    bytes: total(pairs, laying),
                 };
-                let count = copy_pairs(pairs, key_lens, numbers, room);
+                let count = copy_pairs(pairs, laying, key_lens, numbers, room);
                 if count < pairs.len() { NO_ROOM } else { DONE }
             }
             None => {
@@ -96,7 +100,9 @@ fn numbers_at(
         (next.new, keys.new, values.new, answer.new) target.new result }
 {
     match target {
-        Target::Numbers(stage) => tell_numbers(stage.try_visit(at), next, keys, values, answer),
+        Target::Numbers(seed, stage) => {
+            tell_numbers(stage.try_visit(at), *seed, next, keys, values, answer)
+        }
         Target::Bytes(_, _) => WRONG_HANDLE,
         Target::Counts(_, _) => WRONG_HANDLE,
         Target::Held(_) => WRONG_HANDLE,
@@ -133,9 +139,10 @@ pub extern "C" fn facing_c_try_pairs(
     status
 }
 
-/// Tells the pairs of a bucket of the bytes map that this is.
-fn bytes_at(
+/// Tells the pairs of a bucket of the bytes map that this is, of values what `laying` copies.
+fn bytes_at<L: Laying<SharedBytes>>(
     target: &mut Target,
+    laying: &L,
     at: u64,
     next: &mut u64,
     key_lens: &mut [u64],
@@ -143,19 +150,20 @@ fn bytes_at(
     room: &mut [u8],
     sizes: &mut FacingSizes,
 ) -> u32
-    ensures { AreBytesOf target.old at (next.old, key_lens.old, value_lens.old, room.old, sizes.old)
+    ensures { AreBytesOf (L.number laying.now) (L.laid laying.now) target.old at (next.old, key_lens.old, value_lens.old, room.old, sizes.old)
         (next.new, key_lens.new, value_lens.new, room.new, sizes.new) target.new result }
 {
     match target {
         Target::Bytes(_, stage) => tell_pairs(
             stage.try_visit(at),
+            laying,
             next,
             key_lens,
             value_lens,
             room,
             sizes,
         ),
-        Target::Numbers(_) => WRONG_HANDLE,
+        Target::Numbers(_, _) => WRONG_HANDLE,
         Target::Counts(_, _) => WRONG_HANDLE,
         Target::Held(_) => WRONG_HANDLE,
     }
@@ -176,7 +184,7 @@ pub extern "C" fn facing_c_bytes_try_pairs(
     sizes: &mut FacingSizes,
 ) -> u32
     ensures filled { IsFilled any.ptr → IsFilled out.new.ptr }
-    ensures copied { IsFilled any.ptr → AreBytesOf any.target at
+    ensures copied { IsFilled any.ptr → AreBytesOf length (λ v. v) any.target at
         (next.old, key_lens.old, value_lens.old, room.old, sizes.old)
         (next.new, key_lens.new, value_lens.new, room.new, sizes.new) out.new.target result }
     ensures null { ¬ IsFilled any.ptr → (result ≡ facing_wrong_handle) × (out.new ≡ out.old)
@@ -188,7 +196,59 @@ pub extern "C" fn facing_c_bytes_try_pairs(
     let Some(mut target) = any.into_box() else {
         return WRONG_HANDLE;
     };
-    let status = bytes_at(target.as_mut(), at, next, key_lens, value_lens, room, sizes);
+    let status = bytes_at(
+        target.as_mut(),
+        &Whole,
+        at,
+        next,
+        key_lens,
+        value_lens,
+        room,
+        sizes,
+    );
+    *out = FacingOut::of(target);
+    status
+}
+
+/// Tries to copy the keys of the bucket at this place, as `facing_c_bytes_try_pairs` copies pairs, and of
+/// each value the first bytes, at most so many. It answers how many the bucket has, how many bytes it
+/// copies of all, and the number that a walk goes on at. The lengths of values are those of whole values.
+#[unsafe(no_mangle)]
+pub extern "C" fn facing_c_bytes_try_heads(
+    any: FacingHandle,
+    out: &mut FacingOut,
+    at: u64,
+    most: usize,
+    next: &mut u64,
+    key_lens: &mut [u64],
+    value_lens: &mut [u64],
+    room: &mut [u8],
+    sizes: &mut FacingSizes,
+) -> u32
+    ensures filled { IsFilled any.ptr → IsFilled out.new.ptr }
+    ensures copied { IsFilled any.ptr → AreBytesOf length (take most) any.target at
+        (next.old, key_lens.old, value_lens.old, room.old, sizes.old)
+        (next.new, key_lens.new, value_lens.new, room.new, sizes.new) out.new.target result }
+    ensures null { ¬ IsFilled any.ptr → (result ≡ facing_wrong_handle) × (out.new ≡ out.old)
+        × (next.new ≡ next.old) × (key_lens.new ≡ key_lens.old)
+        × (value_lens.new ≡ value_lens.old)
+        × (room.new ≡ room.old)
+        × (sizes.new ≡ sizes.old) }
+{
+    let Some(mut target) = any.into_box() else {
+        return WRONG_HANDLE;
+    };
+    let heads = Heads(most);
+    let status = bytes_at(
+        target.as_mut(),
+        &heads,
+        at,
+        next,
+        key_lens,
+        value_lens,
+        room,
+        sizes,
+    );
     *out = FacingOut::of(target);
     status
 }
@@ -209,13 +269,14 @@ fn counts_at(
     match target {
         Target::Counts(_, stage) => tell_pairs(
             stage.try_visit(at),
+            &Whole,
             next,
             key_lens,
             values,
             room,
             sizes,
         ),
-        Target::Numbers(_) => WRONG_HANDLE,
+        Target::Numbers(_, _) => WRONG_HANDLE,
         Target::Bytes(_, _) => WRONG_HANDLE,
         Target::Held(_) => WRONG_HANDLE,
     }

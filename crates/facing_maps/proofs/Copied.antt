@@ -5,17 +5,17 @@ use Rattle.std.proofs.Math.Seq.{take-append_seam, drop-nil}
 use Rattle.std.proofs.lemmas.List.{drop-set-lt}
 use Rattle.facing_maps.specs.Pairs.{Room, AreNumbers}
 
-pub copied_of : (entries done rest : List (ℕ × ℕ)) (before after : Room) (n : ℕ)
+pub copied_of : (key : ℕ → ℕ) (entries done rest : List (ℕ × ℕ)) (before after : Room) (n : ℕ)
     → done ++ rest ≡ entries → length done ≡ n
-    → take n after.0 ≡ map (λ entry. entry.0) done → take n after.1 ≡ map (λ entry. entry.1) done
+    → take n after.0 ≡ map (λ entry. key entry.0) done → take n after.1 ≡ map (λ entry. entry.1) done
     → drop n after.0 ≡ drop n before.0 → drop n after.1 ≡ drop n before.1
     → n ≡ min (length entries) (min (length after.0) (length after.1))
-    → AreNumbers entries before after n
-copied_of entries done rest before after n all long keys_are values_are keys_stay values_stay least =
+    → AreNumbers key entries before after n
+copied_of key entries done rest before after n all long keys_are values_are keys_stay values_stay least =
     let first : take n entries ≡ done = ap (take n) (sym all) ∙ ap (λ (m : ℕ). take m (done ++ rest)) (sym long)
     ∙ take-append_seam done rest in
     record {
-      keys_are = keys_are ∙ ap (map (λ (entry : ℕ × ℕ). entry.0)) (sym first);
+      keys_are = keys_are ∙ ap (map (λ (entry : ℕ × ℕ). key entry.0)) (sym first);
       values_are = values_are ∙ ap (map (λ (entry : ℕ × ℕ). entry.1)) (sym first);
       all = least;
       keys_stay = keys_stay;

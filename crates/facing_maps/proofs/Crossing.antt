@@ -3,6 +3,7 @@ use denote.RattleType.{RattleType}
 use denote.Enum.Declared as enum
 use denote.Struct.Declared.{shape}
 use denote.Param.Send.{IsSend, IsSync, Frees, AllSend, AllSync, EachSend, EachSync, sendable}
+use Rattle.core.proofs.snapshot.Sent.{snapshot_sync}
 use Rattle.std.proofs.CrossingOver.{crosses}
 use Rattle.std.proofs.Crossing as heap
 use Rattle.std.specs.declared.alloc.Allocator as Allocator
@@ -17,12 +18,17 @@ use Rattle.seeded_keys.specs.contracts.compact.CompactBytes as CompactBytes
 use Rattle.seeded_keys.specs.contracts.hashed.Hashed as Hashed
 use Rattle.bin_history.specs.declared.call.Remap as Remap
 use Rattle.bin_history.specs.declared.call.Value as Value
-use Rattle.bin_history.proofs.Shared.{bin_send}
+use Rattle.bin_history.proofs.Shared.{bin_send, bin_sync}
 use Rattle.chm.specs.contracts.closed.quiet.Quiet as Quiet
 use Rattle.chm.specs.contracts.closed.quiet.Quiet.TheInside as QuietInside
 use Rattle.facingberyl.proofs.Crossing.{owned_send, shared_send, unshared_send}
+use Rattle.facing_maps.specs.contracts.closed.ClosedMap as ClosedMap
+use Rattle.facing_maps.specs.contracts.closed.ClosedMap.TheInside as ClosedInside
+use Rattle.facing_maps.specs.contracts.closed.Owner as Owner
 use Rattle.facing_maps.specs.contracts.keys.Keys as Keys
 use Rattle.facing_maps.specs.contracts.keys.Keys.TheInside as KeysInside
+use Rattle.facing_maps.specs.contracts.padded.Padded as Padded
+use Rattle.facing_maps.specs.contracts.padded.Padded.TheInside as PaddedInside
 use Rattle.facing_maps.specs.contracts.shared.Place as Place
 use Rattle.facing_maps.specs.contracts.shared.SharedBytes as SharedBytes
 use Rattle.facing_maps.specs.contracts.shared.SharedBytes.TheInside as SharedInside
@@ -65,12 +71,58 @@ module _ (K V F A : RattleType) (hash : HashKey.Ghosts K.Denot) (key_eq : Eq.Gho
       (Quiet.the_row K V F A hash key_eq key_same key_clone value_clone value_eq value_same remap function_clone alloc)
   quiet_send = search (sendable, quiet_fields) depth 30
 
+  quiet_fields_sync : AllSync
+      (shape (QuietInside.the_type K V F A hash key_eq key_same key_clone value_clone value_eq value_same remap
+      function_clone alloc)).fields
+  quiet_fields_sync = (
+    search (sendable, crosses, bin_sync) depth 30,
+    (
+      search sendable depth 20,
+      (
+        search sendable depth 20,
+        (
+          search sendable depth 20,
+          (
+            search sendable depth 20,
+            (
+              search (sendable, crosses, snapshot_sync) depth 20,
+              (search (sendable, crosses, snapshot_sync) depth 20, (search (sendable, crosses, snapshot_sync) depth 20, (search (sendable, crosses, snapshot_sync) depth 20, tt))),
+            ),
+          ),
+        ),
+      ),
+    ),
+  )
+
+  -- the same, lent to several
+  quiet_sync : IsSync
+      (Quiet.the_row K V F A hash key_eq key_same key_clone value_clone value_eq value_same remap function_clone alloc)
+  quiet_sync = search (sendable, quiet_fields_sync) depth 30
+
 module _ (K V F : RattleType) (hash : HashKey.Ghosts K.Denot) (key_eq : Eq.Ghosts K.Denot)
     (key_same : PartialEq.Ghosts K.Denot)
     (key_clone : Clone.Ghosts K.Denot) (value : Value.Ghosts V.Denot) (value_clone : Clone.Ghosts V.Denot) (value_eq : Eq.Ghosts V.Denot)
     (value_same : PartialEq.Ghosts V.Denot)
     (remap : Remap.Ghosts F.Denot K.Denot V.Denot) (function_clone : Clone.Ghosts F.Denot)
     (sk : IsSend K) (sv : IsSend V) (sf : IsSend F) (yk : IsSync K) (yv : IsSync V) (yf : IsSync F) where
+  owners_send : EachSend
+      (enum.shape (Owner.the_type K V F hash key_eq key_same key_clone value_clone value_eq value_same remap
+      function_clone)).variants
+  owners_send = (
+    (search (sendable, crosses, heap.crosses, quiet_send) depth 30, tt),
+    ((search (sendable, crosses, heap.crosses, quiet_send, quiet_sync) depth 30, tt), tt),
+  )
+
+  closed_fields : AllSend
+      (shape (ClosedInside.the_type K V F hash key_eq key_same key_clone value_clone value_eq value_same remap
+      function_clone)).fields
+  closed_fields = (search (sendable, owners_send) depth 30, tt)
+
+  -- a closed map, with one owner or several
+  closed_send : IsSend
+      (ClosedMap.the_row K V F hash key_eq key_same key_clone value_clone value_eq value_same remap function_clone)
+  closed_send = search (sendable, closed_fields) depth 30
+
   stages_send : EachSend
       (enum.shape (Stage.the_type K V F hash key_eq key_same key_clone value value_clone value_eq value_same remap
       function_clone)).variants
@@ -80,7 +132,7 @@ module _ (K V F : RattleType) (hash : HashKey.Ghosts K.Denot) (key_eq : Eq.Ghost
       (search (sendable, crosses, heap.crosses, owned_send) depth 30, tt),
       (
         (search (sendable, crosses, heap.crosses, unshared_send) depth 30, tt),
-        ((search (sendable, crosses, heap.crosses, quiet_send) depth 30, tt), (tt, tt)),
+        ((search (sendable, crosses, heap.crosses, closed_send) depth 30, tt), (tt, tt)),
       ),
     ),
   )
@@ -102,17 +154,103 @@ key_send = search (sendable, compact_send, heap.crosses) depth 20
 pub key_sync : IsSync (Hashed.the_row (CompactBytes.the_row Heap.the_row ghosts))
 key_sync = search (sendable, compact_sync, heap.crosses) depth 20
 
+-- bytes in a block of their own
+module _ (N : RattleType) where
+  padded_fields_send : AllSend (shape (PaddedInside.the_type N)).fields
+  padded_fields_send = (search sendable depth 20, (search sendable depth 20, tt))
+
+  padded_send : IsSend (Padded.the_row N)
+  padded_send = search (sendable, padded_fields_send) depth 20
+
+  padded_fields_sync : AllSync (shape (PaddedInside.the_type N)).fields
+  padded_fields_sync = (search sendable depth 20, (search sendable depth 20, tt))
+
+  padded_sync : IsSync (Padded.the_row N)
+  padded_sync = search (sendable, padded_fields_sync) depth 20
+
 -- a value
 places_send : EachSend (enum.shape Place.the_type).variants
 places_send = (
   (search (sendable, short_send) depth 20, tt),
-  ((search (sendable, heap.crosses) depth 20, tt), tt),
+  (
+    (search (sendable, heap.crosses, padded_send, padded_sync) depth 20, tt),
+    (
+      (search (sendable, heap.crosses, padded_send, padded_sync) depth 20, tt),
+      (
+        (search (sendable, heap.crosses, padded_send, padded_sync) depth 20, tt),
+        (
+          (search (sendable, heap.crosses, padded_send, padded_sync) depth 20, tt),
+          (
+            (search (sendable, heap.crosses, padded_send, padded_sync) depth 20, tt),
+            (
+              (search (sendable, heap.crosses, padded_send, padded_sync) depth 20, tt),
+              (
+                (search (sendable, heap.crosses, padded_send, padded_sync) depth 20, tt),
+                (
+                  (search (sendable, heap.crosses, padded_send, padded_sync) depth 20, tt),
+                  (
+                    (search (sendable, heap.crosses, padded_send, padded_sync) depth 20, tt),
+                    (
+                      (search (sendable, heap.crosses, padded_send, padded_sync) depth 20, tt),
+                      (
+                        (search (sendable, heap.crosses, padded_send, padded_sync) depth 20, tt),
+                        (
+                          (search (sendable, heap.crosses, padded_send, padded_sync) depth 20, tt),
+                          ((search (sendable, heap.crosses) depth 20, tt), tt),
+                        ),
+                      ),
+                    ),
+                  ),
+                ),
+              ),
+            ),
+          ),
+        ),
+      ),
+    ),
+  ),
 )
 
 places_sync : EachSync (enum.shape Place.the_type).variants
 places_sync = (
   (search (sendable, short_sync) depth 20, tt),
-  ((search (sendable, heap.crosses) depth 20, tt), tt),
+  (
+    (search (sendable, heap.crosses, padded_send, padded_sync) depth 20, tt),
+    (
+      (search (sendable, heap.crosses, padded_send, padded_sync) depth 20, tt),
+      (
+        (search (sendable, heap.crosses, padded_send, padded_sync) depth 20, tt),
+        (
+          (search (sendable, heap.crosses, padded_send, padded_sync) depth 20, tt),
+          (
+            (search (sendable, heap.crosses, padded_send, padded_sync) depth 20, tt),
+            (
+              (search (sendable, heap.crosses, padded_send, padded_sync) depth 20, tt),
+              (
+                (search (sendable, heap.crosses, padded_send, padded_sync) depth 20, tt),
+                (
+                  (search (sendable, heap.crosses, padded_send, padded_sync) depth 20, tt),
+                  (
+                    (search (sendable, heap.crosses, padded_send, padded_sync) depth 20, tt),
+                    (
+                      (search (sendable, heap.crosses, padded_send, padded_sync) depth 20, tt),
+                      (
+                        (search (sendable, heap.crosses, padded_send, padded_sync) depth 20, tt),
+                        (
+                          (search (sendable, heap.crosses, padded_send, padded_sync) depth 20, tt),
+                          ((search (sendable, heap.crosses) depth 20, tt), tt),
+                        ),
+                      ),
+                    ),
+                  ),
+                ),
+              ),
+            ),
+          ),
+        ),
+      ),
+    ),
+  ),
 )
 
 shared_fields_send : AllSend (shape SharedInside.the_type).fields

@@ -3,3 +3,4 @@ pub mod Copied
 pub mod Walking
 pub mod Asked
 pub mod Shown
+pub mod Weaker

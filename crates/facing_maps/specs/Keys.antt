@@ -4,7 +4,7 @@ use Rattle.std.specs.Cmp.Lexicographic.{pointwise}
 use Rattle.bin_history.specs.declared.op.Op.{Op}
 use Rattle.bin_history.specs.declared.op.Op.TheVariants as op
 use Rattle.functions.specs.declared.nothing.NoFunction.{NoFunction}
-use Rattle.facing_maps.specs.Statuses.{facing_longest, facing_no_memory, facing_too_long}
+use Rattle.facing_maps.specs.Statuses.{facing_longest, facing_longest_value, facing_no_memory, facing_too_long}
 use Rattle.seeded_keys.specs.Seeds.{keyed}
 use Rattle.seeded_keys.specs.declared.hashed.Hashed.{Hashed}
 use Rattle.seeded_keys.specs.declared.seed.Seed.{Seed}
@@ -45,7 +45,7 @@ longest (op.ComputeIfPresent _) = 0
 longest (op.Compute _) = 0
 longest (op.Merge value _) = length value
 
--- a call that is not tried, by how long the longest of its key and values is: that is too long, or there is no memory
+-- a call that is not tried, by how long its key is: that is too long, or there is no memory
 abbrev pub IsRefusal : ℕ → ℕ → Type 0
 IsRefusal long status = ((status ≡ facing_too_long) × (facing_longest < long))
     ⊎ ((status ≡ facing_no_memory) × (long ≤ facing_longest))
@@ -53,3 +53,12 @@ IsRefusal long status = ((status ≡ facing_too_long) × (facing_longest < long)
 -- a look that is not tried, as the key is too long
 abbrev pub IsTooLong : ℕ → ℕ → Type 0
 IsTooLong long status = (status ≡ facing_too_long) × (facing_longest < long)
+
+-- a call on a key of bytes, whose longest value has so many: neither is too long
+abbrev pub AreAllowed : Bytes → ℕ → Type 0
+AreAllowed key long = (length key ≤ facing_longest) × (long ≤ facing_longest_value)
+
+-- a call that is not tried: its key or a value is too long, or there is no memory
+abbrev pub IsRefusalOf : Bytes → ℕ → ℕ → Type 0
+IsRefusalOf key long status = ((status ≡ facing_too_long) × ((facing_longest < length key) ⊎ (facing_longest_value < long)))
+    ⊎ ((status ≡ facing_no_memory) × AreAllowed key long)

@@ -6,4 +6,5 @@ pub mod Keys
 pub mod Calls
 pub mod Stages
 pub mod Pairs
+pub mod Changes
 pub mod Places

@@ -7,7 +7,7 @@ use Rattle.bin_history.specs.Lawful.{BinView}
 use Rattle.bin_history.specs.declared.call.Call.{Call}
 use Rattle.count_ledger.specs.Fronts.{HasSeen, HasSeenMore}
 use Rattle.count_ledger.specs.Views.{PassView}
-use Rattle.chm.specs.Numbered.{HasComeAt, HasComeBefore, IsEnd, end_of_walk}
+use Rattle.chm.specs.Numbered.{HasComeAt, IsEnd, end_of_walk}
 use Rattle.chm.specs.Views.{MapView}
 use Rattle.chm.specs.Visits.{VisitView, IsVisit}
 use Rattle.facingberyl.specs.PassPools.{ClientView}
@@ -28,16 +28,13 @@ IsClosedSeen bins at (Ok (None, next)) = (length bins ≤ at) × (next ≡ end_o
 IsClosedSeen bins at (Err status) = status ≡ facing_no_memory
 
 module _ {K V F : Type 0} (same_key : K → K → Bool) (code : K → ℕ) (after : Call K V F → Option V → Option V) where
-  -- they are what all calls so far left in the bucket that has the hash of this number: where the bucket begins there, and
-  -- the walk came there, it goes on behind it, and so does a walk that came to the bucket; there is none; or another
-  -- thread was in the way, or there was no memory
+  -- they are what all calls so far left in the bucket, or the part of one, that begins at this number: a walk that came
+  -- there goes on behind it; there is none; or another thread was in the way, or there was no memory
   abbrev pub IsLiveSeen : MapView K V → ℕ → PassView K V F → PassView K V F → Seen K V → Type 0
   IsLiveSeen map at old new (Ok (Some pairs, next)) = (v : VisitView K V) × (v.entries ≡ pairs)
-      × (covers v.class at ≡ true) × HasSeen same_key after map.ledger old new
+      × (v.class.index ≡ at) × (covers v.class at ≡ true) × HasSeen same_key after map.ledger old new
       × IsVisit same_key code map.ledger new.seen v
-      × ((shown : List (VisitView K V)) → HasComeAt map.n at shown → v.class.index ≡ at
-      → HasComeAt map.n next (shown ++ v ∷ []))
-      × ((shown : List (VisitView K V)) → HasComeBefore map.n v.class shown → HasComeAt map.n next (shown ++ v ∷ []))
+      × ((shown : List (VisitView K V)) → HasComeAt map.n at shown → HasComeAt map.n next (shown ++ v ∷ []))
   IsLiveSeen map at old new (Ok (None, next)) = IsEnd at next × (new ≡ old)
   IsLiveSeen map at old new (Err status) = ((status ≡ facing_busy) × (new ≡ old)) ⊎ ((status ≡ facing_no_memory) × HasSeenMore old new)
 
@@ -55,8 +52,8 @@ Room = List ℕ × List ℕ
 
 -- the first n keys and values are those of the first n pairs, and these are as many as there is room for; the rest of
 -- the room is as it was
-pub record AreNumbers (pairs : List (ℕ × ℕ)) (before after : Room) (n : ℕ) : Type 0 where
-  pub keys_are : take n after.0 ≡ map (λ pair. pair.0) (take n pairs)
+pub record AreNumbers (key : ℕ → ℕ) (pairs : List (ℕ × ℕ)) (before after : Room) (n : ℕ) : Type 0 where
+  pub keys_are : take n after.0 ≡ map (λ pair. key pair.0) (take n pairs)
   pub values_are : take n after.1 ≡ map (λ pair. pair.1) (take n pairs)
   pub all : n ≡ min (length pairs) (min (length after.0) (length after.1))
   pub keys_stay : drop n after.0 ≡ drop n before.0

@@ -57,6 +57,11 @@ abbrev pub IsClientStatus : {K V F : Type 0} → Stage K V F → ℕ → Type 0
 IsClientStatus (stage.Map _) status = (status ≡ facing_done) ⊎ (status ≡ facing_no_memory) ⊎ (status ≡ facing_no_client)
 IsClientStatus _ status = status ≡ facing_wrong_handle
 
+-- of a closed map it is done, or there is no memory for one more owner; anything else is a wrong handle
+abbrev pub IsAgainStatus : {K V F : Type 0} → Stage K V F → ℕ → Type 0
+IsAgainStatus (stage.Closed _) status = (status ≡ facing_done) ⊎ (status ≡ facing_no_memory)
+IsAgainStatus _ status = status ≡ facing_wrong_handle
+
 -- of a closed map it is the number of keys, and of another some number; what ended has none
 abbrev pub IsCounted : {K V F : Type 0} → Stage K V F → Result ℕ ℕ → Type 0
 IsCounted (stage.Closed q) (Ok n) = n ≡ length (entries_of q.bins)

@@ -43,6 +43,10 @@ facing_no_client = 11
 abbrev pub facing_no_room : ℕ
 facing_no_room = 13
 
--- a key, and a value, has no more bytes than this
+-- a key has no more bytes than this
 abbrev pub facing_longest : ℕ
 facing_longest = 65536
+
+-- a value has no more bytes than this: 2^29
+abbrev pub facing_longest_value : ℕ
+facing_longest_value = 536870912

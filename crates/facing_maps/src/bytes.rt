@@ -1,16 +1,18 @@
 //! Calls of clients of maps from bytes to bytes.
-ghost use Rattle.std.specs.Prelude.{◌≡◌, ◌≤◌, IfOk, length, max};
+ghost use Rattle.std.specs.Prelude.{◌≡◌, ◌≤◌, IfOk, option_copied};
 ghost use Rattle.bin_history.specs.Ops.{call_on};
 ghost use Rattle.facing_maps.specs.Calls.{IsCalled, IsTried};
+ghost use Rattle.facing_maps.specs.Changes.{exchange, length_in, longest_in, IsChanged, IsChangeTried, IsOrStays};
 ghost use Rattle.facing_maps.specs.Functions.{no_value};
-ghost use Rattle.facing_maps.specs.Keys.{key_of, same_key, same_bytes, longest, IsRefusal};
-ghost use Rattle.facing_maps.specs.Statuses.{facing_longest};
+ghost use Rattle.facing_maps.specs.Keys.{key_of, same_key, same_bytes, longest, AreAllowed, IsRefusalOf};
 
+use crate::changes::ExchangeBytes;
+use crate::changing::{TriedChange, try_change_at};
 use crate::keys::{Keys, SeededKey};
 use crate::seeded::try_at;
 use crate::shared::SharedBytes;
 use crate::stage::Stage;
-use crate::status::{MOST_BYTES, NO_MEMORY, TOO_LONG, Tried, WRONG_HANDLE};
+use crate::status::{MOST_BYTES, MOST_VALUE, NO_MEMORY, TOO_LONG, Tried, WRONG_HANDLE};
 use bin_history::Op;
 use facingberyl::OwnedClient;
 use functions::NoFunction;
@@ -66,13 +68,12 @@ fn try_bytes_at(
     op: Op<Bytes<'_>, NoFunction>,
 ) -> Tried<SharedBytes>
     ensures tried { IsTried same_key same_bytes no_value no_value
-        (max (length key.now) (longest op.entry) ≤ facing_longest)
-        (IsRefusal (max (length key.now) (longest op.entry))) client.old.map.ledger
+        (AreAllowed key.now (longest op.entry)) (IsRefusalOf key.now (longest op.entry)) client.old.map.ledger
         (call_on (key_of keys.old key.now) op.entry) client.old.pass client.new.pass result }
     ensures map { client.new.map ≡ client.old.map }
     ensures seed { keys.new ≡ keys.old }
 {
-    if longest(&op) > MOST_BYTES || key.len() > MOST_BYTES {
+    if longest(&op) > MOST_VALUE || key.len() > MOST_BYTES {
         return Err(TOO_LONG);
     }
     match owned(keys.allocator(), op) {
@@ -90,13 +91,84 @@ pub fn try_bytes(
     op: Op<Bytes<'_>, NoFunction>,
 ) -> Tried<SharedBytes>
     ensures called { IsCalled same_key same_bytes no_value no_value
-        (max (length key.now) (longest op.entry) ≤ facing_longest)
-        (IsRefusal (max (length key.now) (longest op.entry))) stage.old
+        (AreAllowed key.now (longest op.entry)) (IsRefusalOf key.now (longest op.entry)) stage.old
         (call_on (key_of keys.old key.now) op.entry) stage.new result }
     ensures seed { keys.new ≡ keys.old }
 {
     match stage {
         Stage::Client(client) => try_bytes_at(client, keys, key, op),
+        Stage::Map(_) => Err(WRONG_HANDLE),
+        Stage::CloseFailed(_) => Err(WRONG_HANDLE),
+        Stage::Closed(_) => Err(WRONG_HANDLE),
+        Stage::Gone => Err(WRONG_HANDLE),
+    }
+}
+
+/// The value with bytes of its own, if there is one. It takes memory for them.
+fn owned_value(alloc: Global, value: Option<&[u8]>) -> Result<Option<SharedBytes>, AllocError>
+    ensures { IfOk result (λ owned. owned ≡ option_copied value.entry) }
+{
+    match value {
+        Some(bytes) => Ok(Some(SharedBytes::copy_of(alloc, bytes)?)),
+        None => Ok(None),
+    }
+}
+
+/// How many bytes there are, if any.
+fn length_of(bytes: Option<&[u8]>) -> usize
+    ensures { result ≡ length_in (option_copied bytes.entry) }
+{
+    match bytes {
+        Some(bytes) => bytes.len(),
+        None => 0,
+    }
+}
+
+/// Tries an exchange by a client on the key of these bytes, with a copy of this value.
+fn try_exchange_at(
+    client: &mut OwnedClient<SeededKey, SharedBytes, NoFunction, Global>,
+    keys: &mut Keys,
+    key: &[u8],
+    expected: Option<&[u8]>,
+    value: Option<&[u8]>,
+) -> TriedChange<SharedBytes>
+    ensures tried { IsChangeTried same_key same_bytes no_value no_value
+        (AreAllowed key.now (longest_in (option_copied expected.entry) (option_copied value.entry)))
+        (IsRefusalOf key.now (longest_in (option_copied expected.entry) (option_copied value.entry)))
+        (λ seen made. IsOrStays
+        (exchange same_bytes (option_copied expected.entry) (option_copied value.entry) seen) made)
+        client.old.map.ledger (key_of keys.old key.now) client.old.pass client.new.pass result }
+    ensures map { client.new.map ≡ client.old.map }
+    ensures seed { keys.new ≡ keys.old }
+{
+    if length_of(expected).max(length_of(value)) > MOST_VALUE || key.len() > MOST_BYTES {
+        return Err(TOO_LONG);
+    }
+    match owned_value(keys.allocator(), value) {
+        Ok(value) => try_change_at(client, keys, key, ExchangeBytes { expected, value }),
+        Err(_) => Err(NO_MEMORY),
+    }
+}
+
+/// Tries to give the key of these bytes a copy of this value, or none, where it has the value that is
+/// expected, or none, by the client that this is. It waits for nobody.
+pub fn try_exchange_bytes(
+    stage: &mut Stage<SeededKey, SharedBytes, NoFunction>,
+    keys: &mut Keys,
+    key: &[u8],
+    expected: Option<&[u8]>,
+    value: Option<&[u8]>,
+) -> TriedChange<SharedBytes>
+    ensures changed { IsChanged same_key same_bytes no_value no_value
+        (AreAllowed key.now (longest_in (option_copied expected.entry) (option_copied value.entry)))
+        (IsRefusalOf key.now (longest_in (option_copied expected.entry) (option_copied value.entry)))
+        (λ seen made. IsOrStays
+        (exchange same_bytes (option_copied expected.entry) (option_copied value.entry) seen) made)
+        stage.old (key_of keys.old key.now) stage.new result }
+    ensures seed { keys.new ≡ keys.old }
+{
+    match stage {
+        Stage::Client(client) => try_exchange_at(client, keys, key, expected, value),
         Stage::Map(_) => Err(WRONG_HANDLE),
         Stage::CloseFailed(_) => Err(WRONG_HANDLE),
         Stage::Closed(_) => Err(WRONG_HANDLE),

@@ -30,7 +30,7 @@ impl<K: HashKey, V: Value, F: Remap<K, V>> Stage<K, V, F> {
         ensures { IsFound K.eq ⊤ (λ _. ⊥) self.now (Q.stands_for query) result }
     {
         match self {
-            Stage::Closed(quiet) => Ok(quiet.get_as(query)),
+            Stage::Closed(closed) => Ok(closed.quiet().get_as(query)),
             Stage::Map(_) => Err(WRONG_HANDLE),
             Stage::Client(_) => Err(WRONG_HANDLE),
             Stage::CloseFailed(_) => Err(WRONG_HANDLE),

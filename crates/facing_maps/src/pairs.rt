@@ -1,17 +1,20 @@
 //! Pairs that are copied out of a bucket.
-ghost use Rattle.std.specs.Prelude.{◌≡◌, ◌≤◌, ◌<◌, ◌+◌, ◌++◌, [], true, false, length, take, drop, min};
+ghost use Rattle.std.specs.Prelude.{◌≡◌, ◌≤◌, ◌<◌, ◌+◌, ◌++◌, true, false, length, take, drop, min};
 ghost use Rattle.bin_history.specs.Calls.{after};
 ghost use Rattle.bin_history.specs.Copies.{IsExact};
 ghost use Rattle.facing_maps.specs.Pairs.{AreNumbers, AreCopied, bytes_of, IsSeen, IsClosedSeen, IsLiveSeen};
+ghost use Rattle.seeded_keys.specs.Mixing.{unmixed};
 
+use crate::closed::ClosedMap;
 use crate::keys::SeededKey;
-use crate::shared::SharedBytes;
+use crate::laying::Laying;
 use crate::stage::Stage;
 use crate::status::{BUSY, NO_MEMORY, WRONG_HANDLE, code_of};
 use bin_history::{Remap, Value};
 use chm::{END_OF_WALK, Quiet, Visit};
 use facingberyl::OwnedClient;
 use hashkeys::HashKey;
+use seeded_keys::NumberSeed;
 use std::alloc::Global;
 use std::marker::Model;
 
@@ -89,6 +92,18 @@ fn visit_of<K: HashKey, V: Value, F: Remap<K, V>>(
     }
 }
 
+/// Copies of the entries of the bin with this number, of a closed map.
+fn visit_closed<K: HashKey, V: Value, F: Remap<K, V>>(
+    closed: &ClosedMap<K, V, F>,
+    at: u64,
+) -> Seen<K, V>
+    requires keys { IsExact K.is_clone }
+    requires values { IsExact V.is_clone }
+    ensures { IsClosedSeen closed.now.bins at result }
+{
+    visit_of(closed.quiet(), at)
+}
+
 impl<K: HashKey, V: Value, F: Remap<K, V>> Stage<K, V, F> {
     /// Tries to show the entries of the bucket at this place: of a closed map the bucket with this
     /// number, and of a map whose client this is the one that has the hash of this number. It waits
@@ -100,7 +115,7 @@ impl<K: HashKey, V: Value, F: Remap<K, V>> Stage<K, V, F> {
     {
         match self {
             Stage::Client(client) => try_visit_of(client, at),
-            Stage::Closed(quiet) => visit_of(quiet, at),
+            Stage::Closed(closed) => visit_closed(closed, at),
             Stage::Map(_) => Err(WRONG_HANDLE),
             Stage::CloseFailed(_) => Err(WRONG_HANDLE),
             Stage::Gone => Err(WRONG_HANDLE),
@@ -108,9 +123,15 @@ impl<K: HashKey, V: Value, F: Remap<K, V>> Stage<K, V, F> {
     }
 }
 
-/// Copies pairs, the first ones, as many as there is room for. It answers how many.
-pub fn copy_numbers(pairs: &[(u64, u64)], keys: &mut [u64], values: &mut [u64]) -> usize
-    ensures { AreNumbers pairs.now (keys.old, values.old) (keys.new, values.new) result }
+/// Copies pairs, the first ones, as many as there is room for, with the keys that lie in the map under the
+/// seed. It answers how many.
+pub fn copy_numbers(
+    pairs: &[(u64, u64)],
+    seed: NumberSeed,
+    keys: &mut [u64],
+    values: &mut [u64],
+) -> usize
+    ensures { AreNumbers (unmixed seed) pairs.now (keys.old, values.old) (keys.new, values.new) result }
 {
     let mut count = 0;
     let mut rest = pairs;
@@ -118,61 +139,12 @@ pub fn copy_numbers(pairs: &[(u64, u64)], keys: &mut [u64], values: &mut [u64]) 
         if count >= keys.len() || count >= values.len() {
             break;
         }
-        keys[count] = pair.0;
+        keys[count] = seed.unmix(pair.0);
         values[count] = pair.1;
         count += 1;
         rest = tail;
     }
     count
-}
-
-/// What of a value is copied beside its key: a number, and bytes.
-pub trait Laid: Drop {
-    ghost use Rattle.std.specs.Prelude.{◌≡◌, ℕ, List};
-
-    ghost number: { Self → ℕ };
-
-    ghost laid: { Self → List ℕ };
-
-    /// The number.
-    fn number(&self) -> u64
-        ensures { result ≡ number self.now };
-
-    /// The bytes.
-    fn laid(&self) -> &[u8]
-        ensures { result.now ≡ laid self.now };
-}
-
-impl Laid for u64 {
-    ghost use Rattle.std.specs.Prelude.{[]};
-
-    ghost number = { λ v. v };
-
-    ghost laid = { λ _. [] };
-
-    fn number(&self) -> u64 {
-        *self
-    }
-
-    fn laid(&self) -> &[u8] {
-        b"".as_slice()
-    }
-}
-
-impl Laid for SharedBytes {
-    ghost use Rattle.std.specs.Prelude.{length};
-
-    ghost number = { length };
-
-    ghost laid = { λ v. v };
-
-    fn number(&self) -> u64 {
-        self.bytes().len() as u64
-    }
-
-    fn laid(&self) -> &[u8] {
-        self.bytes()
-    }
 }
 
 /// Whether a key and a value find room in so many bytes.
@@ -194,15 +166,16 @@ fn copy_at(bytes: &[u8], room: &mut [u8], at: usize)
     room[at..at + bytes.len()].copy_from_slice(bytes);
 }
 
-/// Copies pairs, the first ones, as many whole ones as there is room for: how many bytes their keys
-/// have, their values' numbers, and the bytes of both, of key and value in turn. It answers how many.
-pub fn copy_pairs<V: Laid>(
+/// Copies pairs, the first ones, as many as there is room for: how many bytes their keys have, and what
+/// `laying` copies of their values, a number, and bytes behind those of the key. It answers how many.
+pub fn copy_pairs<V, L: Laying<V>>(
     pairs: &[(SeededKey, V)],
+    laying: &L,
     key_lens: &mut [u64],
     numbers: &mut [u64],
     room: &mut [u8],
 ) -> usize
-    ensures { AreCopied V.number V.laid pairs.now (key_lens.old, numbers.old, room.old)
+    ensures { AreCopied (L.number laying.now) (L.laid laying.now) pairs.now (key_lens.old, numbers.old, room.old)
         (key_lens.new, numbers.new, room.new) result }
 {
     let mut count = 0;
@@ -210,7 +183,7 @@ pub fn copy_pairs<V: Laid>(
     let mut rest = pairs;
     while let Some((pair, tail)) = rest.split_first() {
         let key = pair.0.bytes().bytes();
-        let value = pair.1.laid();
+        let value = laying.laid(&pair.1);
         if count >= key_lens.len()
             || count >= numbers.len()
             || !fits(key, value, room.len() - used)
@@ -218,7 +191,7 @@ pub fn copy_pairs<V: Laid>(
             break;
         }
         key_lens[count] = key.len() as u64;
-        numbers[count] = pair.1.number();
+        numbers[count] = laying.number(&pair.1);
         let end = used + key.len();
         copy_at(key, room, used);
         copy_at(value, room, end);
@@ -229,9 +202,9 @@ pub fn copy_pairs<V: Laid>(
     count
 }
 
-/// How many bytes the keys and values of pairs have, or the end of the range of 64 bits.
-pub fn total<V: Laid>(pairs: &[(SeededKey, V)]) -> u64
-    ensures { result ≡ min (length (bytes_of V.laid pairs.now)) 18446744073709551615 }
+/// How many bytes `copy_pairs` copies of all pairs, or the end of the range of 64 bits.
+pub fn total<V, L: Laying<V>>(pairs: &[(SeededKey, V)], laying: &L) -> u64
+    ensures { result ≡ min (length (bytes_of (L.laid laying.now) pairs.now)) 18446744073709551615 }
 {
     let mut total = 0u64;
     let mut rest = pairs;
@@ -239,7 +212,7 @@ pub fn total<V: Laid>(pairs: &[(SeededKey, V)]) -> u64
         let key = pair.0.bytes().bytes().len() as u64;
         total = total
             .saturating_add(key)
-            .saturating_add(pair.1.laid().len() as u64);
+            .saturating_add(laying.laid(&pair.1).len() as u64);
         rest = tail;
     }
     total

@@ -20,7 +20,7 @@ use facingberyl::OwnedClient;
 use std::alloc::{AllocError, Global};
 
 /// A copy of a value, if there is one.
-fn copied<V: Clone>(value: Option<&V>) -> Result<Option<V>, AllocError>
+pub(crate) fn copied<V: Clone>(value: Option<&V>) -> Result<Option<V>, AllocError>
     requires { IsExact V.is_clone }
     ensures copy { IfOk result (λ copy. copy ≡ option_copied value.entry) }
     ensures sure { IsNeverRefused V.is_infallible → IsOk result }
@@ -178,11 +178,11 @@ pub fn find<'a, V: Value, F: Remap<SeededKey, V>>(
         (key_of keys.now key.now) result }
 {
     match stage {
-        Stage::Closed(quiet) => {
+        Stage::Closed(closed) => {
             if key.len() > MOST_BYTES {
                 return Err(TOO_LONG);
             }
-            Ok(quiet.get_as(keys.query(key)))
+            Ok(closed.get_as(keys.query(key)))
         }
         Stage::Map(_) => Err(WRONG_HANDLE),
         Stage::Client(_) => Err(WRONG_HANDLE),

@@ -10,9 +10,10 @@ ghost use Rattle.chm.specs.Opened.{IsLimited};
 ghost use Rattle.chm.specs.Refusals.{IsCapacityOf};
 ghost use Rattle.facing_maps.specs.Stages.{IsOpened, IsReopenedFrom, IsClientOf, IsMadeOr, status_in};
 ghost use Rattle.facing_maps.specs.Stages.{IsReopeningStatus, IsClientStatus, IsCloseOf, IsClosedAs};
-ghost use Rattle.facing_maps.specs.Stages.{IsCounted};
+ghost use Rattle.facing_maps.specs.Stages.{IsCounted, IsAgainStatus};
 
-use crate::status::{DONE, WRONG_HANDLE, code_of};
+use crate::closed::ClosedMap;
+use crate::status::{DONE, NO_MEMORY, WRONG_HANDLE, code_of};
 use bin_history::{Remap, Value};
 use chm::{Fault, Quiet};
 use facingberyl::{OwnedClient, SharedMap, SharedNotClosed, Unshared};
@@ -30,7 +31,7 @@ pub enum Stage<K: HashKey, V: Value, F: Remap<K, V>> {
     /// A map that could not be closed for lack of memory, whose clients are all back.
     CloseFailed(Unshared<K, V, F, Global>),
     /// A closed map.
-    Closed(Quiet<K, V, F, Global>),
+    Closed(ClosedMap<K, V, F>),
     /// A map that ended when it was to be closed.
     Gone,
 }
@@ -71,7 +72,7 @@ impl<K: HashKey, V: Value, F: Remap<K, V>> Stage<K, V, F> {
         ensures status { IsReopeningStatus self.now clients (status_in result) }
     {
         match self {
-            Stage::Closed(quiet) => match Stage::reopened(quiet, clients) {
+            Stage::Closed(closed) => match Stage::reopened(closed.quiet(), clients) {
                 Ok(stage) => Ok(stage),
                 Err(fault) => Err(code_of(fault)),
             },
@@ -107,7 +108,7 @@ impl<K: HashKey, V: Value, F: Remap<K, V>> Stage<K, V, F> {
             Stage::Map(shared) => Ok(shared.map().mapping_count()),
             Stage::Client(client) => Ok(client.map().mapping_count()),
             Stage::CloseFailed(unshared) => Ok(unshared.map().mapping_count()),
-            Stage::Closed(quiet) => Ok(quiet.mapping_count()),
+            Stage::Closed(closed) => Ok(closed.quiet().mapping_count()),
             Stage::Gone => Err(WRONG_HANDLE),
         }
     }
@@ -119,7 +120,7 @@ impl<K: HashKey, V: Value, F: Remap<K, V>> Stage<K, V, F> {
         match unshared.close() {
             Ok(quiet) => {
                 quiet.one_order();
-                (Stage::Closed(quiet), DONE)
+                (Stage::Closed(ClosedMap::new(quiet)), DONE)
             }
             Err(refused) => {
                 let SharedNotClosed {
@@ -163,7 +164,7 @@ impl<K: HashKey, V: Value, F: Remap<K, V>> Stage<K, V, F> {
             Stage::Map(shared) => Stage::close_shared(shared),
             Stage::CloseFailed(unshared) => Stage::close_unshared(unshared),
             Stage::Client(client) => (Stage::Client(client), WRONG_HANDLE),
-            Stage::Closed(quiet) => (Stage::Closed(quiet), WRONG_HANDLE),
+            Stage::Closed(closed) => (Stage::Closed(closed), WRONG_HANDLE),
             Stage::Gone => (Stage::Gone, WRONG_HANDLE),
         }
     }
@@ -175,5 +176,37 @@ impl<K: HashKey, V: Value, F: Remap<K, V>> Stage<K, V, F> {
         let (then, status) = mem::replace(self, Stage::Gone).closed();
         *self = then;
         status
+    }
+
+    /// This, and one more owner of the closed map that it is.
+    fn into_two(self) -> (Stage<K, V, F>, Result<Stage<K, V, F>, u32>)
+        ensures same { result.0 ≡ self }
+        ensures again { IsMadeOr (λ again. again ≡ self) result.1 }
+        ensures status { IsAgainStatus self (status_in result.1) }
+    {
+        match self {
+            Stage::Closed(closed) => {
+                let (own, more) = closed.into_two();
+                match more {
+                    Some(more) => (Stage::Closed(own), Ok(Stage::Closed(more))),
+                    None => (Stage::Closed(own), Err(NO_MEMORY)),
+                }
+            }
+            Stage::Map(shared) => (Stage::Map(shared), Err(WRONG_HANDLE)),
+            Stage::CloseFailed(unshared) => (Stage::CloseFailed(unshared), Err(WRONG_HANDLE)),
+            Stage::Client(client) => (Stage::Client(client), Err(WRONG_HANDLE)),
+            Stage::Gone => (Stage::Gone, Err(WRONG_HANDLE)),
+        }
+    }
+
+    /// One more owner of the closed map that this is. The first one takes memory.
+    pub fn again(&mut self) -> Result<Stage<K, V, F>, u32>
+        ensures same { self.new ≡ self.old }
+        ensures again { IsMadeOr (λ again. again ≡ self.old) result }
+        ensures status { IsAgainStatus self.old (status_in result) }
+    {
+        let (then, more) = mem::replace(self, Stage::Gone).into_two();
+        *self = then;
+        more
     }
 }

@@ -9,8 +9,10 @@ use crate::shared::SharedBytes;
 use bin_history::Reply;
 use chm::Fault;
 
-/// The most bytes of a key, and of a value.
+/// The most bytes of a key.
 pub const MOST_BYTES: usize = 65_536;
+/// The most bytes of a value: 2^29.
+pub const MOST_VALUE: usize = 536_870_912;
 
 /// It was done.
 pub const DONE: u32 = 0;
@@ -32,7 +34,7 @@ pub const BIN_MISSING: u32 = 7;
 pub const WRONG_HANDLE: u32 = 8;
 /// Refused: the number is no place of a walk over the map.
 pub const BAD_PLACE: u32 = 9;
-/// Refused: the key or a value has more than 65,536 bytes.
+/// Refused: the key has more than 65,536 bytes, or a value more than 2^29.
 pub const TOO_LONG: u32 = 10;
 /// Refused: no client is free.
 pub const NO_CLIENT: u32 = 11;

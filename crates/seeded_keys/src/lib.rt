@@ -7,12 +7,15 @@
 
 mod compact;
 mod hashed;
+mod mixing;
+mod number_seed;
 mod query;
 mod seed;
 mod short;
 
 pub use compact::CompactBytes;
 pub use hashed::Hashed;
+pub use number_seed::NumberSeed;
 pub use query::Query;
 pub use seed::Seed;
 pub use short::ShortBytes;

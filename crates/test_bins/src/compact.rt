@@ -1,5 +1,5 @@
 //! Byte strings of which the short ones lie in themselves.
-use hashkeys::{AsKey, HashKey};
+use hashkeys::{AsKey, Bytes, HashKey};
 use seeded_keys::{CompactBytes, Seed, ShortBytes};
 use std::alloc::{Allocator, Global};
 use std::process::Abort;
@@ -120,4 +120,24 @@ fn plain_codes_of_both_forms_are_known(rt: HostRuntime) {
     zeros[29] = 1;
     assert!(rt; text(&rt, rt.alloc(), &zeros[..30]).hash_code() == 1);
     assert!(rt; text(&rt, rt.alloc(), &zeros).hash_code() == 31);
+    // A byte 1 before 4, 7, 8, 11 and 30 bytes 0: the power of 31 with that exponent, modulo 2^32.
+    let first = [1, 0, 0, 0, 0, 0, 0, 0, 0, 0, 0, 0u8];
+    for (len, code) in [
+        (5, 923_521),
+        (8, 1_742_810_335),
+        (9, 2_487_512_833),
+        (12, 129_082_719),
+    ] {
+        assert!(rt;
+            text(&rt, rt.alloc(), &first[..len]).hash_code() == code,
+            "{len} bytes"
+        );
+        assert!(rt;
+            Bytes(&first[..len]).hash_code() == code,
+            "{len} bytes that lie elsewhere"
+        );
+    }
+    zeros[29] = 0;
+    zeros[0] = 1;
+    assert!(rt; text(&rt, rt.alloc(), &zeros).hash_code() == 350_799_937);
 }

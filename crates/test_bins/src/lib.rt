@@ -24,6 +24,8 @@ mod moments;
 #[cfg(test)]
 mod moves;
 #[cfg(test)]
+mod number_seeds;
+#[cfg(test)]
 mod plain;
 #[cfg(test)]
 mod rows;

@@ -3,7 +3,9 @@
 use hashkeys::{AsKey, HashKey};
 use seeded_keys::{CompactBytes, Hashed, Query, Seed};
 use std::alloc::Global;
+use std::io;
 use std::process::Abort;
+use std::random::RandomSource;
 
 /// How many of the bytes 0, 1, 2 and so on, and their code under the seed of the bytes 0 to 15.
 #[derive(Drop)]
@@ -99,4 +101,35 @@ fn two_seeds_of_the_system_differ(rt: HostRuntime) {
         Seed::random(&rt).expect(&rt, "memory"),
     );
     assert!(rt; first != second);
+}
+
+/// A source that gives the bytes from a number on, one after the other.
+#[derive(Drop)]
+struct Counting {
+    first: u8,
+}
+
+impl RandomSource for Counting {
+    fn fill_bytes(&self, buf: &mut [u8]) -> io::Result<()> {
+        let mut next = self.first;
+        for byte in buf.iter_mut() {
+            *byte = next;
+            next = next.wrapping_add(1);
+        }
+        Ok(())
+    }
+}
+
+/// The first half is of the first eight bytes that the source gives, and the second of the next eight,
+/// least byte first.
+#[test]
+fn each_half_of_a_seed_is_of_bytes_of_its_own(rt: HostRuntime) {
+    let rows = [
+        (0, Seed::of(0x0706_0504_0302_0100, 0x0f0e_0d0c_0b0a_0908)),
+        (0x80, Seed::of(0x8786_8584_8382_8180, 0x8f8e_8d8c_8b8a_8988)),
+    ];
+    for (first, wanted) in rows {
+        let seed = Seed::random(&Counting { first }).expect(&rt, "bytes");
+        assert!(rt; seed == wanted);
+    }
 }

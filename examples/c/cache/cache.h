@@ -89,6 +89,7 @@ struct cache {
     _Alignas(64) atomic_bool is_alone; /* a request runs alone, or waits to */
     _Atomic uint64_t generation;       /* of the values that are stored now */
     _Atomic uint64_t swept;            /* values of generations before it are removed */
+    atomic_bool has_far;               /* a deadline was stored that is kept coarsely */
     _Atomic uint64_t watching;         /* how many keys connections watch */
     pthread_mutex_t alone, hand_lock, watch_lock;
     uint64_t hand;           /* where eviction goes on in the map; hand_lock is held */
@@ -109,10 +110,17 @@ struct walk {
     size_t len, room_len, pairs;
 };
 
+/* What a walk copies of a value: its head, or all of it where it is shorter; and how long it is. */
+struct stored {
+    const uint8_t *head;
+    size_t len;
+};
+
 struct store;
-typedef bool each_fn(struct store *store, struct bytes key, struct bytes stored, void *of);
+typedef bool each_fn(struct store *store, struct bytes key, struct stored stored, void *of);
 
 uint32_t walk_next(struct walk *walk, struct store *store, size_t most);
+size_t copied_of(struct stored stored);
 bool walk_each(const struct walk *walk, struct store *store, each_fn *each, void *of);
 void walk_free(struct walk *walk);
 uint32_t walk_sweep(struct walk *walk, struct store *store);
@@ -129,12 +137,7 @@ int64_t day_of(uint64_t deadline);
 /* A value in the map has a head before its bytes: a generation, and a deadline in milliseconds of CLOCK_MONOTONIC, or 0. */
 enum { HEAD = 8 };
 
-#ifdef FACING_LONGEST_VALUE
-#define LONGEST_STORED ((size_t)FACING_LONGEST_VALUE)
-#else
-#define LONGEST_STORED ((size_t)FACING_LONGEST)
-#endif
-#define LONGEST_VALUE (LONGEST_STORED - HEAD)
+#define LONGEST_VALUE ((size_t)FACING_LONGEST_VALUE - HEAD)
 
 /* Of the store alone, beside facing.h's: the limit of memory does not allow what the call would store. */
 enum { STORE_FULL = 100 };
@@ -149,9 +152,10 @@ struct store {
     struct cache *cache;
     struct seat *seat;
     facing_bytes_handle client;
-    struct buffer seen, next; /* what was there, and what is to be stored; next.len is its length */
+    struct buffer seen, next; /* what was there, and what is to be stored */
     uint8_t head[HEAD];       /* of what was there, where the rest is not copied */
     uint64_t next_deadline;
+    uint32_t next_status; /* why `next` cannot be stored; FACING_DONE where it can */
     struct candidates candidates;
     struct counts counts; /* what is not yet told */
     bool is_alone;        /* this store's request runs alone */
@@ -162,7 +166,7 @@ struct found {
     bool is_stored, is_live, is_dead;
     size_t stored_len;
     uint64_t deadline;
-    struct bytes value; /* where the call copies it: store_get and store_change do */
+    struct bytes value; /* its bytes where the call copies them, and else only how many they are */
 };
 
 enum change { LEAVE, STORE, REMOVE };
@@ -176,13 +180,14 @@ void store_tell(struct store *store);
 void store_rest(struct store *store);
 void store_next(struct store *store, uint64_t deadline, struct bytes front, struct bytes back);
 void store_over(struct store *store, size_t at, struct bytes bytes);
-void store_find(const struct store *store, struct bytes stored, uint64_t now, struct found *found);
+void store_find(const struct store *store, struct stored stored, uint64_t now, struct found *found);
 uint32_t store_get(struct store *store, struct bytes key, struct found *found);
+uint32_t store_view(struct store *store, struct bytes key, struct found *found, facing_bytes_handle *held);
 uint32_t store_look(struct store *store, struct bytes key, struct found *found);
 void store_count_look(struct store *store, struct bytes key, uint32_t status, const struct found *found);
 uint32_t store_put(struct store *store, struct bytes key, struct found *before);
 uint32_t store_remove(struct store *store, struct bytes key, struct found *before);
-uint32_t store_expire(struct store *store, struct bytes key, struct bytes stored);
+uint32_t store_expire(struct store *store, struct bytes key, struct stored stored);
 uint32_t store_change(struct store *store, struct bytes key, decide_fn *decide, void *of);
 uint32_t store_clear(struct store *store);
 uint64_t store_count(struct store *store, uint32_t *status);
@@ -308,6 +313,7 @@ void reply_simple(struct connection *c, const char *text);
 void reply_error(struct connection *c, const char *text);
 void reply_number(struct connection *c, int64_t number);
 void reply_bulk(struct connection *c, struct bytes bytes);
+void reply_held(struct connection *c, facing_bytes_handle *held, size_t from, size_t len);
 void reply_field(struct connection *c, const char *name, const char *text);
 void reply_count(struct connection *c, const char *name, int64_t number);
 void reply_none(struct connection *c);

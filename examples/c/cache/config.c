@@ -63,12 +63,12 @@ const char *run_config(struct connection *c) {
 /* How Redis would keep a value that was set as it is. */
 static const char *encoding_of(struct bytes value) {
     int64_t number;
-    return number_of(value, &number) ? "int" : value.len <= EMBEDDED ? "embstr" : "raw";
+    return value.len > EMBEDDED ? "raw" : number_of(value, &number) ? "int" : "embstr";
 }
 
 static const char *encoding(struct connection *c) {
     struct found found;
-    uint32_t status = store_get(&c->worker->store, arg(c, 2), &found);
+    uint32_t status = store_look(&c->worker->store, arg(c, 2), &found);
     if (found.is_live) found.value = bytes_of(encoding_of(found.value));
     return reply_found(c, status, &found);
 }

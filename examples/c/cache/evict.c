@@ -7,12 +7,12 @@
 #include <sys/mman.h>
 
 enum { LOOKED_AT = 64, SPARING = 16, MOST_STEPS = 256, MOST_EVICTED = 128, FIRSTS = 8, LEAST_BITS = 1 << 13 };
-enum { NODE = 88, SHORT = 30, BLOCK = 16, OWNERS = 40 };
+enum { NODE = 88, SHORT = 30, BLOCK = 16, ONE_BLOCK = 318, OWNERS = 40 };
 
 /* About how many bytes a key takes with its value and the value's head. */
 size_t memory_of(size_t key_len, size_t value_len) {
-    size_t stored = HEAD + value_len;
-    return NODE + (key_len > SHORT ? key_len + BLOCK : 0) + (stored > SHORT ? stored + BLOCK + OWNERS : 0);
+    size_t stored = HEAD + value_len, beside = stored > ONE_BLOCK ? BLOCK + OWNERS : 2 * BLOCK;
+    return NODE + (key_len > SHORT ? key_len + BLOCK : 0) + (stored > SHORT ? stored + beside : 0);
 }
 
 /* Makes the table of bits: 8 for each key of 128 bytes. The system gives its pages when they are used. */
@@ -96,10 +96,10 @@ static void evict_key(struct store *store, struct bytes key, struct removed *rem
 }
 
 /* The next candidate, and what is stored there. */
-static struct bytes next_of(struct candidates *of, struct bytes *stored) {
+static struct bytes next_of(struct candidates *of, struct stored *stored) {
     struct bytes key = {of->walk.room + of->from, (size_t)of->walk.key_lens[of->next]};
-    *stored = (struct bytes){key.at + key.len, (size_t)of->walk.value_lens[of->next]};
-    of->from += key.len + stored->len;
+    *stored = (struct stored){key.at + key.len, (size_t)of->walk.value_lens[of->next]};
+    of->from += key.len + copied_of(*stored);
     of->next++;
     return key;
 }
@@ -108,7 +108,8 @@ static struct bytes next_of(struct candidates *of, struct bytes *stored) {
 static void evict_unused(struct store *store, uint64_t more, bool is_sparing, struct removed *removed) {
     struct candidates *of = &store->candidates;
     while (of->next < of->walk.pairs && !has_room(store->cache, more)) {
-        struct bytes stored, key = next_of(of, &stored);
+        struct stored stored;
+        struct bytes key = next_of(of, &stored);
         struct found found;
         store_find(store, stored, 0, &found);
         if (found.is_live && was_touched(store->cache, key) && is_sparing) continue;
@@ -141,7 +142,8 @@ static void evict_first(struct store *store, struct removed *removed) {
     struct firsts firsts = {0};
     size_t timed = 0;
     while (of->next < of->walk.pairs) {
-        struct bytes stored, key = next_of(of, &stored);
+        struct stored stored;
+        struct bytes key = next_of(of, &stored);
         struct found found;
         store_find(store, stored, 0, &found);
         if (found.is_live && found.deadline == 0) continue;

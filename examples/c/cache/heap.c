@@ -1,12 +1,12 @@
 /* The memory of the server and of the library, which is counted: small blocks without the header that malloc puts before
  * each, larger ones from malloc. A key and a value that are short lie in one small block, of 88 bytes. The library calls the
- * three functions at the end; a program with the static library may have its own, and the shared library has those that use
- * malloc.
+ * three functions of facing_heap.h, which are defined at the end.
  *
  * A slab has 64 KB of blocks of one size. A thread keeps free blocks of each size, and takes and gives them many at once. A
  * small block is used again for its size, and does not go back to the system. */
 #define _GNU_SOURCE
 #include "cache.h"
+#include "facing_heap.h"
 #include <malloc.h>
 #include <stdlib.h>
 #include <string.h>
@@ -21,16 +21,6 @@ enum { SMALL = 0 };
 #else
 enum { SMALL = LARGEST };
 #endif
-
-/* `found` is 1 where there is memory at `at`; where it is 0 `at` is an address of no use. */
-typedef struct {
-    uint64_t found;
-    void *at;
-} rattle_room;
-
-rattle_room rattle_alloc(size_t size, size_t align);
-rattle_room rattle_realloc(void *at, size_t old_size, size_t size, size_t align);
-void rattle_dealloc(void *at);
 
 /* The bytes of all blocks that are not free, but for those that each thread has yet to tell. */
 static _Alignas(64) _Atomic int64_t used;
@@ -167,7 +157,7 @@ static void give_blocks(size_t steps) {
     pthread_mutex_unlock(&lock);
 }
 
-rattle_room rattle_alloc(size_t size, size_t align) {
+facing_room facing_alloc(size_t size, size_t align) {
     static char nowhere;
     size_t steps = (size + STEP - 1) / STEP + (size == 0);
     void *at;
@@ -179,10 +169,10 @@ rattle_room rattle_alloc(size_t size, size_t align) {
         at = own[steps - 1].count == 0 ? NULL : pop(&own[steps - 1]);
         if (at != NULL) count((int64_t)(steps * STEP));
     }
-    return (rattle_room){at != NULL, at != NULL ? at : &nowhere};
+    return (facing_room){at != NULL, at != NULL ? at : &nowhere};
 }
 
-void rattle_dealloc(void *at) {
+void facing_dealloc(void *at) {
     size_t steps = size_at(at);
     if (steps == 0) {
         heap_free(at);
@@ -193,30 +183,29 @@ void rattle_dealloc(void *at) {
     if (own[steps - 1].count > 2 * BATCH) give_blocks(steps);
 }
 
-rattle_room rattle_realloc(void *at, size_t old_size, size_t size, size_t align) {
-    rattle_room room;
+facing_room facing_realloc(void *at, size_t old_size, size_t size, size_t align) {
+    facing_room room;
     if (size > SMALL && size_at(at) == 0) {
         void *moved = heap_resize(at, size);
-        return (rattle_room){moved != NULL, moved != NULL ? moved : at};
+        return (facing_room){moved != NULL, moved != NULL ? moved : at};
     }
-    room = rattle_alloc(size, align);
+    room = facing_alloc(size, align);
     if (room.found) {
         memcpy(room.at, at, old_size < size ? old_size : size);
-        rattle_dealloc(at);
+        facing_dealloc(at);
     }
     return room;
 }
 
 /* == Buffers == */
 
-/* Makes room for so many more bytes: twice as much as before, and of large room a quarter more. Returns false where there is
- * no memory for them. */
+/* Makes room for so many more bytes: at least twice what it was, or of large room 5/4. Returns false if memory is out. */
 bool buffer_reserve(struct buffer *buffer, size_t more) {
     size_t room = buffer->room < LEAST_ROOM ? LEAST_ROOM : buffer->room;
     uint8_t *at;
     if (buffer->room - buffer->len >= more && buffer->at != NULL) return true;
-    while (room - buffer->len < more)
-        room += room < 4 * (size_t)KEPT ? room : room / 4;
+    room += room < 4 * (size_t)KEPT ? room : room / 4;
+    if (room - buffer->len < more) room = buffer->len + more;
     at = heap_resize(buffer->at, room);
     if (at == NULL) return false;
     buffer->at = at;

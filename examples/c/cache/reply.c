@@ -112,14 +112,25 @@ void reply_no_list(struct connection *c) {
     reply_line(c, '*', -1);
 }
 
+/* Writes what is before and behind so many bytes, and returns where they go; NULL where the connection is to be closed. */
+static uint8_t *write_bulk(struct connection *c, size_t len) {
+    uint8_t *to = more_out(c, NUMBER + len + 2);
+    size_t head = to == NULL ? 0 : write_number(to, '$', (int64_t)len);
+    if (to == NULL) return NULL;
+    memcpy(to + head + len, "\r\n", 2);
+    wrote(c, head + len + 2);
+    return to + head;
+}
+
 void reply_bulk(struct connection *c, struct bytes bytes) {
-    uint8_t *to = more_out(c, NUMBER + bytes.len + 2);
-    size_t len;
-    if (to == NULL) return;
-    len = write_number(to, '$', (int64_t)bytes.len);
-    if (bytes.len > 0) memcpy(to + len, bytes.at, bytes.len);
-    memcpy(to + len + bytes.len, "\r\n", 2);
-    wrote(c, len + bytes.len + 2);
+    uint8_t *to = write_bulk(c, bytes.len);
+    if (to != NULL && bytes.len > 0) memcpy(to, bytes.at, bytes.len);
+}
+
+/* Replies with bytes of a value that is held, from a place on. */
+void reply_held(struct connection *c, facing_bytes_handle *held, size_t from, size_t len) {
+    uint8_t *to = write_bulk(c, len);
+    if (to != NULL && facing_bytes_read(held, from, to, len, NULL) != FACING_DONE) c->is_broken = true;
 }
 
 /* A name, and what is told of it. */

@@ -22,7 +22,7 @@ struct finding {
 };
 
 /* Takes a key where it is asked for. Returns false where there is no memory for it. */
-static bool take_key(struct store *store, struct bytes key, struct bytes stored, void *of) {
+static bool take_key(struct store *store, struct bytes key, struct stored stored, void *of) {
     struct finding *it = of;
     struct found found;
     store_find(store, stored, it->now, &found);

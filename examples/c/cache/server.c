@@ -7,10 +7,7 @@
 
 const char *run_ping(struct connection *c) {
     if (c->count > 2) return wrong_count(c);
-    if (c->count == 1)
-        reply_simple(c, "PONG");
-    else
-        reply_bulk(c, arg(c, 1));
+    c->count == 1 ? reply_simple(c, "PONG") : reply_bulk(c, arg(c, 1));
     return NULL;
 }
 

@@ -7,21 +7,17 @@
 #include "cache.h"
 #include <string.h>
 
-/* A head's upper 8 bits are the generation. A deadline in 2^55 milliseconds or more is kept in units of 256. */
-enum { GENERATIONS = 256, GENERATION_AT = 56, COARSE_AT = 55, COARSE = 8 };
+/* A head has the generation's last 16 bits, the deadline, and a zero bit. If the deadline is in 2^47 milliseconds or more, it
+ * has the last 8 bits, the deadline in units of 256, and a one bit. */
+enum { NEAR = 47, GENERATION_AT = 48, FAR_GENERATION_AT = 56, COARSE = 8 };
 
 static uint64_t head_of(uint64_t generation, uint64_t deadline) {
-    const uint64_t coarse = (uint64_t)1 << COARSE_AT;
-    return generation << GENERATION_AT | (deadline < coarse ? deadline : coarse | deadline >> COARSE);
-}
-
-static uint64_t deadline_of(uint64_t head) {
-    const uint64_t coarse = (uint64_t)1 << COARSE_AT;
-    return (head & coarse) == 0 ? head & (coarse - 1) : (head & (coarse - 1)) << COARSE;
+    if (deadline >> NEAR == 0) return generation << GENERATION_AT | deadline << 1;
+    return generation << FAR_GENERATION_AT | deadline >> COARSE << 1 | 1;
 }
 
 static uint64_t generation_of(const struct store *store) {
-    return atomic_load_explicit(&store->cache->generation, memory_order_relaxed) % GENERATIONS;
+    return atomic_load_explicit(&store->cache->generation, memory_order_relaxed);
 }
 
 /* == The store == */
@@ -54,102 +50,101 @@ void store_rest(struct store *store) {
     if (store->next.room > KEPT) buffer_free(&store->next);
 }
 
+/* Makes room in a buffer of the store, within the limit of memory where it is much. */
+static uint32_t reserve(struct store *store, struct buffer *buffer, size_t more) {
+    bool is_much = more > buffer->room - buffer->len && more > KEPT;
+    if (is_much && !make_room(store, more - (buffer->room - buffer->len))) return STORE_FULL;
+    return buffer_reserve(buffer, more) ? FACING_DONE : FACING_NO_MEMORY;
+}
+
 /* Says what is to be stored: a deadline, and the bytes of both parts. They may not lie in store->next. */
 void store_next(struct store *store, uint64_t deadline, struct bytes front, struct bytes back) {
     uint64_t head = head_of(generation_of(store), deadline);
     struct buffer *next = &store->next;
+    bool is_long = front.len > LONGEST_VALUE || back.len > LONGEST_VALUE - front.len;
     store->next_deadline = deadline;
+    if (deadline >> NEAR != 0) atomic_store(&store->cache->has_far, true);
     next->len = 0;
-    if (front.len > LONGEST_VALUE || back.len > LONGEST_VALUE - front.len) {
-        next->len = SIZE_MAX;
-    } else if (buffer_reserve(next, HEAD + front.len + back.len)) {
-        memcpy(next->at, &head, HEAD);
-        if (front.len > 0) memcpy(next->at + HEAD, front.at, front.len);
-        if (back.len > 0) memcpy(next->at + HEAD + front.len, back.at, back.len);
-        next->len = HEAD + front.len + back.len;
-    }
+    store->next_status = is_long ? FACING_TOO_LONG : reserve(store, next, HEAD + front.len + back.len);
+    if (store->next_status != FACING_DONE) return;
+    memcpy(next->at, &head, HEAD);
+    if (front.len > 0) memcpy(next->at + HEAD, front.at, front.len);
+    if (back.len > 0) memcpy(next->at + HEAD + front.len, back.at, back.len);
+    next->len = HEAD + front.len + back.len;
 }
 
 /* Writes bytes over what is to be stored, from a place on, and zeros between its end and the place. */
 void store_over(struct store *store, size_t at, struct bytes bytes) {
     struct buffer *next = &store->next;
     size_t begin = HEAD + at, end = begin + bytes.len;
-    if (next->len == 0 || next->len > LONGEST_STORED) return;
-    if (at > LONGEST_VALUE || bytes.len > LONGEST_VALUE - at) {
-        next->len = SIZE_MAX;
-    } else if (end > next->len && !buffer_reserve(next, end - next->len)) {
-        next->len = 0;
-    } else {
-        if (begin > next->len) memset(next->at + next->len, 0, begin - next->len);
-        if (bytes.len > 0) memcpy(next->at + begin, bytes.at, bytes.len);
-        if (end > next->len) next->len = end;
-    }
-}
-
-/* Why store->next cannot be stored. */
-static uint32_t status_of_next(const struct store *store) {
-    return store->next.len == 0 ? FACING_NO_MEMORY : store->next.len > LONGEST_STORED ? FACING_TOO_LONG : FACING_DONE;
+    if (store->next_status == FACING_DONE && (at > LONGEST_VALUE || bytes.len > LONGEST_VALUE - at))
+        store->next_status = FACING_TOO_LONG;
+    if (store->next_status == FACING_DONE && end > next->len) store->next_status = reserve(store, next, end - next->len);
+    if (store->next_status != FACING_DONE) return;
+    if (begin > next->len) memset(next->at + next->len, 0, begin - next->len);
+    if (bytes.len > 0) memcpy(next->at + begin, bytes.at, bytes.len);
+    if (end > next->len) next->len = end;
 }
 
 /* == What is stored == */
 
-/* What the first bytes of a value that is stored say, of which there are `stored_len`. */
-static void find(const struct store *store, const uint8_t *first, size_t stored_len, uint64_t now, struct found *found) {
+/* What the head of a value that is stored says, at that time; now where it is 0. */
+void store_find(const struct store *store, struct stored stored, uint64_t now, struct found *found) {
     uint64_t head;
-    *found = (struct found){.is_stored = true, .stored_len = stored_len};
-    if (stored_len < HEAD) return;
-    memcpy(&head, first, HEAD);
-    found->is_dead = head >> GENERATION_AT != generation_of(store);
+    unsigned at;
+    *found = (struct found){.is_stored = true, .stored_len = stored.len};
+    if (stored.len < HEAD) return;
+    memcpy(&head, stored.head, HEAD);
+    at = head & 1 ? FAR_GENERATION_AT : GENERATION_AT;
+    found->is_dead = (head ^ generation_of(store) << at) >> at != 0;
     if (found->is_dead) return;
-    found->deadline = deadline_of(head);
+    found->deadline = (head & (((uint64_t)1 << at) - 1)) >> 1 << (head & 1 ? COARSE : 0);
     found->is_live = found->deadline == 0 || (now != 0 ? now : now_ms()) < found->deadline;
-    found->value.len = stored_len - HEAD;
-}
-
-/* What a copy of a value that is stored says, at that time; now where it is 0. */
-void store_find(const struct store *store, struct bytes stored, uint64_t now, struct found *found) {
-    find(store, stored.at, stored.len, now, found);
-    if (stored.len >= HEAD) found->value = (struct bytes){stored.at + HEAD, stored.len - HEAD};
+    found->value.len = stored.len - HEAD;
 }
 
 /* What a call said of a key, whose answer has the first bytes there. */
-static void find_answer(const struct store *store, const facing_bytes_answer *answer, const uint8_t *first,
-                        struct found *found) {
+static void find_answer(const struct store *store, facing_bytes_answer answer, const uint8_t *first, struct found *found) {
     *found = (struct found){0};
-    if (answer->found) find(store, first, (size_t)answer->len, 0, found);
+    if (answer.found) store_find(store, (struct stored){first, (size_t)answer.len}, 0, found);
 }
 
-/* Gets the value at a key. */
-uint32_t store_get(struct store *store, struct bytes key, struct found *found) {
+/* Gets the value at a key, a copy where it is short. A long one is not copied: `held` is a handle of it, and else null. */
+uint32_t store_view(struct store *store, struct bytes key, struct found *found, facing_bytes_handle *held) {
     facing_bytes_answer answer = {0, 0};
-    struct buffer *seen = &store->seen;
-    uint32_t status = FACING_DONE;
-    do {
-        seen->len = 0;
-        if (seen->at == NULL || status == FACING_NO_ROOM)
-            if (!buffer_reserve(seen, answer.len < KEPT ? KEPT : (size_t)answer.len)) return FACING_NO_MEMORY;
-        status = facing_bytes_get(&store->client, key.at, key.len, seen->at, seen->room, &answer);
-    } while (status == FACING_NO_ROOM);
-    *found = (struct found){0};
-    if (status == FACING_DONE && answer.found) store_find(store, (struct bytes){seen->at, (size_t)answer.len}, 0, found);
-    return status;
-}
-
-/* Finds what a key has, but for the bytes of the value: a long one is not copied. */
-uint32_t store_look(struct store *store, struct bytes key, struct found *found) {
-    facing_bytes_answer answer = {0, 0};
-    facing_bytes_handle held = {0};
     struct buffer *seen = &store->seen;
     uint32_t status;
     *found = (struct found){0};
+    held->at = NULL;
     if (seen->at == NULL && !buffer_reserve(seen, KEPT)) return FACING_NO_MEMORY;
     status = facing_bytes_get(&store->client, key.at, key.len, seen->at, seen->room, &answer);
     if (status == FACING_NO_ROOM) {
-        status = facing_bytes_hold(&store->client, key.at, key.len, &held, &answer);
-        if (status == FACING_DONE && held.at != NULL) status = facing_bytes_read(&held, 0, seen->at, HEAD, &answer);
-        facing_bytes_free(&held);
+        status = facing_bytes_hold(&store->client, key.at, key.len, held, &answer);
+        if (status == FACING_DONE && held->at != NULL) status = facing_bytes_read(held, 0, seen->at, HEAD, &answer);
     }
-    if (status == FACING_DONE) find_answer(store, &answer, seen->at, found);
+    if (status == FACING_DONE) find_answer(store, answer, seen->at, found);
+    if (found->is_live && held->at == NULL) found->value.at = seen->at + HEAD;
+    return status;
+}
+
+/* Gets a copy of the value at a key. */
+uint32_t store_get(struct store *store, struct bytes key, struct found *found) {
+    facing_bytes_handle held;
+    uint32_t status = store_view(store, key, found, &held);
+    if (status == FACING_DONE && held.at != NULL) {
+        status = reserve(store, &store->seen, found->stored_len);
+        if (status == FACING_DONE) status = facing_bytes_read(&held, 0, store->seen.at, found->stored_len, NULL);
+        if (found->is_live) found->value.at = store->seen.at + HEAD;
+    }
+    facing_bytes_free(&held);
+    return status;
+}
+
+/* Finds what a key has, but for the bytes of the value. */
+uint32_t store_look(struct store *store, struct bytes key, struct found *found) {
+    facing_bytes_handle held;
+    uint32_t status = store_view(store, key, found, &held);
+    facing_bytes_free(&held);
     return status;
 }
 
@@ -163,14 +158,14 @@ void store_count_look(struct store *store, struct bytes key, uint32_t status, co
 
 /* == Changes == */
 
-/* Counts what was there before, and says that the key was changed. */
+/* Counts what was there before, and says that the key was changed, if it was live. */
 static void count_gone(struct store *store, struct bytes key, const struct found *before) {
     if (before->is_stored) {
         store->counts.dataset -= (int64_t)(before->stored_len + key.len);
         store->counts.dead -= before->is_dead;
         store->counts.timed -= before->deadline != 0;
     }
-    changed(store, key);
+    if (before->is_live) changed(store, key);
 }
 
 /* Counts that a key has store->next in the place of what was found. */
@@ -178,7 +173,7 @@ static void count_stored(struct store *store, struct bytes key, const struct fou
     count_gone(store, key, before);
     store->counts.dataset += (int64_t)(store->next.len + key.len);
     store->counts.timed += store->next_deadline != 0;
-    if (before->is_live) touch(store, key);
+    before->is_live ? touch(store, key) : changed(store, key);
 }
 
 /* Sees to it that there is room for store->next in the place of what was found. */
@@ -188,22 +183,19 @@ static uint32_t make_room_for_next(struct store *store, struct bytes key, const 
     return more <= less || make_room(store, more - less) ? FACING_DONE : STORE_FULL;
 }
 
-static enum change always(struct store *store, const struct found *found, void *of) {
-    (void)store;
-    *(struct found *)of = *found;
-    return STORE;
-}
-
 /* Stores store->next at a key, and finds what was there before, but for the bytes of its value. */
 uint32_t store_put(struct store *store, struct bytes key, struct found *before) {
     facing_bytes_answer answer = {0, 0};
-    uint32_t status = status_of_next(store);
+    uint32_t status = store->next_status;
     *before = (struct found){0};
+    if (status == FACING_DONE && make_room_for_next(store, key, before) != FACING_DONE) {
+        status = store_look(store, key, before);
+        if (status == FACING_DONE) status = make_room_for_next(store, key, before);
+    }
     if (status != FACING_DONE) return status;
-    if (make_room_for_next(store, key, before) != FACING_DONE) return store_change(store, key, always, before);
     status = facing_bytes_put(&store->client, key.at, key.len, store->next.at, store->next.len, store->head, HEAD, &answer);
     if (status != FACING_DONE) return status;
-    find_answer(store, &answer, store->head, before);
+    find_answer(store, answer, store->head, before);
     count_stored(store, key, before);
     return status;
 }
@@ -212,29 +204,15 @@ uint32_t store_put(struct store *store, struct bytes key, struct found *before) 
 uint32_t store_remove(struct store *store, struct bytes key, struct found *before) {
     facing_bytes_answer answer = {0, 0};
     uint32_t status = facing_bytes_remove(&store->client, key.at, key.len, store->head, HEAD, &answer);
-    find_answer(store, &answer, store->head, before);
+    find_answer(store, answer, store->head, before);
     if (before->is_stored) count_gone(store, key, before);
-    return status;
-}
-
-/* Removes a key with what was copied of it, if that is live no more and the key still has it. */
-uint32_t store_expire(struct store *store, struct bytes key, struct bytes stored) {
-    facing_bytes_answer answer = {0, 0};
-    struct found found;
-    uint32_t status;
-    store_find(store, stored, 0, &found);
-    if (found.is_live) return FACING_DONE;
-    status = facing_bytes_remove_if(&store->client, key.at, key.len, stored.at, stored.len, &answer);
-    if (!answer.found) return status;
-    count_gone(store, key, &found);
-    store->counts.expired += !found.is_dead;
     return status;
 }
 
 /* Stores store->next if the key still has what was found. */
 static uint32_t try_store(struct store *store, struct bytes key, const struct found *found, bool *is_made) {
     facing_bytes_answer answer = {0, 0};
-    uint32_t status = status_of_next(store);
+    uint32_t status = store->next_status;
     if (status == FACING_DONE) status = make_room_for_next(store, key, found);
     if (status != FACING_DONE) return status;
     if (found->is_stored)
@@ -276,6 +254,32 @@ uint32_t store_change(struct store *store, struct bytes key, decide_fn *decide, 
     return status;
 }
 
+static enum change decide_expire(struct store *store, const struct found *found, void *of) {
+    (void)store;
+    *(struct found *)of = *found;
+    return found->is_stored && !found->is_live ? REMOVE : LEAVE;
+}
+
+/* Removes a key of which a walk copied this if its value is live no more. A long value is not compared: so no other request
+ * runs meanwhile. */
+uint32_t store_expire(struct store *store, struct bytes key, struct stored stored) {
+    bool is_long = stored.len > KEPT && !store->is_alone;
+    struct found found;
+    uint32_t status;
+    store_find(store, stored, 0, &found);
+    if (found.is_live) return FACING_DONE;
+    if (is_long) turn_take_alone(store);
+    if (store->is_alone) {
+        status = store_look(store, key, &found);
+        if (status == FACING_DONE && found.is_stored && !found.is_live) status = store_remove(store, key, &found);
+    } else {
+        status = store_change(store, key, decide_expire, &found);
+    }
+    store->counts.expired += status == FACING_DONE && found.is_stored && !found.is_live && !found.is_dead;
+    if (is_long) turn_leave_alone(store);
+    return status;
+}
+
 /* == All keys == */
 
 int64_t read_count(struct cache *cache, size_t offset) {
@@ -298,6 +302,7 @@ static uint32_t remove_dead(struct store *store) {
         status = walk_sweep(&walk, store);
     while (status == FACING_DONE && walk.at != 0);
     walk_free(&walk);
+    if (status == FACING_DONE) atomic_store(&store->cache->swept, generation_of(store));
     return status;
 }
 
@@ -306,8 +311,9 @@ static uint32_t remove_dead(struct store *store) {
 uint32_t store_clear(struct store *store) {
     struct cache *cache = store->cache;
     uint64_t count = 0, next = atomic_load(&cache->generation) + 1;
+    uint64_t most = (uint64_t)1 << (64 - (atomic_load(&cache->has_far) ? FAR_GENERATION_AT : GENERATION_AT));
     uint32_t status = facing_bytes_count(&store->client, &count);
-    if (status == FACING_DONE && count > 0 && next - atomic_load(&cache->swept) >= GENERATIONS) status = remove_dead(store);
+    if (status == FACING_DONE && count > 0 && next - atomic_load(&cache->swept) >= most) status = remove_dead(store);
     if (status != FACING_DONE || count == 0) return status;
     store_tell(store);
     atomic_store(&cache->counts[offsetof(struct counts, dead) / sizeof(int64_t)], (int64_t)count);

@@ -5,29 +5,35 @@
 /* Replies with what was found, where it is live. */
 const char *reply_found(struct connection *c, uint32_t status, const struct found *found) {
     if (status != FACING_DONE) return error_of(status);
-    if (found->is_live)
-        reply_bulk(c, found->value);
-    else
-        reply_none(c);
+    found->is_live ? reply_bulk(c, found->value) : reply_none(c);
     return NULL;
 }
 
-const char *run_get(struct connection *c) {
+/* Replies with the value at a key. A long one is copied once, into the replies. */
+static const char *show(struct connection *c, struct bytes key) {
     struct store *store = &c->worker->store;
+    facing_bytes_handle held;
     struct found found;
-    uint32_t status = store_get(store, arg(c, 1), &found);
-    store_count_look(store, arg(c, 1), status, &found);
-    return reply_found(c, status, &found);
+    uint32_t status = store_view(store, key, &found, &held);
+    const char *error = NULL;
+    store_count_look(store, key, status, &found);
+    if (status == FACING_DONE && found.is_live && held.at != NULL)
+        reply_held(c, &held, HEAD, found.value.len);
+    else
+        error = reply_found(c, status, &found);
+    facing_bytes_free(&held);
+    return error;
+}
+
+const char *run_get(struct connection *c) {
+    return show(c, arg(c, 1));
 }
 
 /* One call a key, so no moment is that of all replies. */
 const char *run_mget(struct connection *c) {
     reply_list(c, c->count - 1);
     for (size_t i = 1; i < c->count && !c->is_broken; i++) {
-        struct found found;
-        uint32_t status = store_get(&c->worker->store, arg(c, i), &found);
-        const char *error = reply_found(c, status, &found);
-        store_count_look(&c->worker->store, arg(c, i), status, &found);
+        const char *error = show(c, arg(c, i));
         if (error != NULL) reply_error(c, error);
     }
     return NULL;
@@ -66,19 +72,23 @@ const char *run_getrange(struct connection *c) {
     int64_t from, to;
     size_t first, last;
     bool is_none;
+    facing_bytes_handle held;
     struct found found;
     uint32_t status;
     if (!number_of(arg(c, 2), &from) || !number_of(arg(c, 3), &to)) return NOT_A_NUMBER;
-    status = store_get(&c->worker->store, arg(c, 1), &found);
+    status = store_view(&c->worker->store, arg(c, 1), &found, &held);
     store_count_look(&c->worker->store, arg(c, 1), status, &found);
-    if (status != FACING_DONE) return error_of(status);
     if (!found.is_live) found.value = NOTHING;
     first = place_in(from, found.value.len);
     last = place_in(to, found.value.len);
     if (last >= found.value.len) last = found.value.len - 1;
     is_none = found.value.len == 0 || first > last || (from < 0 && to < 0 && from > to);
-    reply_bulk(c, is_none ? NOTHING : (struct bytes){found.value.at + first, last - first + 1});
-    return NULL;
+    if (status == FACING_DONE && !is_none && held.at != NULL)
+        reply_held(c, &held, HEAD + first, last - first + 1);
+    else if (status == FACING_DONE)
+        reply_bulk(c, is_none ? NOTHING : (struct bytes){found.value.at + first, last - first + 1});
+    facing_bytes_free(&held);
+    return error_of(status);
 }
 
 /* What SETRANGE and APPEND are asked to write where, and how long the value is then. */

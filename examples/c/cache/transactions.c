@@ -12,23 +12,28 @@ static size_t aligned(size_t size) {
     return (size + _Alignof(struct queued) - 1) / _Alignof(struct queued) * _Alignof(struct queued);
 }
 
+/* Makes room for a request of a transaction, within the limits. Returns an error, or NULL. */
+static const char *reserve(struct connection *c, size_t more) {
+    struct buffer *requests = &c->transaction.requests;
+    bool is_much = requests->len + more > KEPT && requests->room - requests->len < more;
+    if (more > c->worker->cache->limits.request - requests->len) return "ERR transaction exceeds the limit of a request";
+    if (is_much && !make_room(&c->worker->store, more)) return error_of(STORE_FULL);
+    return buffer_reserve(requests, more) ? NULL : error_of(FACING_NO_MEMORY);
+}
+
 /* Copies the request that was read, to be run by EXEC. Returns an error where it has no room. */
 const char *queue_request(struct connection *c) {
     struct transaction *t = &c->transaction;
     struct queued queued = {c->command, c->count, 0};
     size_t bytes = 0, head = sizeof queued + c->count * sizeof(struct span);
+    const char *error;
     struct span *spans;
     for (size_t i = 0; i < c->count; i++)
         bytes += c->args[i].len;
     queued.size = aligned(head + bytes);
-    if (queued.size > c->worker->cache->limits.request - t->requests.len) {
-        t->is_wrong = true;
-        return "ERR transaction exceeds the limit of a request";
-    }
-    if (!buffer_reserve(&t->requests, queued.size)) {
-        t->is_wrong = true;
-        return error_of(FACING_NO_MEMORY);
-    }
+    error = reserve(c, queued.size);
+    t->is_wrong = t->is_wrong || error != NULL;
+    if (error != NULL) return error;
     spans = (struct span *)(void *)(t->requests.at + t->requests.len + sizeof queued);
     memcpy(t->requests.at + t->requests.len, &queued, sizeof queued);
     bytes = head;

@@ -25,22 +25,15 @@ static bool make_room_in(struct walk *walk, size_t pairs, size_t bytes) {
     return true;
 }
 
-/* Copies the pairs of the bucket where the walk is, behind those that are there. */
+/* Copies the keys of the bucket where the walk is, and the heads of their values, behind those that are there. */
 static uint32_t copy_bucket(struct walk *walk, struct store *store, size_t most, size_t *bytes, facing_bytes_sizes *sizes) {
-    facing_bytes_handle *client = &store->client;
-    facing_handle lent, back;
     uint64_t next = walk->at;
     uint32_t status;
     unsigned round = 0;
     do {
-        lent = facing_lend(client->at, FACING_BYTES);
-        back.at = NULL;
-        FACING_ENTER(0);
-        status = facing_c_bytes_try_pairs(lent, &back, walk->at, &next, walk->key_lens + walk->pairs, most - walk->pairs,
-                                          walk->value_lens + walk->pairs, most - walk->pairs, walk->room + *bytes,
-                                          walk->room_len - *bytes, sizes);
-        FACING_LEAVE(0);
-        client->at = facing_back(client->at, lent.at, back.at);
+        status = facing_bytes_try_copy(&store->client, walk->at, &next, HEAD, walk->key_lens + walk->pairs,
+                                       walk->value_lens + walk->pairs, most - walk->pairs, walk->room + *bytes,
+                                       walk->room_len - *bytes, sizes);
         if (status == FACING_BUSY) facing_wait(round);
         round += round < 64;
     } while (status == FACING_BUSY);
@@ -52,8 +45,8 @@ static uint32_t copy_bucket(struct walk *walk, struct store *store, size_t most,
     return status;
 }
 
-/* Copies the pairs of the next buckets: at most so many pairs, and one bucket's at least where it has some. It may find none
- * before the end, since it looks into a bounded number of buckets. */
+/* Copies the keys of the next buckets and their values' heads: at most so many, and one bucket's at least where it has some. It
+ * may find none before the end, since it looks into a bounded number of buckets. */
 uint32_t walk_next(struct walk *walk, struct store *store, size_t most) {
     facing_bytes_sizes sizes = {most, 2 * (size_t)KEPT};
     uint32_t status = FACING_DONE;
@@ -79,19 +72,24 @@ void walk_free(struct walk *walk) {
     *walk = (struct walk){.at = walk->at};
 }
 
-/* Shows the function each pair that was copied, until it returns false. */
+/* How many bytes of a value are copied. */
+size_t copied_of(struct stored stored) {
+    return stored.len < HEAD ? stored.len : HEAD;
+}
+
+/* Shows the function each key that was copied, until it returns false. */
 bool walk_each(const struct walk *walk, struct store *store, each_fn *each, void *of) {
     const uint8_t *at = walk->room;
     for (size_t i = 0; i < walk->pairs; i++) {
         struct bytes key = {at, (size_t)walk->key_lens[i]};
-        struct bytes stored = {at + key.len, (size_t)walk->value_lens[i]};
+        struct stored stored = {at + key.len, (size_t)walk->value_lens[i]};
         if (!each(store, key, stored, of)) return false;
-        at += key.len + stored.len;
+        at += key.len + copied_of(stored);
     }
     return true;
 }
 
-static bool remove_expired(struct store *store, struct bytes key, struct bytes stored, void *of) {
+static bool remove_expired(struct store *store, struct bytes key, struct stored stored, void *of) {
     uint32_t *status = of;
     *status = store_expire(store, key, stored);
     return *status == FACING_DONE;

@@ -47,6 +47,10 @@ static void numbers(void) {
     CLEARS(it, facing_counts_replace_if(NULL, "a", 1, 2, 3, &it));
     CLEARS(it, facing_counts_find(NULL, "a", 1, &it));
     CLEARS(it, facing_counts_pool_set(&counts_pool, "a", 1, 2, &it));
+    CLEARS(it, facing_add_up_to(NULL, 1, 2, 3, &it));
+    CLEARS(it, facing_counts_add_up_to(NULL, "a", 1, 2, 3, &it));
+    CLEARS(it, facing_pool_add_up_to(&pool, 1, 2, 3, &it));
+    CLEARS(it, facing_counts_pool_add_up_to(&counts_pool, "a", 1, 2, 3, &it));
 }
 
 static void counts(facing_counts_handle *client) {
@@ -89,23 +93,47 @@ static void bytes(facing_bytes_handle *client) {
 #undef are_zero
 }
 
+/* What an exchange saw. */
+static void seen(facing_bytes_handle *client) {
+    const uint64_t value = 2;
+    const facing_bytes_view nowhere = {NULL, 1}, right = {"b", 1};
+    facing_seen it;
+    facing_bytes_seen bytes_it;
+#define are_zero(it) ((it)->exchanged == 0 && (it)->found == 0 && (it)->value == 0)
+    CLEARS(it, facing_exchange(NULL, 1, NULL, &value, &it));
+    CLEARS(it, facing_counts_exchange(NULL, "a", 1, NULL, &value, &it));
+    CLEARS(it, facing_pool_exchange(&pool, 1, NULL, &value, &it));
+    CLEARS(it, facing_counts_pool_exchange(&counts_pool, "a", 1, NULL, &value, &it));
+#undef are_zero
+#define are_zero(it) ((it)->exchanged == 0 && (it)->found == 0 && (it)->len == 0)
+    CLEARS(bytes_it, facing_bytes_exchange(NULL, "a", 1, NULL, &right, room, 100, &bytes_it));
+    CLEARS(bytes_it, facing_bytes_exchange(client, NULL, 1, NULL, &right, room, 100, &bytes_it));
+    CLEARS(bytes_it, facing_bytes_exchange(client, "a", 1, &nowhere, &right, room, 100, &bytes_it));
+    CLEARS(bytes_it, facing_bytes_pool_exchange(&bytes_pool, "a", 1, NULL, &right, room, 100, &bytes_it));
+#undef are_zero
+}
+
 /* Handles that a call fills, where another argument is wrong. */
 static void handles(void) {
     facing_handle it;
     facing_bytes_handle bytes_it;
     facing_counts_handle counts_it;
 #define are_zero(it) ((it)->at == NULL)
+    CLEARS(it, facing_open_seeded(16, 1, NULL, &it));
     CLEARS(it, facing_client(NULL, &it));
     CLEARS(it, facing_reopen(NULL, 1, &it));
+    CLEARS(it, facing_again(NULL, &it));
     CLEARS(it, facing_pool_close(NULL, &it));
     CLEARS(bytes_it, facing_bytes_client(NULL, &bytes_it));
     CLEARS(bytes_it, facing_bytes_reopen(NULL, 1, &bytes_it));
+    CLEARS(bytes_it, facing_bytes_again(NULL, &bytes_it));
     CLEARS(bytes_it, facing_bytes_open_seeded(16, 1, NULL, &bytes_it));
     CLEARS(bytes_it, facing_bytes_hold(NULL, "a", 1, &bytes_it, NULL));
     CLEARS(bytes_it, facing_bytes_pool_hold(&bytes_pool, "a", 1, &bytes_it, NULL));
     CLEARS(bytes_it, facing_bytes_pool_close(NULL, &bytes_it));
     CLEARS(counts_it, facing_counts_client(NULL, &counts_it));
     CLEARS(counts_it, facing_counts_reopen(NULL, 1, &counts_it));
+    CLEARS(counts_it, facing_counts_again(NULL, &counts_it));
     CLEARS(counts_it, facing_counts_open_seeded(16, 1, NULL, &counts_it));
     CLEARS(counts_it, facing_counts_pool_close(NULL, &counts_it));
 #undef are_zero
@@ -133,6 +161,8 @@ static void many(void) {
 #define are_zero(it) ((it)->pairs == 0 && (it)->bytes == 0)
     CLEARS(sizes, facing_bytes_sizes_of(NULL, &sizes));
     CLEARS(sizes, facing_bytes_pairs(NULL, &cursor, lens, others, 2, room, 100, &sizes));
+    CLEARS(sizes, facing_bytes_heads(NULL, &cursor, 1, lens, others, 2, room, 100, &sizes));
+    CLEARS(sizes, facing_bytes_pool_heads(&bytes_pool, NULL, 1, lens, others, 2, room, 100, &sizes));
     CLEARS(sizes, facing_counts_pool_pairs(&counts_pool, &cursor, lens, others, 2, room, 100, &sizes));
 #undef are_zero
 #define are_zero(it) ((*(it))[0].found == 0 && (*(it))[0].value == 0 && (*(it))[1].found == 0 && (*(it))[1].value == 0)
@@ -151,6 +181,7 @@ int main(void) {
     numbers();
     counts(&counts_client);
     bytes(&bytes_client);
+    seen(&bytes_client);
     handles();
     many();
     want(sscanf(facing_version(), "%u.%u.%u", &major, &minor, &patch) == 3

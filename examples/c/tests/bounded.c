@@ -54,7 +54,8 @@ static void read_counts(facing_counts_handle *any, const char *what) {
     want_steps(calls, empty, pairs, sum, what);
 }
 
-static void read_bytes(facing_bytes_handle *any, const char *what) {
+/* Reads whole values, or keys alone. */
+static void read_bytes(facing_bytes_handle *any, int is_whole, const char *what) {
     uint64_t lens[LEN], value_lens[LEN], sum = 0;
     char room[64];
     size_t pairs = 0;
@@ -62,7 +63,10 @@ static void read_bytes(facing_bytes_handle *any, const char *what) {
     facing_bytes_sizes copied;
     facing_cursor cursor = {0};
     while (cursor.at != UINT64_MAX && calls < 2 * BUCKETS) {
-        want(facing_bytes_pairs(any, &cursor, lens, value_lens, LEN, room, sizeof room, &copied) == FACING_DONE, what);
+        if (is_whole)
+            want(facing_bytes_pairs(any, &cursor, lens, value_lens, LEN, room, sizeof room, &copied) == FACING_DONE, what);
+        else
+            want(facing_bytes_heads(any, &cursor, 0, lens, value_lens, LEN, room, LEN, &copied) == FACING_DONE, what);
         calls++;
         empty += copied.pairs == 0;
         for (size_t i = 0; i < copied.pairs; i++, pairs++)
@@ -91,7 +95,8 @@ int main(void) {
     }
     read_numbers(&client, NULL, "numbers, by a client");
     read_numbers(NULL, &pool, "numbers, by a pool");
-    read_bytes(&bytes_client, "bytes, by a client");
+    read_bytes(&bytes_client, 1, "bytes, by a client");
+    read_bytes(&bytes_client, 0, "keys of bytes, by a client");
     read_counts(&counts_client, "counts, by a client");
     want(facing_bytes_sizes_of(&bytes_client, &sizes) == FACING_DONE && sizes.pairs == 3 && sizes.bytes == 63, "all sizes");
     facing_free(&client);
@@ -99,7 +104,8 @@ int main(void) {
     facing_counts_free(&counts_client);
     want(!facing_close(&map) && !facing_bytes_close(&bytes_map) && !facing_counts_close(&counts_map), "close");
     read_numbers(&map, NULL, "numbers, closed");
-    read_bytes(&bytes_map, "bytes, closed");
+    read_bytes(&bytes_map, 1, "bytes, closed");
+    read_bytes(&bytes_map, 0, "keys of bytes, closed");
     read_counts(&counts_map, "counts, closed");
     facing_free(&map);
     facing_bytes_free(&bytes_map);

@@ -28,13 +28,16 @@ struct text {
 
 static uint8_t pattern[FACING_LONGEST + 300], room[FACING_LONGEST + 300];
 
+/* More bytes than a value may have, which nobody reads. */
+static uint8_t *unread;
+
 /* The bytes of a key, the last of which are the most that a key may have; key 0 has none. */
 static struct text key_of(unsigned key) {
     struct text text = {pattern + key, key + 1 == KEYS ? (size_t)FACING_LONGEST : (size_t)key * 3};
     return text;
 }
 
-/* The bytes of a value, the last of which are the most that a value may have. */
+/* The bytes of a value, the last of which are as many as a key may have. */
 static struct text value_of(unsigned value) {
     struct text text = {pattern + 100 + value, value + 1 == VALUES ? (size_t)FACING_LONGEST : (size_t)value * 9};
     return text;
@@ -149,7 +152,7 @@ static void make_call(struct slot *it) {
         int is_key = kind < 2 || kind == 4 || below(2);
         if (expected == FACING_DONE) expected = FACING_TOO_LONG;
         if (is_key) k.at = pattern, k.len = (size_t)FACING_LONGEST + 1 + below(100);
-        else v.at = pattern, v.len = (size_t)FACING_LONGEST + 1 + below(100);
+        else v.at = unread, v.len = (size_t)FACING_LONGEST_VALUE + 1 + below(100);
         want_status(call(kind, &it->handle, k, v, w, len, &answer), expected, "a long key or value");
         want(answer.found == 0 && answer.len == 0, "the answer to a long key or value");
         want_room(none, 0, "what a long key leaves");
@@ -227,12 +230,17 @@ static void find_key(struct slot *it) {
     want_kept(it);
 }
 
-/* Whether the next bytes of the room are a pair of the map. */
-static int is_pair(const struct content *of, const uint8_t *at, uint64_t key_len, uint64_t value_len) {
+/* How many of so many bytes are copied where at most `front` are. */
+static size_t head_of(uint64_t len, size_t front) {
+    return len < front ? (size_t)len : front;
+}
+
+/* Whether the next bytes of the room are a pair of the map, whose value has that length; at most `front` bytes of it lie there. */
+static int is_pair(const struct content *of, const uint8_t *at, uint64_t key_len, uint64_t value_len, size_t front) {
     for (unsigned key = 0; key < KEYS; key++) {
         struct text k = key_of(key), v = value_of(of->values[key]);
         if (of->values[key] != 0 && k.len == key_len && memcmp(k.at, at, k.len) == 0)
-            return v.len == value_len && memcmp(v.at, at + key_len, v.len) == 0;
+            return v.len == value_len && memcmp(v.at, at + key_len, head_of(v.len, front)) == 0;
     }
     return 0;
 }
@@ -243,6 +251,7 @@ static void walk(struct slot *it) {
     static uint8_t pairs[KEYS * 2 * FACING_LONGEST];
     int can = it->kind == CLOSED || it->kind == CLIENT;
     size_t len = (size_t)below(KEYS + 1), most = below(2) ? sizeof pairs : (size_t)below(4 * FACING_LONGEST);
+    size_t front = below(2) ? SIZE_MAX : (size_t)below(40);
     facing_cursor cursor = {0};
     facing_bytes_sizes copied = {7, 7}, sizes = {0, 0};
     if (seldom())
@@ -250,7 +259,9 @@ static void walk(struct slot *it) {
                     "pairs with one room for both lengths");
     do {
         size_t at = 0;
-        uint32_t status = facing_bytes_pairs(&it->handle, &cursor, key_lens, value_lens, len, pairs, most, &copied);
+        uint32_t status =
+            front == SIZE_MAX ? facing_bytes_pairs(&it->handle, &cursor, key_lens, value_lens, len, pairs, most, &copied)
+                              : facing_bytes_heads(&it->handle, &cursor, front, key_lens, value_lens, len, pairs, most, &copied);
         if (can && status == FACING_NO_ROOM && (len < KEYS || most < sizeof pairs)) {
             want(copied.pairs > len || copied.bytes > most, "what finds no room");
             len = KEYS;
@@ -259,8 +270,8 @@ static void walk(struct slot *it) {
         }
         want_status(status, can ? FACING_DONE : FACING_WRONG_HANDLE, "pairs");
         for (size_t i = 0; i < copied.pairs; i++) {
-            want(is_pair(it->of, pairs + at, key_lens[i], value_lens[i]), "a pair");
-            at += key_lens[i] + value_lens[i];
+            want(is_pair(it->of, pairs + at, key_lens[i], value_lens[i], front), "a pair");
+            at += key_lens[i] + head_of(value_lens[i], front);
         }
         want(at == copied.bytes, "the bytes of pairs");
         all += copied.pairs;
@@ -352,6 +363,8 @@ static void call_with_null(void) {
 int main(int argc, char **argv) {
     uint64_t most = argc > 1 ? strtoull(argv[1], NULL, 10) : 10000;
     state = argc > 2 ? strtoull(argv[2], NULL, 10) : 1;
+    unread = (uint8_t *)malloc((size_t)FACING_LONGEST_VALUE + 101);
+    if (unread == NULL) return 1;
     for (size_t i = 0; i < sizeof pattern; i++) pattern[i] = (uint8_t)(i * i / 3 + i);
     while (misuses < most && wrong == 0) {
         switch (below(40)) {
@@ -371,6 +384,7 @@ int main(int argc, char **argv) {
         }
     }
     for (int i = 0; i < SLOTS; i++) free_slot(&slots[i]);
+    free(unread);
     printf("%llu calls, %llu misuses, %llu wrong\n", (unsigned long long)calls, (unsigned long long)misuses, (unsigned long long)wrong);
     return wrong != 0;
 }

@@ -3,7 +3,7 @@
  * it was. A look takes memory for neither key nor value: it takes none, but where the map is to grow and was refused memory for that.
  *
  * It is linked so that the library's malloc and realloc are those below (--wrap). */
-#include "facing_bytes.h"
+#include "facing_change.h"
 #include "refusing.h"
 #include <string.h>
 
@@ -88,6 +88,25 @@ static void look_closed(facing_bytes_handle *closed) {
     want(facing_bytes_count(closed, &count) == FACING_DONE && count == live, "the count of a closed map");
 }
 
+/* Exchanges what the key has for another value, in its place or as its first. */
+static uint32_t exchange(facing_bytes_handle *client, unsigned key, struct text value, facing_bytes_answer *answer) {
+    struct text k = key_of(key), old = value_of(model[key]);
+    facing_bytes_view expected, wanted;
+    facing_bytes_seen seen = {7, 7, 7};
+    uint8_t room[MOST];
+    uint32_t status;
+    expected.at = old.at;
+    expected.len = old.len;
+    wanted.at = value.at;
+    wanted.len = value.len;
+    status = facing_bytes_exchange(client, k.at, k.len, model[key] != 0 ? &expected : NULL, &wanted, room, MOST, &seen);
+    want(seen.exchanged == (status == FACING_DONE), "an exchange");
+    want(!seen.found || is_value(model[key], room, seen.len), "what an exchange saw");
+    answer->found = seen.found;
+    answer->len = seen.len;
+    return status;
+}
+
 /* Each kind of call: 1 puts, 2 removes, and else gives a key that has none a value, puts another in its place, or puts another in
  * the place of the one that it has. */
 static uint32_t call(facing_bytes_handle *client, int kind, unsigned key, unsigned value, facing_bytes_answer *answer) {
@@ -99,13 +118,14 @@ static uint32_t call(facing_bytes_handle *client, int kind, unsigned key, unsign
     case 3: return facing_bytes_put_if_absent(client, k.at, k.len, v.at, v.len, room, MOST, answer);
     case 4: return facing_bytes_replace(client, k.at, k.len, v.at, v.len, room, MOST, answer);
     case 5: return facing_bytes_remove_if(client, k.at, k.len, old.at, old.len, answer);
+    case 7: return exchange(client, key, v, answer);
     default: return facing_bytes_replace_if(client, k.at, k.len, old.at, old.len, v.at, v.len, answer);
     }
 }
 
 static void note(int kind, unsigned key, unsigned value) {
     switch (kind) {
-    case 1: model[key] = value; break;
+    case 1: case 7: model[key] = value; break;
     case 2: case 5: model[key] = 0; break;
     case 3: if (model[key] == 0) model[key] = value; break;
     default: if (model[key] != 0) model[key] = value;
@@ -152,7 +172,7 @@ static void work(facing_bytes_handle *map) {
         while (was_refused(facing_bytes_client(map, &clients[i]), "a client"))
             want(map->at != NULL && clients[i].at == NULL, "no client");
     for (unsigned key = 0; key < KEYS; key++) make(map, &clients[key % CLIENTS], 1, key, 1 + key);
-    for (unsigned key = 0; key < ROOM; key++) make(map, &clients[key % CLIENTS], 2 + (int)(key % 5), key, 100 + key);
+    for (unsigned key = 0; key < ROOM; key++) make(map, &clients[key % CLIENTS], 2 + (int)(key % 6), key, 100 + key);
     look(map, &clients[0], 0);
     put_short(map, &clients[1]);
     for (unsigned key = 0; key < ROOM; key += 10) hold(&clients[key % CLIENTS], key);
@@ -169,7 +189,7 @@ static void close_and_look(facing_bytes_handle *map) {
 }
 
 static void live(void) {
-    facing_bytes_handle map, second;
+    facing_bytes_handle map, second, more;
     for (int key = 0; key < ROOM; key++) model[key] = 0;
     while (was_refused(facing_bytes_open(16, CLIENTS, &map), "an open")) want(map.at == NULL, "no map");
     work(&map);
@@ -178,13 +198,36 @@ static void live(void) {
         want(second.at == NULL, "no second map");
         look_closed(&map);
     }
+    while (was_refused(facing_bytes_again(&map, &more), "one more handle")) {
+        want(more.at == NULL, "no more handle");
+        look_closed(&map);
+    }
     facing_bytes_free(&map);
+    look_closed(&more);
+    facing_bytes_free(&more);
     work(&second);
     close_and_look(&second);
     facing_bytes_free(&second);
     want(blocks == 0, "blocks that are left");
 }
 
+/* A value of 31 to 318 bytes takes one block, and a longer one two. Nothing is refused. */
+static void put_longer(void) {
+    static const uint8_t bytes[1000];
+    static const size_t lens[] = {31, 46, 47, 318, 319, 1000};
+    facing_bytes_handle map, client = {NULL};
+    want(facing_bytes_open(16, 1, &map) == FACING_DONE && facing_bytes_client(&map, &client) == FACING_DONE, "a map");
+    want(facing_bytes_put(&client, "key", 3, "", 0, NULL, 0, NULL) == FACING_DONE, "a put of no bytes");
+    for (size_t i = 0; i < sizeof lens / sizeof *lens; i++) {
+        long before = requests;
+        want(facing_bytes_put(&client, "key", 3, bytes, lens[i], NULL, 0, NULL) == FACING_DONE, "a put of many bytes");
+        want(requests == before + (lens[i] <= 318 ? 1 : 2), "how many blocks a value takes");
+    }
+    facing_bytes_free(&client);
+    facing_bytes_free(&map);
+}
+
 int main(int argc, char **argv) {
+    put_longer();
     return refuse_each(argc > 1 ? strtol(argv[1], NULL, 10) : 1, live);
 }

@@ -116,6 +116,8 @@ static void call_numbers(void) {
     want(facing_get(&reader, stops[0].key, &answer) == FACING_AFTER_FORK, "a get of a locked key");
     want(answer.found == 0 && answer.value == 0, "its answer");
     want(facing_add(&reader, stops[0].key, 1, NULL) == FACING_AFTER_FORK, "an add to a locked key");
+    want(facing_add_up_to(&reader, stops[0].key, 1, 2, NULL) == FACING_AFTER_FORK, "a bounded sum");
+    want(facing_exchange(&reader, stops[0].key, NULL, NULL, NULL) == FACING_AFTER_FORK, "an exchange");
     for (uint64_t key = 0; key < KEYS; key++) {
         uint32_t status = facing_put(&reader, key, key, NULL);
         want(status == FACING_DONE || status == FACING_AFTER_FORK, "a put of another key");

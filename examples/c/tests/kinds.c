@@ -1,5 +1,5 @@
 /* Handles of each kind are handed to the functions of the two other headers: each call fails, tells why, and changes nothing. Where
- * the system gives no random bytes no map of byte strings opens. The program is linked so that its getrandom is the one below. */
+ * the system gives no random bytes no map opens. The program is linked so that its getrandom is the one below. */
 #include "facing_counts.h"
 #include <stdio.h>
 #include <string.h>
@@ -29,16 +29,20 @@ ssize_t __wrap_getrandom(void *room, size_t len, unsigned flags) {
 }
 
 static void draw_seeds(void) {
+    facing_handle numbers = {&wrong};
     facing_bytes_handle bytes = {&wrong};
     facing_counts_handle counts = {&wrong};
     is_failing = 1;
+    want(facing_open(16, 1, 0, &numbers) == FACING_NO_SEED && numbers.at == NULL, "numbers without a seed");
     want(facing_bytes_open(16, 1, &bytes) == FACING_NO_SEED && bytes.at == NULL, "bytes without a seed");
     want(facing_counts_open(16, 1, &counts) == FACING_NO_SEED && counts.at == NULL, "counts without a seed");
     is_failing = 0;
     interruptions = 3;
     draws = 0;
     want(facing_bytes_open(16, 1, &bytes) == FACING_DONE && draws == 4, "a seed after interruptions");
+    want(facing_open(16, 1, 0, &numbers) == FACING_DONE && draws == 5, "a seed of numbers");
     facing_bytes_free(&bytes);
+    facing_free(&numbers);
 }
 
 /* Calls of facing_bytes.h and facing_counts.h with a handle of facing.h, and so on: a client, a closed map. */

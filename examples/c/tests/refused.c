@@ -47,6 +47,17 @@ static void look_closed(any_handle *closed) {
     want(DO(count)(closed, &count) == FACING_DONE && count == live, "the count of a closed map");
 }
 
+/* Exchanges what the key has for another value, in its place or as its first. */
+static uint32_t exchange(any_handle *client, uint64_t key, facing_answer *answer) {
+    const uint64_t old = model[key].value, new_value = key + 3;
+    facing_seen seen = {7, 7, 7};
+    uint32_t status = DO(exchange)(client, KEY(key), model[key].has ? &old : NULL, &new_value, &seen);
+    want(seen.exchanged == (status == FACING_DONE), "an exchange");
+    answer->found = seen.found;
+    answer->value = seen.value;
+    return status;
+}
+
 /* Each kind of call: 1 puts, 2 adds, 3 removes, and else gives a key that has none a value, and puts another in its place. */
 static uint32_t call(any_handle *client, int kind, uint64_t key, facing_answer *answer) {
     switch (kind) {
@@ -55,6 +66,8 @@ static uint32_t call(any_handle *client, int kind, uint64_t key, facing_answer *
     case 3: return DO(remove)(client, KEY(key), answer);
     case 4: return DO(put_if_absent)(client, KEY(key), key, answer);
     case 5: return DO(replace)(client, KEY(key), key + 1, answer);
+    case 6: return exchange(client, key, answer);
+    case 7: return DO(add_up_to)(client, KEY(key), 5, UINT64_MAX, answer);
     default: return DO(greatest)(client, KEY(key), key + 2, answer);
     }
 }
@@ -63,10 +76,11 @@ static void note(int kind, uint64_t key) {
     uint64_t old = model[key].has ? model[key].value : 0;
     switch (kind) {
     case 1: model[key].value = key * 7; break;
-    case 2: model[key].value = old + 5; break;
+    case 2: case 7: model[key].value = old + 5; break;
     case 3: model[key].has = 0; return;
     case 4: if (!model[key].has) model[key].value = key; break;
     case 5: if (!model[key].has) return; model[key].value = key + 1; break;
+    case 6: model[key].value = key + 3; break;
     default: model[key].value = old > key + 2 ? old : key + 2;
     }
     model[key].has = 1;
@@ -91,6 +105,8 @@ static void call_without_memory(any_handle *client) {
         want(DO(put)(client, KEY(key), model[key].value, NULL) == FACING_DONE, "a put");
         want(DO(replace_if)(client, KEY(key), model[key].value, 1, NULL) == FACING_DONE, "a replace_if");
         want(DO(greatest)(client, KEY(key), 0, &answer) == FACING_DONE && answer.value == 1, "a greatest");
+        want(DO(add_up_to)(client, KEY(key), 1, 1, &answer) == FACING_DONE && answer.found == 0, "a sum past its bound");
+        want(DO(add_up_to)(client, KEY(key), 1, 2, &answer) == FACING_DONE && answer.value == 2, "a sum up to a bound");
         want(DO(set)(client, KEY(key), model[key].value, NULL) == FACING_DONE, "a set");
     }
     want(requests == before, "a call on a key that is there takes memory");
@@ -101,7 +117,7 @@ static void work(any_handle *map) {
     for (int i = 0; i < CLIENTS; i++)
         while (was_refused(DO(client)(map, &clients[i]), "a client")) want(map->at != NULL && clients[i].at == NULL, "no client");
     for (uint64_t key = 0; key < KEYS; key++) make(map, &clients[key % CLIENTS], 1, key);
-    for (uint64_t key = 0; key < ROOM; key++) make(map, &clients[key % CLIENTS], 2 + (int)(key % 5), key);
+    for (uint64_t key = 0; key < ROOM; key++) make(map, &clients[key % CLIENTS], 2 + (int)(key % 7), key);
     look(map, &clients[0]);
     call_without_memory(&clients[1]);
     for (int i = 0; i < CLIENTS; i++) DO(free)(&clients[i]);
@@ -116,7 +132,7 @@ static void close_and_look(any_handle *map) {
 }
 
 static void live(void) {
-    any_handle map, second;
+    any_handle map, second, more;
     for (int key = 0; key < ROOM; key++) model[key].has = 0;
     while (was_refused(DO(open)(OPEN_WITH(16, CLIENTS), &map), "an open")) want(map.at == NULL, "no map");
     work(&map);
@@ -125,7 +141,13 @@ static void live(void) {
         want(second.at == NULL, "no second map");
         look_closed(&map);
     }
+    while (was_refused(DO(again)(&map, &more), "one more handle")) {
+        want(more.at == NULL, "no more handle");
+        look_closed(&map);
+    }
     DO(free)(&map);
+    look_closed(&more);
+    DO(free)(&more);
     work(&second);
     close_and_look(&second);
     DO(free)(&second);

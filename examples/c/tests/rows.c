@@ -36,6 +36,9 @@ static void open_wrongly(void) {
     ROW(facing_open(16, 0, 0, &made), FACING_BAD_CLIENTS);
     ROW(facing_open(16, 65537, 0, &made), FACING_BAD_CLIENTS);
     ROW(facing_open(16, 1, 0, NULL), FACING_BAD_ARGUMENT);
+    ROW(facing_open_seeded(16, 1, NULL, &made), FACING_BAD_ARGUMENT);
+    ROW(facing_open_seeded(16, 1, values, NULL), FACING_BAD_ARGUMENT);
+    ROW(facing_open_seeded(16, 0, values, &made), FACING_BAD_CLIENTS);
     ROW(facing_bytes_open(SIZE_MAX, 1, &made_bytes), FACING_BAD_CAPACITY);
     ROW(facing_bytes_open(16, UINT32_MAX, &made_bytes), FACING_BAD_CLIENTS);
     ROW(facing_bytes_open_seeded(16, 1, NULL, &made_bytes), FACING_BAD_ARGUMENT);
@@ -90,7 +93,8 @@ static void call_bytes_wrongly(void) {
     ROW(facing_bytes_put(&caller, room + 10, 5, "b", 1, room, 100, &told), FACING_BAD_ARGUMENT);
     ROW(facing_bytes_put(&caller, "a", 1, room + 99, 1, room, 100, &told), FACING_BAD_ARGUMENT);
     ROW(facing_bytes_put(&caller, large, sizeof large, "b", 1, room, 100, &told), FACING_TOO_LONG);
-    ROW(facing_bytes_put(&caller, "a", 1, large, sizeof large, room, 100, &told), FACING_TOO_LONG);
+    ROW(facing_bytes_put(&caller, "a", 1, large, (size_t)FACING_LONGEST_VALUE + 1, NULL, 0, &told), FACING_TOO_LONG);
+    ROW(facing_bytes_put(&caller, "a", 1, large, sizeof large, room, 100, &told), FACING_DONE);
     ROW(facing_bytes_put(&caller, "a", 1, large, FACING_LONGEST, room, 100, &told), FACING_DONE);
     ROW(facing_bytes_get(&caller, "a", 1, large, FACING_LONGEST - 1, &told), FACING_NO_ROOM);
     row("the length of what finds no room", (uint32_t)told.len, FACING_LONGEST);
@@ -102,6 +106,7 @@ static void call_bytes_wrongly(void) {
     ROW(facing_bytes_read(NULL, 0, room, 100, &told), FACING_BAD_ARGUMENT);
     ROW(facing_bytes_pairs(&caller, &cursor, lens, lens, 4, room, 100, &sizes), FACING_BAD_ARGUMENT);
     ROW(facing_bytes_pairs(&caller, &cursor, lens, values, 4, lens, 32, &sizes), FACING_BAD_ARGUMENT);
+    ROW(facing_bytes_heads(&caller, &cursor, 0, lens, lens, 4, room, 100, &sizes), FACING_BAD_ARGUMENT);
     ROW(facing_bytes_pairs(&caller, &cursor, lens, values, SIZE_MAX / 8, room, 100, &sizes), FACING_BAD_ARGUMENT);
     ROW(facing_bytes_sizes_of(&bytes, &sizes), FACING_WRONG_HANDLE);
     ROW(facing_bytes_sizes_of(&bytes, NULL), FACING_BAD_ARGUMENT);

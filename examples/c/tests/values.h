@@ -3,6 +3,7 @@
 #ifndef VALUES_H
 #define VALUES_H
 
+#include "facing_change.h"
 #include "facing_pool.h"
 #include <stdio.h>
 #include <stdlib.h>

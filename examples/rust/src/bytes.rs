@@ -1,76 +1,86 @@
 //! The map of byte strings.
 use crate::exports::{
-    facing_c_bytes_find, facing_c_bytes_open, facing_c_bytes_read, facing_c_bytes_try_contains, facing_c_bytes_try_get,
-    facing_c_bytes_try_hold, facing_c_bytes_try_pairs, facing_c_bytes_try_put, facing_c_bytes_try_put_if_absent,
-    facing_c_bytes_try_remove, facing_c_bytes_try_remove_if, facing_c_bytes_try_replace, facing_c_bytes_try_replace_if,
-    Answer, Handle, Sizes,
+    facing_c_bytes_find, facing_c_bytes_open, facing_c_bytes_read, facing_c_bytes_try_contains, facing_c_bytes_try_exchange,
+    facing_c_bytes_try_get, facing_c_bytes_try_hold, facing_c_bytes_try_pairs, facing_c_bytes_try_put,
+    facing_c_bytes_try_put_if_absent, facing_c_bytes_try_remove, facing_c_bytes_try_remove_if, facing_c_bytes_try_replace,
+    facing_c_bytes_try_replace_if, Answer, Handle, Seen, Sizes,
 };
 use crate::fault::{fault, Fault, DONE, NO_ROOM};
 use crate::handle::{done, Owned};
-use crate::maps::{ClientOf, ClosedOf, Kind};
+use crate::maps::{ClientOf, ClosedOf, Kind, MapOf};
+use crate::pairs::{copied, Room, Told};
 use crate::seed::{seed, size};
 
-/// Keys and values are byte strings of up to 65,536 bytes.
+/// Keys are byte strings of up to 65,536 bytes, and values byte strings of as many, or of as many as
+/// [`BytesMap::open_for_values`](crate::BytesMap::open_for_values) was told.
+#[derive(Clone, Copy, Debug)]
 pub struct Bytes;
 
-/// The most bytes of a key, and of a value.
+/// The most bytes of a key, and of a value unless its map was opened for longer ones.
 pub const LONGEST: usize = 65_536;
+
+/// The most bytes of a value of any map: 2^29.
+pub const LONGEST_VALUE: usize = 1 << 29;
 
 impl Kind for Bytes {
     type Pair = (Vec<u8>, Vec<u8>);
 
+    const NAME: &'static str = "Bytes";
+
     fn open(capacity: usize, clients: u32, map: &mut Owned) -> Result<(), Fault> {
         let [first, second] = seed()?;
-        done(unsafe { facing_c_bytes_open(capacity, clients, first, second, &raw mut map.0) })
+        done(unsafe { facing_c_bytes_open(capacity, clients, first, second, &raw mut map.handle) })
     }
 
-    fn list(any: &mut Owned, at: &mut u64, mut len: usize, room: usize) -> Result<Vec<Self::Pair>, Fault> {
-        let mut pairs = Vec::new();
-        let (mut lens, mut values, mut bytes) = (vec![0; len], vec![0; len], vec![0; room]);
-        while *at != u64::MAX {
-            let (mut next, mut copied, left) = (*at, Sizes::default(), len - pairs.len());
-            match any.lend_until_done(|any, out| unsafe {
-                facing_c_bytes_try_pairs(
-                    any,
-                    out,
-                    *at,
-                    &raw mut next,
-                    lens.as_mut_ptr(),
-                    left,
-                    values.as_mut_ptr(),
-                    left,
-                    bytes.as_mut_ptr(),
-                    bytes.len(),
-                    &raw mut copied,
-                )
-            }) {
-                DONE => {
-                    let mut from = 0;
-                    for i in 0..size(copied.pairs) {
-                        let (middle, end) = (from + size(lens[i]), from + size(lens[i]) + size(values[i]));
-                        pairs.push((bytes[from..middle].to_vec(), bytes[middle..end].to_vec()));
-                        from = end;
-                    }
-                }
-                NO_ROOM if pairs.is_empty() => {
-                    len = size(copied.pairs).max(len);
-                    (lens, values) = (vec![0; len], vec![0; len]);
-                    bytes.resize(size(copied.bytes).max(room), 0);
-                    continue;
-                }
-                NO_ROOM => break,
-                status => return Err(fault(status)),
-            }
-            *at = next;
+    fn copy_pairs(any: &mut Owned, at: u64, room: &mut Room, told: &mut Told) -> Result<u32, Fault> {
+        let mut sizes = Sizes::default();
+        let (lens, values, len) = (room.keys.as_mut_ptr(), room.values.as_mut_ptr(), room.keys.len());
+        let (bytes, room_len) = (room.bytes.as_mut_ptr(), room.bytes.len());
+        let (next, copied) = (&raw mut told.next, &raw mut sizes);
+        let status = any.lend_until_done(|any, out| unsafe {
+            facing_c_bytes_try_pairs(any, out, at, next, lens, len, values, len, bytes, room_len, copied)
+        })?;
+        (told.pairs, told.bytes) = (size(sizes.pairs), size(sizes.bytes));
+        Ok(status)
+    }
+
+    fn add_pairs(room: &Room, count: usize, pairs: &mut Vec<Self::Pair>) -> Result<(), Fault> {
+        let mut rest = room.bytes.as_slice();
+        for (key_len, value_len) in room.keys.iter().zip(&room.values).take(count) {
+            let (key, after) = rest.split_at(size(*key_len));
+            let (value, after) = after.split_at(size(*value_len));
+            pairs.push((copied(key)?, copied(value)?));
+            rest = after;
         }
-        Ok(pairs)
+        Ok(())
     }
 }
 
-/// A value, which stays as it is when the map changes.
+impl MapOf<Bytes> {
+    /// Opens an empty map as [`MapOf::open`] does, for values of up to so many bytes: up to 2^29. Each client has room for so
+    /// many, which takes memory where it is used.
+    ///
+    /// # Errors
+    ///
+    /// As [`MapOf::open`]; [`Fault::TooLong`] where `longest` is past 2^29.
+    pub fn open_for_values(capacity: usize, clients: u32, longest: usize) -> Result<MapOf<Bytes>, Fault> {
+        if longest > LONGEST_VALUE {
+            return Err(Fault::TooLong);
+        }
+        MapOf::open_for(capacity, clients, longest)
+    }
+}
+
+/// A value, which stays as it is when the map changes, and outlives it.
 pub struct Held {
     owned: Owned,
     len: usize,
+}
+
+impl std::fmt::Debug for Held {
+    fn fmt(&self, f: &mut std::fmt::Formatter<'_>) -> std::fmt::Result {
+        f.debug_struct("Held").field("len", &self.len).finish_non_exhaustive()
+    }
 }
 
 impl Held {
@@ -100,14 +110,17 @@ impl Held {
     ///
     /// # Errors
     ///
-    /// [`Fault::WrongHandle`] alone, which does not happen.
+    /// [`Fault::NoMemory`].
     pub fn to_vec(&mut self) -> Result<Vec<u8>, Fault> {
-        let mut all = vec![0; self.len];
+        let mut all = Vec::new();
+        all.try_reserve_exact(self.len).map_err(|_| Fault::NoMemory)?;
+        all.resize(self.len, 0);
         self.read(0, &mut all).map(|()| all)
     }
 }
 
-/// Each call fails with [`Fault::TooLong`], [`Fault::NoMemory`] or [`Fault::ClientFull`], and then it was not made.
+/// Each call fails with [`Fault::TooLong`], [`Fault::NoMemory`], [`Fault::ClientFull`] or [`Fault::AfterFork`], and then it
+/// was not made.
 #[allow(clippy::missing_errors_doc)]
 impl ClientOf<Bytes> {
     /// Makes a call that answers with a value, for which there is room whatever its length.
@@ -115,10 +128,26 @@ impl ClientOf<Bytes> {
         &mut self,
         try_it: impl Fn(Handle, *mut Handle, *mut u8, usize, *mut Answer) -> u32,
     ) -> Result<Option<Vec<u8>>, Fault> {
-        self.1.resize(LONGEST, 0);
-        let room = self.1.as_mut_ptr();
-        let answer = self.0.ask(|client, out, answer| try_it(client, out, room, LONGEST, answer))?;
-        Ok(answer.truth().then(|| self.1[..answer.len()].to_vec()))
+        let (longest, room) = (self.0.origin.longest, &mut self.1);
+        room.clear();
+        room.try_reserve_exact(longest).map_err(|_| Fault::NoMemory)?;
+        let at = room.as_mut_ptr();
+        let answer = self.0.ask(|client, out, answer| try_it(client, out, at, longest, answer))?;
+        if !answer.truth() {
+            return Ok(None);
+        }
+        // The call wrote so many bytes: no value of this map is longer.
+        unsafe { room.set_len(answer.len().min(longest)) };
+        copied(room).map(Some)
+    }
+
+    /// What the map stores finds room in each of its clients.
+    fn bound(&self, value: &[u8]) -> Result<(), Fault> {
+        if value.len() <= self.0.origin.longest {
+            Ok(())
+        } else {
+            Err(Fault::TooLong)
+        }
     }
 
     /// Returns a copy of the value at the key.
@@ -130,8 +159,8 @@ impl ClientOf<Bytes> {
 
     /// Returns the value at the key, which is not copied.
     pub fn hold(&mut self, key: &[u8]) -> Result<Option<Held>, Fault> {
-        let mut owned = Owned::null();
-        let held = &raw mut owned.0;
+        let mut owned = Owned::null(self.0.origin);
+        let held = &raw mut owned.handle;
         let (at, len) = (key.as_ptr(), key.len());
         let answer = self.0.ask(|c, out, answer| unsafe { facing_c_bytes_try_hold(c, out, at, len, held, answer) })?;
         Ok(answer.truth().then(|| Held { owned, len: answer.len() }))
@@ -146,6 +175,7 @@ impl ClientOf<Bytes> {
 
     /// Stores the value, and returns the one before.
     pub fn put(&mut self, key: &[u8], value: &[u8]) -> Result<Option<Vec<u8>>, Fault> {
+        self.bound(value)?;
         self.value(|c, out, room, len, answer| unsafe {
             facing_c_bytes_try_put(c, out, key.as_ptr(), key.len(), value.as_ptr(), value.len(), room, len, answer)
         })
@@ -153,6 +183,7 @@ impl ClientOf<Bytes> {
 
     /// Stores the value where the key has none, and returns the one before.
     pub fn put_if_absent(&mut self, key: &[u8], value: &[u8]) -> Result<Option<Vec<u8>>, Fault> {
+        self.bound(value)?;
         self.value(|c, out, room, len, answer| unsafe {
             facing_c_bytes_try_put_if_absent(c, out, key.as_ptr(), key.len(), value.as_ptr(), value.len(), room, len, answer)
         })
@@ -175,6 +206,7 @@ impl ClientOf<Bytes> {
 
     /// Stores the value where the key has one, and returns the one before.
     pub fn replace(&mut self, key: &[u8], value: &[u8]) -> Result<Option<Vec<u8>>, Fault> {
+        self.bound(value)?;
         self.value(|c, out, room, len, answer| unsafe {
             facing_c_bytes_try_replace(c, out, key.as_ptr(), key.len(), value.as_ptr(), value.len(), room, len, answer)
         })
@@ -182,6 +214,7 @@ impl ClientOf<Bytes> {
 
     /// Stores the new value where the key has the old one, and returns whether it had.
     pub fn replace_if(&mut self, key: &[u8], old: &[u8], new: &[u8]) -> Result<bool, Fault> {
+        self.bound(new)?;
         let told = self.0.ask(|c, out, answer| unsafe {
             facing_c_bytes_try_replace_if(
                 c,
@@ -197,6 +230,42 @@ impl ClientOf<Bytes> {
         })?;
         Ok(told.truth())
     }
+
+    /// Stores what the closure makes of the key's value, or removes the key where it makes none, and returns that. No bucket
+    /// is locked while the closure runs; it is called again where another client changed the value meanwhile.
+    pub fn update(
+        &mut self,
+        key: &[u8],
+        mut change: impl FnMut(Option<&[u8]>) -> Option<Vec<u8>>,
+    ) -> Result<Option<Vec<u8>>, Fault> {
+        loop {
+            let now = self.get(key)?;
+            let next = change(now.as_deref());
+            let (expected, value) = (now.as_deref().unwrap_or_default(), next.as_deref().unwrap_or_default());
+            self.bound(value)?;
+            let mut seen = Seen::default();
+            done(self.0.lend_until_done(|c, out| unsafe {
+                facing_c_bytes_try_exchange(
+                    c,
+                    out,
+                    key.as_ptr(),
+                    key.len(),
+                    u32::from(now.is_some()),
+                    expected.as_ptr(),
+                    expected.len(),
+                    u32::from(next.is_some()),
+                    value.as_ptr(),
+                    value.len(),
+                    [].as_mut_ptr(),
+                    0,
+                    &raw mut seen,
+                )
+            })?)?;
+            if seen.exchanged == 1 {
+                return Ok(next);
+            }
+        }
+    }
 }
 
 impl ClosedOf<Bytes> {
@@ -204,14 +273,23 @@ impl ClosedOf<Bytes> {
     ///
     /// # Errors
     ///
-    /// [`Fault::TooLong`].
-    pub fn get(&mut self, key: &[u8]) -> Result<Option<Vec<u8>>, Fault> {
-        let mut room = vec![0; LONGEST];
-        let at = room.as_mut_ptr();
-        let answer = self.0.ask(|closed, out, answer| unsafe {
-            facing_c_bytes_find(closed, out, key.as_ptr(), key.len(), at, LONGEST, answer)
-        })?;
-        room.truncate(answer.len());
-        Ok(answer.truth().then_some(room))
+    /// [`Fault::TooLong`], [`Fault::NoMemory`] and [`Fault::AfterFork`].
+    pub fn get(&self, key: &[u8]) -> Result<Option<Vec<u8>>, Fault> {
+        self.read(|closed| {
+            let (mut value, mut answer) = (Vec::<u8>::new(), Answer::default());
+            loop {
+                let (at, len) = (value.as_mut_ptr(), value.len());
+                match closed.lend(|it, out| unsafe {
+                    facing_c_bytes_find(it, out, key.as_ptr(), key.len(), at, len, &raw mut answer)
+                }) {
+                    DONE => return Ok(answer.truth().then_some(value)),
+                    NO_ROOM => {
+                        value.try_reserve_exact(answer.len()).map_err(|_| Fault::NoMemory)?;
+                        value.resize(answer.len(), 0);
+                    }
+                    status => return Err(fault(status)),
+                }
+            }
+        })
     }
 }

@@ -1,70 +1,56 @@
 //! The map from byte strings to numbers.
 use crate::exports::{
-    facing_c_counts_find, facing_c_counts_open, facing_c_counts_try_add, facing_c_counts_try_contains,
-    facing_c_counts_try_get, facing_c_counts_try_greatest, facing_c_counts_try_pairs, facing_c_counts_try_put,
-    facing_c_counts_try_put_if_absent, facing_c_counts_try_remove, facing_c_counts_try_remove_if,
-    facing_c_counts_try_replace, facing_c_counts_try_replace_if, facing_c_counts_try_set, Sizes,
+    facing_c_counts_find, facing_c_counts_open, facing_c_counts_try_add, facing_c_counts_try_add_up_to,
+    facing_c_counts_try_contains, facing_c_counts_try_exchange, facing_c_counts_try_get, facing_c_counts_try_greatest,
+    facing_c_counts_try_pairs, facing_c_counts_try_put, facing_c_counts_try_put_if_absent, facing_c_counts_try_remove,
+    facing_c_counts_try_remove_if, facing_c_counts_try_replace, facing_c_counts_try_replace_if, facing_c_counts_try_set,
+    Seen, Sizes,
 };
-use crate::fault::{fault, Fault, DONE, NO_ROOM};
+use crate::fault::Fault;
 use crate::handle::{done, Owned};
 use crate::maps::{ClientOf, ClosedOf, Kind};
+use crate::pairs::{copied, Room, Told};
 use crate::seed::{seed, size};
 
 /// Keys are byte strings of up to 65,536 bytes, and values are 64-bit numbers.
+#[derive(Clone, Copy, Debug)]
 pub struct Counts;
 
 impl Kind for Counts {
     type Pair = (Vec<u8>, u64);
 
+    const NAME: &'static str = "Counts";
+
     fn open(capacity: usize, clients: u32, map: &mut Owned) -> Result<(), Fault> {
         let [first, second] = seed()?;
-        done(unsafe { facing_c_counts_open(capacity, clients, first, second, &raw mut map.0) })
+        done(unsafe { facing_c_counts_open(capacity, clients, first, second, &raw mut map.handle) })
     }
 
-    fn list(any: &mut Owned, at: &mut u64, mut len: usize, room: usize) -> Result<Vec<Self::Pair>, Fault> {
-        let mut pairs = Vec::new();
-        let (mut lens, mut values, mut bytes) = (vec![0; len], vec![0; len], vec![0; room]);
-        while *at != u64::MAX {
-            let (mut next, mut copied, left) = (*at, Sizes::default(), len - pairs.len());
-            match any.lend_until_done(|any, out| unsafe {
-                facing_c_counts_try_pairs(
-                    any,
-                    out,
-                    *at,
-                    &raw mut next,
-                    lens.as_mut_ptr(),
-                    left,
-                    values.as_mut_ptr(),
-                    left,
-                    bytes.as_mut_ptr(),
-                    bytes.len(),
-                    &raw mut copied,
-                )
-            }) {
-                DONE => {
-                    let mut from = 0;
-                    for i in 0..size(copied.pairs) {
-                        let end = from + size(lens[i]);
-                        pairs.push((bytes[from..end].to_vec(), values[i]));
-                        from = end;
-                    }
-                }
-                NO_ROOM if pairs.is_empty() => {
-                    len = size(copied.pairs).max(len);
-                    (lens, values) = (vec![0; len], vec![0; len]);
-                    bytes.resize(size(copied.bytes).max(room), 0);
-                    continue;
-                }
-                NO_ROOM => break,
-                status => return Err(fault(status)),
-            }
-            *at = next;
+    fn copy_pairs(any: &mut Owned, at: u64, room: &mut Room, told: &mut Told) -> Result<u32, Fault> {
+        let mut sizes = Sizes::default();
+        let (lens, values, len) = (room.keys.as_mut_ptr(), room.values.as_mut_ptr(), room.keys.len());
+        let (bytes, room_len) = (room.bytes.as_mut_ptr(), room.bytes.len());
+        let (next, copied) = (&raw mut told.next, &raw mut sizes);
+        let status = any.lend_until_done(|any, out| unsafe {
+            facing_c_counts_try_pairs(any, out, at, next, lens, len, values, len, bytes, room_len, copied)
+        })?;
+        (told.pairs, told.bytes) = (size(sizes.pairs), size(sizes.bytes));
+        Ok(status)
+    }
+
+    fn add_pairs(room: &Room, count: usize, pairs: &mut Vec<Self::Pair>) -> Result<(), Fault> {
+        let mut rest = room.bytes.as_slice();
+        for (len, value) in room.keys.iter().zip(&room.values).take(count) {
+            let (key, after) = rest.split_at(size(*len));
+            pairs.push((copied(key)?, *value));
+            rest = after;
         }
-        Ok(pairs)
+        Ok(())
     }
 }
 
-/// Each call fails with [`Fault::TooLong`], [`Fault::NoMemory`] or [`Fault::ClientFull`], and then it was not made.
+/// Each call fails with [`Fault::TooLong`], [`Fault::NoMemory`], [`Fault::ClientFull`] or [`Fault::AfterFork`], and then it
+/// was not made.
 #[allow(clippy::missing_errors_doc)]
 impl ClientOf<Counts> {
     /// Returns the value at the key.
@@ -140,6 +126,33 @@ impl ClientOf<Counts> {
             .value)
     }
 
+    /// Adds to the value at the key, or to 0, where the sum is at most `most`, and returns whether it is.
+    pub fn add_up_to(&mut self, key: &[u8], amount: u64, most: u64) -> Result<bool, Fault> {
+        let (at, len) = (key.as_ptr(), key.len());
+        let told =
+            self.0.ask(|c, out, answer| unsafe { facing_c_counts_try_add_up_to(c, out, at, len, amount, most, answer) })?;
+        Ok(told.truth())
+    }
+
+    /// Stores what the closure makes of the key's value, or removes the key where it makes none, and returns that. No bucket
+    /// is locked while the closure runs; it is called again where another client changed the value meanwhile.
+    pub fn update(&mut self, key: &[u8], mut change: impl FnMut(Option<u64>) -> Option<u64>) -> Result<Option<u64>, Fault> {
+        let mut now = self.get(key)?;
+        loop {
+            let next = change(now);
+            let (expected, value, mut seen) = (now.unwrap_or(0), next.unwrap_or(0), Seen::default());
+            let (has, sets) = (u32::from(now.is_some()), u32::from(next.is_some()));
+            let (at, len) = (key.as_ptr(), key.len());
+            done(self.0.lend_until_done(|c, out| unsafe {
+                facing_c_counts_try_exchange(c, out, at, len, has, expected, sets, value, &raw mut seen)
+            })?)?;
+            if seen.exchanged == 1 {
+                return Ok(next);
+            }
+            now = seen.value();
+        }
+    }
+
     /// Stores the greater of the key's value and this one, and returns it.
     pub fn greatest(&mut self, key: &[u8], value: u64) -> Result<u64, Fault> {
         Ok(self
@@ -162,9 +175,11 @@ impl ClosedOf<Counts> {
     ///
     /// # Errors
     ///
-    /// [`Fault::TooLong`].
-    pub fn get(&mut self, key: &[u8]) -> Result<Option<u64>, Fault> {
+    /// [`Fault::TooLong`] and [`Fault::AfterFork`].
+    pub fn get(&self, key: &[u8]) -> Result<Option<u64>, Fault> {
         let (at, len) = (key.as_ptr(), key.len());
-        Ok(self.0.ask(|closed, out, answer| unsafe { facing_c_counts_find(closed, out, at, len, answer) })?.value())
+        self.read(|it| {
+            Ok(it.ask(|closed, out, answer| unsafe { facing_c_counts_find(closed, out, at, len, answer) })?.value())
+        })
     }
 }

@@ -1,9 +1,10 @@
 //! What the static library exports, as the headers have it, and the system's random bytes.
 use std::os::raw::c_void;
 
+/// What an export takes and gives back.
 #[repr(C)]
-#[derive(Clone, Copy)]
-pub(crate) struct Handle {
+#[derive(Clone, Copy, Debug)]
+pub struct Handle {
     pub(crate) at: *mut c_void,
 }
 
@@ -42,8 +43,25 @@ pub(crate) struct Sizes {
     pub(crate) bytes: u64,
 }
 
+/// What an exchange saw.
+#[repr(C)]
+#[derive(Clone, Copy, Default)]
+pub(crate) struct Seen {
+    pub(crate) exchanged: u32,
+    pub(crate) found: u32,
+    pub(crate) value: u64,
+}
+
+impl Seen {
+    /// The value that was seen.
+    pub(crate) fn value(self) -> Option<u64> {
+        (self.found == 1).then_some(self.value)
+    }
+}
+
 type Out = *mut Handle;
 type Told = *mut Answer;
+type Found = *mut Seen;
 type Bytes = *const u8;
 type Room = *mut u8;
 type Numbers = *mut u64;
@@ -54,12 +72,20 @@ extern "C" {
     pub(crate) fn facing_c_count(any: Handle, out: Out, answer: Told) -> u32;
     pub(crate) fn facing_c_close(map: Handle, out: Out) -> u32;
     pub(crate) fn facing_c_reopen(closed: Handle, out: Out, clients: u32, map: Out) -> u32;
+    pub(crate) fn facing_c_again(closed: Handle, out: Out, more: Out) -> u32;
     pub(crate) fn facing_c_free(any: Handle);
 }
 
 // Numbers by numbers.
 extern "C" {
-    pub(crate) fn facing_c_open(capacity: usize, clients: u32, salt: u32, out: Out) -> u32;
+    pub(crate) fn facing_c_open_seeded(
+        capacity: usize,
+        clients: u32,
+        salt: u32,
+        seed0: u64,
+        seed1: u64,
+        out: Out,
+    ) -> u32;
     pub(crate) fn facing_c_try_get(client: Handle, out: Out, key: u64, answer: Told) -> u32;
     pub(crate) fn facing_c_try_contains(client: Handle, out: Out, key: u64, answer: Told) -> u32;
     pub(crate) fn facing_c_try_put(client: Handle, out: Out, key: u64, value: u64, answer: Told) -> u32;
@@ -71,6 +97,17 @@ extern "C" {
     pub(crate) fn facing_c_try_add(client: Handle, out: Out, key: u64, value: u64, answer: Told) -> u32;
     pub(crate) fn facing_c_try_greatest(client: Handle, out: Out, key: u64, value: u64, answer: Told) -> u32;
     pub(crate) fn facing_c_try_set(client: Handle, out: Out, key: u64, value: u64, answer: Told) -> u32;
+    pub(crate) fn facing_c_try_add_up_to(client: Handle, out: Out, key: u64, amount: u64, most: u64, answer: Told) -> u32;
+    pub(crate) fn facing_c_try_exchange(
+        client: Handle,
+        out: Out,
+        key: u64,
+        has_expected: u32,
+        expected: u64,
+        has_value: u32,
+        value: u64,
+        seen: Found,
+    ) -> u32;
     pub(crate) fn facing_c_find(closed: Handle, out: Out, key: u64, answer: Told) -> u32;
     pub(crate) fn facing_c_try_pairs(
         any: Handle,
@@ -138,6 +175,26 @@ extern "C" {
     ) -> u32;
     pub(crate) fn facing_c_counts_try_set(client: Handle, out: Out, key: Bytes, len: usize, value: u64, answer: Told)
         -> u32;
+    pub(crate) fn facing_c_counts_try_add_up_to(
+        client: Handle,
+        out: Out,
+        key: Bytes,
+        len: usize,
+        amount: u64,
+        most: u64,
+        answer: Told,
+    ) -> u32;
+    pub(crate) fn facing_c_counts_try_exchange(
+        client: Handle,
+        out: Out,
+        key: Bytes,
+        len: usize,
+        has_expected: u32,
+        expected: u64,
+        has_value: u32,
+        value: u64,
+        seen: Found,
+    ) -> u32;
     pub(crate) fn facing_c_counts_find(closed: Handle, out: Out, key: Bytes, len: usize, answer: Told) -> u32;
     pub(crate) fn facing_c_counts_try_pairs(
         any: Handle,
@@ -232,6 +289,21 @@ extern "C" {
         new_len: usize,
         answer: Told,
     ) -> u32;
+    pub(crate) fn facing_c_bytes_try_exchange(
+        client: Handle,
+        out: Out,
+        key: Bytes,
+        len: usize,
+        has_expected: u32,
+        expected: Bytes,
+        expected_len: usize,
+        has_value: u32,
+        value: Bytes,
+        value_len: usize,
+        room: Room,
+        room_len: usize,
+        seen: Found,
+    ) -> u32;
     pub(crate) fn facing_c_bytes_find(
         closed: Handle,
         out: Out,
@@ -259,4 +331,9 @@ extern "C" {
 // Of the system's C library.
 extern "C" {
     pub(crate) fn getrandom(room: *mut c_void, len: usize, flags: u32) -> isize;
+    pub(crate) fn pthread_atfork(
+        before: Option<extern "C" fn()>,
+        in_parent: Option<extern "C" fn()>,
+        in_child: Option<extern "C" fn()>,
+    ) -> i32;
 }

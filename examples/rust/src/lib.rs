@@ -7,18 +7,42 @@
 //! | [`BytesMap`] | byte strings | byte strings |
 //!
 //! A [`ClientOf`] makes the calls. It serves one thread at a time, and may be sent to another. A [`PoolOf`] is a map with
-//! clients of its own, which any thread calls by `&self`.
+//! clients of its own, which any thread calls by `&self`. A [`ClosedOf`] is read by several threads at once.
+//!
+//! A call that fails says why by a [`Fault`], was not made, and changed nothing.
+//!
+//! ```
+//! use facing::{CountsMap, Fault};
+//!
+//! let mut map = CountsMap::open(16, 4)?;
+//! std::thread::scope(|scope| {
+//!     for _ in 0..4 {
+//!         let mut client = map.client()?;
+//!         scope.spawn(move || client.add(b"word", 1));
+//!     }
+//!     Ok::<(), Fault>(())
+//! })?;
+//! let closed = map.close()?;
+//! assert_eq!(closed.get(b"word")?, Some(4));
+//! # Ok::<(), Box<dyn std::error::Error>>(())
+//! ```
+//!
+//! The child of a fork has a copy of each map. A call there fails with [`Fault::AfterFork`] where another thread was using
+//! what it waits for during the fork.
+#![deny(missing_docs, missing_debug_implementations)]
 mod bytes;
 mod counts;
 mod exports;
 mod fault;
+mod fork;
 mod handle;
 mod maps;
 mod numbers;
+mod pairs;
 mod pool;
 mod seed;
 
-pub use bytes::{Bytes, Held, LONGEST};
+pub use bytes::{Bytes, Held, LONGEST, LONGEST_VALUE};
 pub use counts::Counts;
 pub use fault::Fault;
 pub use maps::{ClientOf, ClosedOf, Cursor, Kind, MapOf, NotClosed};

@@ -1,48 +1,48 @@
 //! The map of numbers.
 use crate::exports::{
-    facing_c_find, facing_c_open, facing_c_try_add, facing_c_try_contains, facing_c_try_get, facing_c_try_greatest,
-    facing_c_try_pairs, facing_c_try_put, facing_c_try_put_if_absent, facing_c_try_remove, facing_c_try_remove_if,
-    facing_c_try_replace, facing_c_try_replace_if, facing_c_try_set, Answer,
+    facing_c_find, facing_c_open_seeded, facing_c_try_add, facing_c_try_add_up_to, facing_c_try_contains,
+    facing_c_try_exchange, facing_c_try_get, facing_c_try_greatest, facing_c_try_pairs, facing_c_try_put,
+    facing_c_try_put_if_absent, facing_c_try_remove, facing_c_try_remove_if, facing_c_try_replace, facing_c_try_replace_if,
+    facing_c_try_set, Answer, Seen,
 };
-use crate::fault::{fault, Fault, DONE, NO_ROOM};
+use crate::fault::Fault;
 use crate::handle::{done, Owned};
 use crate::maps::{ClientOf, ClosedOf, Kind};
+use crate::pairs::{Room, Told};
+use crate::seed::seed;
 
 /// Keys and values are 64-bit numbers.
+#[derive(Clone, Copy, Debug)]
 pub struct Numbers;
 
 impl Kind for Numbers {
     type Pair = (u64, u64);
 
+    const NAME: &'static str = "Numbers";
+
     fn open(capacity: usize, clients: u32, map: &mut Owned) -> Result<(), Fault> {
-        done(unsafe { facing_c_open(capacity, clients, 0, &raw mut map.0) })
+        let [first, second] = seed()?;
+        done(unsafe { facing_c_open_seeded(capacity, clients, 0, first, second, &raw mut map.handle) })
     }
 
-    fn list(any: &mut Owned, at: &mut u64, mut len: usize, _room: usize) -> Result<Vec<(u64, u64)>, Fault> {
-        let mut pairs = Vec::new();
-        let (mut keys, mut values) = (vec![0; len], vec![0; len]);
-        while *at != u64::MAX {
-            let (mut next, mut answer, left) = (*at, Answer::default(), len - pairs.len());
-            let (key, value) = (keys.as_mut_ptr(), values.as_mut_ptr());
-            match any.lend_until_done(|any, out| unsafe {
-                facing_c_try_pairs(any, out, *at, &raw mut next, key, left, value, left, &raw mut answer)
-            }) {
-                DONE => pairs.extend(keys.iter().copied().zip(values.iter().copied()).take(answer.len())),
-                NO_ROOM if pairs.is_empty() => {
-                    len = answer.len();
-                    (keys, values) = (vec![0; len], vec![0; len]);
-                    continue;
-                }
-                NO_ROOM => break,
-                status => return Err(fault(status)),
-            }
-            *at = next;
-        }
-        Ok(pairs)
+    fn copy_pairs(any: &mut Owned, at: u64, room: &mut Room, told: &mut Told) -> Result<u32, Fault> {
+        let mut answer = Answer::default();
+        let (keys, values, len) = (room.keys.as_mut_ptr(), room.values.as_mut_ptr(), room.keys.len());
+        let (next, answered) = (&raw mut told.next, &raw mut answer);
+        let status = any.lend_until_done(|any, out| unsafe {
+            facing_c_try_pairs(any, out, at, next, keys, len, values, len, answered)
+        })?;
+        told.pairs = answer.len();
+        Ok(status)
+    }
+
+    fn add_pairs(room: &Room, count: usize, pairs: &mut Vec<(u64, u64)>) -> Result<(), Fault> {
+        pairs.extend(room.keys.iter().copied().zip(room.values.iter().copied()).take(count));
+        Ok(())
     }
 }
 
-/// Each call fails with [`Fault::NoMemory`] or [`Fault::ClientFull`], and then it was not made.
+/// Each call fails with [`Fault::NoMemory`], [`Fault::ClientFull`] or [`Fault::AfterFork`], and then it was not made.
 #[allow(clippy::missing_errors_doc)]
 impl ClientOf<Numbers> {
     /// Returns the value at the key.
@@ -90,6 +90,29 @@ impl ClientOf<Numbers> {
         Ok(self.0.ask(|c, out, answer| unsafe { facing_c_try_add(c, out, key, value, answer) })?.value)
     }
 
+    /// Adds to the value at the key, or to 0, where the sum is at most `most`, and returns whether it is.
+    pub fn add_up_to(&mut self, key: u64, amount: u64, most: u64) -> Result<bool, Fault> {
+        Ok(self.0.ask(|c, out, answer| unsafe { facing_c_try_add_up_to(c, out, key, amount, most, answer) })?.truth())
+    }
+
+    /// Stores what the closure makes of the key's value, or removes the key where it makes none, and returns that. No bucket
+    /// is locked while the closure runs; it is called again where another client changed the value meanwhile.
+    pub fn update(&mut self, key: u64, mut change: impl FnMut(Option<u64>) -> Option<u64>) -> Result<Option<u64>, Fault> {
+        let mut now = self.get(key)?;
+        loop {
+            let next = change(now);
+            let (expected, value, mut seen) = (now.unwrap_or(0), next.unwrap_or(0), Seen::default());
+            done(self.0.lend_until_done(|c, out| unsafe {
+                let (has, sets) = (u32::from(now.is_some()), u32::from(next.is_some()));
+                facing_c_try_exchange(c, out, key, has, expected, sets, value, &raw mut seen)
+            })?)?;
+            if seen.exchanged == 1 {
+                return Ok(next);
+            }
+            now = seen.value();
+        }
+    }
+
     /// Stores the greater of the key's value and this one, and returns it.
     pub fn greatest(&mut self, key: u64, value: u64) -> Result<u64, Fault> {
         Ok(self.0.ask(|c, out, answer| unsafe { facing_c_try_greatest(c, out, key, value, answer) })?.value)
@@ -106,8 +129,8 @@ impl ClosedOf<Numbers> {
     ///
     /// # Errors
     ///
-    /// [`Fault::WrongHandle`] alone, which does not happen.
-    pub fn get(&mut self, key: u64) -> Result<Option<u64>, Fault> {
-        Ok(self.0.ask(|closed, out, answer| unsafe { facing_c_find(closed, out, key, answer) })?.value())
+    /// [`Fault::AfterFork`] alone.
+    pub fn get(&self, key: u64) -> Result<Option<u64>, Fault> {
+        self.read(|it| Ok(it.ask(|closed, out, answer| unsafe { facing_c_find(closed, out, key, answer) })?.value()))
     }
 }

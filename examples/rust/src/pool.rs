@@ -1,16 +1,36 @@
 //! A map with clients of its own, which any thread calls.
 use crate::fault::Fault;
-use crate::handle::wait;
+use crate::handle::take;
 use crate::maps::{ClientOf, ClosedOf, Kind, MapOf, NotClosed};
+use std::cell::RefCell;
 use std::sync::atomic::{AtomicUsize, Ordering};
-use std::sync::{Mutex, MutexGuard, PoisonError, TryLockError};
+use std::sync::{Mutex, PoisonError};
+
+thread_local! {
+    /// The pools of which this thread uses a client, by their addresses.
+    static IN_USE: RefCell<Vec<usize>> = const { RefCell::new(Vec::new()) };
+}
 
 /// A map that any thread calls by `&self`. A call takes a client that no other thread uses, and backs off where all are in
 /// use: so open it with at least as many clients as threads call at the same time.
+///
+/// ```
+/// use facing::Pool;
+///
+/// let pool = Pool::open(16, 2)?;
+/// std::thread::scope(|scope| {
+///     for _ in 0..2 {
+///         scope.spawn(|| pool.with(|client| client.add(7, 1)));
+///     }
+/// });
+/// assert_eq!(pool.with(|client| client.get(7))?, Some(2));
+/// # Ok::<(), facing::Fault>(())
+/// ```
 pub struct PoolOf<K> {
     map: Mutex<MapOf<K>>,
     clients: Vec<Mutex<ClientOf<K>>>,
     next: AtomicUsize,
+    forks: u32,
 }
 
 impl<K: Kind> PoolOf<K> {
@@ -21,30 +41,23 @@ impl<K: Kind> PoolOf<K> {
     /// As [`MapOf::open`].
     pub fn open(capacity: usize, clients: u32) -> Result<PoolOf<K>, Fault> {
         let mut map = MapOf::open(capacity, clients)?;
+        let forks = map.0.origin.forks;
         let clients = (0..clients).map(|_| map.client().map(Mutex::new)).collect::<Result<_, _>>()?;
-        Ok(PoolOf { map: Mutex::new(map), clients, next: AtomicUsize::new(0) })
+        Ok(PoolOf { map: Mutex::new(map), clients, next: AtomicUsize::new(0), forks })
     }
 
-    /// Makes calls by a client that no other thread uses meanwhile.
-    pub fn with<T>(&self, calls: impl FnOnce(&mut ClientOf<K>) -> T) -> T {
-        calls(&mut self.client())
-    }
-
-    fn client(&self) -> MutexGuard<'_, ClientOf<K>> {
+    /// Makes calls by a client that no other thread uses meanwhile, and returns what the closure returns. A panic of the
+    /// closure gives the client back.
+    ///
+    /// # Errors
+    ///
+    /// What the closure fails with. [`Fault::Nested`] in a closure that was given to this very function, of the same pool.
+    /// [`Fault::AfterFork`] in the child of a fork where all clients were in use during the fork.
+    pub fn with<T>(&self, calls: impl FnOnce(&mut ClientOf<K>) -> Result<T, Fault>) -> Result<T, Fault> {
+        let _only = Using::begin(std::ptr::from_ref(self).addr())?;
         let start = self.next.fetch_add(1, Ordering::Relaxed);
-        let mut round = 0;
-        loop {
-            for i in 0..self.clients.len() {
-                match self.clients[start.wrapping_add(i) % self.clients.len()].try_lock() {
-                    Ok(client) => return client,
-                    // (a client is as it was before a call that panicked)
-                    Err(TryLockError::Poisoned(client)) => return client.into_inner(),
-                    Err(TryLockError::WouldBlock) => {}
-                }
-            }
-            wait(round);
-            round += u32::from(round < 64);
-        }
+        let mut client = take(&self.clients, start, self.forks)?;
+        calls(&mut client)
     }
 
     /// Closes the map.
@@ -55,5 +68,32 @@ impl<K: Kind> PoolOf<K> {
     pub fn close(self) -> Result<ClosedOf<K>, NotClosed<K>> {
         drop(self.clients);
         self.map.into_inner().unwrap_or_else(PoisonError::into_inner).close()
+    }
+}
+
+impl<K: Kind> std::fmt::Debug for PoolOf<K> {
+    fn fmt(&self, f: &mut std::fmt::Formatter<'_>) -> std::fmt::Result {
+        f.debug_struct("PoolOf").field("kind", &K::NAME).field("clients", &self.clients.len()).finish_non_exhaustive()
+    }
+}
+
+/// This thread uses a client of a pool while this lives.
+struct Using(usize);
+
+impl Using {
+    fn begin(pool: usize) -> Result<Using, Fault> {
+        IN_USE.with_borrow_mut(|pools| {
+            if pools.contains(&pool) {
+                return Err(Fault::Nested);
+            }
+            pools.push(pool);
+            Ok(Using(pool))
+        })
+    }
+}
+
+impl Drop for Using {
+    fn drop(&mut self) {
+        IN_USE.with_borrow_mut(|pools| pools.retain(|pool| *pool != self.0));
     }
 }

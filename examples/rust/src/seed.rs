@@ -1,4 +1,4 @@
-//! The secret seed of a map of byte strings.
+//! The secret seed of a map.
 use crate::exports::getrandom;
 use crate::fault::Fault;
 

@@ -1,5 +1,6 @@
 //! What calls answer, and what is refused.
-use facing::{BytesMap, CountsMap, CountsPool, Cursor, Fault, Map, Pool, LONGEST};
+use facing::{BytesMap, CountsMap, CountsPool, Cursor, Fault, Map, Pool, LONGEST, LONGEST_VALUE};
+use std::sync::mpsc::channel;
 
 #[test]
 fn calls_answer_as_they_say() -> Result<(), Fault> {
@@ -37,12 +38,12 @@ fn a_map_closes_when_its_clients_are_back() -> Result<(), Fault> {
     let mut client = map.client()?;
     assert_eq!(map.client().err(), Some(Fault::NoClient));
     client.put(1, 5)?;
-    let refused = map.close().err().expect("a client is out");
+    let refused = map.close().expect_err("a client is out");
     assert_eq!(refused.fault, Fault::ClientOut);
     assert_eq!(refused.to_string(), "the map was not closed: a client of the map is not dropped yet");
     let map = refused.map.expect("the map comes back");
     drop(client);
-    let mut closed = map.close().map_err(|refused| refused.fault)?;
+    let closed = map.close().map_err(|refused| refused.fault)?;
     assert_eq!((closed.count()?, closed.get(1)?, closed.get(2)?), (1, Some(5), None));
     let mut again = closed.reopen(2)?;
     assert_eq!(again.client()?.add(1, 1)?, 6);
@@ -69,7 +70,7 @@ fn threads_share_a_pool() -> Result<(), Fault> {
             scope.spawn(|| (0..1000).try_for_each(|key| pool.with(|client| client.add(key % 10, 1)).map(drop)));
         }
     });
-    let mut closed = pool.close().map_err(|refused| refused.fault)?;
+    let closed = pool.close().map_err(|refused| refused.fault)?;
     assert_eq!(closed.count()?, 10);
     for key in 0..10 {
         assert_eq!(closed.get(key)?, Some(800));
@@ -106,7 +107,7 @@ fn byte_strings_have_counts() -> Result<(), Fault> {
     pairs.sort();
     assert_eq!((pairs.len(), &pairs[0]), (7, &(Vec::new(), 8)));
     drop(client);
-    let mut closed = map.close().map_err(|refused| refused.fault)?;
+    let closed = map.close().map_err(|refused| refused.fault)?;
     assert_eq!((closed.count()?, closed.get(b"word 6")?, closed.get(b"word 0")?), (7, Some(142), None));
     assert_eq!(closed.reopen(1)?.client()?.add(b"", 1)?, 9);
     Ok(())
@@ -133,7 +134,7 @@ fn byte_strings_have_byte_strings() -> Result<(), Fault> {
     let mut cursor = Cursor::default();
     assert_eq!(client.pairs(&mut cursor, 10)?, vec![(b"a".to_vec(), b"three".to_vec())]);
     drop(client);
-    let mut closed = map.close().map_err(|refused| refused.fault)?;
+    let closed = map.close().map_err(|refused| refused.fault)?;
     assert_eq!((closed.get(b"a")?, closed.get(b"b")?), (Some(b"three".to_vec()), None));
     assert_eq!(closed.pairs()?, vec![(b"a".to_vec(), b"three".to_vec())]);
     assert_eq!(closed.reopen(1)?.client()?.remove(b"a")?, Some(b"three".to_vec()));
@@ -162,7 +163,208 @@ fn threads_share_a_pool_of_counts() -> Result<(), Fault> {
             scope.spawn(|| (0..1000).try_for_each(|_| pool.with(|client| client.add(b"key", 1)).map(drop)));
         }
     });
-    let mut closed = pool.close().map_err(|refused| refused.fault)?;
+    let closed = pool.close().map_err(|refused| refused.fault)?;
     assert_eq!(closed.get(b"key")?, Some(4000));
+    Ok(())
+}
+
+#[test]
+fn values_are_changed_by_a_closure() -> Result<(), Fault> {
+    let mut map = Map::open(16, 2)?;
+    let mut client = map.client()?;
+    assert_eq!(client.update(1, |seen| seen.map_or(Some(3), |_| None))?, Some(3));
+    assert_eq!(client.update(1, |seen| seen.map(|value| value * 5))?, Some(15));
+    assert_eq!(client.update(1, |seen| seen.filter(|value| *value == 7))?, None);
+    assert_eq!(client.get(1)?, None);
+    assert!(client.add_up_to(1, 2, 3)? && !client.add_up_to(1, 2, 3)?);
+    assert_eq!(client.get(1)?, Some(2));
+    let mut counts = CountsMap::open(16, 1)?;
+    let mut client = counts.client()?;
+    assert_eq!(client.update(b"a", |seen| Some(seen.unwrap_or(6) + 1))?, Some(7));
+    assert_eq!(client.update(b"a", |seen| seen.filter(|_| false))?, None);
+    assert!(client.add_up_to(b"a", 3, 3)? && !client.add_up_to(b"a", 1, 3)?);
+    let mut texts = BytesMap::open(16, 1)?;
+    let mut client = texts.client()?;
+    let longer = |seen: Option<&[u8]>| Some([seen.unwrap_or(b"x"), b"y"].concat());
+    assert_eq!(client.update(b"a", longer)?, Some(b"xy".to_vec()));
+    assert_eq!(client.update(b"a", longer)?, Some(b"xyy".to_vec()));
+    assert_eq!(client.update(b"a", |_| Some(vec![0; LONGEST + 1])).err(), Some(Fault::TooLong));
+    assert_eq!(client.get(b"a")?, Some(b"xyy".to_vec()));
+    assert_eq!(client.update(b"a", |_| None)?, None);
+    assert!(!client.contains(b"a")?);
+    Ok(())
+}
+
+#[test]
+fn two_threads_change_one_value() -> Result<(), Fault> {
+    let pool = Pool::open(16, 2)?;
+    std::thread::scope(|scope| {
+        for _ in 0..2 {
+            scope.spawn(|| {
+                (0..5000).try_for_each(|_| pool.with(|c| c.update(7, |seen| Some(seen.unwrap_or(0) + 1))).map(drop))
+            });
+        }
+    });
+    assert_eq!(pool.with(|client| client.get(7))?, Some(10_000));
+    Ok(())
+}
+
+#[test]
+fn threads_read_a_closed_map() -> Result<(), Fault> {
+    let (mut map, mut texts) = (Map::open(16, 1)?, BytesMap::open(16, 1)?);
+    let (mut client, mut text) = (map.client()?, texts.client()?);
+    for key in 0..1000u64 {
+        client.put(key, key)?;
+        text.put(&key.to_le_bytes(), &vec![7; usize::try_from(key).unwrap_or(0)])?;
+    }
+    drop((client, text));
+    let closed = map.close().map_err(|refused| refused.fault)?;
+    let closed_texts = texts.close().map_err(|refused| refused.fault)?;
+    std::thread::scope(|scope| {
+        let readers: Vec<_> = (0..4)
+            .map(|_| {
+                scope.spawn(|| {
+                    for key in 0..1000 {
+                        assert_eq!((closed.get(key)?, closed.get(key + 1000)?), (Some(key), None));
+                        let value = closed_texts.get(&key.to_le_bytes())?.expect("there is a value");
+                        assert_eq!(value, vec![7; usize::try_from(key).unwrap_or(0)]);
+                        assert!(value.capacity() < value.len() + 64);
+                    }
+                    assert_eq!((closed.count()?, closed.pairs()?.len()), (1000, 1000));
+                    Ok::<(), Fault>(())
+                })
+            })
+            .collect();
+        readers.into_iter().try_for_each(|reader| reader.join().expect("the thread ended"))
+    })
+}
+
+#[test]
+fn a_pool_is_not_called_by_its_own_closure() -> Result<(), Fault> {
+    for clients in 1..3 {
+        let (pool, other) = (Pool::open(16, clients)?, Pool::open(16, 1)?);
+        assert_eq!(pool.with(|_| pool.with(|client| client.put(1, 2))), Err(Fault::Nested));
+        assert_eq!(pool.with(|_| other.with(|client| client.put(1, 2)))?, None);
+        assert_eq!(pool.with(|client| client.put(1, 2))?, None);
+        assert_eq!(Fault::Nested.to_string(), "the thread already uses a client of this pool");
+    }
+    Ok(())
+}
+
+#[test]
+fn a_panic_gives_the_client_back() -> Result<(), Fault> {
+    let pool = Pool::open(16, 1)?;
+    let panics = std::panic::AssertUnwindSafe(|| pool.with(|_| -> Result<(), Fault> { panic!("wanted") }));
+    assert!(std::panic::catch_unwind(panics).is_err());
+    assert_eq!(pool.with(|client| client.add(1, 2))?, 2);
+    Ok(())
+}
+
+#[test]
+fn large_lengths_are_no_allocation() -> Result<(), Fault> {
+    let mut map = Map::open(16, 1)?;
+    let mut client = map.client()?;
+    (0..100).try_for_each(|key| client.put(key, key).map(drop))?;
+    for len in [1 << 55, usize::MAX] {
+        assert_eq!(client.pairs(&mut Cursor::default(), len)?.len(), 100);
+    }
+    assert!(!client.pairs(&mut Cursor::default(), 0)?.is_empty());
+    let mut texts = BytesMap::open(16, 1)?;
+    let mut client = texts.client()?;
+    client.put(b"a", b"b")?;
+    assert_eq!(client.pairs(&mut Cursor::default(), usize::MAX)?, vec![(b"a".to_vec(), b"b".to_vec())]);
+    Ok(())
+}
+
+#[test]
+fn a_step_looks_at_1024_buckets() -> Result<(), Fault> {
+    let mut map = Map::open(65_536, 1)?;
+    let mut client = map.client()?;
+    client.put(1, 2)?;
+    let (mut cursor, mut steps, mut pairs) = (Cursor::default(), 0, Vec::new());
+    while !cursor.is_at_end() {
+        pairs.append(&mut client.pairs(&mut cursor, 10)?);
+        steps += 1;
+    }
+    assert!(steps >= 64, "{steps} steps");
+    assert_eq!(pairs, vec![(1, 2)]);
+    Ok(())
+}
+
+#[test]
+fn a_map_may_be_opened_for_long_values() -> Result<(), Fault> {
+    let longest = vec![5; 1 << 20];
+    let mut map = BytesMap::open_for_values(16, 1, longest.len())?;
+    let mut client = map.client()?;
+    assert_eq!(client.put(b"a", &longest)?, None);
+    assert_eq!(client.get(b"a")?.as_deref(), Some(&longest[..]));
+    assert_eq!(client.put(b"a", b"b")?.as_deref(), Some(&longest[..]));
+    assert_eq!(client.put(b"a", &vec![5; (1 << 20) + 1]).err(), Some(Fault::TooLong));
+    client.put(b"a", &longest)?;
+    drop(client);
+    let closed = map.close().map_err(|refused| refused.fault)?;
+    assert_eq!(closed.get(b"a")?.as_deref(), Some(&longest[..]));
+    assert_eq!(closed.reopen(1)?.client()?.remove(b"a")?.as_deref(), Some(&longest[..]));
+    assert_eq!(BytesMap::open_for_values(16, 1, LONGEST_VALUE + 1).err(), Some(Fault::TooLong));
+    Ok(())
+}
+
+#[test]
+fn all_types_have_a_debug_text() -> Result<(), Fault> {
+    let mut map = BytesMap::open(16, 1)?;
+    assert_eq!(format!("{map:?}"), r#"MapOf { kind: "Bytes", .. }"#);
+    let mut client = map.client()?;
+    client.put(b"a", b"one")?;
+    assert_eq!(format!("{client:?}"), r#"ClientOf { kind: "Bytes", .. }"#);
+    assert_eq!(format!("{:?}", client.hold(b"a")?), "Some(Held { len: 3, .. })");
+    drop(client);
+    assert_eq!(format!("{:?}", map.close()), r#"Ok(ClosedOf { kind: "Bytes", count: Some(1), .. })"#);
+    assert_eq!(format!("{:?}", Pool::open(16, 3)), r#"Ok(PoolOf { kind: "Numbers", clients: 3, .. })"#);
+    Ok(())
+}
+
+extern "C" {
+    fn fork() -> i32;
+    fn waitpid(child: i32, status: *mut i32, options: i32) -> i32;
+    fn alarm(seconds: u32) -> u32;
+    fn _exit(status: i32) -> !;
+}
+
+/// Returns the status of a child that does this work, and is ended after a minute.
+fn child_of(work: impl FnOnce() -> Result<bool, Fault>) -> i32 {
+    let mut status = -1;
+    unsafe {
+        let child = fork();
+        if child == 0 {
+            alarm(60);
+            _exit(i32::from(work() != Ok(true)));
+        }
+        assert!(child > 0 && waitpid(child, &raw mut status, 0) == child);
+    }
+    status
+}
+
+#[test]
+fn a_child_does_not_wait_for_a_client_that_its_parent_uses() -> Result<(), Fault> {
+    let pool = Pool::open(16, 1)?;
+    let (taken, is_taken) = channel();
+    let (done, is_done) = channel::<()>();
+    std::thread::scope(|scope| {
+        scope.spawn(|| {
+            let is_done = is_done;
+            pool.with(|client| {
+                client.put(1, 5)?;
+                taken.send(()).expect("the test waits");
+                is_done.recv().map_or(Ok(()), |()| Ok(()))
+            })
+        });
+        is_taken.recv().expect("the thread takes the client");
+        assert_eq!(child_of(|| Ok(pool.with(|client| client.get(1)) == Err(Fault::AfterFork))), 0);
+        assert_eq!(child_of(|| Map::open(16, 1)?.client()?.add(1, 7).map(|sum| sum == 7)), 0);
+        drop(done);
+    });
+    assert_eq!(pool.with(|client| client.get(1))?, Some(5));
+    let closed = pool.close().map_err(|refused| refused.fault)?;
+    assert_eq!(child_of(|| Ok(closed.get(1)? == Some(5))), 0);
     Ok(())
 }

@@ -5,7 +5,7 @@
 
 int main(void) {
     facing_bytes_handle map, client = {NULL}, again = {NULL};
-    facing_bytes_answer answer;
+    facing_bytes_answer answer = {0, 0};
     facing_bytes_sizes sizes = {0, 0};
     uint64_t count = 0;
     char room[8];

@@ -1,5 +1,6 @@
-use Rattle.std.proofs.Common.{◌≡◌, ℕ, ◌+◌, ◌∷◌, ◌++◌, List, [], length, refl, sym, ap, ◌∙◌, append_assoc, arith}
+use Rattle.std.proofs.Common.{◌≡◌, ℕ, ◌+◌, ◌∷◌, ◌++◌, List, [], length, map, refl, sym, ap, ◌∙◌, append_assoc, arith}
 use Rattle.std.proofs.lemmas.List.{length-append, length-set, map-append, take_more_set}
+use Rattle.seeded_keys.specs.Mixing.{unmixed}
 use Rattle.facing_maps.proofs.Copied.{stays_beyond}
 use Rattle.facing_maps.proofs.pairs.copy_numbers.Goals as goal
 
@@ -12,7 +13,8 @@ loop-pair-preserved c =
     let keys = c.loop-pair.keys in
     let values = c.loop-pair.values in
     let longer = length-append done (e ∷ []) in
-    let same_keys = length-set keys n e.0 in
+    let x = c.unmix.result in
+    let same_keys = length-set keys n x in
     let same_values = length-set values n e.1 in
     let below_keys = c.if-count-keys.false in
     let below_values = c.if-count-values.false in (
@@ -21,10 +23,11 @@ loop-pair-preserved c =
       omega (arith, longer, long),
       omega (arith, same_keys, below_keys),
       omega (arith, same_values, below_values),
-      take_more_set keys n e.0 below_keys ∙ ap (λ (l : List ℕ). l ++ e.0 ∷ []) keys_are
-          ∙ sym (map-append (λ (entry : ℕ × ℕ). entry.0) done (e ∷ [])),
+      take_more_set keys n x below_keys ∙ ap (λ (l : List ℕ). l ++ x ∷ []) keys_are
+          ∙ ap (λ (y : ℕ). map (λ (entry : ℕ × ℕ). unmixed c.args.seed entry.0) done ++ y ∷ []) c.unmix.ensures.value
+          ∙ sym (map-append (λ (entry : ℕ × ℕ). unmixed c.args.seed entry.0) done (e ∷ [])),
       take_more_set values n e.1 below_values ∙ ap (λ (l : List ℕ). l ++ e.1 ∷ []) values_are
           ∙ sym (map-append (λ (entry : ℕ × ℕ). entry.1) done (e ∷ [])),
-      stays_beyond n e.0 keys c.args.keys.now keys_stay,
+      stays_beyond n x keys c.args.keys.now keys_stay,
       stays_beyond n e.1 values c.args.values.now values_stay,
     )

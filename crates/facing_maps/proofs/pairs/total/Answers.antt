@@ -5,6 +5,7 @@ use Rattle.facing_maps.proofs.pairs.total.Goals as goal
 
 pub loop-pair-preserved : goal.loop-pair-preserved
 loop-pair-preserved g c =
+    let laid = g.L.Laying.laid c.args.laying.now in
     let (done, all, total) = c.loop-pair.invariant in
     let e = c.in-Some.pair.now in (
       done ++ e ∷ [],
@@ -14,7 +15,7 @@ loop-pair-preserved g c =
         total,
         c.saturating_add.ensures,
         c.saturating_add-total.ensures,
-        length_snoc g.V.Laid.laid done e c.bytes-in-Some.result.now c.laid.result.now (length (bytes_of g.V.Laid.laid done))
+        length_snoc laid done e c.bytes-in-Some.result.now c.laid.result.now (length (bytes_of laid done))
             (c.bytes-in-Some.ensures ∙ c.bytes.ensures) c.laid.ensures refl,
       ),
     )

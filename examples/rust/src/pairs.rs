@@ -1,0 +1,72 @@
+//! Walks over the pairs of a map, a bucket at a time.
+use crate::fault::{fault, Fault, DONE, NO_ROOM};
+use crate::handle::Owned;
+use crate::maps::Kind;
+
+/// The most buckets of one step.
+const MOST_BUCKETS: u32 = 1024;
+
+/// Room for the pairs of a bucket: numbers or lengths for each, and bytes for all.
+#[derive(Debug, Default)]
+pub struct Room {
+    pub(crate) keys: Vec<u64>,
+    pub(crate) values: Vec<u64>,
+    pub(crate) bytes: Vec<u8>,
+}
+
+/// What a step told: where to go on, and how many pairs and bytes the bucket has.
+#[derive(Clone, Copy, Debug, Default)]
+pub struct Told {
+    pub(crate) next: u64,
+    pub(crate) pairs: usize,
+    pub(crate) bytes: usize,
+}
+
+impl Room {
+    /// Makes room for so many pairs and bytes.
+    fn grow(&mut self, pairs: usize, bytes: usize) -> Result<(), Fault> {
+        extend(&mut self.keys, pairs)?;
+        extend(&mut self.values, pairs)?;
+        extend(&mut self.bytes, bytes)
+    }
+}
+
+fn extend<T: Clone + Default>(list: &mut Vec<T>, len: usize) -> Result<(), Fault> {
+    list.try_reserve(len.saturating_sub(list.len())).map_err(|_| Fault::NoMemory)?;
+    list.resize(len.max(list.len()), T::default());
+    Ok(())
+}
+
+/// Returns the bytes as a list of their own.
+pub(crate) fn copied(bytes: &[u8]) -> Result<Vec<u8>, Fault> {
+    let mut list = Vec::new();
+    list.try_reserve_exact(bytes.len()).map_err(|_| Fault::NoMemory)?;
+    list.extend_from_slice(bytes);
+    Ok(list)
+}
+
+/// Adds the pairs of the next buckets, at most so many unless the first bucket has more, and moves the cursor.
+pub(crate) fn read<K: Kind>(
+    any: &mut Owned,
+    at: &mut u64,
+    len: usize,
+    room: &mut Room,
+    pairs: &mut Vec<K::Pair>,
+) -> Result<(), Fault> {
+    let (before, mut buckets) = (pairs.len(), 0);
+    room.grow(64, 4096)?;
+    while *at != u64::MAX && buckets < MOST_BUCKETS {
+        let mut told = Told { next: *at, ..Told::default() };
+        match K::copy_pairs(any, *at, room, &mut told)? {
+            DONE if pairs.len() > before && pairs.len() - before + told.pairs > len => break,
+            DONE => {
+                pairs.try_reserve(told.pairs).map_err(|_| Fault::NoMemory)?;
+                K::add_pairs(room, told.pairs, pairs)?;
+                (*at, buckets) = (told.next, buckets + 1);
+            }
+            NO_ROOM => room.grow(told.pairs, told.bytes)?,
+            status => return Err(fault(status)),
+        }
+    }
+    Ok(())
+}

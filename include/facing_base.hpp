@@ -1,0 +1,316 @@
+// What facing.hpp is made of: failures, the functions of each header by one name, handles, lists of pairs, and readers of a
+// closed map. Include facing.hpp.
+#ifndef FACING_BASE_HPP
+#define FACING_BASE_HPP
+#include "facing.h"
+#include "facing_bytes.h"
+#include "facing_change.h"
+#include "facing_counts.h"
+#include "facing_pool.h"
+#include <algorithm>
+#include <array>
+#include <atomic>
+#include <cstddef>
+#include <cstdint>
+#include <functional>
+#include <iterator>
+#include <memory>
+#include <optional>
+#include <stdexcept>
+#include <string>
+#include <string_view>
+#include <thread>
+#include <type_traits>
+#include <utility>
+#include <vector>
+
+namespace facing {
+
+// A failure: its status, and what facing_strerror says of it.
+class error : public std::runtime_error {
+  public:
+    explicit error(std::uint32_t status) : std::runtime_error(facing_strerror(status)), status_(status) {
+    }
+    std::uint32_t status() const noexcept {
+        return status_;
+    }
+
+  private:
+    std::uint32_t status_;
+};
+
+inline void check(std::uint32_t status) {
+    if (status != FACING_DONE) throw error(status);
+}
+
+// The functions of each header by one name.
+struct numbers {
+    using handle = facing_handle;
+    using key = std::uint64_t;
+    static std::uint32_t open(std::size_t capacity, std::uint32_t clients, handle *map, std::uint32_t salt = 0) {
+        return facing_open(capacity, clients, salt, map);
+    }
+    static constexpr auto client = facing_client;
+    static constexpr auto reopen = facing_reopen;
+    static constexpr auto close = facing_close;
+    static constexpr auto count = facing_count;
+    static constexpr auto free = facing_free;
+    static constexpr auto find = facing_find, get = facing_get, contains = facing_contains, remove = facing_remove;
+    static constexpr auto put = facing_put, put_if_absent = facing_put_if_absent, remove_if = facing_remove_if;
+    static constexpr auto replace = facing_replace, add = facing_add, greatest = facing_greatest, set = facing_set;
+    static constexpr auto replace_if = facing_replace_if;
+    static constexpr auto exchange = facing_exchange;
+    static constexpr auto add_up_to = facing_add_up_to;
+    static constexpr auto again = facing_again;
+};
+
+struct counts {
+    using handle = facing_counts_handle;
+    using key = std::string_view;
+    static std::uint32_t open(std::size_t capacity, std::uint32_t clients, handle *map) {
+        return facing_counts_open(capacity, clients, map);
+    }
+    static constexpr auto client = facing_counts_client;
+    static constexpr auto reopen = facing_counts_reopen;
+    static constexpr auto close = facing_counts_close;
+    static constexpr auto count = facing_counts_count;
+    static constexpr auto free = facing_counts_free;
+    static constexpr auto find = facing_counts_find, get = facing_counts_get, contains = facing_counts_contains;
+    static constexpr auto remove = facing_counts_remove;
+    static constexpr auto put = facing_counts_put, put_if_absent = facing_counts_put_if_absent;
+    static constexpr auto remove_if = facing_counts_remove_if, replace = facing_counts_replace, add = facing_counts_add;
+    static constexpr auto greatest = facing_counts_greatest, set = facing_counts_set;
+    static constexpr auto replace_if = facing_counts_replace_if;
+    static constexpr auto exchange = facing_counts_exchange;
+    static constexpr auto add_up_to = facing_counts_add_up_to;
+    static constexpr auto again = facing_counts_again;
+};
+
+struct bytes {
+    using handle = facing_bytes_handle;
+    using key = std::string_view;
+    static std::uint32_t open(std::size_t capacity, std::uint32_t clients, handle *map) {
+        return facing_bytes_open(capacity, clients, map);
+    }
+    static constexpr auto client = facing_bytes_client;
+    static constexpr auto reopen = facing_bytes_reopen;
+    static constexpr auto close = facing_bytes_close;
+    static constexpr auto count = facing_bytes_count;
+    static constexpr auto free = facing_bytes_free;
+    static constexpr auto again = facing_bytes_again;
+};
+
+template <class Library> class map_of;
+template <class Library> class closed_of;
+
+// A handle that this object alone has; it is freed with it. `longest_` is the most bytes of a value of a bytes_map.
+template <class Library> class owned {
+  public:
+    owned(const owned &) = delete;
+    owned &operator=(const owned &) = delete;
+    owned(owned &&other) noexcept
+        : at_(std::exchange(other.at_, typename Library::handle{nullptr})), longest_(other.longest_) {
+    }
+    owned &operator=(owned &&other) noexcept {
+        if (this != &other) {
+            Library::free(&at_);
+            at_ = std::exchange(other.at_, typename Library::handle{nullptr});
+            longest_ = other.longest_;
+        }
+        return *this;
+    }
+    ~owned() {
+        Library::free(&at_);
+    }
+
+  protected:
+    owned() noexcept : at_{nullptr} {
+    }
+    std::uint64_t counted() {
+        std::uint64_t count;
+        check(Library::count(&at_, &count));
+        return count;
+    }
+    typename Library::handle at_;
+    std::size_t longest_ = FACING_LONGEST;
+    friend class map_of<Library>;
+    friend class closed_of<Library>;
+};
+
+// Makes a call whose answer is a number.
+template <class Call, class Handle, class... Arguments>
+facing_answer answer(Call call, Handle *at, std::uint64_t key, Arguments... arguments) {
+    facing_answer answered{0, 0};
+    check(call(at, key, arguments..., &answered));
+    return answered;
+}
+
+template <class Call, class Handle, class... Arguments>
+facing_answer answer(Call call, Handle *at, std::string_view key, Arguments... arguments) {
+    facing_answer answered{0, 0};
+    check(call(at, key.data(), key.size(), arguments..., &answered));
+    return answered;
+}
+
+inline std::optional<std::uint64_t> value_of(facing_answer answered) {
+    return answered.found != 0 ? std::optional<std::uint64_t>(answered.value) : std::nullopt;
+}
+
+// A list of pairs.
+using number_pairs = std::vector<std::pair<std::uint64_t, std::uint64_t>>;
+using counts_pairs = std::vector<std::pair<std::string, std::uint64_t>>;
+using bytes_pairs = std::vector<std::pair<std::string, std::string>>;
+
+// The most pairs of one step, unless one bucket has more.
+constexpr std::size_t most_pairs = 4096;
+
+// Adds the pairs of the next buckets, at most so many unless one bucket has more.
+inline void read_pairs(facing_handle *any, facing_cursor *cursor, std::size_t len, number_pairs &all) {
+    std::vector<std::uint64_t> keys(len + 1), values(len + 1);
+    std::size_t copied;
+    std::uint32_t status = facing_pairs(any, cursor, keys.data(), values.data(), len, &copied);
+    if (status == FACING_NO_ROOM) return read_pairs(any, cursor, copied, all);
+    check(status);
+    for (std::size_t i = 0; i < copied; i++)
+        all.emplace_back(keys[i], values[i]);
+}
+
+inline void read_pairs(facing_counts_handle *any, facing_cursor *cursor, std::size_t len, counts_pairs &all,
+                       std::size_t room_len = 0) {
+    std::vector<std::uint64_t> lens(len + 1), values(len + 1);
+    std::vector<char> room(room_len != 0 ? room_len : 64 * len + 1);
+    facing_bytes_sizes copied;
+    std::uint32_t status =
+        facing_counts_pairs(any, cursor, lens.data(), values.data(), len, room.data(), room.size(), &copied);
+    if (status == FACING_NO_ROOM) return read_pairs(any, cursor, copied.pairs, all, copied.bytes);
+    check(status);
+    const char *at = room.data();
+    for (std::size_t i = 0; i < copied.pairs; at += lens[i++])
+        all.emplace_back(std::string(at, lens[i]), values[i]);
+}
+
+inline void read_pairs(facing_bytes_handle *any, facing_cursor *cursor, std::size_t len, bytes_pairs &all,
+                       std::size_t room_len = 0) {
+    std::vector<std::uint64_t> key_lens(len + 1), value_lens(len + 1);
+    std::vector<char> room(room_len != 0 ? room_len : 256 * len + 1);
+    facing_bytes_sizes copied;
+    std::uint32_t status =
+        facing_bytes_pairs(any, cursor, key_lens.data(), value_lens.data(), len, room.data(), room.size(), &copied);
+    if (status == FACING_NO_ROOM) return read_pairs(any, cursor, copied.pairs, all, copied.bytes);
+    check(status);
+    const char *at = room.data();
+    for (std::size_t i = 0; i < copied.pairs; i++) {
+        all.emplace_back(std::string(at, key_lens[i]), std::string(at + key_lens[i], value_lens[i]));
+        at += key_lens[i] + value_lens[i];
+    }
+}
+
+// The pairs of an open map, for a range-based for: some buckets are read at a time, each as it is when it is read.
+template <class Client, class Pairs> class pairs_range {
+  public:
+    class iterator {
+      public:
+        using iterator_category = std::input_iterator_tag;
+        using value_type = typename Pairs::value_type;
+        using difference_type = std::ptrdiff_t;
+        using pointer = const value_type *;
+        using reference = const value_type &;
+        explicit iterator(Client *client) : client_(client) {
+            read();
+        }
+        reference operator*() const {
+            return pairs_[at_];
+        }
+        pointer operator->() const {
+            return &pairs_[at_];
+        }
+        iterator &operator++() {
+            at_++;
+            read();
+            return *this;
+        }
+        // (each is compared with the end alone)
+        bool operator!=(std::nullptr_t) const {
+            return at_ != pairs_.size();
+        }
+        bool operator==(std::nullptr_t) const {
+            return at_ == pairs_.size();
+        }
+
+      private:
+        void read() {
+            while (at_ == pairs_.size() && cursor_.at != UINT64_MAX) {
+                pairs_ = client_->pairs(cursor_, 1024);
+                at_ = 0;
+            }
+        }
+        Client *client_;
+        facing_cursor cursor_{0};
+        Pairs pairs_{};
+        std::size_t at_ = 0;
+    };
+    explicit pairs_range(Client *client) : client_(client) {
+    }
+    iterator begin() const {
+        return iterator(client_);
+    }
+    std::nullptr_t end() const {
+        return nullptr;
+    }
+
+  private:
+    Client *client_;
+};
+
+// Further handles of a closed map, for threads that read it at the same time.
+template <class Library> class readers {
+  public:
+    readers() = default;
+    readers(const readers &) = delete;
+    readers &operator=(const readers &) = delete;
+    ~readers() {
+        for (slot &it : slots_)
+            Library::free(&it.handle);
+    }
+    // Makes a call by a handle that no other thread uses. Where there is no memory for one, threads take turns.
+    template <class Call> auto read(typename Library::handle *first, Call call) {
+        const std::size_t start = std::hash<std::thread::id>()(std::this_thread::get_id());
+        const taken own(slots_.data(), slots_.size(), start, forks_);
+        if (own.it->handle.at == nullptr) {
+            const taken only(&first_, 1, 0, forks_);
+            if (Library::again(first, &own.it->handle) != FACING_DONE) return call(first);
+        }
+        return call(&own.it->handle);
+    }
+
+  private:
+    struct alignas(64) slot {
+        std::atomic<bool> in_use{false};
+        typename Library::handle handle{nullptr};
+    };
+    // A slot that no other thread uses while this lives.
+    struct taken {
+        slot *it;
+        taken(slot *slots, std::size_t count, std::size_t start, unsigned forks) {
+            unsigned round = 0;
+            for (std::size_t i = 0;; i++) {
+                it = &slots[(start + i) % count];
+                if (!it->in_use.load() && !it->in_use.exchange(true)) return;
+                if (i % count != count - 1) continue;
+                round = facing_next_round(round, forks);
+                if (round == FACING_NEVER) throw error(FACING_AFTER_FORK);
+            }
+        }
+        ~taken() {
+            it->in_use.store(false);
+        }
+        taken(const taken &) = delete;
+        taken &operator=(const taken &) = delete;
+    };
+    std::array<slot, 32> slots_;
+    slot first_;
+    unsigned forks_ = facing_forks;
+};
+
+} // namespace facing
+#endif
