@@ -1,4 +1,5 @@
 """The same requests to this server and to a redis-server: the replies must be the same, words and all. rows.py has the requests."""
+import contextlib
 import random
 import socket
 
@@ -125,6 +126,17 @@ def compare_patterns(both, drawn, count):
             both.fault(["SCAN", "MATCH", pattern], ours, theirs)
 
 
+def compare_connections(both, drawn, count):
+    """Four connections to each server, whose requests come in one order: transactions, and keys that others change."""
+    with contextlib.ExitStack() as stack:
+        pairs = [[stack.enter_context(Connection(port)) for port in both.ports] for _ in range(4)]
+        for words in rows.drawn_of_transactions(drawn, count):
+            ours, theirs = (it.call(*words) for it in drawn.choice(pairs))
+            both.compared += 1
+            if not is_same(ours, theirs, words):
+                both.fault(words, ours, theirs)
+
+
 def compare(port, port_of_redis, is_quick, seed):
     """Compares all, and returns how many replies were."""
     drawn = random.Random(f"beside {seed}")
@@ -139,6 +151,9 @@ def compare(port, port_of_redis, is_quick, seed):
         both.each_of(rows.transactions())
         for _ in range(10 if is_quick else 200):
             both.calls([["FLUSHALL"], *rows.drawn_requests(drawn, 500), *rows.LOOKS])
+        for _ in range(5 if is_quick else 100):
+            both.calls([["FLUSHALL"]])
+            compare_connections(both, drawn, 500)
         compare_patterns(both, drawn, 100 if is_quick else 3000)
         for data in rows.RAW:
             ours, theirs = answered(port, data), answered(port_of_redis, data)

@@ -73,11 +73,76 @@ CALLS = [
 ]
 
 
+def must_be(name, got, wanted):
+    if got != wanted:
+        sys.exit(f"{name}: {got!r}, not {wanted!r}")
+
+
+def transactions(it, other):
+    """The default pipeline is a transaction, and transaction() watches keys and runs again where one was changed meanwhile."""
+    must_be("a transaction", it.pipeline().set("from", 3).incr("to").get("to").execute(), [True, 1, b"1"])
+    seen = []
+
+    def move(pipe):
+        seen.append(int(pipe.get("from")))
+        if len(seen) == 1:
+            other.set("from", 8)
+        pipe.multi()
+        pipe.decr("from")
+        pipe.incr("to")
+
+    must_be("transaction()", it.transaction(move, "from"), [7, 2])
+    must_be("transaction() runs again", seen, [3, 8])
+    with it.pipeline() as pipe:
+        pipe.watch("from")
+        other.set("from", 1)
+        pipe.multi()
+        pipe.set("from", 2)
+        try:
+            must_be("a changed key is written", pipe.execute(), None)
+        except redis.WatchError:
+            must_be("WatchError, and the value", other.get("from"), b"1")
+    try:
+        must_be("a wrong value is added to", it.pipeline().set("text", "x").incr("text").set("after", 1).execute(), None)
+    except redis.ResponseError as why:
+        must_be("a command of a transaction fails", "value is not an integer" in str(why), True)
+        must_be("those behind it were made", it.get("after"), b"1")
+
+
+def release(client, token):
+    """Gives a lock back, if it is still the client's."""
+    with client.pipeline() as pipe:
+        pipe.watch("lock")
+        if pipe.get("lock") != token:
+            return False
+        pipe.multi()
+        pipe.delete("lock")
+        return pipe.execute() == [1]
+
+
+def locks(it, other):
+    """A lock by SET with NX and PX, which WATCH gives back. redis-py's own Lock is given back by a script, which is not here."""
+    take = lambda client, token: client.set("lock", token, nx=True, px=100000)
+    must_be("a lock is taken", take(it, b"1"), True)
+    must_be("a lock is taken twice", take(other, b"2"), None)
+    must_be("another's lock is given back", release(other, b"2"), False)
+    must_be("a lock is given back", release(it, b"1"), True)
+    must_be("a free lock is taken", take(other, b"2"), True)
+    lock = it.lock("own", timeout=100)
+    must_be("redis-py's Lock is taken", lock.acquire(blocking=False), True)
+    try:
+        lock.release()
+        sys.exit("redis-py's Lock is given back: it needs no scripts any more, and docs/CACHE.md is to say so")
+    except redis.ResponseError as why:
+        must_be("a script is refused", "unknown command" in str(why), True)
+
+
 def main(port):
-    with redis.Redis(port=port) as it:
+    with redis.Redis(port=port) as it, redis.Redis(port=port) as other:
         for name, call, wanted in CALLS:
-            if (got := call(it)) != wanted:
-                sys.exit(f"{name}: {got!r}, not {wanted!r}")
+            must_be(name, call(it), wanted)
+        transactions(it, other)
+        locks(it, other)
 
 
 if __name__ == "__main__":

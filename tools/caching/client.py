@@ -54,7 +54,7 @@ class Connection:
 
     def more(self):
         try:
-            data = self.socket.recv(1 << 16)
+            data = self.socket.recv(1 << 20)
         except socket.timeout:
             raise
         except OSError as why:
@@ -70,8 +70,15 @@ class Connection:
         return line
 
     def bytes(self, count):
-        while len(self.got) - self.at < count:
-            self.more()
+        if len(self.got) - self.at < count:
+            parts = [self.got[self.at :]]
+            missing = count - len(parts[0])
+            while missing > 0:
+                self.at = len(self.got)
+                self.more()
+                parts.append(self.got)
+                missing -= len(self.got)
+            self.got, self.at = b"".join(parts), 0
         self.at += count
         return self.got[self.at - count : self.at]
 

@@ -108,17 +108,20 @@ def random_bytes(server, seconds, seed):
 
 def huge_requests(program):
     """What is larger than the limits is refused, and what is as large as them is not."""
-    long = b"x" * 65528
+    # Behind the 33 bytes before it a value ends with the limit.
+    long = b"x" * ((1 << 20) - 33)
     with Server(program, "--request", 1 << 20) as server, witness(server), Connection(server.port) as it:
         too_long = Error("ERR string exceeds maximum allowed size (proto-max-bulk-len)")
-        must(it.call("SET", "huge", long) == OK and it.call("GET", "huge") == long, "the longest value is not taken")
-        must(it.call("APPEND", "huge", "x") == too_long and it.call("STRLEN", "huge") == 65528, "a longer value is taken")
-        must(it.call("SET", "huge", long + b"x") == too_long, "a longer value is taken")
-        must(it.call("MSET", "other", "1", "huge", long + b"x") == too_long, "a longer value is taken")
-        must(it.call("EXISTS", "other") == 0, "a part of MSET is stored")
+        must(it.call("SET", "huge", long) == OK and it.call("GET", "huge") == long, "the longest request is not taken")
+        with Connection(server.port) as other:
+            other.send(packed("SET", "huge", long + b"x"))
+            must(other.reply() == Error(PROTOCOL + "invalid bulk length") and other.is_closed(), "a longer request is taken")
+        must(it.call("STRLEN", "huge") == len(long), "a request that is refused was run")
         key = b"k" * 65536
         must(it.call("SET", key, "1") == OK and it.call("GET", key) == b"1", "the longest key is not taken")
         must(it.call("SET", key + b"k", "1") == too_long and it.call("GET", key + b"k") == too_long, "a longer key is taken")
+        must(it.call("MSET", "other", "1", key + b"k", "1") == too_long, "a longer key is taken")
+        must(it.call("EXISTS", "other") == 0, "a part of MSET is stored")
         must(it.call("MGET", *[key] * 15) == [b"1"] * 15, "a request of a megabyte is not taken")
         many = ["x"] * 100000
         must(it.call("EXISTS", *many) == 0 and it.call("DEL", key, "huge") == 2, "a request of 100,000 words is not taken")

@@ -1,6 +1,8 @@
 """The limits that options set, what the system refuses, and how the server stops."""
 import contextlib
+import os
 import random
+import select
 import signal
 import socket
 import time
@@ -8,7 +10,7 @@ import time
 from .client import OK, PONG, Closed, Connection, Error, packed
 from .hostile import are_closed, witness
 from .server import Failed, Server
-from .together import must
+from .together import each_client, must
 
 FULL = Error("OOM command not allowed when used memory > 'maxmemory'.")
 
@@ -86,6 +88,92 @@ def used_is_resident(program):
             used, resident = info(it, "used_memory") - used, server.resident() - resident
             must(used > 20000000, f"{used} bytes are used")
             must(0.9 * used < resident < 1.1 * used, f"values of {size}: {used} bytes more are used, and {resident} resident")
+
+
+def looks_are_counted(server):
+    """INFO counts look-ups that found a key, those that found none, and keys that expired."""
+    with Connection(server.port) as it:
+        counts = lambda: [info(it, name) for name in ("keyspace_hits", "keyspace_misses", "expired_keys", "evicted_keys")]
+        must(counts() == [0, 0, 0, 0], f"{counts()} before any call")
+        must(it.calls([["SET", "a", "1"], ["SET", "b", "1"], ["DEL", "b"]]) == [OK, OK, 1] and counts() == [0, 0, 0, 0], "a write is counted")
+        must(it.calls([["GET", "a"], ["GET", "b"], ["MGET", "a", "b", "a"]]) == [b"1", None, [b"1", None, b"1"]], "another reply")
+        must(counts() == [3, 2, 0, 0], f"{counts()} after three keys that are there and two that are not")
+        must(it.call("SET", "soon", "1", "PX", "1") == OK, "no reply")
+        until = time.monotonic() + 60
+        while counts()[2] == 0:
+            must(time.monotonic() < until, "an expired key is not counted")
+            time.sleep(0.01)
+        must(it.call("GET", "soon") is None and counts() == [3, 3, 1, 0], f"{counts()} after a key has expired")
+
+
+def counts_stay_right(server):
+    """Eight clients change the same keys at once, in all ways, and flush them: what INFO counts is what is there then."""
+    drawn = (
+        ["SET", "v" * 40], ["SET", "v", "PX", 20], ["SET", "v", "NX", "PX", 10], ["PEXPIRE", 5], ["PEXPIRE", 10000], ["PERSIST"], ["DEL"],
+        ["APPEND", "xyz"], ["GETSET", "5"], ["INCR"], ["GETDEL"], ["GETEX", "PX", 5], ["RENAME", "other"], ["COPY", "other", "REPLACE"], ["SETRANGE", 9, "x"],
+    )
+
+    def change(it, number):
+        chance = random.Random(f"counts {number}")
+        for _ in range(100):
+            requests = [[words[0], f"key{chance.randrange(30)}", *words[1:]] for words in chance.choices(drawn, k=20)]
+            it.calls([["FLUSHALL"], *requests] if chance.random() < 0.1 else requests)
+
+    each_client(server, change, 8)
+    with Connection(server.port) as it:
+        it.calls([["PERSIST", key] for key in it.call("KEYS", "*")])
+        time.sleep(0.3)
+        keys = it.call("KEYS", "*")
+        wanted = [sum(len(key) + 8 + it.call("STRLEN", key) for key in keys), len(keys)]
+        until = time.monotonic() + 60
+        while [info(it, "used_memory_dataset"), it.call("DBSIZE")] != wanted:
+            must(time.monotonic() < until, f"INFO counts {info(it, 'used_memory_dataset')} bytes, and there are {wanted}")
+            time.sleep(0.05)
+        must(it.call("FLUSHALL") == OK and it.call("DBSIZE") == 0, "a key is left")
+        while info(it, "used_memory_dataset") != 0:
+            must(time.monotonic() < until, "bytes are counted that are not there")
+            time.sleep(0.05)
+        must(it.call("INFO", "keyspace") == b"# Keyspace\r\n", "keys with deadlines are counted that are not there")
+
+
+def lines_of(server, wanted, seconds=60):
+    """Reads the server's lines until the numbers in those that begin so have these sums."""
+    found, text, until = dict.fromkeys(wanted, 0), b"", time.monotonic() + seconds
+    while found != wanted:
+        ready, _, _ = select.select([server.process.stdout], [], [], max(0, until - time.monotonic()))
+        must(ready, f"the log has {found}, and not {wanted}")
+        text += os.read(server.process.stdout.fileno(), 4096)
+        *lines, text = text.split(b"\n")
+        for line in lines:
+            number, _, reason = line.decode().removeprefix("cache: refused ").partition(": ")
+            must(reason in found, f"the log has a line {line}")
+            found[reason] += int(number)
+
+
+def refusals_are_logged(program):
+    """The log counts what was refused by its reason: wrong passwords, requests of HTTP, and connections beyond the limit."""
+    with Server(program, "--password", "sesame", "--connections", 3) as server, contextlib.ExitStack() as stack:
+        all_of = [stack.enter_context(Connection(server.port)) for _ in range(3)]
+        must(all(str(it.call("AUTH", "wrong")).startswith("WRONGPASS") for it in all_of[:2]), "a wrong password is taken")
+        with Connection(server.port) as more:
+            must(more.reply() == Error("ERR max number of clients reached"), "one more is taken")
+        all_of[0].send(b"POST / HTTP/1.1\r\n")
+        must(all_of[0].rest() == b"", "a request of HTTP has a reply")
+        lines_of(server, {"wrong passwords": 2, "requests of HTTP": 1, "too many connections": 1})
+
+
+def connections_are_kept_alive(server):
+    """The system asks after five minutes at most whether a client is still there: the timer of the server's end says so."""
+    with Connection(server.port) as it:
+        must(it.call("PING") == PONG, "no reply")
+        ends = [f"0100007F:{port:04X}" for port in (server.port, it.socket.getsockname()[1])]
+        kind, ticks, until = 0, 0, time.monotonic() + 60
+        while kind != 2:  # another timer runs until the system has sent that the reply has come
+            must(time.monotonic() < until, f"the timer is of kind {kind}")
+            with open("/proc/net/tcp", encoding="utf-8") as table:
+                rows = [line.split() for line in table]
+            kind, ticks = next([int(part, 16) for part in row[5].split(":")] for row in rows if row[1:3] == ends)
+        must(ticks <= 300 * os.sysconf("SC_CLK_TCK"), f"the timer ends in {ticks} ticks")
 
 
 def memory_is_used_again(server):

@@ -11,7 +11,7 @@ from .server import TOP, Failed
 AT_ONCE = 500
 # No measurement takes so many seconds.
 LONGEST = 600
-# A cache of a tenth of the keys: how many keys, of how many bytes, and how many requests until and while it is measured.
+# A cache that is too small: how many keys, of how many bytes, and how many requests until and while it is measured.
 KEYS, VALUE, BEFORE, MEASURED, SKEW = 100000, 100, 500000, 500000, 0.99
 
 
@@ -78,16 +78,27 @@ def used_memory(port):
         return int(it.call("INFO", "memory").split(b"used_memory:")[1].split()[0])
 
 
-def memory_of_tenth(start):
-    """Returns how much memory a server says that it uses with a tenth of the keys."""
+def memory_of_part(start, percent):
+    """Returns how much memory a server says that it uses with a part of the keys."""
     with start() as (port, _):
-        fill(port, KEYS // 10, VALUE)
+        fill(port, KEYS * percent // 100, VALUE)
         return used_memory(port)
+
+
+def weights_of_keys():
+    """Returns for each key how often it and those before it are asked for, by Zipf's law."""
+    return list(itertools.accumulate((at + 1) ** -SKEW for at in range(KEYS)))
+
+
+def best_hits(percent):
+    """Returns which part of the gets are of the most frequent keys, a part of all, and how many these are."""
+    weights, keys = weights_of_keys(), KEYS * percent // 100
+    return weights[keys - 1] / weights[-1], keys
 
 
 def hits_of(port, seed):
     """Gets keys by Zipf's law, and stores each that is not there. Returns which part of the later gets hit, and how many keys there are."""
-    drawn, weights = random.Random(seed), list(itertools.accumulate((at + 1) ** -SKEW for at in range(KEYS)))
+    drawn, weights = random.Random(seed), weights_of_keys()
     hits, value = 0, "v" * VALUE
     with Connection(port) as it:
         for number in range(0, BEFORE + MEASURED, AT_ONCE // 5):

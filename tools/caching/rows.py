@@ -172,6 +172,22 @@ def drawn_requests(drawn, count):
             yield [name, *words]
 
 
+def drawn_of_transactions(drawn, count):
+    """So many requests at random for several connections, of which many begin, end or void a transaction. None tells a time or an order."""
+    others = (words for words in drawn_requests(drawn, 2 * count) if words[0] not in ("KEYS", "TTL"))
+    ends = (["MULTI"], ["EXEC"], ["EXEC"], ["EXEC"], ["DISCARD"], ["UNWATCH"], ["FLUSHALL"], ["EXEC", "x"], ["NONE"], ["GET"])
+    for _ in range(count):
+        part = drawn.random()
+        if part < 0.15:
+            yield ["MULTI"]
+        elif part < 0.25:
+            yield ["WATCH", *drawn.choices(KEYS, k=drawn.randrange(4))]
+        elif part < 0.27:
+            yield ["PEXPIREAT", drawn.choice(KEYS), 1]
+        else:
+            yield drawn.choice(ends) if part < 0.45 else next(others)
+
+
 # == What is sent as bytes ==
 
 RAW = (

@@ -42,6 +42,10 @@ def need(*tools):
             raise Lacking(f"there is no {tool}")
 
 
+def sources():
+    return sorted(f"{SOURCES}/{it}" for it in os.listdir(SOURCES) if it.endswith(".c"))
+
+
 class Place:
     """Where the library is installed, and the servers that were built over it."""
 
@@ -53,18 +57,25 @@ class Place:
     def program(self, kind="plain"):
         """Returns the path of the server, which is built the first time."""
         if kind not in self.built:
-            need("cc")
-            sources = sorted(f"{SOURCES}/{it}" for it in os.listdir(SOURCES) if it.endswith(".c"))
-            path = f"{self.folder}/cache_{kind}"
-            words = ["cc", "-std=c11", *FLAGS[kind], *WARNED, f"-I{self.prefix}/include", *sources]
-            ran = subprocess.run([*words, f"{self.prefix}/lib/libfacing.a", "-lpthread", "-o", path], capture_output=True, text=True)
-            if ran.returncode and "cannot find" in ran.stderr and kind != "plain":
-                raise Lacking("the sanitizers' libraries are not installed")
-            if ran.returncode:
-                raise Failed(f"not built: {ran.stderr[:2000]}")
-            self.built[kind] = path
+            self.build(kind, sources())
         return self.built[kind]
 
+    def program_without(self, left_out, instead):
+        """Returns the path of a server with a source in place of some of its own."""
+        kept = [it for it in sources() if os.path.basename(it) not in left_out]
+        return self.build("plain", [*kept, instead], f"without_{left_out[0]}_plain")
+
+    def build(self, kind, its_sources, name=None):
+        need("cc")
+        path = f"{self.folder}/cache_{name or kind}"
+        words = ["cc", "-std=c11", *FLAGS[kind], *WARNED, f"-I{self.prefix}/include", f"-I{SOURCES}", *its_sources]
+        ran = subprocess.run([*words, f"{self.prefix}/lib/libfacing.a", "-lpthread", "-o", path], capture_output=True, text=True)
+        if ran.returncode and "cannot find" in ran.stderr and kind != "plain":
+            raise Lacking("the sanitizers' libraries are not installed")
+        if ran.returncode:
+            raise Failed(f"not built: {ran.stderr[:2000]}")
+        self.built[name or kind] = path
+        return path
 
     def is_proved(self):
         """Whether the library is of the check that proved it: an unproved one says so in its version."""

@@ -125,6 +125,11 @@ def watches(server):
         must(other.call("SET", "w", "1", "PX", "20") == OK and it.call("WATCH", "w") == OK, "no reply")
         time.sleep(0.05)
         must(it.calls([["MULTI"], ["PING"], ["EXEC"]])[-1] is None, "an expired key is no change")
+        # One that was gone before is not, though another client removes what is left of it.
+        for gone in (["FLUSHALL"], ["PEXPIREAT", "w", "1"]):
+            must(other.call("SET", "w", "1") == OK and other.call(*gone) in (OK, 1), "no reply")
+            must(it.call("WATCH", "w") == OK and other.call("DEL", "w") == 0, "a removed key is there")
+            must(it.calls([["MULTI"], ["PING"], ["EXEC"]])[-1] == [PONG], f"a key that was gone is changed after {gone}")
 
 
 def transactions_are_one_step(server):
