@@ -17,8 +17,8 @@ SECONDS = 900
 
 # The forms of this repository's own map: the name of a form, and the words that map_bench takes for it.
 OWN_FORMS = [("facingberyl", ["--form", "lean"]), ("facingberyl, recorded", ["--form", "recorded"])]
-# The peers that call it from C, by the kind of the map; the crate of its static library.
-FROM_C, OWN_LIBRARY = {"numbers": "numbers_from_c", "counts": "counts_from_c", "bytes": "bytes_from_c"}, "facing"
+# The peers that call it from C, by the kind of the map.
+FROM_C = {"numbers": "numbers_from_c", "counts": "counts_from_c", "bytes": "bytes_from_c"}
 # A team has at most 32 passes, and one caller fills the map; a map that is called from C is opened for so many clients.
 OWN_THREADS, OWN_CLIENTS = 31, 1023
 # The crates that a peer in Rust is built with.
@@ -29,6 +29,8 @@ RUST_CRATES = {"dashmap": ["dashmap"], WITH_RAYON: ["dashmap", "rayon"]}
 COMMON_MODES = ["get", "mix", "merge", "fill", "stall"]
 # These are of maps that lend a value, or change it by a function, where it lies; and a walk shows all entries.
 IN_PLACE_MODES = ["view", "update", "walk"]
+# This is of the peers that take a kind of keys: they fill a map, and tell how many bytes an entry takes.
+MEMORY = "memory"
 
 # What a run is of.
 Workload = namedtuple("Workload", "mode keys threads calls choice")
@@ -116,10 +118,18 @@ def own_bulk(binary):
     return [("facingberyl", [binary], True)]
 
 
-def peer(name, program, kind=None, **more):
+def jdk_memory(kind):
+    """The JDK's map, whose heap is looked at."""
+    need("java")
+    build("JdkMemory.java", ["javac", "-d", f"{OUT}/jdk", f"{PEERS}/JdkMemory.java"])
+    return [Map("JDK", lambda it: ["java", "-cp", f"{OUT}/jdk", "JdkMemory", it.keys, kind], more_modes=[MEMORY])]
+
+
+def peer(name, program, kind=None, more_modes=(), **more):
     """A peer whose program takes the workload in five words, and its kind in one more where keys are no texts."""
     kinds = [kind] if kind else []
-    return Map(name, lambda it: [program, it.mode, it.threads, it.calls, it.keys, it.choice, *kinds], **more)
+    modes = [*more_modes, *([MEMORY] if kind else [])]
+    return Map(name, lambda it: [program, it.mode, it.threads, it.calls, it.keys, it.choice, *kinds], more_modes=modes, **more)
 
 
 def of_rust(name):
@@ -155,13 +165,13 @@ def libcuckoo(kind):
 
 
 def called_from_c(library, kind):
-    """This repository's map of this kind, through the given static library, or else the proved one."""
-    library = library or f"{TOP}/crates/{OWN_LIBRARY}/out/lib{OWN_LIBRARY}.a"
+    """This repository's map of this kind, through the given static library that was installed, or else the proved one."""
+    if not library:
+        library = f"{OUT}/installed/lib/libfacing.a"
+        build("the C library", [f"{TOP}/tools/install", f"{OUT}/installed"])
     if not os.path.exists(library):
-        raise Lacking(f"{library} is not there: make it with `rt lib` in crates/{OWN_LIBRARY}")
-    heap = f"{OUT}/heap.o"
-    build("heap.c", ["cc", "-O2", "-c", f"{TOP}/packaging/heap.c", "-o", heap])
-    program = of_cpp(FROM_C[kind], [library, heap])
+        raise Lacking(f"{library} is not there")
+    program = of_cpp(FROM_C[kind], [library])
     return [peer("facingberyl, from C", program, kind, is_own=True, most_threads=OWN_CLIENTS)]
 
 

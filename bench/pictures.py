@@ -75,8 +75,15 @@ def ticks(low, high):
     return found if len(found) < 10 else [it for it in powers if low <= it <= high]
 
 
-def lines(title, panels, names, own):
-    """Draws a panel for each of `panels`: (its name, the name of its x axis, marks on that axis, {map: [(x, y)]})."""
+def steps(most):
+    """Returns the numbers from 0 to most in steps of 1, 2 or 5 times a power of ten, six at most."""
+    step = next(it for it in (digit * 10**power for power in range(12) for digit in (1, 2, 5)) if most / it < 6)
+    return [step * it for it in range(int(most / step) + 1)]
+
+
+def lines(title, panels, names, own, from_zero=False):
+    """Draws a panel for each of `panels`: (its name, the name of its x axis, marks on that axis, {map: [(x, y)]}). With `from_zero` the
+    y axis begins at 0, and is not logarithmic."""
     colour, left, gap, top, height = colours(names, own), 66, 70, 74, 300
     panel = (940 - left - gap * (len(panels) - 1) - 16) / len(panels)
     parts = [text(8, 22, title, kind="title")]
@@ -87,9 +94,9 @@ def lines(title, panels, names, own):
         low, high = min(y for _, y in points) * 0.85, max(y for _, y in points) * 1.15
         least, most = min(x for x, _ in points), max(x for x, _ in points)
         across = lambda x: x0 + panel * (math.log(x / least) / math.log(most / least) if most > least else 0.5)
-        up = lambda y: top + height * (1 - math.log(y / low) / math.log(high / low))
+        up = lambda y: top + height * (1 - (y / high if from_zero else math.log(y / low) / math.log(high / low)))
         parts.append(text(x0, top - 14, said, kind="title"))
-        for y in ticks(low, high):
+        for y in steps(high) if from_zero else ticks(low, high):
             parts += [line(x0, up(y), x0 + panel, up(y), "grid"), text(x0 - 6, up(y) + 4, f"{y:,.0f}", "end", "small")]
         for x in marks:
             if least <= x <= most:
@@ -114,4 +121,4 @@ def short(number):
     for unit, letter in ((1_000_000, "M"), (1_000, "k")):
         if number >= unit:
             return f"{number / unit:g}{letter}" if number % unit == 0 else f"{number / unit:.1f}{letter}"
-    return str(number)
+    return f"{number:g}"

@@ -1,9 +1,9 @@
 // Counts the words of a text in threads, by this repository's map of counts called from C and by TBB's concurrent_hash_map, and compares
 // the counts. Milliseconds, the median of five rounds, of each map with one and with four threads.
 //
-// g++ -O3 -std=c++17 -Iinclude -Ibench/peers bench/words.cpp crates/facing/out/libfacing.a HEAP.o -ltbb -o bench/out/words
-// bench/out/words [FILE]; a text of 50 MB of its own where there is none, whose words are chosen by Zipf's law. HEAP.o is what cc -c
-// makes of packaging/heap.c.
+// g++ -O3 -std=c++17 -Iinclude -Ibench/peers bench/words.cpp PREFIX/lib/libfacing.a -ltbb -o bench/out/words
+// bench/out/words [FILE]; a text of 50 MB of its own where there is none, whose words are chosen by Zipf's law. PREFIX is where
+// tools/install installed the library.
 #include "facing.hpp"
 #include "workload.hpp"
 

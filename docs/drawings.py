@@ -1,4 +1,4 @@
-"""Draws the pictures that explain, as SVG: the crates by layers, the table as it grows, and the way of a call.
+"""Draws the pictures that explain, as SVG: the crates by layers, the table as it grows, and the way of a call; and those of charts.py.
 
 usage: python3 docs/drawings.py
 
@@ -6,6 +6,7 @@ It writes them beside the pages; docs/check.py compares them with what this file
 import re
 import sys
 
+import charts
 import sources
 
 sys.path.append(f"{sources.TOP}/bench")
@@ -157,7 +158,7 @@ def layers():
     return whole(width, 46 + step * len(graph.rows), parts, "What stands on what")
 
 
-PICTURES = {LAYERS: layers, TABLE: table, CALL: call}
+PICTURES = {LAYERS: layers, TABLE: table, CALL: call, **charts.PICTURES}
 
 
 def main():

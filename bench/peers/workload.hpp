@@ -10,10 +10,12 @@
 #include <cstdio>
 #include <cstdlib>
 #include <cstring>
+#include <fstream>
 #include <stdexcept>
 #include <string>
 #include <thread>
 #include <type_traits>
+#include <unistd.h>
 #include <vector>
 
 namespace workload {
@@ -79,7 +81,7 @@ inline Number number_of(const std::string &value) {
     return number;
 }
 
-enum class Mode { mix, get, merge, fill, stall };
+enum class Mode { mix, get, merge, fill, stall, memory };
 
 // The generator splitmix64.
 class Random {
@@ -216,11 +218,31 @@ template <class Map> double run_fill(Mode mode, int threads, const Names<Map> &n
     return mode == Mode::fill ? names.size() / taken.count() / 1e6 : *std::max_element(longest.begin(), longest.end());
 }
 
+// Returns how many bytes of this process are resident.
+inline double resident() {
+    long all = 0;
+    long pages = 0;
+    std::ifstream("/proc/self/statm") >> all >> pages;
+    return static_cast<double>(pages) * sysconf(_SC_PAGESIZE);
+}
+
+// Fills a new map by one thread. Returns how many bytes more are resident for each key.
+template <class Map> double run_memory(const Names<Map> &names) {
+    const double before = resident();
+    Map map;
+    fill(map, Mode::fill, 0, 1, names);
+    return (resident() - before) / names.size();
+}
+
 // Returns how many million calls a second the threads made together of a new map.
 template <class Map> double run(Mode mode, int threads, long calls, long keys, bool is_zipf) {
     Names<Map> names;
+    names.reserve(keys);
     for (long i = 0; i < keys; i++) {
         names.push_back(Map::Kind::key_of(i));
+    }
+    if (mode == Mode::memory) {
+        return run_memory<Map>(names);
     }
     if (mode == Mode::fill || mode == Mode::stall) {
         return run_fill<Map>(mode, threads, names);
@@ -250,8 +272,8 @@ template <class Map> double run(Mode mode, int threads, long calls, long keys, b
 }
 
 inline Mode mode_named(const char *name) {
-    const char *const names[] = {"mix", "get", "merge", "fill", "stall"};
-    for (int i = 1; i < 5; i++) {
+    const char *const names[] = {"mix", "get", "merge", "fill", "stall", "memory"};
+    for (int i = 1; i < 6; i++) {
         if (!std::strcmp(name, names[i])) {
             return static_cast<Mode>(i);
         }
@@ -268,7 +290,7 @@ template <class Map> int measure_one(const char *map, char **words) {
 }
 
 inline int tell_usage(const char *program) {
-    std::fprintf(stderr, "usage: %s mix|get|merge|fill|stall THREADS CALLS KEYS uniform|zipf [numbers|counts|bytes]\n", program);
+    std::fprintf(stderr, "usage: %s mix|get|merge|fill|stall|memory THREADS CALLS KEYS uniform|zipf [numbers|counts|bytes]\n", program);
     return 2;
 }
 

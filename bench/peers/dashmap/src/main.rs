@@ -1,12 +1,13 @@
 //! Measures dashmap on the workload that docs/SPEED.md describes.
 //!
-//! usage: dashmap_peer mix|get|merge|view|update|walk|fill|stall THREADS CALLS KEYS uniform|zipf [numbers|spread|counts|bytes]
+//! usage: dashmap_peer mix|get|merge|view|update|walk|fill|stall|memory THREADS CALLS KEYS uniform|zipf [numbers|spread|counts|bytes]
 //!
 //! Keys are texts, or numbers under dashmap's own hash or under the one of this repository's map, or byte strings, as their
 //! values then are, too.
 use dashmap::DashMap;
 use std::collections::hash_map::RandomState;
 use std::env;
+use std::fs;
 use std::hash::{BuildHasher, BuildHasherDefault, Hash, Hasher};
 use std::hint::black_box;
 use std::process::ExitCode;
@@ -23,6 +24,7 @@ enum Mode {
     Walk,
     Fill,
     Stall,
+    Memory,
 }
 
 impl Mode {
@@ -36,6 +38,7 @@ impl Mode {
             "walk" => Some(Mode::Walk),
             "fill" => Some(Mode::Fill),
             "stall" => Some(Mode::Stall),
+            "memory" => Some(Mode::Memory),
             _ => None,
         }
     }
@@ -184,7 +187,7 @@ fn work<K: Clone + Eq + Hash, V: Value, S: BuildHasher + Clone>(
             (Mode::Update, _) => {
                 map.entry(name.clone()).and_modify(V::add_one).or_insert_with(|| V::of(1));
             }
-            (Mode::Get | Mode::Walk | Mode::Fill | Mode::Stall, _) | (Mode::Mix, 0..=79) => {
+            (Mode::Get | Mode::Walk | Mode::Fill | Mode::Stall | Mode::Memory, _) | (Mode::Mix, 0..=79) => {
                 if let Some(value) = map.get(name) {
                     found.clone_from(&value);
                     sum = sum.wrapping_add(found.number());
@@ -258,6 +261,21 @@ where
     }
 }
 
+/// How many bytes of this process are resident, in pages of 4 KiB.
+fn resident() -> f64 {
+    let said = fs::read_to_string("/proc/self/statm").unwrap_or_default();
+    let pages: Option<f64> = said.split(' ').nth(1).and_then(|it| it.parse().ok());
+    pages.unwrap_or(0.0) * 4096.0
+}
+
+/// Fills a new map by one thread. Gives how many bytes more are resident for each key.
+fn run_memory<K: Clone + Eq + Hash, V: Value, S: BuildHasher + Clone>(names: &[K], hasher: S) -> f64 {
+    let before = resident();
+    let map = DashMap::<K, V, S>::with_hasher(hasher);
+    fill(&map, Mode::Fill, 0, 1, names);
+    (resident() - before) / names.len() as f64
+}
+
 /// How many million calls a second the threads made together of a new map.
 fn run<K, V, S>(mode: Mode, threads: u64, calls: u64, names: &[K], is_zipf: bool, hasher: S) -> f64
 where
@@ -267,6 +285,9 @@ where
 {
     if mode == Mode::Fill || mode == Mode::Stall {
         return run_fill::<K, V, S>(mode, threads as usize, names, hasher);
+    }
+    if mode == Mode::Memory {
+        return run_memory::<K, V, S>(names, hasher);
     }
     let choice = Choice::new(is_zipf, names.len() as u64);
     let map = DashMap::<K, V, S>::with_hasher(hasher);
@@ -324,7 +345,7 @@ fn measure(words: &[String]) -> Option<()> {
 fn main() -> ExitCode {
     let words: Vec<String> = env::args().skip(1).collect();
     if measure(&words).is_none() {
-        eprintln!("usage: dashmap_peer mix|get|merge|view|update|walk|fill|stall THREADS CALLS KEYS uniform|zipf [numbers|spread|counts|bytes]");
+        eprintln!("usage: dashmap_peer mix|get|merge|view|update|walk|fill|stall|memory THREADS CALLS KEYS uniform|zipf [numbers|spread|counts|bytes]");
         return ExitCode::from(2);
     }
     ExitCode::SUCCESS
