@@ -15,8 +15,8 @@ It proves nothing. It checks that
   each crate of crates.txt has a README;
   the rows of wrong_bodies.csv name clauses and tests that exist; each stored edit has its row, and changes the sources;
   API.md, TESTS.md and crates/README.md are what api.py, tests.py and crates.py make of the sources, and refusals.csv what
-    refusals.py finds; SPEED.md has the figures of bench/measured; the pictures are what drawings.py draws, and how long
-    proving takes is what the last gate from nothing measured;
+    refusals.py finds; SPEED.md and CACHE.md have the figures of bench/measured; the pictures are what drawings.py draws,
+    and how long proving takes is what the last gate from nothing measured;
   VERSION has the version that mapcli prints, and bin/words.py the texts, names and ranges that the programs print;
   KIT names the toolchain of this machine, and the top README names it too.
 It prints a line for each fault, and ends with status 1 if there is one. With --fix it first writes the generated pages
@@ -30,9 +30,11 @@ import subprocess
 import sys
 
 import api
+import cache_figures
 import crates
 import drawings
 import figures
+import programs
 import sources
 import tests
 import times
@@ -324,37 +326,6 @@ def wrong_body(where, row, every_test):
         yield f"{where}: nothing refuses it"
 
 
-def other_version():
-    """The version that mapcli tells, where it tells one."""
-    told = re.search(r'const VERSION: &str = "([^"]*)"', "\n".join(text_of(it) for it in sources.sources_of("mapcli_core")))
-    if told and (not is_file("VERSION") or text_of("VERSION").strip() != told[1]):
-        yield f"VERSION: mapcli_core tells {told[1]}"
-
-
-def other_words():
-    """Texts, names and ranges that the launchers tell in the programs' place and that the programs' sources have otherwise, or more or fewer."""
-    sys.path.append(f"{sources.TOP}/bin")
-    import words
-
-    for command, crate in ((words.MAPCLI, "mapcli_core"), (words.MAP_BENCH, "map_bench")):
-        text = "\n".join(text_of(it) for it in sources.sources_of(crate)).replace("_", "")
-        told = [command.about, command.file, command.after, command.version]
-        for it in command.options:
-            told += [it.name, it.text, it.default, it.value, *it.names]
-            if it.most and it.most != words.U32:
-                told.append(f"{it.least}..={it.most}")
-        for it in told:
-            quoted = it if "..=" in it or "\n" in it else f'"{it}"'
-            if it and quoted.replace("_", "") not in text:
-                yield f"bin/words.py: {crate} has not: {it[:80]!r}"
-        args = len(re.findall(r"(?m)^fn \w+<'a>\(alloc: Global\) -> Arg<'a>", text))
-        if args != len(command.options) + bool(command.file):
-            yield f"bin/words.py: {crate} takes {args} arguments"
-    refused = re.search(r'NOT_UTF_8: &str = "([^"]*)"', text_of("crates/mapcli/src/main.rt"))
-    if refused and refused[1] != words.NOT_UTF_8:
-        yield "bin/words.py: mapcli tells something else of words that are not UTF-8"
-
-
 def old_pages():
     for made in (api, crates, tests):
         if not is_file(made.PATH) or text_of(made.PATH) != made.page():
@@ -364,8 +335,9 @@ def old_pages():
         if not is_file(path) or text_of(path) != draw():
             yield f"{path}: docs/drawings.py draws something else; python3 docs/check.py --fix"
     yield from times.faults()
-    if text_of(figures.PATH) != figures.page():
-        yield f"{figures.PATH}: {figures.DATA} has other figures; python3 docs/check.py --fix"
+    for of, data in ((figures, figures.DATA), (cache_figures, "bench/measured")):
+        if text_of(of.PATH) != of.page():
+            yield f"{of.PATH}: {data} has other figures; python3 docs/check.py --fix"
 
 
 def other_refusals():
@@ -391,6 +363,7 @@ def fix(pages):
     fixed = {made.PATH: made.page() for made in (api, crates, tests)}
     fixed |= {it: times.right(it, mended(it)) for it in pages if it not in (*sources.GENERATED, figures.PATH)}
     fixed[figures.PATH] = figures.page()
+    fixed[cache_figures.PATH] = cache_figures.page(fixed[cache_figures.PATH])
     fixed |= {path: draw() for path, draw in drawings.PICTURES.items()}
     for page, text in fixed.items():
         if not is_file(page) or text != text_of(page):
@@ -408,14 +381,13 @@ def main():
     if "--fix" in sys.argv[1:]:
         fix(pages)
         pages = sources.pages()
-    faults = []
+    faults = list(unreached(pages))
     for page in pages:
         text = text_of(page)
         for look in (wide_lines, wrong_quotes, wrong_examples, wrong_commands):
             faults += look(page, text)
         faults += wrong_links(page)
-    faults += unreached(pages)
-    for look in (wrong_call_examples, lost_crates, wrong_bodies, old_pages, other_refusals, other_version, other_words, other_kit):
+    for look in (wrong_call_examples, lost_crates, wrong_bodies, old_pages, other_refusals, programs.faults, other_kit):
         faults += look()
     for fault in faults:
         print(fault)
