@@ -86,7 +86,10 @@ module _ (K V F A : RattleType) (hash : HashKey.Ghosts K.Denot) (key_eq : Eq.Gho
             search sendable depth 20,
             (
               search (sendable, crosses, snapshot_sync) depth 20,
-              (search (sendable, crosses, snapshot_sync) depth 20, (search (sendable, crosses, snapshot_sync) depth 20, (search (sendable, crosses, snapshot_sync) depth 20, tt))),
+              (
+                search (sendable, crosses, snapshot_sync) depth 20,
+                (search (sendable, crosses, snapshot_sync) depth 20, (search (sendable, crosses, snapshot_sync) depth 20, tt)),
+              ),
             ),
           ),
         ),
