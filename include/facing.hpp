@@ -7,7 +7,8 @@
 //
 // A client is used by one thread at a time, and may be moved to another. The const functions of a closed map may be called
 // by several threads at once. Every function throws facing::error where its status is not FACING_DONE; nothing was changed
-// then, but by a close that failed with FACING_BIN_MISSING.
+// then, but by a close that failed with FACING_BIN_MISSING. Where there is no memory for a string that it returns it throws
+// std::bad_alloc, after the call was made.
 #ifndef FACING_HPP
 #define FACING_HPP
 #include "facing_base.hpp"

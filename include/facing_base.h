@@ -327,15 +327,17 @@ FACING_INNER int facing_is_alone(void) {
 
 /* Backs off before the next try, and returns the next round. It returns FACING_NEVER where no try will succeed: this is the
  * child of a fork, and what the call waits for was in use by a thread that the fork left behind. In a child of one thread
- * that is sure; in one of more threads it is taken to be so after ten seconds. */
-enum { FACING_NEVER = 0, FACING_FIRST_YIELD = 7, FACING_FIRST_SLEEP = 64, FACING_LAST_SLEEP = 10064 };
+ * that is sure once a try failed while it had no other; in one of more threads it is taken to be so after ten seconds. */
+enum { FACING_NEVER = 0, FACING_FIRST_YIELD = 7, FACING_FIRST_SLEEP = 64, FACING_LAST_SLEEP = 10064, FACING_LAST_TRY = 10065 };
 #ifdef __GNUC__
 __attribute__((cold))
 #endif
 FACING_INNER unsigned facing_next_round(unsigned round, unsigned forks_before) {
+    if (round == FACING_LAST_TRY) return FACING_NEVER;
     facing_wait(round);
     if (facing_forks == forks_before) return round + (round < FACING_FIRST_SLEEP);
-    if (round >= FACING_LAST_SLEEP || (round >= FACING_FIRST_YIELD && facing_is_alone())) return FACING_NEVER;
+    /* (a thread that ended meanwhile may have unlocked what the try before found locked) */
+    if (round >= FACING_LAST_SLEEP || (round >= FACING_FIRST_YIELD && facing_is_alone())) return FACING_LAST_TRY;
     return round + 1;
 }
 

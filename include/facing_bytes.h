@@ -76,12 +76,12 @@ uint32_t facing_c_bytes_try_heads(facing_handle any, facing_handle *out, uint64_
                                   uint8_t *room, size_t room_len, facing_bytes_sizes *copied);
 
 #ifdef FACING_WATCHED
-/* A number of a key, for ThreadSanitizer: calls on one key are ordered. */
+/* A number of a key, for ThreadSanitizer: calls on one key are ordered. Bytes that are too many for a key are not read. */
 FACING_INNER uint64_t facing_bytes_place(const void *key, size_t len) {
     const uint8_t *bytes = FACING_TO(const uint8_t *, key);
     uint64_t place = 14695981039346656037u;
     size_t i;
-    for (i = 0; i < len; i++)
+    for (i = 0; len <= FACING_LONGEST && i < len; i++)
         place = (place ^ bytes[i]) * 1099511628211u;
     return place;
 }

@@ -70,8 +70,9 @@ FACING_INNER facing_pool_slot *facing_slot(facing_pool_slot *slots, uint32_t cli
     return FACING_NULL;
 }
 
+/* Gives a slot back to the pool of any header. NULL is left alone. */
 FACING_API void facing_pool_give(facing_pool_slot *slot) {
-    __atomic_store_n(&slot->in_use, 0, __ATOMIC_SEQ_CST);
+    if (slot != FACING_NULL) __atomic_store_n(&slot->in_use, 0, __ATOMIC_SEQ_CST);
 }
 
 /* Without a slot the call is handed null, and stores that there is no answer. */
@@ -125,8 +126,9 @@ FACING_CHECKED FACING_API uint32_t facing_pool_open(size_t capacity, uint32_t cl
 }
 
 /* Returns a slot with a client, `client.numbers`, that no other thread uses, once there is one: for several calls by one
- * client. Give it back with facing_pool_give. Returns NULL where the pool is empty, and in the child of a fork where the
- * clients were in use during it. */
+ * client. Give it back with facing_pool_give, and call the pool before that by no thread that has a slot: where each client
+ * is in a slot it would wait for itself. Returns NULL where the pool is empty, and in the child of a fork where the clients
+ * were in use during it. */
 FACING_API facing_pool_slot *facing_pool_take(facing_pool *pool) {
     return pool != FACING_NULL ? facing_slot(pool->slots, pool->clients, pool->forks) : FACING_NULL;
 }
@@ -218,9 +220,9 @@ FACING_CHECKED FACING_API uint32_t facing_pool_add_all(facing_pool *pool, const 
  * Where the close fails the map is in `closed` all the same, and facing_close can be tried again, but after
  * FACING_BIN_MISSING, when it has ended. */
 FACING_CHECKED FACING_API uint32_t facing_pool_close(facing_pool *pool, facing_handle *closed) {
-    if (closed == FACING_NULL) return FACING_BAD_ARGUMENT;
+    if (closed == FACING_NULL || (pool != FACING_NULL && closed == &pool->map)) return FACING_BAD_ARGUMENT;
     closed->at = FACING_NULL;
-    if (pool == FACING_NULL) return FACING_BAD_ARGUMENT;
+    if (pool == FACING_NULL || pool->map.at == FACING_NULL) return FACING_BAD_ARGUMENT;
     *closed = pool->map;
     pool->map.at = FACING_NULL;
     facing_pool_free(pool);
@@ -261,8 +263,9 @@ FACING_CHECKED FACING_API uint32_t facing_bytes_pool_open(size_t capacity, uint3
 }
 
 /* Returns a slot with a client, `client.bytes`, that no other thread uses, once there is one: for several calls by one
- * client. Give it back with facing_pool_give. Returns NULL where the pool is empty, and in the child of a fork where the
- * clients were in use during it. */
+ * client. Give it back with facing_pool_give, and call the pool before that by no thread that has a slot: where each client
+ * is in a slot it would wait for itself. Returns NULL where the pool is empty, and in the child of a fork where the clients
+ * were in use during it. */
 FACING_API facing_pool_slot *facing_bytes_pool_take(facing_bytes_pool *pool) {
     return pool != FACING_NULL ? facing_slot(pool->slots, pool->clients, pool->forks) : FACING_NULL;
 }
@@ -344,9 +347,9 @@ FACING_CHECKED FACING_API uint32_t facing_bytes_pool_count(facing_bytes_pool *po
  * Where the close fails the map is in `closed` all the same, and facing_bytes_close can be tried again, but after
  * FACING_BIN_MISSING, when it has ended. */
 FACING_CHECKED FACING_API uint32_t facing_bytes_pool_close(facing_bytes_pool *pool, facing_bytes_handle *closed) {
-    if (closed == FACING_NULL) return FACING_BAD_ARGUMENT;
+    if (closed == FACING_NULL || (pool != FACING_NULL && closed == &pool->map)) return FACING_BAD_ARGUMENT;
     closed->at = FACING_NULL;
-    if (pool == FACING_NULL) return FACING_BAD_ARGUMENT;
+    if (pool == FACING_NULL || pool->map.at == FACING_NULL) return FACING_BAD_ARGUMENT;
     *closed = pool->map;
     pool->map.at = FACING_NULL;
     facing_bytes_pool_free(pool);
@@ -387,8 +390,9 @@ FACING_CHECKED FACING_API uint32_t facing_counts_pool_open(size_t capacity, uint
 }
 
 /* Returns a slot with a client, `client.counts`, that no other thread uses, once there is one: for several calls by one
- * client. Give it back with facing_pool_give. Returns NULL where the pool is empty, and in the child of a fork where the
- * clients were in use during it. */
+ * client. Give it back with facing_pool_give, and call the pool before that by no thread that has a slot: where each client
+ * is in a slot it would wait for itself. Returns NULL where the pool is empty, and in the child of a fork where the clients
+ * were in use during it. */
 FACING_API facing_pool_slot *facing_counts_pool_take(facing_counts_pool *pool) {
     return pool != FACING_NULL ? facing_slot(pool->slots, pool->clients, pool->forks) : FACING_NULL;
 }
@@ -492,9 +496,9 @@ FACING_CHECKED FACING_API uint32_t facing_counts_pool_add_all(facing_counts_pool
  * Where the close fails the map is in `closed` all the same, and facing_counts_close can be tried again, but after
  * FACING_BIN_MISSING, when it has ended. */
 FACING_CHECKED FACING_API uint32_t facing_counts_pool_close(facing_counts_pool *pool, facing_counts_handle *closed) {
-    if (closed == FACING_NULL) return FACING_BAD_ARGUMENT;
+    if (closed == FACING_NULL || (pool != FACING_NULL && closed == &pool->map)) return FACING_BAD_ARGUMENT;
     closed->at = FACING_NULL;
-    if (pool == FACING_NULL) return FACING_BAD_ARGUMENT;
+    if (pool == FACING_NULL || pool->map.at == FACING_NULL) return FACING_BAD_ARGUMENT;
     *closed = pool->map;
     pool->map.at = FACING_NULL;
     facing_counts_pool_free(pool);

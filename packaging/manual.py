@@ -6,6 +6,9 @@ COMMENT = re.compile(r"/\*(.*?)\*/", re.S)
 TYPED = r"((?:FACING_CHECKED )?(?:FACING_API )?[a-z][\w *]*\bfacing_\w+\([^{;]*?\))(?=\s*[{;])"
 DECLARED = re.compile(r"/\*((?:(?!\*/).)*)\*/\s*\n" + TYPED, re.S)
 
+# The calls of pools, which have no comments of their own.
+POOLED = re.compile(r"(?<!\*/\n)FACING_CHECKED FACING_API ([a-z][\w *]*\b(facing_(?:\w+_)?pool_\w+)\([^{;]*?\))(?=\s*\{)")
+
 
 def plain(text):
     """A text in which troff reads no escape and no request."""
@@ -48,6 +51,8 @@ def functions(text):
         if "facing_c_" in declared:
             continue
         said += [".TP", f".B {plain(declared)}", plain(" ".join(without_stars(comment).split()))]
+    for declared, name in POOLED.findall(text):
+        said += [".TP", f".B {plain(' '.join(declared.split()))}", f"Makes the call {plain(name.replace('_pool_', '_'))} by a client of the pool."]
     return [".SH FUNCTIONS", *said] if said else []
 
 

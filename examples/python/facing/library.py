@@ -18,11 +18,14 @@ ABI = "0.1"
 
 
 class Fault(Exception):
-    """Why a call failed; `name` is a name of NAMES. The map is as it was."""
+    """Why a call failed; `name` is a name of NAMES, or "UNKNOWN" for a status of a newer library. The map is as it was."""
 
     def __init__(self, status):
         super().__init__(LIB.facing_strerror(status).decode())
-        self.name = NAMES[status]
+        self.name, self._made_of = NAMES[status] if status < len(NAMES) else "UNKNOWN", status
+
+    def __reduce__(self):
+        return type(self), (self._made_of,)
 
 
 class NoMemory(Fault, MemoryError):
@@ -38,6 +41,16 @@ class AfterFork(Fault):
             f"process {owner} opened this map, and process {os.getpid()} was forked from it, so they do not share it. Open the map in "
             "the process that uses it, or send the pairs",
         )
+
+    def __reduce__(self):
+        return _after_fork, self.args
+
+
+def _after_fork(told):
+    """Returns the fault that another process raised."""
+    fault = AfterFork(None)
+    fault.args = (told,)
+    return fault
 
 
 class Handle(ctypes.Structure):
@@ -150,7 +163,8 @@ def text(value):
 def numbers(values):
     """Returns values as an array, and what stands for it in a call."""
     try:
-        packed = array.array("Q", values)
+        # (of bytes an array would take eight for one number)
+        packed = array.array("Q", values if isinstance(values, (list, tuple)) else list(values))
     except OverflowError:
         raise OverflowError("a number is not of 64 bits: 0 to 2**64 - 1") from None
     return packed, U64.from_buffer(packed) if packed else None

@@ -110,12 +110,11 @@ class BytesClient(Calls):
             raise Fault(NAMES.index("TOO_LONG"))
 
     def _exchange(self, key, before, after):
-        seen, key, given = Seen(), text(key), []
-        for it in (before, after):
-            it = None if it is None else text(it)
-            given.append(None if it is None else View(it, len(it)))
+        seen, key = Seen(), text(key)
+        before, after = (None if it is None else text(it) for it in (before, after))
         if after is not None:
             self._bound(after)
+        given = [None if it is None else View(it, len(it)) for it in (before, after)]
         self._do("exchange", key, len(key), *given, None, 0, seen)
         return seen.exchanged
 

@@ -138,7 +138,8 @@ impl ClientOf<Bytes> {
         }
         // The call wrote so many bytes: no value of this map is longer.
         unsafe { room.set_len(answer.len().min(longest)) };
-        copied(room).map(Some)
+        // (the call was made, so it does not fail: where there is no memory for a copy the room itself is returned)
+        Ok(Some(copied(room).unwrap_or_else(|_| std::mem::take(room))))
     }
 
     /// What the map stores finds room in each of its clients.

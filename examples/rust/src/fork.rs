@@ -24,16 +24,19 @@ pub(crate) fn forks() -> Result<u32, Fault> {
 const FIRST_YIELD: u32 = 7;
 const FIRST_SLEEP: u32 = 64;
 const LAST_SLEEP: u32 = FIRST_SLEEP + 10_000;
+/// The round of the last try: what it does not find free nobody will give back.
+const LAST_TRY: u32 = LAST_SLEEP + 1;
 
 /// Backs off before the next try, and returns the next round: spins, later yields, and then sleeps for a millisecond.
 ///
 /// # Errors
 ///
 /// [`Fault::AfterFork`] where no try will succeed: the map was opened before `forks` changed, so this is the child of a
-/// fork, and what the call waits for was in use by a thread that the fork left behind. In a child of one thread that is sure,
-/// in one of more threads it is taken to be so after ten seconds.
+/// fork, and what the call waits for was in use by a thread that the fork left behind. In a child of one thread that is sure
+/// once a try failed while it had no other; in one of more threads it is taken to be so after ten seconds.
 pub(crate) fn next_round(round: u32, forks: u32) -> Result<u32, Fault> {
     match round {
+        LAST_TRY => return Err(Fault::AfterFork),
         0..FIRST_YIELD => (0..1u32 << round).for_each(|_| std::hint::spin_loop()),
         FIRST_YIELD..FIRST_SLEEP => std::thread::yield_now(),
         _ => std::thread::sleep(std::time::Duration::from_millis(1)),
@@ -41,7 +44,8 @@ pub(crate) fn next_round(round: u32, forks: u32) -> Result<u32, Fault> {
     if FORKS.load(Ordering::SeqCst) == forks {
         Ok(FIRST_SLEEP.min(round + 1))
     } else if round >= LAST_SLEEP || (round >= FIRST_YIELD && is_alone()) {
-        Err(Fault::AfterFork)
+        // (a thread that ended meanwhile may have given back what the try before found in use)
+        Ok(LAST_TRY)
     } else {
         Ok(round + 1)
     }
