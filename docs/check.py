@@ -46,6 +46,8 @@ STUB = 3
 ANTT_PATH = r"[a-z_]+/(?:src|specs)/(?:\w+/)?\w+\.(?:rt|antt)"
 BODIES = "docs/wrong_bodies.csv"
 COLUMNS_OF_BODIES = ["crate", "body", "function", "clauses", "test", "edit"]
+# The folders of the tests of the C library, of its headers, of what stands on them, and of packages.
+TESTS_OF_HEADERS = ("examples/c/tests", "examples/cpp", "examples/rust/tests", "examples/python", "examples", "packaging")
 LINK = r"\[((?:[^\[\]]|\[[^\]]*\])+)\]\(([^()\s]+)\)"
 EXAMPLES = {
     "crates/facingberyl/src/*.rt": "crates/test_library/src/*.rt",
@@ -318,7 +320,7 @@ def wrong_body(where, row, every_test):
         if heads and not any(sources.has_clause(it, clause) for it in heads):
             yield f"{where}: {row['function']} has no clause {clause}"
     for test in row["test"].split():
-        if test not in every_test and not (test.endswith(".c") and is_file(f"examples/c/tests/{test}")):
+        if test not in every_test and not any(is_file(f"{it}/{test}") for it in TESTS_OF_HEADERS):
             yield f"{where}: there is no test {test}"
     if row["edit"] and not is_file(sources.path_of_edit(row["crate"], row["edit"])):
         yield f"{where}: the edit {row['edit']} is not stored: its place is must-fail/NAME or tools/edits/NAME"

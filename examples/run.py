@@ -10,6 +10,7 @@ name. What needs a tool that is not there is left out and named; with --all that
 `N passed, M failed, K left out`; the status is 1 where one failed."""
 import os
 import re
+import shlex
 import shutil
 import subprocess
 import sys
@@ -24,8 +25,8 @@ VALGRIND = ["valgrind", "-q", "--leak-check=full", "--show-leak-kinds=all", "--e
 # No program takes so many seconds, on a busy machine either.
 LONGEST = 1200
 # The tests that refuse memory, or stop where it is requested, stand between the library and the heap.
-WRAPPED = ["-Wl,--wrap=malloc,--wrap=realloc,--wrap=free"]
-STOPPED = ["-Wl,--wrap=malloc"]
+WRAPPED = ["-Wl,--wrap=malloc,--wrap=calloc,--wrap=realloc,--wrap=free"]
+STOPPED = ["-Wl,--wrap=malloc,--wrap=sched_yield"]
 WARNED = ["-Wall", "-Wextra", "-Wpedantic", "-Wshadow", "-Wconversion", "-Werror"]
 CMAKE = """cmake_minimum_required(VERSION 3.13)
 project(tried C)
@@ -125,8 +126,12 @@ class Place:
         """A program with the shared library, as pkg-config says to build it."""
         need("cc", "pkg-config")
         told = subprocess.run(["pkg-config", "--cflags", "--libs", "facing"], capture_output=True, text=True, check=True, env=self.found)
-        program = f"{self.folder}/by_pkg_config"
+        program, moved = f"{self.folder}/by_pkg_config", f"{self.folder}/a name with blanks"
         self.built([*C, f"{HERE}/c/first.c", *told.stdout.split(), "-lpthread", "-o", program])
+        words = ["pkg-config", f"--define-variable=prefix={moved}", "--cflags", "--libs", "facing"]
+        told = subprocess.run(words, capture_output=True, text=True, check=True, env=self.found)
+        if shlex.split(told.stdout) != [f"-I{moved}/include", f"-L{moved}/lib", "-lfacing"]:
+            return False, told.stdout
         return run(program, env={**os.environ, "LD_LIBRARY_PATH": f"{self.prefix}/lib"})
 
     def by_cmake(self):
@@ -138,7 +143,25 @@ class Place:
             it.write(CMAKE.format(f"{HERE}/c/first.c").replace("@VERSION@", version))
         self.built(["cmake", "-S", folder, "-B", f"{folder}/out", f"-DCMAKE_PREFIX_PATH={self.prefix}"])
         self.built(["cmake", "--build", f"{folder}/out"])
+        for asked, is_there in self.asked_of_cmake(version):
+            if self.is_found_by_cmake(asked) != is_there:
+                return False, f"version {asked} is {'not ' if is_there else ''}found"
         return run(f"{folder}/out/shared", f"{folder}/out/static")
+
+    def asked_of_cmake(self, version):
+        """Versions that a program may ask for, and whether this one serves them: the first two numbers are the same, and it is no older."""
+        first, second, third = map(int, version.split("."))
+        served = ["", f"{first}.{second}", version, f"{version} EXACT"]
+        others = [f"{first}.{second + 1}", f"{first + 1}.0", f"{first}.{second}.{third + 1}", f"{first}.{second + 1}.0"]
+        return [(it, True) for it in served] + [(it, False) for it in others]
+
+    def is_found_by_cmake(self, asked):
+        folder = f"{self.folder}/cmake_{asked.replace(' ', '_')}"
+        os.makedirs(folder)
+        with open(f"{folder}/CMakeLists.txt", "w", encoding="utf-8") as it:
+            it.write(f"cmake_minimum_required(VERSION 3.13)\nproject(asked C)\nfind_package(facing {asked} REQUIRED CONFIG)\n")
+        words = ["cmake", "-S", folder, "-B", f"{folder}/out", f"-DCMAKE_PREFIX_PATH={self.prefix}"]
+        return subprocess.run(words, capture_output=True, check=False).returncode == 0
 
     def cargo(self, *words):
         need("cargo")
@@ -246,11 +269,16 @@ WORKS = [
     ("C++, sanitized, a closed map that several threads read", lambda it: run(it.sanitized(CPP, "c/tests/again.c"))),
     ("C, ThreadSanitizer, a closed map that several threads read", lambda it: run(it.watched(C, "c/tests/again.c"))),
     ("C, a handle of another library and a freed one", lambda it: run(it.program(C, "c/tests/debug.c"))),
+    ("C, a handle's box that is refused", lambda it: run(it.program(C, "c/tests/debug_refused.c", more=WRAPPED))),
+    ("C, sanitized, a handle's box that is refused", lambda it: run(it.sanitized(C, "c/tests/debug_refused.c", WRAPPED))),
     ("C, sanitized, many keys at once", lambda it: run(it.sanitized(C, "c/tests/many.c"))),
     ("C, sanitized, handles of another kind", lambda it: run(it.sanitized(C, "c/tests/kinds.c", SEEDED))),
     ("C, sanitized, a handle of another library and a freed one", lambda it: run(it.sanitized(C, "c/tests/debug.c"))),
     ("C, ThreadSanitizer, many keys at once", lambda it: run(it.watched(C, "c/tests/many.c"))),
     ("C, ThreadSanitizer, two threads that use one client", lambda it: it.finds_race()),
+    ("C, ThreadSanitizer, misuses one by one", lambda it: run(it.watched(C, "c/tests/rows.c"))),
+    ("bytes, C, a pool of clients", lambda it: run(it.program(C, "c/tests/bytes_pool.c"))),
+    ("bytes, C++, sanitized, a pool of clients", lambda it: run(it.sanitized(CPP, "c/tests/bytes_pool.c"))),
     ("bytes, C, threads", lambda it: run(it.program(C, "c/tests/bytes_threads.c"))),
     ("bytes, C, memory refused", lambda it: run(it.program(C, "c/tests/bytes_refused.c", more=WRAPPED))),
     ("bytes, C, values of 512 MB", lambda it: run(it.program(C, "c/tests/large.c"))),

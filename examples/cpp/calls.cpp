@@ -22,16 +22,18 @@ template <class Call> static std::uint32_t status_of(Call call) {
 
 // The calls of a client whose values are numbers, on two keys.
 template <class Client> static void calls(Client &client, typename Client::key_type one, typename Client::key_type two) {
-    want(!client.put(one, 5));
+    want(!client.put(one, 4));
+    want(client.put(one, 5) == 4u);
     want(client.put_if_absent(one, 6) == 5u);
     want(client.replace(one, 6) == 5u);
-    want(!client.replace(two, 6));
+    want(!client.replace(two, 6) && !client.get(two));
     want(!client.replace_if(one, 5, 7));
     want(client.replace_if(one, 6, 7));
     want(client.add(one, 3) == 10);
     want(client.set(one, 4) == 4);
     want(client.greatest(one, 3) == 4);
-    want(client.contains(one));
+    want(client.greatest(one, 9) == 9 && client.get(one) == 9u && client.set(one, 4) == 4);
+    want(client.contains(one) && !client.contains(two));
     want(client.count() == 1);
     want(!client.remove_if(one, 3));
     want(client.remove_if(one, 4));
@@ -113,6 +115,48 @@ static void call_long_values() {
     want(status_of([] { facing::bytes_map().client().put("a", std::string(FACING_LONGEST + 1, 'z')); }) == FACING_TOO_LONG);
 }
 
+// A longer value than a map was opened for is refused by each call that stores one, and changes nothing.
+static void refuse_long_values() {
+    const std::string longest(100, 'y'), longer(101, 'y');
+    facing::bytes_map map(16, 1, 100);
+    facing::bytes_client client = map.client();
+    client.put("a", longest);
+    want(status_of([&] { client.put("a", longer); }) == FACING_TOO_LONG);
+    want(status_of([&] { client.put_if_absent("b", longer); }) == FACING_TOO_LONG);
+    want(status_of([&] { client.replace("a", longer); }) == FACING_TOO_LONG);
+    want(status_of([&] { client.replace_if("a", longest, longer); }) == FACING_TOO_LONG);
+    want(status_of([&] { client.update("a", [&](const auto &) { return std::optional(longer); }); }) == FACING_TOO_LONG);
+    want(!client.remove_if("a", longer) && !client.replace_if("a", longer, "c"));
+    want(client.get("a") == longest && !client.contains("b") && client.count() == 1);
+}
+
+// What is moved has all that it had, and what was there before is freed.
+static void move_all() {
+    const std::string longest(1 << 20, 'y');
+    facing::bytes_map first(16, 1, longest.size()), map(std::move(first)), other(16, 1);
+    facing::bytes_client client = other.client();
+    client.put("a", "of another map");
+    client = map.client();
+    want(!client.put("a", longest) && client.get("a") == longest);
+    facing::bytes_client moved(std::move(client));
+    want(moved.get("a") == longest && moved.put("b", longest) == std::nullopt && moved.get("b") == longest);
+    want(status_of([&] { client.get("a"); }) == FACING_WRONG_HANDLE);
+    want(other.client().get("a") == "of another map");
+    std::optional<facing::bytes_value> held = moved.hold("a"), second = moved.hold("b");
+    held = std::move(second);
+    want(held->text() == longest);
+    client = std::move(moved);
+    facing::bytes_client &same = client;
+    client = std::move(same);
+    want(client.get("a") == longest);
+    want(status_of([&] { map.close(); }) == FACING_CLIENT_OUT);
+    { const facing::bytes_client gone(std::move(client)); }
+    facing::closed_bytes closed = map.close(), again = facing::bytes_map().close();
+    again = std::move(closed);
+    want(again.get("a") == longest && again.reopen(1).client().put("c", longest) == std::nullopt);
+    want(again.contains("b") && !again.contains("c"));
+}
+
 static void call_bytes() {
     facing::bytes_map map(16, 2);
     {
@@ -135,6 +179,8 @@ static void call_bytes() {
         facing_cursor cursor{0};
         std::size_t pairs = 0;
         while (cursor.at != UINT64_MAX) pairs += client.pairs(cursor, 10).size();
+        want(pairs == 100);
+        for (cursor.at = 0, pairs = 0; cursor.at != UINT64_MAX;) pairs += client.pairs(cursor, SIZE_MAX).size();
         want(pairs == 100);
         for (const auto &[key, value] : client.pairs()) {
             want(std::stoi(key) < 100 && value == large);
@@ -162,6 +208,9 @@ static void call_counts() {
         facing_cursor cursor{0};
         facing::counts_pairs pairs = client.pairs(cursor, 1);
         while (cursor.at != UINT64_MAX) pairs = client.pairs(cursor, 1000);
+        std::size_t many = 0;
+        for (cursor.at = 0; cursor.at != UINT64_MAX;) many += client.pairs(cursor, SIZE_MAX).size();
+        want(many == 10);
         client.set("", 7);
         std::map<std::string, std::uint64_t> all;
         for (auto [key, value] : client.pairs()) all[key] = value;
@@ -177,6 +226,7 @@ int main() {
     static_assert(!std::is_copy_constructible<facing::map>::value && !std::is_copy_assignable<facing::client>::value, "");
     want(status_of([] { facing::map none(0); }) == FACING_BAD_CAPACITY);
     want(status_of([] { facing::map none(16, 0); }) == FACING_BAD_CLIENTS);
+    want(std::string(facing::error(FACING_NO_MEMORY).what()) == "out of memory");
     facing::map map(16, 1);
     {
         facing::client client = map.client();
@@ -209,9 +259,18 @@ int main() {
     facing::map empty(4096, 1);
     facing::client of_empty = empty.client();
     for (const auto &pair : of_empty.pairs()) want(pair.first > pair.second);
+    // Three pairs in 65,536 buckets: most steps of the loop find none.
+    facing::map sparse(65536, 1);
+    facing::client of_sparse = sparse.client();
+    std::uint64_t sum = 0;
+    for (std::uint64_t key = 1; key <= 3; key++) of_sparse.put(key, 10 * key);
+    for (const auto &[key, value] : of_sparse.pairs()) sum += key + value;
+    want(sum == 66);
     call_bytes();
     call_counts();
     call_long_values();
+    refuse_long_values();
+    move_all();
     update_together();
     read_closed();
     std::printf("%llu wrong\n", wrong.load());

@@ -1,8 +1,10 @@
 """What calls answer, and what is refused."""
+import array
 import collections
 import copy
 import os
 import pickle
+import resource
 import signal
 import threading
 import unittest
@@ -41,17 +43,21 @@ class Calls(unittest.TestCase):
 
     def test_calls_answer_as_they_say(self):
         with facing.Map(16, 1) as shared, shared.client() as client:
-            self.assertIsNone(client.put(1, 5))
+            self.assertIsNone(client.put(1, 4))
+            self.assertEqual(client.put(1, 5), 4)
             self.assertEqual(client.put_if_absent(1, 6), 5)
             self.assertEqual(client.replace(1, 6), 5)
             self.assertIsNone(client.replace(2, 6))
+            self.assertIsNone(client.get(2))
             self.assertFalse(client.replace_if(1, 5, 7))
             self.assertTrue(client.replace_if(1, 6, 7))
             self.assertEqual(client.add(1, 3), 10)
             self.assertEqual(client.add(1, 2**64 - 1), 2**64 - 1)
             self.assertEqual(client.set(1, 4), 4)
             self.assertEqual(client.greatest(1, 3), 4)
+            self.assertEqual((client.greatest(1, 9), client.get(1), client.set(1, 4)), (9, 9, 4))
             self.assertTrue(client.contains(1))
+            self.assertFalse(client.contains(2))
             self.assertFalse(client.remove_if(1, 3))
             self.assertTrue(client.remove_if(1, 4))
             self.assertIsNone(client.remove(1))
@@ -88,6 +94,32 @@ class Calls(unittest.TestCase):
             with self.assertRaises(TypeError):
                 client.put(1.5, 7)
             self.assertEqual((client.get(0), client.get(1), client.count()), (None, None, 0))
+
+    def test_bytes_are_numbers_one_by_one(self):
+        with facing.Map(16, 1) as shared, shared.client() as client:
+            client.put_all({1: 5, 2: 6})
+            self.assertEqual(client.get_all(b"\1\2\3"), [5, 6, None])
+            self.assertEqual(client.get_all(bytearray(8)), [None] * 8)
+
+    def test_faults_go_to_another_process(self):
+        for status, name in enumerate(facing.NAMES):
+            fault = pickle.loads(pickle.dumps(facing.Fault(status)))
+            self.assertEqual((type(fault), fault.name, fault.args), (facing.Fault, name, facing.Fault(status).args))
+        self.assertIsInstance(copy.copy(facing.NoMemory(2)), MemoryError)
+        fault = pickle.loads(pickle.dumps(facing.AfterFork(7)))
+        self.assertEqual((type(fault), fault.name, fault.args), (facing.AfterFork, "AFTER_FORK", facing.AfterFork(7).args))
+        self.assertEqual(facing.Fault(len(facing.NAMES)).name, "UNKNOWN")
+
+    def test_what_finds_no_memory_says_so(self):
+        def work():
+            resource.setrlimit(resource.RLIMIT_AS, (1 << 30, 1 << 30))
+            try:
+                facing.Map(2**26, 1)
+            except facing.NoMemory as why:
+                return 0 if isinstance(why, MemoryError) and why.name == "NO_MEMORY" else 1
+            return 2
+
+        self.assertEqual(child_of(work), 0)
 
     def test_copies_raise(self):
         with facing.Map(16, 1) as shared, shared.client() as client:
@@ -152,8 +184,25 @@ class Calls(unittest.TestCase):
             self.assertEqual(shared.update(b"a", lambda seen: bytearray(seen + b"z")), b"xyz")
             self.assertEqual(shared.copy(), {b"a": b"xyz"})
             self.refuses("TOO_LONG", shared.update, b"a", lambda seen: b"x" * 65537)
+            numbers = memoryview(array.array("Q", range(8193)))
+            self.refuses("TOO_LONG", shared.update, b"a", lambda seen: numbers)
+            self.assertEqual(shared.update(b"a", lambda seen: numbers[:8192]).nbytes, 65536)
+            self.assertEqual(shared.update(b"a", lambda seen: seen[8:16]), bytes([1] + [0] * 7))
             self.assertIsNone(shared.update(b"a", lambda seen: None))
             self.assertEqual(len(shared), 0)
+
+    def test_a_client_makes_one_call_at_a_time(self):
+        with facing.Map(16, 1) as shared, shared.client() as client, facing.BytesMap(16, 1) as texts, texts.client() as text:
+            client.put(1, 5)
+            calls = [(client, lambda: client.get(1)), (text, lambda: text.get(b"a")), (text, lambda: text.contains(b"a"))]
+            for owned, call in calls:
+                thread = threading.Thread(target=call)
+                with owned._lock:
+                    thread.start()
+                    thread.join(0.2)
+                    self.assertTrue(thread.is_alive())
+                thread.join()
+            self.assertEqual((client.get(1), text.get(b"a")), (5, None))
 
     def test_threads_change_one_value(self):
         def count(client):
@@ -251,6 +300,9 @@ class Bytes(unittest.TestCase):
                 self.assertIsNone(client.put(b"a", b"one"))
                 self.assertEqual(client.put(b"a", b"two"), b"one")
                 self.assertEqual(client.put_if_absent(b"", b""), None)
+                self.assertEqual((client.put_if_absent(b"a", b"no"), client.replace(b"b", b"no")), (b"two", None))
+                self.assertEqual((client.replace(b"a", b"2"), client.replace(b"a", b"two"), client.get(b"b")), (b"two", b"2", None))
+                self.assertFalse(client.replace_if(b"a", b"2", b"no"))
                 self.assertEqual(client.get(b""), b"")
                 self.assertTrue(client.replace_if(b"a", b"two", b"x" * 65536))
                 self.assertEqual(client[b"a"], b"x" * 65536)

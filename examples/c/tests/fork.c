@@ -2,7 +2,7 @@
  * allocates under the lock of its bucket. In a child a call on that bucket fails with FACING_AFTER_FORK, and never hangs; calls
  * on other buckets, and on maps of the child's own, go on. In the parent the calls wait, and are made.
  *
- * Linked so that the library's malloc is the one below (--wrap). */
+ * Linked so that the library's malloc, and the header's sched_yield, are those below (--wrap). */
 #define _GNU_SOURCE
 #include "facing_pool.h"
 #include <semaphore.h>
@@ -41,10 +41,32 @@ void *__wrap_malloc(size_t size) {
     return __real_malloc(size);
 }
 
+/* A thread of the child that is stopped, and ends when a call of another yields for the first time. */
+static pthread_t ending;
+static int is_ending;
+
+#ifdef __cplusplus
+extern "C"
+#endif
+    int __real_sched_yield(void);
+#ifdef __cplusplus
+extern "C"
+#endif
+    int __wrap_sched_yield(void);
+int __wrap_sched_yield(void) {
+    if (is_ending) {
+        is_ending = 0;
+        sem_post(&let_go);
+        pthread_join(ending, NULL);
+        while (!facing_is_alone()) __real_sched_yield();
+    }
+    return __real_sched_yield();
+}
+
 static facing_handle map, client, reader;
 static facing_bytes_handle bytes_map, bytes_client, bytes_reader;
 static facing_counts_handle counts_map, counts_client, counts_reader;
-static facing_pool pool;
+static facing_pool pool, shared;
 
 /* Puts of a key that is new. */
 static uint32_t put(unsigned kind, uint64_t key) {
@@ -192,17 +214,66 @@ static void free_all(void) {
     facing_counts_free(&counts_map);
 }
 
-static void *rest(void *of) {
-    (void)of;
-    pause();
-    return NULL;
+/* Takes the one client of the child's own pool, and gives it back after fifteen seconds. */
+static void *hold(void *of) {
+    struct timespec a_while = {15, 0};
+    facing_pool_slot *slot = facing_pool_take(&own);
+    sem_post(&stopped);
+    while (nanosleep(&a_while, &a_while) != 0) {
+    }
+    facing_pool_give(slot);
+    return of;
 }
 
-/* The child has a second thread, so it cannot know at once that nobody will unlock the bucket. */
-static void call_beside_a_thread(void) {
-    pthread_t thread;
-    want(pthread_create(&thread, NULL, rest, NULL) == 0, "a second thread");
-    want(facing_get(&reader, stops[0].key, NULL) == FACING_AFTER_FORK, "a get beside a thread");
+static void *add_once(void *of) {
+    want(facing_pool_add(&own, 1, 1, NULL) == FACING_DONE, "an add that waited for a client of the child's own");
+    return of;
+}
+
+/* The child has more threads, so it cannot know at once that nobody will unlock the bucket. A pool that it opened itself was in
+ * use by nobody during the fork: there a call waits as long as it must. */
+static void call_beside_threads(void) {
+    pthread_t holding, adding;
+    struct timespec before, after;
+    want(facing_pool_open(16, 1, 0, &own) == FACING_DONE && own.forks == 1, "a pool that was opened after one fork");
+    want(pthread_create(&holding, NULL, hold, NULL) == 0, "a thread that takes the client");
+    sem_wait(&stopped);
+    want(pthread_create(&adding, NULL, add_once, NULL) == 0, "a thread that waits for it");
+    clock_gettime(CLOCK_MONOTONIC, &before);
+    want(facing_get(&reader, stops[0].key, NULL) == FACING_AFTER_FORK, "a get beside threads");
+    clock_gettime(CLOCK_MONOTONIC, &after);
+    want(after.tv_sec - before.tv_sec >= 10, "it waited for less than ten seconds");
+    pthread_join(holding, NULL);
+    pthread_join(adding, NULL);
+}
+
+/* A thread of the child unlocks the bucket that a call found locked, and ends before the call tries again: the call is made. */
+static void call_after_a_thread(void) {
+    struct stopping it;
+    facing_answer answer;
+    want(facing_open(1024, 2, 0, &map) == FACING_DONE, "a map of the child's own");
+    want(facing_client(&map, &client) == FACING_DONE && facing_client(&map, &reader) == FACING_DONE, "its clients");
+    stop_under_lock(&it, 0);
+    ending = it.thread;
+    is_ending = 1;
+    want(facing_get(&reader, it.key, &answer) == FACING_DONE && answer.found == 1, "a get of what was unlocked");
+    want(!is_ending && it.status == FACING_DONE, "the put of the thread that ended");
+}
+
+static void *take_and_give(void *of) {
+    facing_pool_slot *slot = facing_pool_take(&shared);
+    sem_post(&stopped);
+    sem_wait(&let_go);
+    facing_pool_give(slot);
+    return of;
+}
+
+/* So too of a pool: a thread of the child gives the client back that a call waits for, and ends. */
+static void call_pool_after_a_thread(void) {
+    want(pthread_create(&ending, NULL, take_and_give, NULL) == 0, "a thread that takes the client");
+    sem_wait(&stopped);
+    is_ending = 1;
+    want(facing_pool_add(&shared, 1, 1, NULL) == FACING_DONE && !is_ending, "a call by what was given back");
 }
 
 static void fork_for(void (*work)(void), const char *what);
@@ -244,7 +315,7 @@ int main(void) {
     if (facing_bytes_open(1024, 2, &bytes_map) || facing_bytes_client(&bytes_map, &bytes_client)) return 1;
     if (facing_bytes_client(&bytes_map, &bytes_reader) || facing_counts_open(1024, 2, &counts_map)) return 1;
     if (facing_counts_client(&counts_map, &counts_client) || facing_counts_client(&counts_map, &counts_reader)) return 1;
-    if (facing_pool_open(16, 1, 0, &pool)) return 1;
+    if (facing_pool_open(16, 1, 0, &pool) || facing_pool_open(16, 1, 0, &shared)) return 1;
     taken = facing_pool_take(&pool);
     for (unsigned kind = 0; kind < 3; kind++) stop_under_lock(&stops[kind], kind);
     fork_for(call_numbers, "numbers");
@@ -253,7 +324,9 @@ int main(void) {
     fork_for(call_pool, "a pool");
     fork_for(call_own, "the child's own");
     fork_for(free_all, "what a child frees");
-    fork_for(call_beside_a_thread, "a child of two threads");
+    fork_for(call_beside_threads, "a child of three threads");
+    fork_for(call_after_a_thread, "a child whose thread ended");
+    fork_for(call_pool_after_a_thread, "a pool of a child whose thread ended");
     fork_for(call_in_a_grandchild, "a grandchild");
     want(pthread_create(&waiting, NULL, get_in_parent, NULL) == 0, "a thread");
     nanosleep(&a_while, NULL);
@@ -266,6 +339,7 @@ int main(void) {
     facing_pool_give(taken);
     want(facing_pool_put(&pool, 1, 2, NULL) == FACING_DONE, "the pool of the parent");
     facing_pool_free(&pool);
+    facing_pool_free(&shared);
     facing_free(&client);
     facing_bytes_free(&bytes_client);
     facing_counts_free(&counts_client);

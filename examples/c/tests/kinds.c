@@ -12,13 +12,14 @@ static void want(int is_so, const char *what) {
     printf("%s\n", what);
 }
 
-/* What getrandom does: it is interrupted so often, and then gives bytes or fails. */
+/* What getrandom does: it is interrupted so often, and then gives bytes or fails. All of a seed is drawn at once. */
 static int interruptions, is_failing, draws;
 
 ssize_t __real_getrandom(void *room, size_t len, unsigned flags);
 
 ssize_t __wrap_getrandom(void *room, size_t len, unsigned flags) {
     draws++;
+    want(len == 16 && flags == 0, "what is drawn");
     if (interruptions > 0) {
         interruptions--;
         errno = EINTR;
@@ -41,8 +42,10 @@ static void draw_seeds(void) {
     draws = 0;
     want(facing_bytes_open(16, 1, &bytes) == FACING_DONE && draws == 4, "a seed after interruptions");
     want(facing_open(16, 1, 0, &numbers) == FACING_DONE && draws == 5, "a seed of numbers");
+    want(facing_counts_open(16, 1, &counts) == FACING_DONE && draws == 6, "a seed of counts");
     facing_bytes_free(&bytes);
     facing_free(&numbers);
+    facing_counts_free(&counts);
 }
 
 /* Calls of facing_bytes.h and facing_counts.h with a handle of facing.h, and so on: a client, a closed map. */

@@ -1,6 +1,6 @@
 /* Calls on many keys at once, answers that are left out, sentences of statuses, and values that are pointers: what a thread wrote
  * before it stored the pointer is seen by the thread that gets it. */
-#include "facing.h"
+#include "facing_counts.h"
 #include <pthread.h>
 #include <stdio.h>
 #include <stdlib.h>
@@ -25,10 +25,60 @@ static void many(facing_handle *client) {
     want(facing_get_all(client, keys, answers, LEN, &done) == FACING_DONE && done == LEN);
     for (i = 0; i < LEN - 1; i++) want(answers[i].found == 1 && answers[i].value == 4 * i);
     want(answers[LEN - 1].found == 0);
+    done = 9;
     want(facing_put_all(client, NULL, NULL, 0, &done) == FACING_DONE && done == 0);
+    want(facing_add_all(client, keys, values, 2, &done) == FACING_DONE && done == 2);
+    want(facing_get_all(client, keys, answers, 2, NULL) == FACING_DONE && answers[0].value == 0 && answers[1].value == 6);
     want(facing_put_all(client, NULL, values, 1, &done) == FACING_BAD_ARGUMENT && done == 0);
     want(facing_get_all(client, keys, NULL, 1, NULL) == FACING_BAD_ARGUMENT);
     want(facing_add_all(NULL, keys, values, 1, &done) == FACING_BAD_ARGUMENT && done == 0);
+}
+
+/* The keys "a", "bb", "" and "ccc", one behind another. */
+static void many_counts(facing_counts_handle *client) {
+    static const uint64_t lens[4] = {1, 2, 0, 3}, values[4] = {10, 20, 30, 40}, more[4] = {1, 2, 3, UINT64_MAX};
+    static const uint64_t other[3] = {2, 1, 3};
+    facing_answer answers[4] = {{9, 9}, {9, 9}, {9, 9}, {9, 9}};
+    facing_bytes_sizes sizes = {9, 9};
+    size_t done = 9;
+    want(facing_counts_put_all(client, lens, 4, "abbccc", 6, values, &done) == FACING_DONE && done == 4);
+    want(facing_counts_add_all(client, lens, 4, "abbccc", 6, more, &done) == FACING_DONE && done == 4);
+    want(facing_counts_get_all(client, lens, 4, "abbccc", 6, answers, &done) == FACING_DONE && done == 4);
+    want(answers[0].value == 11 && answers[1].value == 22 && answers[2].value == 33 && answers[3].value == UINT64_MAX);
+    want(facing_counts_sizes_of(client, &sizes) == FACING_DONE && sizes.pairs == 4 && sizes.bytes == 6);
+    want(facing_counts_get_all(client, other, 3, "bbaccc", 6, answers, NULL) == FACING_DONE);
+    want(answers[0].value == 22 && answers[1].value == 11 && answers[2].value == UINT64_MAX);
+    want(facing_counts_put_all(client, lens, 0, NULL, 0, values, &done) == FACING_DONE && done == 0);
+    want(facing_counts_get_all(client, &lens[2], 1, NULL, 0, answers, &done) == FACING_DONE && done == 1 && answers[0].value == 33);
+}
+
+/* The second key is too long. The first call was made, and those behind it were not. */
+static void fail_in_the_middle(facing_counts_handle *client) {
+    static const uint64_t lens[3] = {1, FACING_LONGEST + 1, 1}, values[3] = {50, 60, 70};
+    static char keys[FACING_LONGEST + 3];
+    facing_answer answers[3] = {{9, 9}, {9, 9}, {9, 9}}, answer;
+    size_t done = 9;
+    keys[0] = 'x';
+    keys[sizeof keys - 1] = 'y';
+    want(facing_counts_put_all(client, lens, 3, keys, sizeof keys, values, &done) == FACING_TOO_LONG && done == 1);
+    want(facing_counts_add_all(client, lens, 3, keys, sizeof keys, values, &done) == FACING_TOO_LONG && done == 1);
+    want(facing_counts_get_all(client, lens, 3, keys, sizeof keys, answers, &done) == FACING_TOO_LONG && done == 1);
+    want(answers[0].found == 1 && answers[0].value == 100);
+    want(answers[1].found == 0 && answers[1].value == 0 && answers[2].found == 0 && answers[2].value == 0);
+    want(facing_counts_get(client, "y", 1, &answer) == FACING_DONE && answer.found == 0);
+}
+
+/* By a map of texts of its own. */
+static void by_texts(void) {
+    facing_counts_handle map, client;
+    facing_bytes_sizes sizes = {9, 9};
+    want(facing_counts_open(16, 1, &map) == FACING_DONE && facing_counts_client(&map, &client) == FACING_DONE);
+    many_counts(&client);
+    fail_in_the_middle(&client);
+    facing_counts_free(&client);
+    want(facing_counts_close(&map) == FACING_DONE);
+    want(facing_counts_sizes_of(&map, &sizes) == FACING_DONE && sizes.pairs == 5 && sizes.bytes == 7);
+    facing_counts_free(&map);
 }
 
 static void left_out(facing_handle *client) {
@@ -43,8 +93,9 @@ static void left_out(facing_handle *client) {
 static void sentences(void) {
     uint32_t i, j;
     want(strcmp(facing_strerror(FACING_NO_MEMORY), "out of memory") == 0);
-    for (i = FACING_DONE; i <= FACING_NO_ROOM; i++) {
-        want(strcmp(facing_strerror(i), facing_strerror(FACING_NO_ROOM + 1)) != 0);
+    want(strcmp(facing_strerror(FACING_AFTER_FORK + 1), "no status of this library") == 0);
+    for (i = FACING_DONE; i <= FACING_AFTER_FORK; i++) {
+        want(strcmp(facing_strerror(i), facing_strerror(FACING_AFTER_FORK + 1)) != 0);
         for (j = FACING_DONE; j < i; j++) want(strcmp(facing_strerror(i), facing_strerror(j)) != 0);
     }
 }
@@ -95,6 +146,7 @@ int main(void) {
     many(&first);
     left_out(&first);
     sentences();
+    by_texts();
     if (pthread_create(&sender, NULL, send, &second)) return 1;
     receive(&first, sender);
     facing_free(&first);

@@ -36,6 +36,59 @@ static uint64_t each_call(void) {
     return wrong;
 }
 
+#ifdef COUNTS
+#define MANY(name, others) facing_counts_pool_##name##_all(&many, lens, 2, "abb", 3, others, &done)
+#else
+#define MANY(name, others) facing_pool_##name##_all(&many, lens, others, 2, &done)
+#endif
+
+/* Exchanges, bounded sums, counts and many keys at once, by a pool of its own. The keys are the numbers 1 and 2, or the texts
+ * "a" and "bb". */
+static uint64_t each_other_call(void) {
+    static const uint64_t lens[2] = {1, 2}, values[2] = {7, 9}, five = 5;
+    any_pool many;
+    facing_seen seen = {9, 9, 9};
+    facing_answer answer, answers[2];
+    uint64_t wrong = 0, count = 9;
+    size_t done = 9;
+    wrong += POOL(open)(OPEN_WITH(16, 2), &many) != FACING_DONE;
+    wrong += MANY(put, values) != FACING_DONE || done != 2;
+    wrong += MANY(add, values) != FACING_DONE || done != 2;
+    wrong += MANY(get, answers) != FACING_DONE || done != 2 || answers[0].value != 14 || answers[1].value != 18;
+    wrong += POOL(count)(&many, &count) != FACING_DONE || count != 2;
+    wrong += POOL(exchange)(&many, KEY(9), NULL, &five, &seen) != FACING_DONE || seen.exchanged != 1 || seen.found != 0;
+    wrong += POOL(exchange)(&many, KEY(9), &five, NULL, &seen) != FACING_DONE || seen.exchanged != 1 || seen.value != 5;
+    wrong += POOL(add_up_to)(&many, KEY(9), 2, 3, &answer) != FACING_DONE || answer.found != 1 || answer.value != 2;
+    wrong += POOL(add_up_to)(&many, KEY(9), 2, 3, &answer) != FACING_DONE || answer.found != 0 || answer.value != 2;
+    wrong += POOL(contains)(&many, KEY(10), &answer) != FACING_DONE || answer.found != 0;
+    wrong += POOL(count)(&many, &count) != FACING_DONE || count != 3;
+    POOL(free)(&many);
+    wrong += POOL(count)(&many, &count) != FACING_BAD_ARGUMENT || count != 0;
+    return wrong;
+}
+
+/* Slots are taken and given by hand: each has a client of its own. */
+static uint64_t take_slots(void) {
+    any_pool two;
+    facing_pool_slot *first, *second;
+    facing_answer answer;
+    uint64_t wrong = 0;
+    wrong += POOL(open)(OPEN_WITH(16, 2), &two) != FACING_DONE || POOL(take)(NULL) != NULL;
+    first = POOL(take)(&two);
+    second = POOL(take)(&two);
+    if (first == NULL || second == NULL || first == second) return wrong + 1;
+    wrong += DO(put)(CLIENT_OF(first), KEY(1), 5, NULL) != FACING_DONE;
+    wrong += DO(get)(CLIENT_OF(second), KEY(1), &answer) != FACING_DONE || answer.value != 5;
+    facing_pool_give(second);
+    facing_pool_give(NULL);
+    wrong += POOL(get)(&two, KEY(1), &answer) != FACING_DONE || answer.value != 5;
+    wrong += POOL(take)(&two) != second;
+    facing_pool_give(first);
+    POOL(free)(&two);
+    wrong += POOL(take)(&two) != NULL;
+    return wrong;
+}
+
 static uint64_t refused(void) {
     any_pool none;
     facing_answer answer;
@@ -54,7 +107,7 @@ int main(int argc, char **argv) {
     void *its;
     if (argc > 1) calls = strtoull(argv[1], NULL, 10);
     if (POOL(open)(OPEN_WITH(16, CLIENTS), &pool) != FACING_DONE) return 1;
-    wrong += each_call();
+    wrong += each_call() + each_other_call() + take_slots();
     for (i = 0; i < THREADS; i++)
         if (pthread_create(&threads[i], NULL, call, (void *)(uintptr_t)(i + 1))) return 1;
     for (i = 0; i < THREADS; i++) {
@@ -66,6 +119,8 @@ int main(int argc, char **argv) {
     wrong += DO(count)(&closed, &count) != FACING_DONE || count != 1 + THREADS * (calls < 100 ? calls : 100);
     wrong += POOL(get)(&pool, KEY(1), &answer) != FACING_BAD_ARGUMENT;
     DO(free)(&closed);
+    wrong += POOL(close)(&pool, &closed) != FACING_BAD_ARGUMENT || closed.at != NULL;
+    wrong += POOL(close)(&pool, &pool.map) != FACING_BAD_ARGUMENT || POOL(close)(&pool, NULL) != FACING_BAD_ARGUMENT;
     POOL(free)(&pool);
     printf("%llu calls, %llu wrong\n", (unsigned long long)(THREADS * 3 * calls), (unsigned long long)wrong);
     return wrong != 0;

@@ -1,7 +1,7 @@
 /* Goes through the life of a map again and again, and refuses another request for memory each time: the first, the second and so
  * on, alone or with all that follow it until a call tells of it. Each refusal is a code, and leaves the map as it was.
  *
- * It is linked so that the library's malloc and realloc are those below (--wrap). */
+ * It is linked so that malloc and its like are those of refusing.h (--wrap). */
 #include "values.h"
 
 #include "refusing.h"
@@ -112,12 +112,44 @@ static void call_without_memory(any_handle *client) {
     want(requests == before, "a call on a key that is there takes memory");
 }
 
+#ifdef COUNTS
+static void store_many(any_handle *client) {
+    (void)client;
+}
+#else
+/* Many new keys at once, by puts or by adds: where one is refused, those before it are there, as many as were told, and no others. */
+static void store_by(uint32_t (*all)(facing_handle *, const uint64_t *, const uint64_t *, size_t, size_t *), any_handle *client) {
+    enum { LEN = 6 };
+    uint64_t keys[LEN], values[LEN];
+    facing_answer answers[LEN];
+    size_t done = 9, first = 0;
+    for (size_t i = 0; i < LEN; i++) keys[i] = 1000 + i, values[i] = 7 * i;
+    while (was_refused(all(client, keys + first, values + first, LEN - first, &done), "many keys")) {
+        first += done;
+        want(first < LEN, "how many were stored");
+        want(facing_get_all(client, keys, answers, LEN, NULL) == FACING_DONE, "a get of many");
+        for (size_t i = 0; i < LEN; i++) want(answers[i].found == (i < first), "a key of many");
+    }
+    want(done == LEN - first, "that all were stored");
+    for (size_t i = 0; i < LEN; i++) {
+        while (was_refused(facing_remove(client, keys[i], &answers[i]), "a remove")) want(answers[i].found == 0, "no answer");
+        want(answers[i].found == 1 && answers[i].value == 7 * i, "what was stored");
+    }
+}
+
+static void store_many(any_handle *client) {
+    store_by(facing_put_all, client);
+    store_by(facing_add_all, client);
+}
+#endif
+
 static void work(any_handle *map) {
     any_handle clients[CLIENTS];
     for (int i = 0; i < CLIENTS; i++)
         while (was_refused(DO(client)(map, &clients[i]), "a client")) want(map->at != NULL && clients[i].at == NULL, "no client");
     for (uint64_t key = 0; key < KEYS; key++) make(map, &clients[key % CLIENTS], 1, key);
     for (uint64_t key = 0; key < ROOM; key++) make(map, &clients[key % CLIENTS], 2 + (int)(key % 7), key);
+    store_many(&clients[1]);
     look(map, &clients[0]);
     call_without_memory(&clients[1]);
     for (int i = 0; i < CLIENTS; i++) DO(free)(&clients[i]);
@@ -129,6 +161,21 @@ static void close_and_look(any_handle *map) {
     while (was_refused(DO(close)(map), "a close"))
         want(map->at != NULL && DO(count)(map, &again) == FACING_DONE && again == count, "the count where the close was refused");
     look_closed(map);
+}
+
+/* A pool that is not opened is empty, and one that is not closed has given its map out. */
+static void live_as_pool(void) {
+    any_pool pool;
+    any_handle closed;
+    facing_answer answer;
+    while (was_refused(POOL(open)(OPEN_WITH(16, CLIENTS), &pool), "a pool"))
+        want(pool.map.at == NULL && pool.slots == NULL && pool.clients == 0, "an empty pool");
+    while (was_refused(POOL(put)(&pool, KEY(1), 5, NULL), "a put of a pool")) want(pool.clients == CLIENTS, "the pool");
+    if (was_refused(POOL(close)(&pool, &closed), "a close of a pool"))
+        while (was_refused(DO(close)(&closed), "another close")) want(closed.at != NULL, "the map of a pool");
+    want(pool.map.at == NULL && pool.slots == NULL && pool.clients == 0, "a pool that was closed");
+    want(DO(find)(&closed, KEY(1), &answer) == FACING_DONE && answer.value == 5, "the value of a pool");
+    DO(free)(&closed);
 }
 
 static void live(void) {
@@ -151,6 +198,7 @@ static void live(void) {
     work(&second);
     close_and_look(&second);
     DO(free)(&second);
+    live_as_pool();
     want(blocks == 0, "blocks that are left");
 }
 

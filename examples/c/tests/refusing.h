@@ -1,5 +1,5 @@
-/* A malloc that refuses some requests, and what comes of it. It is linked so that the library's malloc and realloc are those
- * below (--wrap). */
+/* A malloc that refuses some requests, and what comes of it. It is linked so that malloc, calloc and realloc, of the library and
+ * of pools, are those below (--wrap). */
 #ifndef REFUSING_H
 #define REFUSING_H
 
@@ -16,11 +16,18 @@ static int is_refused(void) {
 }
 
 void *__real_malloc(size_t size);
+void *__real_calloc(size_t count, size_t size);
 void *__real_realloc(void *block, size_t size);
 void __real_free(void *block);
 
 void *__wrap_malloc(size_t size) {
     void *block = is_refused() ? NULL : __real_malloc(size);
+    blocks += block != NULL;
+    return block;
+}
+
+void *__wrap_calloc(size_t count, size_t size) {
+    void *block = is_refused() ? NULL : __real_calloc(count, size);
     blocks += block != NULL;
     return block;
 }

@@ -80,8 +80,47 @@ static void call_numbers_wrongly(void) {
     ROW(facing_pairs(&closed, &cursor, lens, lens, 4, &copied), FACING_BAD_ARGUMENT);
     ROW(facing_pairs(&closed, &cursor, lens, values, SIZE_MAX, &copied), FACING_BAD_ARGUMENT);
     ROW(facing_pairs(&map, &cursor, lens, values, 4, &copied), FACING_WRONG_HANDLE);
+    ROW(facing_pairs(&closed, &cursor, lens, values, (size_t)1 << 60, &copied), FACING_BAD_ARGUMENT);
     ROW(facing_put_all(&client, NULL, values, 4, &copied), FACING_BAD_ARGUMENT);
     ROW(facing_get_all(&client, lens, NULL, 4, &copied), FACING_BAD_ARGUMENT);
+    ROW(facing_put_all(&client, lens, values, SIZE_MAX, &copied), FACING_BAD_ARGUMENT);
+    ROW(facing_put_all(&client, lens, values, (size_t)1 << 60, &copied), FACING_BAD_ARGUMENT);
+    ROW(facing_add_all(&client, lens, values, (size_t)1 << 60, &copied), FACING_BAD_ARGUMENT);
+    ROW(facing_get_all(&client, lens, &answer, (size_t)1 << 59, &copied), FACING_BAD_ARGUMENT);
+    row("how many calls were made of too many", (uint32_t)copied, 0);
+}
+
+/* Room that begins where a key ends, and that ends where a key begins, lies over neither. */
+static void lie_beside_each_other(void) {
+    ROW(facing_bytes_get(&caller, room, 10, room + 10, 90, &told), FACING_DONE);
+    ROW(facing_bytes_get(&caller, room + 90, 10, room, 90, &told), FACING_DONE);
+    ROW(facing_bytes_get(&caller, room, 11, room + 10, 90, &told), FACING_BAD_ARGUMENT);
+    ROW(facing_bytes_get(&caller, room + 89, 11, room, 90, &told), FACING_BAD_ARGUMENT);
+    ROW(facing_bytes_get(&caller, room, 100, room + 10, 10, &told), FACING_BAD_ARGUMENT);
+    ROW(facing_bytes_get(&caller, room + 10, 10, room, 100, &told), FACING_BAD_ARGUMENT);
+    ROW(facing_bytes_get(&caller, room, 10, room, 0, &told), FACING_DONE);
+    ROW(facing_bytes_get(&caller, NULL, 0, NULL, 0, &told), FACING_DONE);
+}
+
+/* Lengths on both sides of each limit; what is too long is not read. */
+static void pass_lengths(void) {
+    const size_t most = (size_t)1 << 60;
+    const facing_bytes_view long_one = {"b", (size_t)FACING_LONGEST_VALUE + 1}, one = {"b", 1};
+    ROW(facing_bytes_get(&caller, "a", (size_t)FACING_LONGEST + 1, NULL, 0, &told), FACING_TOO_LONG);
+    ROW(facing_bytes_get(&caller, "a", most - 1, NULL, 0, &told), FACING_TOO_LONG);
+    ROW(facing_bytes_get(&caller, "a", most, NULL, 0, &told), FACING_BAD_ARGUMENT);
+    ROW(facing_bytes_put(&caller, "a", 1, "b", most - 1, NULL, 0, &told), FACING_TOO_LONG);
+    ROW(facing_bytes_put(&caller, "a", 1, "b", most, NULL, 0, &told), FACING_BAD_ARGUMENT);
+    ROW(facing_bytes_replace_if(&caller, "a", 1, "b", 1, "b", most - 1, &told), FACING_TOO_LONG);
+    ROW(facing_bytes_exchange(&caller, "a", 1, NULL, &long_one, NULL, 0, NULL), FACING_TOO_LONG);
+    ROW(facing_bytes_exchange(&caller, "a", (size_t)FACING_LONGEST + 1, NULL, &one, NULL, 0, NULL), FACING_TOO_LONG);
+    ROW(facing_counts_get(&counter, "a", most - 1, &answer), FACING_TOO_LONG);
+    ROW(facing_counts_get(&counter, "a", most, &answer), FACING_BAD_ARGUMENT);
+    ROW(facing_counts_exchange(&counter, "a", most - 1, NULL, values, NULL), FACING_TOO_LONG);
+    ROW(facing_counts_get_all(&counter, lens, (size_t)1 << 59, NULL, 0, &answer, &copied), FACING_BAD_ARGUMENT);
+    ROW(facing_bytes_pairs(&caller, &cursor, lens, values, (size_t)1 << 57, room, 100, &sizes), FACING_BAD_ARGUMENT);
+    ROW(facing_bytes_pairs(&caller, &cursor, lens, values, 4, room, most, &sizes), FACING_BAD_ARGUMENT);
+    ROW(facing_counts_pairs(&counter, &cursor, lens, values, (size_t)1 << 57, room, 100, &sizes), FACING_BAD_ARGUMENT);
 }
 
 static void call_bytes_wrongly(void) {
@@ -133,6 +172,7 @@ static void call_many_wrongly(void) {
 }
 
 static void call_pools_wrongly(void) {
+    facing_handle made;
     facing_pool pool;
     facing_bytes_pool bytes_pool;
     ROW(facing_pool_open(16, 0, 0, &pool), FACING_BAD_CLIENTS);
@@ -141,9 +181,27 @@ static void call_pools_wrongly(void) {
     ROW(facing_bytes_pool_open(0, 1, &bytes_pool), FACING_BAD_CAPACITY);
     ROW(facing_bytes_pool_get(&bytes_pool, "a", 1, room, 100, &told), FACING_BAD_ARGUMENT);
     ROW(facing_bytes_pool_open(16, 1, NULL), FACING_BAD_ARGUMENT);
+    ROW(facing_pool_close(&pool, &made), FACING_BAD_ARGUMENT);
+    ROW(facing_pool_close(&pool, &pool.map), FACING_BAD_ARGUMENT);
     facing_pool_free(&pool);
     facing_pool_free(NULL);
+    facing_pool_give(NULL);
     facing_bytes_pool_free(&bytes_pool);
+}
+
+/* What is no closed map gives out none. */
+static void again_wrongly(void) {
+    facing_handle made;
+    facing_bytes_handle made_bytes;
+    facing_counts_handle made_counts;
+    ROW(facing_again(&closed, &closed), FACING_BAD_ARGUMENT);
+    ROW(facing_again(&client, &made), FACING_WRONG_HANDLE);
+    ROW(facing_bytes_again(&bytes, &bytes), FACING_BAD_ARGUMENT);
+    ROW(facing_bytes_again(&caller, &made_bytes), FACING_WRONG_HANDLE);
+    ROW(facing_bytes_again(&caller, NULL), FACING_BAD_ARGUMENT);
+    ROW(facing_counts_again(&counts, &counts), FACING_BAD_ARGUMENT);
+    ROW(facing_counts_again(&counts, &made_counts), FACING_WRONG_HANDLE);
+    ROW(facing_counts_again(&counts, NULL), FACING_BAD_ARGUMENT);
 }
 
 int main(void) {
@@ -158,9 +216,12 @@ int main(void) {
     open_wrongly();
     take_wrongly();
     call_numbers_wrongly();
+    lie_beside_each_other();
+    pass_lengths();
     call_bytes_wrongly();
     call_many_wrongly();
     call_pools_wrongly();
+    again_wrongly();
     facing_free(&client);
     ROW(facing_put(&client, 1, 2, &answer), FACING_WRONG_HANDLE);
     facing_free(&client);

@@ -1,6 +1,7 @@
 /* Keys of facing.h under a seed. Keys that were chosen to collide without it share buckets no more than 0, 1, 2 .. do, and neither
- * do multiples of 2^32 and of 2^50; a reopened map has the seed of the closed one; a seed that is given gives one order of pairs. */
-#include "facing.h"
+ * do multiples of 2^32 and of 2^50; a reopened map has the seed of the closed one; a seed that is given gives one order of pairs,
+ * in maps of each kind. */
+#include "facing_counts.h"
 #include <stdio.h>
 #include <string.h>
 
@@ -101,22 +102,66 @@ static void order_of(const uint64_t *seed, uint64_t keys[100]) {
     facing_free(&map);
 }
 
-static void give_seeds(void) {
-    const uint64_t seed[2] = {0x243f6a8885a308d3u, 0x13198a2e03707344u}, other[2] = {seed[0], seed[1] + 1};
+/* The same of the byte strings that these numbers are, in a map of counts. */
+static void order_of_counts(const uint64_t *seed, uint64_t keys[100]) {
+    uint64_t lens[100], values[100];
+    facing_counts_handle map, client = {NULL};
+    facing_cursor cursor = {0};
+    facing_bytes_sizes copied = {0, 0};
+    size_t len = 0;
+    uint32_t status = seed != NULL ? facing_counts_open_seeded(256, 1, seed, &map) : facing_counts_open(256, 1, &map);
+    want(status == FACING_DONE && facing_counts_client(&map, &client) == FACING_DONE, "no map of counts");
+    for (uint64_t key = 0; key < 100; key++)
+        want(facing_counts_put(&client, &key, sizeof key, key, NULL) == FACING_DONE, "a put of a count");
+    while (cursor.at != UINT64_MAX
+           && facing_counts_pairs(&client, &cursor, lens, values, 100 - len, keys + len, 8 * (100 - len), &copied) == FACING_DONE)
+        len += copied.pairs;
+    want(len == 100, "the pairs of counts");
+    facing_counts_free(&client);
+    facing_counts_free(&map);
+}
+
+/* And in a map of byte strings, whose values are empty. */
+static void order_of_bytes(const uint64_t *seed, uint64_t keys[100]) {
+    uint64_t lens[100], value_lens[100];
+    facing_bytes_handle map, client = {NULL};
+    facing_cursor cursor = {0};
+    facing_bytes_sizes copied = {0, 0};
+    size_t len = 0;
+    uint32_t status = seed != NULL ? facing_bytes_open_seeded(256, 1, seed, &map) : facing_bytes_open(256, 1, &map);
+    want(status == FACING_DONE && facing_bytes_client(&map, &client) == FACING_DONE, "no map of bytes");
+    for (uint64_t key = 0; key < 100; key++)
+        want(facing_bytes_put(&client, &key, sizeof key, NULL, 0, NULL, 0, NULL) == FACING_DONE, "a put of bytes");
+    while (cursor.at != UINT64_MAX
+           && facing_bytes_pairs(&client, &cursor, lens, value_lens, 100 - len, keys + len, 8 * (100 - len), &copied) == FACING_DONE)
+        len += copied.pairs;
+    want(len == 100, "the pairs of bytes");
+    facing_bytes_free(&client);
+    facing_bytes_free(&map);
+}
+
+/* Each of the seed's numbers matters, and a seed that is drawn is another one each time. */
+static void give_seeds(void (*order)(const uint64_t *seed, uint64_t keys[100])) {
+    const uint64_t seed[2] = {0x243f6a8885a308d3u, 0x13198a2e03707344u};
+    const uint64_t other[2] = {seed[0], seed[1] + 1}, another[2] = {seed[0] + 2, seed[1]};
     uint64_t first[100], second[100], third[100], drawn[100];
-    order_of(seed, first);
-    order_of(seed, second);
-    order_of(other, third);
+    order(seed, first);
+    order(seed, second);
+    order(other, third);
     want(memcmp(first, second, sizeof first) == 0, "one seed gives two orders");
     want(memcmp(first, third, sizeof first) != 0, "two seeds give one order");
-    order_of(NULL, second);
-    order_of(NULL, drawn);
+    order(another, third);
+    want(memcmp(first, third, sizeof first) != 0, "seeds of two first numbers give one order");
+    order(NULL, second);
+    order(NULL, drawn);
     want(memcmp(second, drawn, sizeof drawn) != 0, "two maps drew one seed");
 }
 
 int main(void) {
     choose();
-    give_seeds();
+    give_seeds(order_of);
+    give_seeds(order_of_counts);
+    give_seeds(order_of_bytes);
     printf("%d keys of each kind, %u wrong\n", KEYS, wrong);
     return wrong != 0;
 }

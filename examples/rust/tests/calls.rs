@@ -6,17 +6,19 @@ use std::sync::mpsc::channel;
 fn calls_answer_as_they_say() -> Result<(), Fault> {
     let mut map = Map::open(16, 1)?;
     let mut client = map.client()?;
-    assert_eq!(client.put(1, 5)?, None);
+    assert_eq!(client.put(1, 4)?, None);
+    assert_eq!(client.put(1, 5)?, Some(4));
     assert_eq!(client.put_if_absent(1, 6)?, Some(5));
     assert_eq!(client.replace(1, 6)?, Some(5));
-    assert_eq!(client.replace(2, 6)?, None);
+    assert_eq!((client.replace(2, 6)?, client.get(2)?), (None, None));
     assert!(!client.replace_if(1, 5, 7)?);
     assert!(client.replace_if(1, 6, 7)?);
     assert_eq!(client.add(1, 3)?, 10);
     assert_eq!(client.add(1, u64::MAX)?, u64::MAX);
     assert_eq!(client.set(1, 4)?, 4);
     assert_eq!(client.greatest(1, 3)?, 4);
-    assert!(client.contains(1)?);
+    assert_eq!((client.greatest(1, 9)?, client.get(1)?, client.set(1, 4)?), (9, Some(9), 4));
+    assert!(client.contains(1)? && !client.contains(2)?);
     assert!(!client.remove_if(1, 3)?);
     assert!(client.remove_if(1, 4)?);
     assert_eq!(client.remove(1)?, None);
@@ -91,13 +93,17 @@ fn byte_strings_have_counts() -> Result<(), Fault> {
     for i in 0..1000 {
         client.add(format!("word {}", i % 7).as_bytes(), 1)?;
     }
-    assert_eq!(client.put(b"", 5)?, None);
+    assert_eq!((client.put(b"", 4)?, client.put(b"", 5)?), (None, Some(4)));
     assert_eq!(client.put_if_absent(b"", 6)?, Some(5));
     assert_eq!(client.replace(b"", 6)?, Some(5));
-    assert!(client.replace_if(b"", 6, 7)?);
+    assert_eq!((client.replace(b"?", 6)?, client.get(b"?")?), (None, None));
+    assert!(!client.replace_if(b"", 5, 7)? && client.replace_if(b"", 6, 7)?);
+    assert_eq!((client.greatest(b"", 9)?, client.get(b"")?), (9, Some(9)));
     assert_eq!((client.set(b"", 8)?, client.greatest(b"", 3)?, client.get(b"")?), (8, 8, Some(8)));
-    assert!(client.contains(b"word 0")?);
+    assert!(client.contains(b"word 0")? && !client.contains(b"word")?);
     assert!(!client.remove_if(b"word 0", 1)?);
+    client.put(b"gone", 1)?;
+    assert!(client.remove_if(b"gone", 1)? && !client.contains(b"gone")?);
     assert_eq!(client.remove(b"word 0")?, Some(143));
     assert_eq!(client.add(&vec![0; LONGEST + 1], 1).err(), Some(Fault::TooLong));
     let (mut cursor, mut pairs) = (Cursor::default(), Vec::new());
@@ -121,16 +127,24 @@ fn byte_strings_have_byte_strings() -> Result<(), Fault> {
     assert_eq!(client.put(b"a", b"one")?, None);
     assert_eq!(client.put(b"a", b"two")?, Some(b"one".to_vec()));
     assert_eq!(client.put_if_absent(b"", b"")?, None);
+    assert_eq!((client.put_if_absent(b"a", b"no")?, client.replace(b"b", b"no")?), (Some(b"two".to_vec()), None));
     assert_eq!(client.replace(b"a", &large)?, Some(b"two".to_vec()));
     assert_eq!((client.get(b"a")?, client.get(b"")?, client.get(b"b")?), (Some(large.clone()), Some(Vec::new()), None));
     let mut held = client.hold(b"a")?.expect("there is a value");
     assert!(client.hold(b"b")?.is_none());
-    assert!(client.replace_if(b"a", &large, b"three")?);
+    assert!(client.replace_if(b"a", &large, b"three")? && !client.replace_if(b"a", &large, b"four")?);
     assert!(!client.remove_if(b"a", b"four")?);
     assert_eq!((held.len(), held.to_vec()?), (LONGEST, large));
-    assert!(client.contains(b"")?);
+    assert!(client.contains(b"")? && !client.contains(b"b")?);
     assert_eq!(client.remove(b"")?, Some(Vec::new()));
-    assert_eq!(client.put(b"b", &vec![0; LONGEST + 1]).err(), Some(Fault::TooLong));
+    let longer = vec![0; LONGEST + 1];
+    assert_eq!(client.put(b"b", &longer).err(), Some(Fault::TooLong));
+    assert_eq!(client.put_if_absent(b"b", &longer).err(), Some(Fault::TooLong));
+    assert_eq!(client.replace(b"a", &longer).err(), Some(Fault::TooLong));
+    assert_eq!(client.replace_if(b"a", b"three", &longer).err(), Some(Fault::TooLong));
+    assert!(!client.remove_if(b"a", &longer)? && !client.replace_if(b"a", &longer, b"")?);
+    client.put(b"gone", b"1")?;
+    assert!(client.remove_if(b"gone", b"1")? && !client.contains(b"gone")?);
     let mut cursor = Cursor::default();
     assert_eq!(client.pairs(&mut cursor, 10)?, vec![(b"a".to_vec(), b"three".to_vec())]);
     drop(client);
@@ -138,6 +152,29 @@ fn byte_strings_have_byte_strings() -> Result<(), Fault> {
     assert_eq!((closed.get(b"a")?, closed.get(b"b")?), (Some(b"three".to_vec()), None));
     assert_eq!(closed.pairs()?, vec![(b"a".to_vec(), b"three".to_vec())]);
     assert_eq!(closed.reopen(1)?.client()?.remove(b"a")?, Some(b"three".to_vec()));
+    Ok(())
+}
+
+#[test]
+fn a_held_value_is_read_in_parts() -> Result<(), Fault> {
+    let mut map = BytesMap::open(16, 1)?;
+    let mut client = map.client()?;
+    let long: Vec<u8> = (0..200).collect();
+    for value in [b"0123456789".to_vec(), long] {
+        client.put(b"a", &value)?;
+        let mut held = client.hold(b"a")?.expect("there is a value");
+        client.remove(b"a")?;
+        let (mut room, end) = ([7; 4], value.len());
+        held.read(3, &mut room)?;
+        assert_eq!(room, value[3..7]);
+        held.read(end - 2, &mut room)?;
+        assert_eq!(room, [value[end - 2], value[end - 1], value[5], value[6]]);
+        for from in [end, usize::MAX] {
+            held.read(from, &mut room)?;
+            assert_eq!(room, [value[end - 2], value[end - 1], value[5], value[6]]);
+        }
+        assert!(!held.is_empty() && held.to_vec()? == value);
+    }
     Ok(())
 }
 
@@ -292,6 +329,51 @@ fn a_step_looks_at_1024_buckets() -> Result<(), Fault> {
 }
 
 #[test]
+fn a_step_returns_as_many_pairs_as_it_may() -> Result<(), Fault> {
+    let mut map = Map::open(1024, 1)?;
+    let mut client = map.client()?;
+    (0..100).try_for_each(|key| client.put(key, 2 * key).map(drop))?;
+    let (mut cursor, mut pairs) = (Cursor::default(), Vec::new());
+    while !cursor.is_at_end() {
+        let mut step = client.pairs(&mut cursor, 10)?;
+        assert!(step.len() <= 10, "{} pairs", step.len());
+        pairs.append(&mut step);
+    }
+    pairs.sort();
+    assert_eq!(pairs, (0..100).map(|key| (key, 2 * key)).collect::<Vec<_>>());
+    Ok(())
+}
+
+/// The keys 0 to 99 in the order in which new maps of each kind have them.
+fn orders() -> Result<[Vec<Vec<u8>>; 3], Fault> {
+    let (mut numbers, mut counts, mut texts) = (Map::open(256, 1)?, CountsMap::open(256, 1)?, BytesMap::open(256, 1)?);
+    let (mut number, mut count, mut text) = (numbers.client()?, counts.client()?, texts.client()?);
+    for key in 0..100u64 {
+        number.put(key, 0)?;
+        count.put(&key.to_le_bytes(), 0)?;
+        text.put(&key.to_le_bytes(), b"")?;
+    }
+    drop((number, count, text));
+    let numbers = numbers.close().map_err(|refused| refused.fault)?.pairs()?;
+    let counts = counts.close().map_err(|refused| refused.fault)?.pairs()?;
+    let texts = texts.close().map_err(|refused| refused.fault)?.pairs()?;
+    Ok([
+        numbers.into_iter().map(|(key, _)| key.to_le_bytes().to_vec()).collect(),
+        counts.into_iter().map(|(key, _)| key).collect(),
+        texts.into_iter().map(|(key, _)| key).collect(),
+    ])
+}
+
+#[test]
+fn each_map_draws_a_seed() -> Result<(), Fault> {
+    for (first, second) in orders()?.into_iter().zip(orders()?) {
+        assert_eq!((first.len(), second.len()), (100, 100));
+        assert_ne!(first, second);
+    }
+    Ok(())
+}
+
+#[test]
 fn a_map_may_be_opened_for_long_values() -> Result<(), Fault> {
     let longest = vec![5; 1 << 20];
     let mut map = BytesMap::open_for_values(16, 1, longest.len())?;
@@ -327,7 +409,27 @@ extern "C" {
     fn fork() -> i32;
     fn waitpid(child: i32, status: *mut i32, options: i32) -> i32;
     fn alarm(seconds: u32) -> u32;
+    fn setrlimit(of: i32, limit: *const Limit) -> i32;
     fn _exit(status: i32) -> !;
+}
+
+#[repr(C)]
+struct Limit {
+    now: u64,
+    most: u64,
+}
+
+#[test]
+fn what_finds_no_memory_says_so() {
+    const ADDRESSES: i32 = 9;
+    let limit = Limit { now: 1 << 30, most: 1 << 30 };
+    assert_eq!(
+        child_of(|| {
+            let is_limited = unsafe { setrlimit(ADDRESSES, &raw const limit) } == 0;
+            Ok(is_limited && Map::open(1 << 26, 1).err() == Some(Fault::NoMemory))
+        }),
+        0
+    );
 }
 
 /// Returns the status of a child that does this work, and is ended after a minute.
