@@ -8,9 +8,9 @@ from .client import OK, PONG, Connection, packed
 from .measures import fill, ran, used_memory
 from .server import TOP, Failed, Server
 
-# SETs of new keys with values of 100 bytes, 16 at once: so many before they are measured, and of each round.
-FILLED, SETS, VALUE = 100000, 300000, 100
-# The table has its size from the beginning, so no SET makes it grow.
+# SETs of new keys with values of 100 bytes, 16 at once: so many before they are measured, and of each round. The table is as full
+# as one is that grew by itself, and has its size from the beginning, so no SET makes it grow.
+FILLED, SETS, VALUE = 250000, 140000, 100
 BUCKETS = 1 << 19
 SET, AT_LIMIT, NO_TURNS = "SET", "SET, at the limit of memory", "SET, without turns and watches"
 # A table that was large once, and for how many seconds a PING is sent each millisecond beside what goes over it.

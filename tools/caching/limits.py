@@ -11,6 +11,7 @@ from .client import OK, PONG, Closed, Connection, Error, packed
 from .hostile import are_closed, witness
 from .server import Failed, Server
 from .together import each_client, must
+from .transactions import QUEUED
 
 FULL = Error("OOM command not allowed when used memory > 'maxmemory'.")
 
@@ -59,6 +60,18 @@ def keys_are_evicted(program):
         must(evicted + left == 40050 and 4000 < left < 8000, f"{evicted} keys were evicted, {left} are left")
         must(used < (8 << 20) + (256 << 10), f"{used} bytes are used")
         must(it.call("GET", "cold:39999") == b"c" * 1000, "the last key was evicted")
+
+
+def watched_keys_are_evicted(program):
+    """A key that is evicted is changed: EXEC fails. A WATCH holds no key, and keys that others evict are none of its own."""
+    with Server(program, "--memory", 8 << 20, "--threads", 2) as server, Connection(server.port) as it, Connection(server.port) as other:
+        for name, is_used, reply in (("cold", False, None), ("hot", True, [PONG])):
+            must(it.calls([["SET", name, "w" * 1000], ["WATCH", name]]) == [OK, OK], "no reply")
+            for number in range(0, 20000, 500):
+                requests = [["SET", f"{name}:{number + at}", "c" * 1000] for at in range(500)]
+                must(other.calls(requests + [["GET", name]] * is_used)[:500] == [OK] * 500, "a key is refused")
+            must(other.call("EXISTS", name) == is_used, f"the key {name} is evicted, or is not")
+            must(it.calls([["MULTI"], ["PING"], ["EXEC"]]) == [OK, QUEUED, reply], f"EXEC does not see what became of the key {name}")
 
 
 def first_to_expire_go(program):
