@@ -63,7 +63,7 @@ def keys_are_evicted(program):
 
 
 def watched_keys_are_evicted(program):
-    """A key that is evicted is changed: EXEC fails. A WATCH holds no key, and keys that others evict are none of its own."""
+    """A watched key that is evicted voids the transaction. One that is used stays, whatever else is evicted, and EXEC succeeds."""
     with Server(program, "--memory", 8 << 20, "--threads", 2) as server, Connection(server.port) as it, Connection(server.port) as other:
         for name, is_used, reply in (("cold", False, None), ("hot", True, [PONG])):
             must(it.calls([["SET", name, "w" * 1000], ["WATCH", name]]) == [OK, OK], "no reply")
