@@ -4,5 +4,7 @@ pub mod Copies
 pub mod Keys
 pub mod Parts
 pub mod Chains
+pub mod Rooms
+pub mod Changes
 pub mod Walks
 pub mod Leans

@@ -8,5 +8,7 @@ pub mod Keys
 pub mod Lawful
 pub mod Histories
 pub mod Made
+pub mod Sure
 pub mod Leans
+pub mod Updates
 pub mod Shared

@@ -16,10 +16,11 @@ pub mod BinPart
 pub mod Leans
 pub mod Bins
 pub mod Histories
-pub mod Copies
 pub mod Changes
 pub mod Effects
 pub mod Readiness
 pub mod Sure
 pub mod Seeks
 pub mod Made
+pub mod InPlace
+pub mod Updates

@@ -1,5 +1,5 @@
 -- A call that is ready to be made on a bin.
-use Rattle.std.specs.Prelude.{◌≡◌, ℕ, ◌<◌, Bool, true, Option, option_map, List, length, take, drop, ◌⊎◌}
+use Rattle.std.specs.Prelude.{◌≡◌, ℕ, ◌<◌, Bool, true, Option, Some, None, option_map, List, length, take, drop, ◌⊎◌}
 use Rattle.hashkeys.specs.Classes.{is_of}
 use Rattle.bin_history.specs.Calls.{key_of, after, reply}
 use Rattle.bin_history.specs.Entries.{lookup, store, replay}
@@ -8,12 +8,13 @@ use Rattle.bin_history.specs.Limits.{folded_records, most_records}
 use Rattle.bin_history.specs.Ops.{call_on}
 use Rattle.bin_history.specs.Lawful.{BinView}
 use Rattle.bin_history.specs.declared.call.Call.{Call}
+use Rattle.bin_history.specs.declared.call.Call.TheVariants.{Put, Remove}
 use Rattle.bin_history.specs.Records.{RecordView}
 use Rattle.bin_history.specs.declared.effect.Answer.{Answer}
 use Rattle.bin_history.specs.declared.ready.Kept.{Kept}
 use Rattle.bin_history.specs.declared.seen.Seen.{Seen}
 use Rattle.bin_history.specs.declared.seen.SeenCall.{SeenCall}
-use Rattle.bin_history.specs.declared.seen.SeenCall.TheVariants.{Whole, Parts}
+use Rattle.bin_history.specs.declared.seen.SeenCall.TheVariants.{Whole, Parts, PutThere}
 use Rattle.std.specs.declared.snapshot.Snapshot.{Snapshot}
 use Rattle.bin_history.specs.declared.change.Change.{Change}
 
@@ -26,11 +27,18 @@ pub record ReadyView (K V F : Type 0) : Type 0 where
   pub change : Change K V
   pub kept : Kept K V F
 
--- a call that was seen, and a value that was, if there was one
+-- a call that was seen
 abbrev pub call_seen : {K V F : Type 0} → SeenCall K V F → Call K V F
 call_seen (Whole call) = call.value
 call_seen (Parts k op) = call_on k.value op.value
+call_seen (PutThere k value) = Put k.value value.value
 
+-- the call by which a key gets this value, or none
+abbrev pub call_to : {K V F : Type 0} → K → Option V → Call K V F
+call_to k None = Remove k
+call_to k (Some value) = Put k value
+
+-- a value that was seen, if there was one
 abbrev pub value_seen : {V : Type 0} → Option (Snapshot V) → Option V
 value_seen seen = option_map (λ x. x.value) seen
 

@@ -1,6 +1,7 @@
 -- Calls of which nothing can be refused.
-use Rattle.std.specs.Prelude.{◌≡◌, ◌<◌, Bool, true, false, Option, None, is_some, is_none, List, length}
+use Rattle.std.specs.Prelude.{◌≡◌, ◌<◌, Bool, true, false, Option, None, is_some, is_none, List, [], length}
 pub use Rattle.bin_entries.specs.Copies.{IsNeverRefused}
+pub use Rattle.bin_entries.specs.Keys.{IsKept}
 use Rattle.bin_history.specs.Entries.{lookup}
 use Rattle.bin_history.specs.Lawful.{BinView}
 use Rattle.bin_history.specs.Limits.{most_records}
@@ -68,10 +69,10 @@ pub record IsSure {K V F : Type 0} (same_key : K → K → Bool) (key_copies : K
   pub record_room : b.form ≡ Recorded → (length b.records < most_records) × (0 < b.record_room)
   pub entry_room : lookup same_key b.entries k ≡ None → may_add op ≡ true → 0 < b.entry_room
 
--- a call on a key of a lean bin needs no memory, whatever a copy of the key does: no copy of a value is refused where
--- it makes one, it asks no function, and it adds no entry
-pub record IsSpared {K V F : Type 0} (same_key : K → K → Bool) (value_copies : V → Type 0) (entries : List (K × V))
-    (k : K) (op : Op V F) : Type 0 where
+-- a call on a key of a lean bin needs no memory: no copy of a value is refused where it makes one, it asks no function,
+-- and where it adds an entry this is the first, and its key is kept without a copy that may be refused
+pub record IsSpared {K V F : Type 0} (same_key : K → K → Bool) (key_kept : Type 0) (value_copies : V → Type 0)
+    (entries : List (K × V)) (k : K) (op : Op V F) : Type 0 where
   pub values : copies_none op ≡ false → IsNeverRefused value_copies
   pub asks_none : asks op (lookup same_key entries k) ≡ false
-  pub adds_none : lookup same_key entries k ≡ None → may_add op ≡ false
+  pub adds : lookup same_key entries k ≡ None → may_add op ≡ true → key_kept × (entries ≡ [])

@@ -5,7 +5,6 @@ ghost use Rattle.hashkeys.specs.Classes.{is_of, low_half, high_half};
 ghost use Rattle.hashkeys.specs.Limits.{most_bins};
 ghost use Rattle.bin_history.specs.BinPart.{IsPartOf};
 ghost use Rattle.bin_history.specs.Calls.{after};
-ghost use Rattle.bin_history.specs.Copies.{IsExact};
 ghost use Rattle.bin_history.specs.Entries.{first_in, lookup, HasDistinctKeys, replay};
 ghost use Rattle.bin_history.specs.Hashes.{hash_by};
 ghost use Rattle.bin_history.specs.Lawful.{IsLawful};
@@ -68,8 +67,6 @@ impl<K: HashKey, V: Value, F: Remap<K, V>, A: Allocator + Clone> Bin<K, V, F, A>
         K: Drop,
         V: Drop,
         F: Drop,
-        requires keys { IsExact K.is_clone }
-        requires values { IsExact V.is_clone }
         requires distinct { HasDistinctKeys K.eq base.items }
         requires of_class { All (λ e. is_of K.code salt class e.0 ≡ true) base.items }
         ensures succeeds { (form ≡ Lean) → base.items ≡ [] → IsOk result }
@@ -216,8 +213,6 @@ impl<K: HashKey, V: Value, F: Remap<K, V>, A: Allocator + Clone> Bin<K, V, F, A>
         K: Drop,
         V: Drop,
         F: Drop,
-        requires keys { IsExact K.is_clone }
-        requires values { IsExact V.is_clone }
         requires hash { hash ≡ hash_by K.code self.old.salt (key_in key) }
         requires of_class { is_of K.code self.old.salt self.old.class (key_in key) ≡ true }
         requires client { client < most_lean_clients }
@@ -278,8 +273,6 @@ impl<K: HashKey, V: Value, F: Remap<K, V>, A: Allocator + Clone> Bin<K, V, F, A>
 
     /// A copy of the entries, in order.
     pub fn copy_entries(&self, alloc: &A) -> Result<Vec<(K, V), A>, AllocError>
-        requires keys { IsExact K.is_clone }
-        requires values { IsExact V.is_clone }
         ensures { IfOk result (λ copy. copy.items ≡ self.now.entries) }
     {
         match &self.kind {
@@ -311,9 +304,6 @@ impl<K: HashKey, V: Value, F: Remap<K, V>, A: Allocator + Clone> Bin<K, V, F, A>
         alloc: &A,
         bin: &RecordedBin<K, V, F, A>,
     ) -> Result<(Bin<K, V, F, A>, Bin<K, V, F, A>), AllocError>
-        requires keys { IsExact K.is_clone }
-        requires values { IsExact V.is_clone }
-        requires functions { IsExact F.is_clone }
         requires size { bin.now.class.n < most_bins }
         ensures low_class { IfOk result (λ b. b.0.class ≡ low_half bin.now.class) }
         ensures high_class { IfOk result (λ b. b.1.class ≡ high_half bin.now.class) }
@@ -340,9 +330,6 @@ impl<K: HashKey, V: Value, F: Remap<K, V>, A: Allocator + Clone> Bin<K, V, F, A>
         self,
         alloc: &A,
     ) -> Result<(Bin<K, V, F, A>, Bin<K, V, F, A>), (Bin<K, V, F, A>, AllocError)>
-        requires keys { IsExact K.is_clone }
-        requires values { IsExact V.is_clone }
-        requires functions { IsExact F.is_clone }
         requires size { self.class.n < most_bins }
         ensures succeeds { self.form ≡ Lean → IsOk result }
         ensures low_class { IfOk result (λ b. b.0.class ≡ low_half self.class) }

@@ -4,11 +4,12 @@ ghost use Rattle.bin_history.specs.Calls.{key_of};
 ghost use Rattle.bin_history.specs.Ops.{call_on};
 
 use crate::op::Op;
+use hashkeys::Exact;
 use std::alloc::AllocError;
 
 /// A remapping function of keys `K` and values `V`, which may answer that the key is to have no
 /// value. It states which function it computes; it may fail only for want of memory.
-pub trait Remap<K, V>: Clone + Drop {
+pub trait Remap<K, V>: Exact + Drop {
     ghost remapped: { Self → K → Option V → Option V };
 
     ghost merged: { Self → V → V → Option V };
@@ -23,9 +24,9 @@ pub trait Remap<K, V>: Clone + Drop {
 }
 
 /// What a map may hold as values: whatever can be copied, compared and dropped.
-pub trait Value: Clone + Eq + Drop {}
+pub trait Value: Exact + Eq + Drop {}
 
-impl<V: Clone + Eq + Drop> Value for V {}
+impl<V: Exact + Eq + Drop> Value for V {}
 
 /// A call on a key, with its arguments.
 #[derive(Drop)]

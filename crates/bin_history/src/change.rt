@@ -4,12 +4,11 @@ ghost use Rattle.std.specs.Prelude.{vec_capacity};
 ghost use Rattle.bin_history.specs.Entries.{lookup};
 ghost use Rattle.bin_history.specs.Changes.{IsIndexOf, change_at, change_to, change_by};
 ghost use Rattle.bin_history.specs.Changes.{entries_after, taken_from, HasIndex, Fits};
-ghost use Rattle.bin_history.specs.Copies.{IsExact};
 ghost use Rattle.bin_history.specs.Ops.{key_in};
 
 use crate::effect::Effect;
 use bin_entries::KeyArg;
-use hashkeys::{AsKey, HashKey};
+use hashkeys::{AsKey, Exact, HashKey};
 use std::alloc::{AllocError, Allocator};
 use std::mem::replace;
 
@@ -80,7 +79,7 @@ impl<K: Drop, V> Change<K, V> {
     }
 }
 
-impl<K: Clone + Drop, V: Drop> Change<K, V> {
+impl<K: Exact + Drop, V: Drop> Change<K, V> {
     /// Returns the change by which a given key gets this value, or none. The key is copied only
     /// where it was lent and an entry is made.
     fn given(
@@ -88,7 +87,6 @@ impl<K: Clone + Drop, V: Drop> Change<K, V> {
         found: Option<usize>,
         value: Option<V>,
     ) -> Result<Change<K, V>, AllocError>
-        requires { IsExact K.is_clone }
         ensures change { IfOk result (λ change. change ≡ change_to found (key_in key.entry) value) }
         ensures succeeds { K.is_infallible (key_in key.entry) → IsOk result }
     {
@@ -108,7 +106,6 @@ impl<K: Clone + Drop, V: Drop> Change<K, V> {
         effect: Effect<V>,
         value: Option<V>,
     ) -> Result<Change<K, V>, AllocError>
-        requires { IsExact K.is_clone }
         ensures change { IfOk result
             (λ change. change ≡ change_by found (key_in key.entry) effect value) }
         ensures succeeds { K.is_infallible (key_in key.entry) → IsOk result }

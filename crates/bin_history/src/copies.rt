@@ -1,18 +1,16 @@
 //! Copies of calls.
 ghost use Rattle.std.specs.Prelude.{◌≡◌, IfOk};
 ghost use Rattle.bin_history.specs.Calls.{key_of};
-ghost use Rattle.bin_history.specs.Copies.{IsExact};
 ghost use Rattle.bin_history.specs.Ops.{call_on};
 
 use crate::call::Call;
 use crate::op::Op;
 use bin_entries::{copy_of, copy_of_both};
+use hashkeys::Exact;
 use std::alloc::AllocError;
 
 /// A copy of what a call has beside its key.
-fn copy_of_op<K, V: Clone, F: Clone>(call: &Call<K, V, F>) -> Result<Op<V, F>, AllocError>
-    requires values { IsExact V.is_clone }
-    requires functions { IsExact F.is_clone }
+fn copy_of_op<K, V: Exact, F: Exact>(call: &Call<K, V, F>) -> Result<Op<V, F>, AllocError>
     ensures { IfOk result (λ op. call_on (key_of call.now) op ≡ call.now) }
 {
     match call {
@@ -37,12 +35,9 @@ fn copy_of_op<K, V: Clone, F: Clone>(call: &Call<K, V, F>) -> Result<Op<V, F>, A
     }
 }
 
-pub(crate) fn copy_of_call<K: Clone, V: Clone, F: Clone>(
+pub(crate) fn copy_of_call<K: Exact, V: Exact, F: Exact>(
     call: &Call<K, V, F>,
 ) -> Result<Call<K, V, F>, AllocError>
-    requires keys { IsExact K.is_clone }
-    requires values { IsExact V.is_clone }
-    requires functions { IsExact F.is_clone }
     ensures { IfOk result (λ copy. copy ≡ call.now) }
 {
     let key = copy_of(call.key())?;

@@ -1,7 +1,6 @@
 //! What a call does to the value at its key, and what it answers.
 ghost use Rattle.std.specs.Prelude.{◌≡◌, IfOk, IsOk, option_copied};
 ghost use Rattle.bin_history.specs.Changes.{reply_of, left_by};
-ghost use Rattle.bin_history.specs.Copies.{IsExact};
 ghost use Rattle.bin_history.specs.Ops.{value_of};
 ghost use Rattle.bin_history.specs.Sure.{IsNeverRefused};
 ghost use Rattle.bin_history.specs.declared.effect.Effect.TheVariants.{Give};
@@ -9,6 +8,7 @@ ghost use Rattle.bin_history.specs.declared.effect.Effect.TheVariants.{Give};
 use crate::call::Reply;
 use crate::op::Op;
 use bin_entries::copy_of_option;
+use hashkeys::Exact;
 use std::alloc::AllocError;
 
 /// What a call does to the value at its key.
@@ -43,10 +43,9 @@ impl<V> Effect<V> {
     }
 }
 
-impl<V: Clone> Effect<V> {
+impl<V: Exact> Effect<V> {
     /// A copy of the value that the call brings, where the effect is to give it.
     pub(crate) fn copy_given<F>(&self, op: &Op<V, F>) -> Result<Option<V>, AllocError>
-        requires { IsExact V.is_clone }
         ensures value { IfOk result (λ value. self.now ≡ Give → value ≡ value_of op.now) }
         ensures succeeds { IsNeverRefused V.is_infallible → IsOk result }
     {

@@ -4,7 +4,6 @@ ghost use Rattle.std.specs.Prelude.{option_copied, true};
 ghost use Rattle.hashkeys.specs.Classes.{is_of, low_half, high_half};
 ghost use Rattle.hashkeys.specs.Limits.{most_bins};
 ghost use Rattle.bin_entries.specs.Chains.{entries_of};
-ghost use Rattle.bin_history.specs.Copies.{IsExact};
 ghost use Rattle.bin_history.specs.Entries.{lookup};
 ghost use Rattle.bin_history.specs.Hashes.{hash_by};
 ghost use Rattle.bin_history.specs.Leans.{IsLeanChain, as_bin};
@@ -19,7 +18,7 @@ use crate::lean_calls::lawful_entries;
 use crate::op::Op;
 use crate::posting::Posting;
 use bin_entries::{Chain, KeyArg, LeanEntries, Walk};
-use hashkeys::{AsKey, Class, HashKey, Salt};
+use hashkeys::{AsKey, Class, Exact, HashKey, Salt};
 use std::alloc::{AllocError, Allocator};
 use std::marker::Model;
 
@@ -118,11 +117,9 @@ impl<K: HashKey, V, A: Allocator> LeanBin<K, V, A> {
     }
 }
 
-impl<K: HashKey, V: Clone + Drop, A: Allocator> LeanBin<K, V, A> {
+impl<K: HashKey, V: Exact + Drop, A: Allocator> LeanBin<K, V, A> {
     /// Copies of the entries, in order.
     pub fn copies(&self, alloc: A) -> Result<Vec<(K, V), A>, AllocError>
-        requires keys { IsExact K.is_clone }
-        requires values { IsExact V.is_clone }
         ensures { IfOk result (λ list. list.items ≡ self.now.entries) }
     {
         self.entries.copies(alloc)
@@ -155,8 +152,6 @@ impl<K: HashKey, V: Value, A: Allocator + Clone> LeanBin<K, V, A> {
         client: u32,
         ordinal: u64,
     ) -> Result<(Reply<V>, Posting<K, V, F>), AllocError>
-        requires keys { IsExact K.is_clone }
-        requires values { IsExact V.is_clone }
         requires hash { hash ≡ hash_by K.code self.old.salt (key_in key) }
         requires of_class { is_of K.code self.old.salt self.old.class (key_in key) ≡ true }
         ensures made { IfOk result

@@ -1,9 +1,8 @@
 //! Calls on the entries of a lean bin, where they lie.
-ghost use Rattle.std.specs.Prelude.{◌≡◌, IfOk, IsOk, OnOk, OnErr, is_some, None, true, false};
+ghost use Rattle.std.specs.Prelude.{◌≡◌, [], IfOk, IsOk, OnOk, OnErr, is_some, None, true, false};
 ghost use Rattle.hashkeys.specs.Classes.{is_of};
 ghost use Rattle.bin_history.specs.Calls.{after};
 ghost use Rattle.bin_history.specs.Changes.{IsWork, left_by, taken_by};
-ghost use Rattle.bin_history.specs.Copies.{IsExact};
 ghost use Rattle.bin_history.specs.Entries.{lookup, store};
 ghost use Rattle.bin_history.specs.Hashes.{hash_by};
 ghost use Rattle.bin_history.specs.Lawful.{IsLawful};
@@ -11,7 +10,7 @@ ghost use Rattle.bin_history.specs.Leans.{as_bin};
 ghost use Rattle.bin_history.specs.Made.{IsMadeOn};
 ghost use Rattle.bin_history.specs.Ops.{call_on, key_in};
 ghost use Rattle.bin_history.specs.Readiness.{IsSeen};
-ghost use Rattle.bin_history.specs.Sure.{IsNeverRefused, IsSpared, IsSure, asks, copies_none};
+ghost use Rattle.bin_history.specs.Sure.{IsKept, IsNeverRefused, IsSpared, IsSure, asks, copies_none};
 
 use crate::call::{Remap, Reply, Value};
 use crate::effect::Effect;
@@ -41,7 +40,6 @@ fn plan<K: HashKey, V: Value, F: Remap<K, V>, A: Allocator>(
     key: &K,
     op: &Op<V, F>,
 ) -> Result<(Work<V>, Seen<K, V, F>), AllocError>
-    requires values { IsExact V.is_clone }
     requires hash { hash ≡ hash_by K.code entries.now.salt key.now }
     ensures work { IfOk result (λ r. IsWork V.eq F.remapped F.merged key.now op.now
         (lookup K.eq entries.now.entries key.now) r.0) }
@@ -70,7 +68,6 @@ fn carry_out<K: HashKey, V: Drop, F: Drop, A: Allocator + Clone>(
     effect: Effect<V>,
     there: bool,
 ) -> Result<Option<V>, AllocError>
-    requires keys { IsExact K.is_clone }
     requires hash { hash ≡ hash_by K.code entries.old.salt (key_in key) }
     requires of_class { is_of K.code entries.old.salt entries.old.class (key_in key) ≡ true }
     requires there { is_some (lookup K.eq entries.old.entries (key_in key)) ≡ there }
@@ -80,6 +77,7 @@ fn carry_out<K: HashKey, V: Drop, F: Drop, A: Allocator + Clone>(
     ensures taken { IfOk result (λ taken. taken
         ≡ taken_by effect (lookup K.eq entries.old.entries (key_in key.entry))) }
     ensures succeeds { (there ≡ false → left_by op effect None ≡ None) → IsOk result }
+    ensures first { entries.old.entries ≡ [] → IsKept K.is_infallible key.entry → IsOk result }
     ensures refused { OnErr result (entries.new.entries ≡ entries.old.entries) }
     ensures class { entries.new.class ≡ entries.old.class }
     ensures salt { entries.new.salt ≡ entries.old.salt }
@@ -108,8 +106,6 @@ impl<V: Value, F: Drop> Op<V, F> {
     ) -> Result<(Reply<V>, Posting<K, V, F>), AllocError>
     where
         F: Remap<K, V>,
-        requires keys { IsExact K.is_clone }
-        requires values { IsExact V.is_clone }
         requires hash { hash ≡ hash_by K.code entries.old.salt (key_in key) }
         requires of_class { is_of K.code entries.old.salt entries.old.class (key_in key) ≡ true }
         ensures made { IfOk result
@@ -117,8 +113,8 @@ impl<V: Value, F: Drop> Op<V, F> {
             (call_on (key_in key.entry) self) (as_bin entries.old) (as_bin entries.new) r.0 r.1) }
         ensures succeeds { IsSure K.eq K.is_infallible V.is_infallible (as_bin entries.old)
             (key_in key.entry) self → IsOk result }
-        ensures spared { IsSpared K.eq V.is_infallible entries.old.entries (key_in key.entry) self →
-            IsOk result }
+        ensures spared { IsSpared K.eq (IsKept K.is_infallible key.entry) V.is_infallible
+            entries.old.entries (key_in key.entry) self → IsOk result }
         ensures refused { OnErr result (entries.new.entries ≡ entries.old.entries) }
         ensures class { entries.new.class ≡ entries.old.class }
         ensures salt { entries.new.salt ≡ entries.old.salt }

@@ -2,7 +2,6 @@
 ghost use Rattle.std.specs.Prelude.{◌≡◌, ◌+◌, ◌<◌, ◌≤◌, ◌^◌, ◌++◌, ◌∷◌, [], length, IfOk, IsOk};
 ghost use Rattle.std.specs.Prelude.{OnOk};
 ghost use Rattle.hashkeys.specs.Classes.{is_of};
-ghost use Rattle.bin_history.specs.Copies.{IsExact};
 ghost use Rattle.bin_history.specs.Limits.{most_lean_clients, most_records};
 ghost use Rattle.bin_history.specs.Logs.{AreCallsOn, CanFold, IsKeptOrFolded};
 ghost use Rattle.bin_history.specs.Part.{part_of_entries, part_of_records};
@@ -14,7 +13,7 @@ use crate::recorded::MOST_RECORDS;
 use crate::room::make_room_in;
 use crate::split::part_of_records;
 use bin_entries::part_of_entries;
-use hashkeys::{Class, HashKey, Salt};
+use hashkeys::{Class, Exact, HashKey, Salt};
 use std::alloc::{AllocError, Allocator};
 use std::marker::Model;
 
@@ -52,12 +51,9 @@ impl<K, V, F, A: Allocator> Log<K, V, F, A> {
     }
 }
 
-impl<K: HashKey, V: Clone, F: Clone, A: Allocator + Clone> Log<K, V, F, A> {
+impl<K: HashKey, V: Exact, F: Exact, A: Allocator + Clone> Log<K, V, F, A> {
     /// The part of the log in a class.
     pub(crate) fn part(&self, salt: Salt, class: Class) -> Result<Log<K, V, F, A>, AllocError>
-        requires keys { IsExact K.is_clone }
-        requires values { IsExact V.is_clone }
-        requires functions { IsExact F.is_clone }
         ensures base { IfOk result
             (λ l. l.base ≡ part_of_entries (is_of K.code salt class) self.now.base) }
         ensures records { IfOk result

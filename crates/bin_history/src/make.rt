@@ -1,7 +1,6 @@
 //! Calls that are made in one step.
 ghost use Rattle.std.specs.Prelude.{◌≡◌, ◌<◌, ◌^◌, true, IfOk, IsOk, OnErr};
 ghost use Rattle.hashkeys.specs.Classes.{is_of};
-ghost use Rattle.bin_history.specs.Copies.{IsExact};
 ghost use Rattle.bin_history.specs.Limits.{most_lean_clients};
 ghost use Rattle.bin_history.specs.Made.{IsMadeOn};
 ghost use Rattle.bin_history.specs.Ops.{call_on, key_in};
@@ -30,8 +29,6 @@ impl<K: HashKey, V: Value, F: Remap<K, V>, A: Allocator + Clone> RecordedBin<K, 
         K: Drop,
         V: Drop,
         F: Drop,
-        requires keys { IsExact K.is_clone }
-        requires values { IsExact V.is_clone }
         requires of_class { is_of K.code self.old.salt self.old.class (key_in key) ≡ true }
         requires client { client < most_lean_clients }
         requires ordinal { ordinal < 2 ^ 48 }

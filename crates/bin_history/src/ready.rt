@@ -2,7 +2,6 @@
 ghost use Rattle.std.specs.Prelude.{◌≡◌, ◌<◌, ℕ, Option, None, true, false, IfOk, IsOk};
 ghost use Rattle.std.specs.Prelude.{option_copied};
 ghost use Rattle.bin_history.specs.Changes.{IsIndexOf, Fits, change_by, left_by};
-ghost use Rattle.bin_history.specs.Copies.{IsExact};
 ghost use Rattle.bin_history.specs.Entries.{lookup};
 ghost use Rattle.bin_history.specs.Ops.{call_on, key_in, may_add, value_of};
 ghost use Rattle.bin_history.specs.Readiness.{IsWorkedOut, kept_of};
@@ -16,7 +15,7 @@ use crate::op::Op;
 use crate::seen::Seen;
 use crate::work::work_of;
 use bin_entries::{KeyArg, copy_of_option};
-use hashkeys::HashKey;
+use hashkeys::{Exact, HashKey};
 use std::alloc::AllocError;
 use std::marker::Model;
 
@@ -55,15 +54,13 @@ impl<K, V, F> Model for Ready<K, V, F> {
 
 /// What a recorded bin does for a call of this effect, and keeps of it: the change and the record
 /// each have their own copies.
-fn planned<K: Clone + Drop, V: Clone + Drop, F: Drop>(
+fn planned<K: Exact + Drop, V: Exact + Drop, F: Drop>(
     found: Option<usize>,
     key: KeyArg<'_, K>,
     op: Op<V, F>,
     effect: Effect<V>,
     before: Option<&V>,
 ) -> Result<(Change<K, V>, Kept<K, V, F>), AllocError>
-    requires keys { IsExact K.is_clone }
-    requires values { IsExact V.is_clone }
     ensures change { IfOk result (λ r. (value : Option V) × (effect ≡ Give → value ≡ value_of op)
         × (r.0 ≡ change_by found (key_in key.entry) effect value)) }
     ensures kept { IfOk result (λ r. r.1 ≡ kept_of (call_on (key_in key.entry) op)
@@ -94,8 +91,6 @@ pub(crate) fn work_out<K: HashKey, V: Value, F: Remap<K, V>>(
     key: KeyArg<'_, K>,
     op: Op<V, F>,
 ) -> Result<Ready<K, V, F>, AllocError>
-    requires keys { IsExact K.is_clone }
-    requires values { IsExact V.is_clone }
     requires found { IsIndexOf K.eq entries.now (key_in key) found }
     ensures call { IfOk result (λ r. r.call ≡ call_on (key_in key.entry) op) }
     ensures ready { IfOk result (λ r. IsWorkedOut K.eq V.eq F.remapped F.merged r entries.now) }

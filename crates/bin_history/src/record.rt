@@ -1,7 +1,6 @@
 //! Records of calls.
 ghost use Rattle.std.specs.Prelude.{◌≡◌, ◌<◌, ◌^◌, IfOk, option_copied};
 ghost use Rattle.bin_history.specs.Births.{is_birth};
-ghost use Rattle.bin_history.specs.Copies.{IsExact};
 ghost use Rattle.bin_history.specs.Deltas.{delta};
 ghost use Rattle.bin_history.specs.Limits.{most_lean_clients};
 ghost use Rattle.bin_history.specs.Records.{before_of, after_of};
@@ -9,6 +8,7 @@ ghost use Rattle.bin_history.specs.Records.{before_of, after_of};
 use crate::call::Call;
 use crate::copies::copy_of_call;
 use bin_entries::copy_of;
+use hashkeys::Exact;
 use std::alloc::AllocError;
 use std::marker::Model;
 
@@ -181,8 +181,7 @@ impl<K: Drop, V: Drop, F: Drop> Record<K, V, F> {
     }
 }
 
-fn copy_of_values<V: Clone>(values: &Values<V>) -> Result<Values<V>, AllocError>
-    requires { IsExact V.is_clone }
+fn copy_of_values<V: Exact>(values: &Values<V>) -> Result<Values<V>, AllocError>
     ensures { IfOk result (λ copy. copy ≡ values.now) }
 {
     match values {
@@ -193,12 +192,9 @@ fn copy_of_values<V: Clone>(values: &Values<V>) -> Result<Values<V>, AllocError>
     }
 }
 
-pub(crate) fn copy_of_record<K: Clone, V: Clone, F: Clone>(
+pub(crate) fn copy_of_record<K: Exact, V: Exact, F: Exact>(
     entry: &Record<K, V, F>,
 ) -> Result<Record<K, V, F>, AllocError>
-    requires keys { IsExact K.is_clone }
-    requires values { IsExact V.is_clone }
-    requires functions { IsExact F.is_clone }
     ensures { IfOk result (λ copy. copy ≡ entry.now) }
 {
     Ok(Record {

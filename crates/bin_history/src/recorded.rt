@@ -56,7 +56,6 @@ impl<K: HashKey, V: Value, F: Remap<K, V>, A: Allocator + Clone> RecordedBin<K, 
     ghost use Rattle.std.specs.Prelude.{[], true, Some, None, All, IfOk, IsOk, MatchOption, option_copied};
     ghost use Rattle.hashkeys.specs.Classes.{is_of};
     ghost use Rattle.bin_history.specs.Calls.{after};
-    ghost use Rattle.bin_history.specs.Copies.{IsExact};
     ghost use Rattle.bin_history.specs.Entries.{lookup, HasDistinctKeys, replay};
     ghost use Rattle.bin_history.specs.Lawful.{IsLawful};
     ghost use Rattle.bin_history.specs.declared.form.Form.TheVariants.{Recorded};
@@ -69,8 +68,6 @@ impl<K: HashKey, V: Value, F: Remap<K, V>, A: Allocator + Clone> RecordedBin<K, 
         class: Class,
         base: Vec<(K, V), A>,
     ) -> Result<RecordedBin<K, V, F, A>, AllocError>
-        requires keys { IsExact K.is_clone }
-        requires values { IsExact V.is_clone }
         requires distinct { HasDistinctKeys K.eq base.items }
         requires of_class { All (λ e. is_of K.code salt class e.0 ≡ true) base.items }
         ensures form { IfOk result (λ b. b.form ≡ Recorded) }
@@ -145,8 +142,6 @@ impl<K: HashKey, V: Value, F: Remap<K, V>, A: Allocator + Clone> RecordedBin<K, 
 
     /// A copy of the entries, in order.
     pub fn copy_entries(&self) -> Result<Vec<(K, V), A>, AllocError>
-        requires keys { IsExact K.is_clone }
-        requires values { IsExact V.is_clone }
         ensures { IfOk result (λ copy. copy.items ≡ self.now.entries) }
     {
         copy_of_entries(self.entries.allocator().clone()?, &self.entries)
@@ -180,7 +175,6 @@ impl<K: HashKey, V: Value, F: Remap<K, V>, A: Allocator + Clone> RecordedBin<K, 
     ghost use Rattle.std.specs.Prelude.{OnErr};
     ghost use Rattle.hashkeys.specs.Classes.{is_of};
     ghost use Rattle.bin_history.specs.Calls.{after, key_of, reply};
-    ghost use Rattle.bin_history.specs.Copies.{IsExact};
     ghost use Rattle.bin_history.specs.Entries.{store};
     ghost use Rattle.bin_history.specs.Histories.{GoesOn};
     ghost use Rattle.bin_history.specs.Limits.{most_lean_clients};
@@ -196,8 +190,6 @@ impl<K: HashKey, V: Value, F: Remap<K, V>, A: Allocator + Clone> RecordedBin<K, 
     /// there. Where clones never fail, the call asks no function and there is room in hand, it is
     /// not refused.
     pub fn prepare<'a>(&'a mut self, call: Call<K, V, F>) -> Result<Ready<K, V, F>, AllocError>
-        requires keys { IsExact K.is_clone }
-        requires values { IsExact V.is_clone }
         requires of_class { is_of K.code self.old.salt self.old.class (key_of call) ≡ true }
         ensures ready { IfOk result
             (λ r. IsPrepared K.eq K.code V.eq F.remapped F.merged r self.new) }
@@ -224,8 +216,6 @@ impl<K: HashKey, V: Value, F: Remap<K, V>, A: Allocator + Clone> RecordedBin<K, 
         key: KeyArg<'_, K>,
         op: Op<V, F>,
     ) -> Result<Ready<K, V, F>, AllocError>
-        requires keys { IsExact K.is_clone }
-        requires values { IsExact V.is_clone }
         requires of_class { is_of K.code self.old.salt self.old.class (key_in key) ≡ true }
         ensures ready { IfOk result
             (λ r. IsPrepared K.eq K.code V.eq F.remapped F.merged r self.new) }
@@ -292,14 +282,10 @@ impl<K: HashKey, V: Value, F: Remap<K, V>, A: Allocator + Clone> RecordedBin<K, 
     ghost use Rattle.std.specs.Prelude.{◌<◌, IfOk};
     ghost use Rattle.hashkeys.specs.Classes.{low_half, high_half};
     ghost use Rattle.hashkeys.specs.Limits.{most_bins};
-    ghost use Rattle.bin_history.specs.Copies.{IsExact};
     ghost use Rattle.bin_history.specs.BinPart.{IsPartOf};
 
     /// The part of the bin in a half of its class.
     fn part(&self, half: Class) -> Result<RecordedBin<K, V, F, A>, AllocError>
-        requires keys { IsExact K.is_clone }
-        requires values { IsExact V.is_clone }
-        requires functions { IsExact F.is_clone }
         ensures class { IfOk result (λ b. b.class ≡ half) }
         ensures part { IfOk result (λ b. IsPartOf K.code self.now b) }
     {
@@ -317,9 +303,6 @@ impl<K: HashKey, V: Value, F: Remap<K, V>, A: Allocator + Clone> RecordedBin<K, 
     /// The bins of the low and the high half of the class, each with its part of base, records and
     /// entries, in order. They are copies; the bin itself stays.
     pub fn split(&self) -> Result<(RecordedBin<K, V, F, A>, RecordedBin<K, V, F, A>), AllocError>
-        requires keys { IsExact K.is_clone }
-        requires values { IsExact V.is_clone }
-        requires functions { IsExact F.is_clone }
         requires size { self.now.class.n < most_bins }
         ensures low_class { IfOk result (λ b. b.0.class ≡ low_half self.now.class) }
         ensures high_class { IfOk result (λ b. b.1.class ≡ high_half self.now.class) }

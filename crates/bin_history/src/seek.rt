@@ -1,7 +1,6 @@
 //! Calls that seek their key, and need none of their own.
 ghost use Rattle.std.specs.Prelude.{◌≡◌, true, IfOk, IsOk, OnErr, option_copied};
 ghost use Rattle.hashkeys.specs.Classes.{is_of};
-ghost use Rattle.bin_history.specs.Copies.{IsExact};
 ghost use Rattle.bin_history.specs.Hashes.{hash_by};
 ghost use Rattle.bin_history.specs.Leans.{as_bin};
 ghost use Rattle.bin_history.specs.Made.{IsMadeOn};
@@ -55,7 +54,6 @@ impl Seek {
         client: u32,
         ordinal: u64,
     ) -> Result<(Reply<V>, Posting<K, V, F>), AllocError>
-        requires values { IsExact V.is_clone }
         requires hash { hash ≡ hash_by K.code entries.old.salt (Q.stands_for query) }
         requires of_class { is_of K.code entries.old.salt entries.old.class (Q.stands_for query)
             ≡ true }

@@ -2,7 +2,6 @@
 ghost use Rattle.std.specs.Prelude.{◌≡◌, false, IfOk, IsOk, option_copied};
 ghost use Rattle.bin_history.specs.Calls.{is_value};
 ghost use Rattle.bin_history.specs.Changes.{IsWork};
-ghost use Rattle.bin_history.specs.Copies.{IsExact};
 ghost use Rattle.bin_history.specs.Effects.{effect_of, holds};
 ghost use Rattle.bin_history.specs.Sure.{IsNeverRefused, asks, copies_none};
 
@@ -88,7 +87,6 @@ pub(crate) fn work_of<K, V: Value, F: Remap<K, V>>(
     op: &Op<V, F>,
     before: Option<&V>,
 ) -> Result<Work<V>, AllocError>
-    requires { IsExact V.is_clone }
     ensures work { IfOk result
         (λ work. IsWork V.eq F.remapped F.merged key.now op.now (option_copied before.entry) work) }
     ensures succeeds { (copies_none op.now ≡ false → IsNeverRefused V.is_infallible) →

@@ -2,7 +2,6 @@
 ghost use Rattle.std.specs.Prelude.{◌≡◌, IfOk, IsOk};
 ghost use Rattle.bin_entries.specs.Copies.{IsNeverRefused};
 ghost use Rattle.bin_history.specs.Calls.{after};
-ghost use Rattle.bin_history.specs.Copies.{IsExact};
 ghost use Rattle.bin_history.specs.Hashes.{hash_by};
 ghost use Rattle.bin_store.specs.Glances.{IsGlanced};
 
@@ -25,7 +24,6 @@ fn glance_recorded<
     A: Allocator + Clone,
     Q: AsKey<K>,
 >(rt: &R, home: &Generations<K, V, F, A>, hash: u32, query: Q) -> Result<Option<V>, AllocError>
-    requires values { IsExact V.is_clone }
     requires hash { hash ≡ hash_by K.code home.now.salt (Q.stands_for query) }
     ensures glanced { IfOk result
         (IsGlanced K.eq K.code (after V.eq F.remapped F.merged) home.now hash
@@ -46,7 +44,6 @@ fn glance_lean<R: Wait, K: HashKey, V: Value, F: Remap<K, V>, A: Allocator + Clo
     hash: u32,
     query: Q,
 ) -> Result<Option<V>, AllocError>
-    requires values { IsExact V.is_clone }
     requires hash { hash ≡ hash_by K.code home.now.salt (Q.stands_for query) }
     ensures glanced { IfOk result
         (IsGlanced K.eq K.code (after V.eq F.remapped F.merged) home.now hash
@@ -75,7 +72,6 @@ impl<K: HashKey, V: Value, F: Remap<K, V>, A: Allocator + Clone> BinStore<K, V, 
         hash: u32,
         query: Q,
     ) -> Result<Option<V>, AllocError>
-        requires values { IsExact V.is_clone }
         requires hash { hash ≡ hash_by K.code self.now.salt (Q.stands_for query) }
         ensures glanced { IfOk result
             (IsGlanced K.eq K.code (after V.eq F.remapped F.merged) self.now hash

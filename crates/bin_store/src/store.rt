@@ -1,7 +1,6 @@
 //! All bins of a map, and how they are made.
 ghost use Rattle.std.specs.Prelude.{◌≡◌, true, All, IfOk, length};
 ghost use Rattle.hashkeys.specs.Classes.{IsTableSize};
-ghost use Rattle.bin_history.specs.Copies.{IsExact};
 ghost use Rattle.bin_history.specs.Entries.{HasDistinctKeys};
 ghost use Rattle.count_ledger.specs.Opening.{AreOfTheirClasses, lists_of, new_roles};
 ghost use Rattle.count_ledger.specs.Views.{LedgerId};
@@ -73,8 +72,6 @@ impl<K: HashKey, V: Value, F: Remap<K, V>, A: Allocator + Clone> BinStore<K, V, 
         bases: Vec<Vec<(K, V), A>, A>,
         roles: Vec<BinRole<K, V, F>, A>,
     ) -> Result<BinStore<K, V, F, A>, AllocError>
-        requires keys { IsExact K.is_clone }
-        requires values { IsExact V.is_clone }
         requires size { IsTableSize n }
         requires count { length bases.items ≡ n }
         requires distinct { All (λ base. HasDistinctKeys K.eq base.items) bases.items }

@@ -1,10 +1,11 @@
 -- Folds of lists that lie side by side.
 use Rattle.std.proofs.Common.{◌≡◌, ℕ, ◌<◌, ◌^◌, List, [], ◌∷◌, ◌++◌, Option, Some, None}
 use Rattle.std.proofs.Common.{refl, ap, sym, ◌∙◌, subst, arith}
-use Rattle.std.specs.Prelude.{fold, map, unwrap_or, IfSome, MatchOption}
+use Rattle.std.specs.Prelude.{fold, map, unwrap_or, IfSome, MatchOption, Bool, IsTrue, IsErrAnd, Result, Ok, Err}
+use Rattle.std.specs.declared.alloc.AllocError.{AllocError}
 use Rattle.std.proofs.lemmas.Grind.{fold-append}
 use Rattle.std.proofs.lemmas.List.{map-append}
-use Rattle.bulk_tasks.specs.Folds.{fold_from, plain_fold, AreOfFew, IsAssociative}
+use Rattle.bulk_tasks.specs.Folds.{fold_from, plain_fold, AreOfFew, IsAssociative, IsFolded}
 
 none_ne_some : {A : Type 0} (a : A) → None ≡ Some a → ⊥
 none_ne_some {A} a h = let P : Option A → Type 0 = λ o. MatchOption o (Unit {0}) (λ _. ⊥) in subst P h tt
@@ -51,3 +52,10 @@ module _ {K V A : Type 0} (lift : K → V → A) (join : A → A → A) where
         join basis a ≡ fold_from lift join basis es
     fold_based basis a [] h = absurd (none_ne_some _ (sym h))
     fold_based basis a (e ∷ es) h = ap (λ o. join basis (unwrap_or o a)) h ∙ joined_from basis (lift e.0 e.1) es
+
+-- a fold that was refused memory, by a reducer that may be
+pub IsFolded-refused : {K V A : Type 0} (lift : K → V → A) (join : A → A → A) (within : ℕ → A → Type 0) (never_refuses : Bool)
+    (es : List (K × V)) (r : Result (Option A) AllocError) (P : AllocError → Type 0) → IsErrAnd r P → ¬ IsTrue never_refuses
+    → IsFolded lift join within never_refuses es r
+IsFolded-refused lift join within never_refuses es (Ok a) P is may = absurd is
+IsFolded-refused lift join within never_refuses es (Err e) P is may = may

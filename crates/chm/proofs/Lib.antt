@@ -22,3 +22,4 @@ pub mod Cursors
 pub mod Retaining
 pub mod Stepping
 pub mod PartVisits
+pub mod Giving

@@ -1,5 +1,6 @@
 -- Calls that a lean bin makes in the memory that it has.
 use Rattle.std.proofs.Common.{◌≡◌, Bool, List, Result, Ok, Err, refl, ◌∙◌}
+use Rattle.std.proofs.lemmas.Bool.{false≢true}
 use Rattle.std.specs.Result.{IsErrAnd}
 use Rattle.bin_history.specs.Sure.{IsSpared}
 use Rattle.bin_history.specs.declared.op.Op.{Op}
@@ -15,15 +16,15 @@ IsMadeOrFull-of (Ok _) e is full = tt
 IsMadeOrFull-of (Err f) e is full = is ∙ full
 
 module _ {K V F : Type 0} (same : K → K → Bool) (copies : V → Type 0) (entries : List (K × V)) (k : K) where
-  pub IsSpared-of : (o : Op V F) → NeedsNoMemory copies o → IsSpared same copies entries k o
-  IsSpared-of op.Get never = record { values = λ _. never; asks_none = refl; adds_none = λ _. refl }
-  IsSpared-of op.Contains n = record { values = λ is. absurd cc; asks_none = refl; adds_none = λ _. refl }
+  pub IsSpared-of : {kept : Type 0} (o : Op V F) → NeedsNoMemory copies o → IsSpared same kept copies entries k o
+  IsSpared-of op.Get never = record { values = λ _. never; asks_none = refl; adds = λ _ adds. absurd (false≢true adds) }
+  IsSpared-of op.Contains n = record { values = λ is. absurd cc; asks_none = refl; adds = λ _ adds. absurd (false≢true adds) }
   IsSpared-of (op.Put _) n = absurd n
   IsSpared-of (op.PutIfAbsent _) n = absurd n
-  IsSpared-of op.Remove n = record { values = λ is. absurd cc; asks_none = refl; adds_none = λ _. refl }
-  IsSpared-of (op.RemoveIf _) n = record { values = λ is. absurd cc; asks_none = refl; adds_none = λ _. refl }
-  IsSpared-of (op.Replace _) n = record { values = λ is. absurd cc; asks_none = refl; adds_none = λ _. refl }
-  IsSpared-of (op.ReplaceIf _ _) n = record { values = λ is. absurd cc; asks_none = refl; adds_none = λ _. refl }
+  IsSpared-of op.Remove n = record { values = λ is. absurd cc; asks_none = refl; adds = λ _ adds. absurd (false≢true adds) }
+  IsSpared-of (op.RemoveIf _) n = record { values = λ is. absurd cc; asks_none = refl; adds = λ _ adds. absurd (false≢true adds) }
+  IsSpared-of (op.Replace _) n = record { values = λ is. absurd cc; asks_none = refl; adds = λ _ adds. absurd (false≢true adds) }
+  IsSpared-of (op.ReplaceIf _ _) n = record { values = λ is. absurd cc; asks_none = refl; adds = λ _ adds. absurd (false≢true adds) }
   IsSpared-of (op.ComputeIfAbsent _) n = absurd n
   IsSpared-of (op.ComputeIfPresent _) n = absurd n
   IsSpared-of (op.Compute _) n = absurd n

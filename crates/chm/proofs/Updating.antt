@@ -50,25 +50,25 @@ module _ {K V F T : Type 0} (same : K → K → Bool) (code : K → ℕ) (same_v
 
 module _ {K V F T : Type 0} (same : K → K → Bool) (value_copies : V → Type 0) where
   -- where a call on a lean bin for the change was refused, the function was shown no value and set one
-  pub MayAdd-refused : (entries : List (K × V)) (key : K) (op : Op V F) (change : Change V) (answer : T)
+  pub MayAdd-refused : {kept : Type 0} (entries : List (K × V)) (key : K) (op : Op V F) (change : Change V) (answer : T)
       (shown : Option (Bor V)) (post : Option (Bor V) → Change V × T → Type 0)
-      → op ≡ op_for change → (IsSpared same value_copies entries key op → ⊥)
+      → op ≡ op_for change → (IsSpared same kept value_copies entries key op → ⊥)
       → option_copied shown ≡ lookup same entries key → post shown (change, answer) → MayAdd post
-  MayAdd-refused entries key op change.Keep answer shown post is not found said =
-      absurd (not (subst (λ (o : Op V F). IsSpared same value_copies entries key o) (sym is)
-      (record { values = λ no. absurd (true≢false no); asks_none = refl; adds_none = λ none. refl })))
-  MayAdd-refused entries key op change.Remove answer shown post is not found said =
-      absurd (not (subst (λ (o : Op V F). IsSpared same value_copies entries key o) (sym is)
-      (record { values = λ no. absurd (true≢false no); asks_none = refl; adds_none = λ none. refl })))
-  MayAdd-refused entries key op (change.Set v) answer shown post is not found said =
+  MayAdd-refused {kept} entries key op change.Keep answer shown post is not found said =
+      absurd (not (subst (λ (o : Op V F). IsSpared same kept value_copies entries key o) (sym is)
+      (record { values = λ no. absurd (true≢false no); asks_none = refl; adds = λ none may. absurd (true≢false (sym may)) })))
+  MayAdd-refused {kept} entries key op change.Remove answer shown post is not found said =
+      absurd (not (subst (λ (o : Op V F). IsSpared same kept value_copies entries key o) (sym is)
+      (record { values = λ no. absurd (true≢false no); asks_none = refl; adds = λ none may. absurd (true≢false (sym may)) })))
+  MayAdd-refused {kept} entries key op (change.Set v) answer shown post is not found said =
       go (lookup same entries key) refl where
         go : (o : Option V) → lookup same entries key ≡ o → MayAdd post
         go None none = (v, answer, (shown, found ∙ none, said))
         go (Some w) some =
-            absurd (not (subst (λ (o : Op V F). IsSpared same value_copies entries key o) (sym is)
+            absurd (not (subst (λ (o : Op V F). IsSpared same kept value_copies entries key o) (sym is)
             (record {
               values = λ no. absurd (true≢false no);
               asks_none = refl;
-              adds_none = λ none.
+              adds = λ none may.
                   absurd (none-some w (sym none ∙ some));
             })))

@@ -34,7 +34,7 @@ only_client {K} {V} {F} c (r ∷ rs) l h =
     rw its (ap (λ (xs : List (RecordView K V F)). r ∷ xs) (only_client c rs l (All-tail P r rs h)))
 
 -- the pass has seen more and more
-HasSeenMore-same : {K V F : Type 0} (old new : PassView K V F) → new ≡ old → HasSeenMore old new
+pub HasSeenMore-same : {K V F : Type 0} (old new : PassView K V F) → new ≡ old → HasSeenMore old new
 HasSeenMore-same old new is = subst (λ (p : PassView _ _ _). HasSeenMore old p) (sym is)
     (record { seen = BeginsWith-all old.seen; pass = refl })
 

@@ -16,7 +16,6 @@ use Rattle.hashkeys.specs.Classes.{IsTableSize}
 use Rattle.bin_history.specs.Calls.{key_of, after, reply}
 use Rattle.bin_history.specs.Cells.{records_on, cell_after, IsCellHistory}
 use Rattle.bin_history.specs.Clients.{by_client}
-use Rattle.bin_history.specs.Copies.{IsExact}
 use Rattle.bin_history.specs.Entries.{lookup}
 use Rattle.bin_history.specs.Lawful.{BinView}
 use Rattle.bin_history.specs.Plain.{run, IsLegal}
@@ -79,13 +78,6 @@ module _ {K V F : Type 0} (same_key : K → K → Bool) (same_value : V → V �
   abbrev pub IsAnswered : LedgerView K V → Call K V F → PassView K V F → PassView K V F →
       Result (Reply V) Fault → Type 0
   IsAnswered ledger call old new result = IsAnsweredAs (λ reply. reply) ledger call old new result
-
--- a clone of a key, a value or a function is what was cloned
-pub record AreExact {K V F : Type 0} (key : K → K → Type 0) (value : V → V → Type 0) (function : F → F →
-    Type 0) : Type 0 where
-  pub keys : IsExact key
-  pub values : IsExact value
-  pub functions : IsExact function
 
 -- == A closed map ==
 

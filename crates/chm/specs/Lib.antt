@@ -18,3 +18,4 @@ pub mod Updates
 pub mod Cursors
 pub mod Retained
 pub mod Numbered
+pub mod Given

@@ -20,12 +20,17 @@ ghost use Rattle.bin_history.specs.declared.call.Call.TheVariants.{ComputeIfPres
 ghost use Rattle.bin_history.specs.declared.call.Call.TheVariants.{Merge};
 ghost use Rattle.bin_history.specs.declared.form.Form.TheVariants.{Lean};
 ghost use Rattle.count_ledger.specs.Limits.{most_calls};
-ghost use Rattle.chm.specs.Headline.{AreExact, IsAnswered};
+ghost use Rattle.chm.specs.Headline.{IsAnswered};
 ghost use Rattle.chm.specs.Sure.{IsMadeOrFull, IsSureOf};
 
 mod balance;
+mod by_query;
+mod give;
+mod given;
 mod held;
 mod making;
+mod modify;
+pub(crate) mod not_made;
 mod seek;
 pub(crate) mod update;
 mod view;
@@ -50,7 +55,6 @@ impl<K: HashKey, V: Value, F: Remap<K, V>, A: Allocator + Clone> Map<K, V, F, A>
         pass: &mut Pass<K, V, F>,
         call: Call<K, V, F>,
     ) -> Result<Reply<V>, Fault>
-        requires exact { AreExact K.is_clone V.is_clone F.is_clone }
         requires pass { pass.old.ledger ≡ self.now.ledger.id }
         ensures answered { IsAnswered K.eq V.eq F.remapped F.merged self.now.ledger call pass.old
             pass.new result }
@@ -69,7 +73,6 @@ impl<K: HashKey, V: Value, F: Remap<K, V>, A: Allocator + Clone> Map<K, V, F, A>
         key: K,
         op: Op<V, F>,
     ) -> Result<Reply<V>, Fault>
-        requires exact { AreExact K.is_clone V.is_clone F.is_clone }
         requires pass { pass.old.ledger ≡ self.now.ledger.id }
         ensures answered { IsAnswered K.eq V.eq F.remapped F.merged self.now.ledger (call_on key op)
             pass.old pass.new result }
@@ -93,7 +96,6 @@ impl<K: HashKey, V: Value, F: Remap<K, V>, A: Allocator + Clone> Map<K, V, F, A>
         key: KeyArg<'_, K>,
         op: Op<V, F>,
     ) -> Result<Reply<V>, Fault>
-        requires exact { AreExact K.is_clone V.is_clone F.is_clone }
         requires pass { pass.old.ledger ≡ self.now.ledger.id }
         ensures answered { IsAnswered K.eq V.eq F.remapped F.merged self.now.ledger
             (call_on (key_in key.entry) op) pass.old pass.new result }
@@ -118,7 +120,6 @@ impl<K: HashKey, V: Value, F: Remap<K, V>, A: Allocator + Clone> Map<K, V, F, A>
         key: KeyArg<'_, K>,
         op: Op<V, F>,
     ) -> Option<Result<Reply<V>, Fault>>
-        requires exact { AreExact K.is_clone V.is_clone F.is_clone }
         requires pass { pass.old.ledger ≡ self.now.ledger.id }
         ensures answered { IfSome result
             (IsAnswered K.eq V.eq F.remapped F.merged self.now.ledger
@@ -147,7 +148,6 @@ impl<K: HashKey, V: Value, F: Remap<K, V>, A: Allocator + Clone> Map<K, V, F, A>
     ///     map.get(rt, pass, 2)? == Reply::Value(None)
     #[inline(always)]
     pub fn get<R: Wait>(&self, rt: &R, pass: &mut Pass<K, V, F>, key: K) -> Result<Reply<V>, Fault>
-        requires exact { AreExact K.is_clone V.is_clone F.is_clone }
         requires pass { pass.old.ledger ≡ self.now.ledger.id }
         ensures answered { IsAnswered K.eq V.eq F.remapped F.merged self.now.ledger
             (Get key) pass.old pass.new result }
@@ -168,7 +168,6 @@ impl<K: HashKey, V: Value, F: Remap<K, V>, A: Allocator + Clone> Map<K, V, F, A>
         pass: &mut Pass<K, V, F>,
         key: K,
     ) -> Result<Reply<V>, Fault>
-        requires exact { AreExact K.is_clone V.is_clone F.is_clone }
         requires pass { pass.old.ledger ≡ self.now.ledger.id }
         ensures answered { IsAnswered K.eq V.eq F.remapped F.merged self.now.ledger
             (Contains key) pass.old pass.new result }
@@ -190,7 +189,6 @@ impl<K: HashKey, V: Value, F: Remap<K, V>, A: Allocator + Clone> Map<K, V, F, A>
         key: K,
         value: V,
     ) -> Result<Reply<V>, Fault>
-        requires exact { AreExact K.is_clone V.is_clone F.is_clone }
         requires pass { pass.old.ledger ≡ self.now.ledger.id }
         ensures { IsAnswered K.eq V.eq F.remapped F.merged self.now.ledger
             (Put key value) pass.old pass.new result }
@@ -211,7 +209,6 @@ impl<K: HashKey, V: Value, F: Remap<K, V>, A: Allocator + Clone> Map<K, V, F, A>
         key: K,
         value: V,
     ) -> Result<Reply<V>, Fault>
-        requires exact { AreExact K.is_clone V.is_clone F.is_clone }
         requires pass { pass.old.ledger ≡ self.now.ledger.id }
         ensures { IsAnswered K.eq V.eq F.remapped F.merged self.now.ledger
             (PutIfAbsent key value) pass.old pass.new result }
@@ -231,7 +228,6 @@ impl<K: HashKey, V: Value, F: Remap<K, V>, A: Allocator + Clone> Map<K, V, F, A>
         pass: &mut Pass<K, V, F>,
         key: K,
     ) -> Result<Reply<V>, Fault>
-        requires exact { AreExact K.is_clone V.is_clone F.is_clone }
         requires pass { pass.old.ledger ≡ self.now.ledger.id }
         ensures answered { IsAnswered K.eq V.eq F.remapped F.merged self.now.ledger
             (Remove key) pass.old pass.new result }
@@ -253,7 +249,6 @@ impl<K: HashKey, V: Value, F: Remap<K, V>, A: Allocator + Clone> Map<K, V, F, A>
         key: K,
         value: V,
     ) -> Result<Reply<V>, Fault>
-        requires exact { AreExact K.is_clone V.is_clone F.is_clone }
         requires pass { pass.old.ledger ≡ self.now.ledger.id }
         ensures answered { IsAnswered K.eq V.eq F.remapped F.merged self.now.ledger
             (RemoveIf key value) pass.old pass.new result }
@@ -275,7 +270,6 @@ impl<K: HashKey, V: Value, F: Remap<K, V>, A: Allocator + Clone> Map<K, V, F, A>
         key: K,
         value: V,
     ) -> Result<Reply<V>, Fault>
-        requires exact { AreExact K.is_clone V.is_clone F.is_clone }
         requires pass { pass.old.ledger ≡ self.now.ledger.id }
         ensures answered { IsAnswered K.eq V.eq F.remapped F.merged self.now.ledger
             (Replace key value) pass.old pass.new result }
@@ -298,7 +292,6 @@ impl<K: HashKey, V: Value, F: Remap<K, V>, A: Allocator + Clone> Map<K, V, F, A>
         old: V,
         new: V,
     ) -> Result<Reply<V>, Fault>
-        requires exact { AreExact K.is_clone V.is_clone F.is_clone }
         requires pass { pass.old.ledger ≡ self.now.ledger.id }
         ensures answered { IsAnswered K.eq V.eq F.remapped F.merged self.now.ledger
             (ReplaceIf key old new) pass.old pass.new result }
@@ -320,7 +313,6 @@ impl<K: HashKey, V: Value, F: Remap<K, V>, A: Allocator + Clone> Map<K, V, F, A>
         key: K,
         function: F,
     ) -> Result<Reply<V>, Fault>
-        requires exact { AreExact K.is_clone V.is_clone F.is_clone }
         requires pass { pass.old.ledger ≡ self.now.ledger.id }
         ensures { IsAnswered K.eq V.eq F.remapped F.merged self.now.ledger
             (ComputeIfAbsent key function) pass.old pass.new result }
@@ -342,7 +334,6 @@ impl<K: HashKey, V: Value, F: Remap<K, V>, A: Allocator + Clone> Map<K, V, F, A>
         key: K,
         function: F,
     ) -> Result<Reply<V>, Fault>
-        requires exact { AreExact K.is_clone V.is_clone F.is_clone }
         requires pass { pass.old.ledger ≡ self.now.ledger.id }
         ensures { IsAnswered K.eq V.eq F.remapped F.merged self.now.ledger
             (ComputeIfPresent key function) pass.old pass.new result }
@@ -363,7 +354,6 @@ impl<K: HashKey, V: Value, F: Remap<K, V>, A: Allocator + Clone> Map<K, V, F, A>
         key: K,
         function: F,
     ) -> Result<Reply<V>, Fault>
-        requires exact { AreExact K.is_clone V.is_clone F.is_clone }
         requires pass { pass.old.ledger ≡ self.now.ledger.id }
         ensures { IsAnswered K.eq V.eq F.remapped F.merged self.now.ledger
             (Compute key function) pass.old pass.new result }
@@ -385,7 +375,6 @@ impl<K: HashKey, V: Value, F: Remap<K, V>, A: Allocator + Clone> Map<K, V, F, A>
         value: V,
         function: F,
     ) -> Result<Reply<V>, Fault>
-        requires exact { AreExact K.is_clone V.is_clone F.is_clone }
         requires pass { pass.old.ledger ≡ self.now.ledger.id }
         ensures { IsAnswered K.eq V.eq F.remapped F.merged self.now.ledger
             (Merge key value function) pass.old pass.new result }

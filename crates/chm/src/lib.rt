@@ -49,7 +49,8 @@ mod resize;
 mod share;
 mod walks;
 
-pub use bin_history::{Call, Form, KeyArg, Op, Remap, Reply, Value};
+pub use bin_history::{Call, Exact, Form, KeyArg, Op, Remap, Reply, Value};
+pub use calls::not_made::NotMade;
 pub use calls::update::Change;
 pub use closed::close::{NotClosed, NotClosedWith};
 pub use closed::quiet::{Entries, Quiet};
@@ -57,7 +58,9 @@ pub use count_ledger::{
     MOST_CALLS, MOST_CLIENTS, MOST_LEAN_CALLS, MOST_LEAN_CLIENTS, Moment, Pass, Roster, retire_all,
 };
 pub use fault::Fault;
-pub use hashkeys::{AsKey, ByteString, Bytes, Class, HashKey, Key, MOST_BINS, Salt};
+pub use hashkeys::{
+    AsKey, ByteString, Bytes, Class, HashKey, Key, MOST_BINS, MakesKey, Salt, Text,
+};
 pub use laws::laws_of_classes;
 pub use map::{Map, Opened, Started};
 pub use part_walks::{PartWalk, Taker};

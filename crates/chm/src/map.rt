@@ -3,7 +3,6 @@ ghost use Rattle.std.specs.Prelude.{◌≡◌, ◌≤◌, ◌<◌, ◌^◌, pos,
 ghost use Rattle.std.specs.Prelude.{All, IfOk};
 ghost use Rattle.std.specs.Int.{w64, int_max, cast_signed};
 ghost use Rattle.hashkeys.specs.Classes.{IsTableSize};
-ghost use Rattle.bin_history.specs.Copies.{IsExact};
 ghost use Rattle.bin_history.specs.Entries.{HasDistinctKeys};
 ghost use Rattle.bin_history.specs.Limits.{most_calls, most_clients};
 ghost use Rattle.count_ledger.specs.Opening.{AreOfTheirClasses, left_in, lists_of, new_passes};
@@ -13,6 +12,8 @@ ghost use Rattle.chm.specs.Limits.{most_pairs};
 ghost use Rattle.chm.specs.Opened.{IsLimited, IsNew};
 ghost use Rattle.chm.specs.Refusals.{AreClients, IsCapacity, IsCapacityOf};
 ghost use Rattle.chm.specs.Sizes.{most_bins_of};
+
+mod closing;
 
 use crate::fault::Fault;
 use crate::resize::policy::most_capacity;
@@ -32,7 +33,6 @@ use std::marker::Model;
 /// In the examples of its calls the map has keys and values of type `u64`, one client, whose pass
 /// is `pass`, and no entries yet. `Plus(n)` is a function that adds n to a value, or to 0 where
 /// there is none; a merge adds n to the sum of both.
-#[derive(Drop)]
 pub struct Map<K: HashKey, V: Value, F: Remap<K, V>, A: Allocator> {
     pub(crate) ledger: Ledger<K, V, F, A>,
     pub(crate) bins: BinStore<K, V, F, A>,
@@ -48,6 +48,18 @@ impl<K: HashKey, V: Value, F: Remap<K, V>, A: Allocator> Model for Map<K, V, F, 
     ghost view = { λ m. record { ledger = m.ledger; n = m.bins.n } };
 
     ghost invariant = { λ m. IsMap m.ledger m.bins m.opened };
+}
+
+// Written out, so that a crate above calls it: of a derived one it would prove each part anew.
+impl<K: HashKey, V: Value, F: Remap<K, V>, A: Allocator> Drop for Map<K, V, F, A> {
+    fn drop(self) {
+        let Map {
+            ledger: _,
+            bins: _,
+            resizer: _,
+            opened: _,
+        } = self;
+    }
 }
 
 /// A map with the passes of all clients: of client 0, 1 and so on, in this order.
@@ -82,8 +94,6 @@ impl<K: HashKey, V: Value, F: Remap<K, V>, A: Allocator + Clone> Map<K, V, F, A>
     ///     let (map, passes): Opened<u64, u64, Plus, Global> = Map::new(alloc, 16, 4)?;
     ///     map.clients() == 4 && passes.len() == 4
     pub fn new(alloc: A, capacity: usize, clients: u32) -> Result<Opened<K, V, F, A>, Fault>
-        requires keys { IsExact K.is_clone }
-        requires values { IsExact V.is_clone }
         ensures new { IfOk result
             (λ r. IsNew Recorded (record { 0 = 0 }) capacity clients r.0 r.1.items) }
         ensures limits { IsLimited (IsCapacity capacity) (most_clients Recorded) clients result }
@@ -101,8 +111,6 @@ impl<K: HashKey, V: Value, F: Remap<K, V>, A: Allocator + Clone> Map<K, V, F, A>
         clients: u32,
         salt: Salt,
     ) -> Result<Opened<K, V, F, A>, Fault>
-        requires keys { IsExact K.is_clone }
-        requires values { IsExact V.is_clone }
         ensures new { IfOk result (λ r. IsNew Recorded salt capacity clients r.0 r.1.items) }
         ensures limits { IsLimited (IsCapacity capacity) (most_clients Recorded) clients result }
     {
@@ -122,8 +130,6 @@ impl<K: HashKey, V: Value, F: Remap<K, V>, A: Allocator + Clone> Map<K, V, F, A>
         clients: u32,
         salt: Salt,
     ) -> Result<Opened<K, V, F, A>, Fault>
-        requires keys { IsExact K.is_clone }
-        requires values { IsExact V.is_clone }
         ensures new { IfOk result (λ r. IsNew Lean salt capacity clients r.0 r.1.items) }
         ensures limits { IsLimited (IsCapacityOf Lean capacity) (most_clients Lean) clients result }
     {
@@ -148,8 +154,6 @@ impl<K: HashKey, V: Value, F: Remap<K, V>, A: Allocator + Clone> Map<K, V, F, A>
         clients: u32,
         salt: Salt,
     ) -> Result<Started<K, V, F, A>, Fault>
-        requires keys { IsExact K.is_clone }
-        requires values { IsExact V.is_clone }
         ensures new { IfOk result (λ r. IsNew {F = F} Lean salt capacity clients r.0 (left_in r.1)) }
         ensures roster { IfOk result
             (λ r. r.1 ≡ record { ledger = r.0.ledger.id; next = 0; clients = clients }) }
@@ -166,8 +170,6 @@ impl<K: HashKey, V: Value, F: Remap<K, V>, A: Allocator + Clone> Map<K, V, F, A>
         clients: u32,
         salt: Salt,
     ) -> Result<Started<K, V, F, A>, Fault>
-        requires keys { IsExact K.is_clone }
-        requires values { IsExact V.is_clone }
         ensures new { IfOk result (λ r. IsNew {F = F} form salt capacity clients r.0 (left_in r.1)) }
         ensures roster { IfOk result
             (λ r. r.1 ≡ record { ledger = r.0.ledger.id; next = 0; clients = clients }) }
@@ -191,8 +193,6 @@ impl<K: HashKey, V: Value, F: Remap<K, V>, A: Allocator + Clone> Map<K, V, F, A>
         clients: u32,
         salt: Salt,
     ) -> Result<Opened<K, V, F, A>, Fault>
-        requires keys { IsExact K.is_clone }
-        requires values { IsExact V.is_clone }
         ensures new { IfOk result (λ r. IsNew form salt capacity clients r.0 r.1.items) }
         ensures limits { IsLimited (IsCapacityOf form capacity) (most_clients form) clients result }
     {
@@ -226,8 +226,6 @@ impl<K: HashKey, V: Value, F: Remap<K, V>, A: Allocator + Clone> Map<K, V, F, A>
         bases: Vec<Vec<(K, V), A>, A>,
         opened: u64,
     ) -> Result<Started<K, V, F, A>, AllocError>
-        requires keys { IsExact K.is_clone }
-        requires values { IsExact V.is_clone }
         requires clients { AreClients (most_clients form) clients }
         requires size { IsTableSize (length bases.items) }
         requires wide { length bases.items ≤ most_bins_of form }

@@ -1,7 +1,6 @@
 //! Moves of single bins into their halves.
 ghost use Rattle.std.specs.Prelude.{◌≡◌, ◌<◌, ◌≤◌};
 ghost use Rattle.hashkeys.specs.Limits.{most_bins};
-ghost use Rattle.bin_history.specs.Copies.{IsExact};
 ghost use Rattle.bin_history.specs.Limits.{most_recorded_bins};
 ghost use Rattle.bin_history.specs.declared.form.Form.TheVariants.{Recorded};
 
@@ -21,9 +20,6 @@ impl<K: HashKey, V: Value, F: Remap<K, V>, A: Allocator + Clone> Generations<K, 
     ///
     /// `NoMemory`, or `Busy` where the bin is held or read just then. The bin stays.
     pub fn try_forward(&self, ledger: &Ledger<K, V, F, A>, class: Class) -> Result<Moved, Refused>
-        requires keys { IsExact K.is_clone }
-        requires values { IsExact V.is_clone }
-        requires functions { IsExact F.is_clone }
         requires ledger { ledger.now.id ≡ self.now.ledger }
         requires least { self.now.n ≤ class.n }
         requires size { class.n < most_bins }
@@ -60,9 +56,6 @@ impl<K: HashKey, V: Value, F: Remap<K, V>, A: Allocator + Clone> Generations<K, 
         ledger: &Ledger<K, V, F, A>,
         class: Class,
     ) -> Result<Moved, AllocError>
-        requires keys { IsExact K.is_clone }
-        requires values { IsExact V.is_clone }
-        requires functions { IsExact F.is_clone }
         requires ledger { ledger.now.id ≡ self.now.ledger }
         requires least { self.now.n ≤ class.n }
         requires size { class.n < most_bins }

@@ -3,7 +3,6 @@ ghost use Rattle.std.specs.Prelude.{◌≡◌, ◌<◌, true, IfSome, IfErr};
 ghost use Rattle.hashkeys.specs.Classes.{covers};
 ghost use Rattle.hashkeys.specs.Limits.{most_bins};
 ghost use Rattle.bin_history.specs.Calls.{after};
-ghost use Rattle.bin_history.specs.Copies.{IsExact};
 ghost use Rattle.bin_history.specs.Lawful.{IsLawful};
 ghost use Rattle.bin_history.specs.Limits.{most_recorded_bins};
 ghost use Rattle.bin_history.specs.declared.form.Form.TheVariants.{Recorded};
@@ -196,9 +195,6 @@ impl<'a, K: HashKey, V: Value, F: Remap<K, V>, A: Allocator + Clone> Held<'a, K,
         self,
         ledger: &Ledger<K, V, F, A>,
     ) -> Result<(), (Held<'a, K, V, F, A>, Refused)>
-        requires keys { IsExact K.is_clone }
-        requires values { IsExact V.is_clone }
-        requires functions { IsExact F.is_clone }
         requires at { AreAt K.eq (after V.eq F.remapped F.merged) self.place.at.now
             self.bin self.role }
         requires ledger { self.role.ledger ≡ ledger.now.id }

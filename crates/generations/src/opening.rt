@@ -2,7 +2,6 @@
 ghost use Rattle.std.specs.Prelude.{◌≡◌, true, All, IfOk, [], length};
 ghost use Rattle.hashkeys.specs.Classes.{IsTableSize, is_of};
 ghost use Rattle.bin_history.specs.Calls.{after};
-ghost use Rattle.bin_history.specs.Copies.{IsExact};
 ghost use Rattle.bin_history.specs.Entries.{HasDistinctKeys};
 ghost use Rattle.generations.specs.Generations.{IsTable};
 ghost use Rattle.count_ledger.specs.Opening.{AreOfTheirClasses, lists_of, new_roles};
@@ -26,8 +25,6 @@ fn opening_place<K: HashKey, V: Value, F: Remap<K, V>, A: Allocator + Clone>(
     base: Vec<(K, V), A>,
     role: BinRole<K, V, F>,
 ) -> Result<Place<K, V, F, A>, AllocError>
-    requires keys { IsExact K.is_clone }
-    requires values { IsExact V.is_clone }
     requires distinct { HasDistinctKeys K.eq base.items }
     requires of_class { All (λ e. is_of K.code salt class e.0 ≡ true) base.items }
     requires role { role ≡ record {
@@ -60,8 +57,6 @@ fn opening_places<K: HashKey, V: Value, F: Remap<K, V>, A: Allocator + Clone>(
     bases: Vec<Vec<(K, V), A>, A>,
     roles: Vec<BinRole<K, V, F>, A>,
 ) -> Result<Vec<Place<K, V, F, A>, A>, AllocError>
-    requires keys { IsExact K.is_clone }
-    requires values { IsExact V.is_clone }
     requires size { IsTableSize n }
     requires count { length bases.items ≡ n }
     requires distinct { All (λ base. HasDistinctKeys K.eq base.items) bases.items }
@@ -100,8 +95,6 @@ impl<K: HashKey, V: Value, F: Remap<K, V>, A: Allocator + Clone> Generations<K, 
         bases: Vec<Vec<(K, V), A>, A>,
         roles: Vec<BinRole<K, V, F>, A>,
     ) -> Result<Generations<K, V, F, A>, AllocError>
-        requires keys { IsExact K.is_clone }
-        requires values { IsExact V.is_clone }
         requires size { IsTableSize n }
         requires count { length bases.items ≡ n }
         requires distinct { All (λ base. HasDistinctKeys K.eq base.items) bases.items }

@@ -3,7 +3,7 @@ use denote.RattleType.{RattleType}
 use denote.Struct.Declared.{shape}
 use denote.Param.Send.{IsSend, IsSync, Frees, AllSend, AllSync, sendable}
 use denote.Struct.Field.{Field}
-use denote.Param.SendFields.{as_row_send, as_row_sync, declared_send}
+use denote.Param.SendFields.{as_row_send, as_row_sync, declared_send, declared_sync}
 use Rattle.std.proofs.CrossingOver.{crosses}
 use Rattle.std.proofs.sync.atomic.AtomicU64.TheSendSync as atomic
 use Rattle.std.specs.declared.alloc.Allocator as Allocator
@@ -18,6 +18,7 @@ use Rattle.boxcar.specs.contracts.slot.OnceSlot as Slot
 use Rattle.boxcar.specs.declared.slot.SlotRule as SlotRule
 use Rattle.boxcar.proofs.slot.OnceSlot.TheSendSync as slot
 use Rattle.boxcar.proofs.tag.Tag.TheSendSync as tag
+use Rattle.hashkeys.specs.declared.exact.Exact as Exact
 use Rattle.hashkeys.specs.declared.hashing.HashKey as HashKey
 use Rattle.bin_entries.proofs.Shared.{entries_send}
 use Rattle.bin_history.specs.declared.call.Remap as Remap
@@ -29,8 +30,10 @@ use Rattle.lean_bins.specs.contracts.slot.SegmentTag as SegmentTag
 use Rattle.lean_bins.specs.contracts.slot.BinSlotFits.TheImpl.{ghosts, no_dict}
 use Rattle.lean_bins.specs.contracts.segments.OfSegment as OfSegment
 use Rattle.lean_bins.specs.contracts.segments.OfTable as OfTable
-use Rattle.lean_bins.specs.contracts.segments.OfSegmentSlotRuleLockedSlotsBinSlot.TheImpl as of_segment
-use Rattle.lean_bins.specs.contracts.segments.OfTableSlotRuleVecOnceSlotLockedSlotsBinSlotOfSegment.TheImpl as of_table
+use Rattle.lean_bins.specs.contracts.segments.Segment as Segment
+use Rattle.lean_bins.specs.contracts.segments.SegmentTable as SegmentTable
+use Rattle.lean_bins.specs.contracts.segments.OfSegmentSlotRuleSegment.TheImpl as of_segment
+use Rattle.lean_bins.specs.contracts.segments.OfTableSlotRuleSegmentTable.TheImpl as of_table
 use Rattle.lean_bins.specs.contracts.bins.LeanBins as Bins
 use Rattle.lean_bins.specs.contracts.bins.LeanBins.TheInside as Inside
 
@@ -44,9 +47,10 @@ module _ (A : RattleType) (alloc : Allocator.Ghosts A.Denot) (T Y : RattleType) 
 
 module _ (K V F A : RattleType) (hash : HashKey.Ghosts K.Denot) (key_eq : Eq.Ghosts K.Denot)
     (key_same : PartialEq.Ghosts K.Denot)
-    (key_clone : Clone.Ghosts K.Denot) (value : Value.Ghosts V.Denot) (value_clone : Clone.Ghosts V.Denot) (value_eq : Eq.Ghosts V.Denot)
+    (key_exact : Exact.Ghosts K.Denot) (key_clone : Clone.Ghosts K.Denot) (value : Value.Ghosts V.Denot) (value_exact : Exact.Ghosts V.Denot)
+    (value_clone : Clone.Ghosts V.Denot) (value_eq : Eq.Ghosts V.Denot)
     (value_same : PartialEq.Ghosts V.Denot)
-    (remap : Remap.Ghosts F.Denot K.Denot V.Denot) (function_clone : Clone.Ghosts F.Denot)
+    (remap : Remap.Ghosts F.Denot K.Denot V.Denot) (function_exact : Exact.Ghosts F.Denot) (function_clone : Clone.Ghosts F.Denot)
     (alloc : Allocator.Ghosts A.Denot)
     (sk : IsSend K) (sv : IsSend V) (sf : IsSend F) (sa : IsSend A) (yk : IsSync K) (yv : IsSync V) (yf : IsSync F)
     (ya : IsSync A)
@@ -60,31 +64,40 @@ module _ (K V F A : RattleType) (hash : HashKey.Ghosts K.Denot) (key_eq : Eq.Gho
     (book_send, tt),
   )
 
-  -- a segment of a table
+  -- the places of a segment
   abbrev rows_field : Field
   rows_field = LockedSlots.the_field (BinSlot.the_row K V F A hash key_same key_clone alloc) A SegmentTag.the_row
-      (ghosts K V F A hash no_dict key_eq no_dict key_same no_dict key_clone no_dict value no_dict value_clone no_dict value_eq no_dict
-      value_same no_dict remap no_dict function_clone no_dict alloc no_dict no_dict no_dict no_dict no_dict) alloc
+      (ghosts K V F A hash no_dict key_eq no_dict key_same no_dict key_exact no_dict key_clone no_dict value no_dict value_exact no_dict
+      value_clone no_dict value_eq no_dict
+      value_same no_dict remap no_dict function_exact no_dict function_clone no_dict alloc no_dict no_dict no_dict no_dict no_dict) alloc
 
-  abbrev rows : RattleType
-  rows = LockedSlots.the_row (BinSlot.the_row K V F A hash key_same key_clone alloc) A SegmentTag.the_row
-      (ghosts K V F A hash no_dict key_eq no_dict key_same no_dict key_clone no_dict value no_dict value_clone no_dict value_eq no_dict
-      value_same no_dict remap no_dict function_clone no_dict alloc no_dict no_dict no_dict no_dict no_dict) alloc
+  -- a segment of a table
+  abbrev segment : RattleType
+  segment = Segment.the_row K V F A hash key_eq key_same key_exact key_clone value value_exact value_clone value_eq value_same remap function_exact
+      function_clone alloc
 
-  abbrev segment_rule : SlotRule.Ghosts OfSegment.the_row.Denot rows.Denot
-  segment_rule = of_segment.ghosts K V F A hash of_segment.no_dict key_eq of_segment.no_dict key_same of_segment.no_dict key_clone
-      of_segment.no_dict value of_segment.no_dict value_clone of_segment.no_dict value_eq of_segment.no_dict value_same of_segment.no_dict remap
-      of_segment.no_dict function_clone of_segment.no_dict alloc of_segment.no_dict of_segment.no_dict of_segment.no_dict
+  abbrev segment_rule : SlotRule.Ghosts OfSegment.the_row.Denot segment.Denot
+  segment_rule = of_segment.ghosts K V F A hash of_segment.no_dict key_eq of_segment.no_dict key_same of_segment.no_dict key_exact
+      of_segment.no_dict key_clone
+      of_segment.no_dict value of_segment.no_dict value_exact of_segment.no_dict value_clone of_segment.no_dict value_eq of_segment.no_dict
+      value_same of_segment.no_dict remap
+      of_segment.no_dict function_exact of_segment.no_dict function_clone of_segment.no_dict alloc of_segment.no_dict of_segment.no_dict
+      of_segment.no_dict
       of_segment.no_dict of_segment.no_dict
 
-  -- the slots of the segments of a table
-  abbrev segments : RattleType
-  segments = Vec.the_row (Slot.the_row rows OfSegment.the_row segment_rule) A alloc
+  abbrev segments_field : Field
+  segments_field = Vec.the_field (Slot.the_row segment OfSegment.the_row segment_rule) A alloc
 
-  abbrev table_rule : SlotRule.Ghosts OfTable.the_row.Denot segments.Denot
-  table_rule = of_table.ghosts K V F A hash of_table.no_dict key_eq of_table.no_dict key_same of_table.no_dict key_clone
-      of_table.no_dict value of_table.no_dict value_clone of_table.no_dict value_eq of_table.no_dict value_same of_table.no_dict remap
-      of_table.no_dict function_clone of_table.no_dict alloc of_table.no_dict of_table.no_dict of_table.no_dict
+  -- a table
+  abbrev table : RattleType
+  table = SegmentTable.the_row K V F A hash key_eq key_same key_exact key_clone value value_exact value_clone value_eq value_same remap function_exact
+      function_clone alloc
+
+  abbrev table_rule : SlotRule.Ghosts OfTable.the_row.Denot table.Denot
+  table_rule = of_table.ghosts K V F A hash of_table.no_dict key_eq of_table.no_dict key_same of_table.no_dict key_exact of_table.no_dict key_clone
+      of_table.no_dict value of_table.no_dict value_exact of_table.no_dict value_clone of_table.no_dict value_eq of_table.no_dict
+      value_same of_table.no_dict remap
+      of_table.no_dict function_exact of_table.no_dict function_clone of_table.no_dict alloc of_table.no_dict of_table.no_dict of_table.no_dict
       of_table.no_dict of_table.no_dict
 
   bare_send : IsSend rows_field.row
@@ -93,25 +106,29 @@ module _ (K V F A : RattleType) (hash : HashKey.Ghosts K.Denot) (key_eq : Eq.Gho
   bare_sync : IsSync rows_field.row
   bare_sync = search (sendable, crosses, the_words.the_sync, the_lease.the_sync, bin_slot_send) depth 30
 
-  rows_send : IsSend rows
-  rows_send = as_row_send rows_field bare_send
+  segment_send : IsSend segment
+  segment_send = declared_send (Segment.the_type K V F A hash key_eq key_same key_exact key_clone value value_exact value_clone value_eq value_same remap function_exact
+      function_clone alloc) (as_row_send rows_field bare_send, tt)
 
-  rows_sync : IsSync rows
-  rows_sync = as_row_sync rows_field bare_sync
+  segment_sync : IsSync segment
+  segment_sync = declared_sync (Segment.the_type K V F A hash key_eq key_same key_exact key_clone value value_exact value_clone value_eq value_same remap function_exact
+      function_clone alloc) (as_row_sync rows_field bare_sync, tt)
 
-  segments_send : IsSend segments
-  segments_send = slots_send A alloc rows OfSegment.the_row segment_rule sa frees rows_send
+  table_send : IsSend table
+  table_send = declared_send (SegmentTable.the_type K V F A hash key_eq key_same key_exact key_clone value value_exact value_clone value_eq value_same remap function_exact
+      function_clone alloc) (as_row_send segments_field (slots_send A alloc segment OfSegment.the_row segment_rule sa frees segment_send), tt)
 
-  segments_sync : IsSync segments
-  segments_sync = slots_sync A alloc rows OfSegment.the_row segment_rule ya rows_send rows_sync
+  table_sync : IsSync table
+  table_sync = declared_sync (SegmentTable.the_type K V F A hash key_eq key_same key_exact key_clone value value_exact value_clone value_eq value_same remap function_exact
+      function_clone alloc) (as_row_sync segments_field (slots_sync A alloc segment OfSegment.the_row segment_rule ya segment_send segment_sync), tt)
 
   fields_send : AllSend
-      (shape (Inside.the_type K V F A hash key_eq key_same key_clone value value_clone value_eq value_same remap
+      (shape (Inside.the_type K V F A hash key_eq key_same key_exact key_clone value value_exact value_clone value_eq value_same remap function_exact
       function_clone alloc)).fields
   fields_send = (
     bare_send,
     (
-      slots_send A alloc segments OfTable.the_row table_rule sa frees segments_send,
+      slots_send A alloc table OfTable.the_row table_rule sa frees table_send,
       (
         search (sendable, atomic.the_send) depth 20,
         (search sendable depth 20, (search sendable depth 20, (search (sendable, tag.the_send) depth 20, tt))),
@@ -120,12 +137,12 @@ module _ (K V F A : RattleType) (hash : HashKey.Ghosts K.Denot) (key_eq : Eq.Gho
   )
 
   fields_sync : AllSync
-      (shape (Inside.the_type K V F A hash key_eq key_same key_clone value value_clone value_eq value_same remap
+      (shape (Inside.the_type K V F A hash key_eq key_same key_exact key_clone value value_exact value_clone value_eq value_same remap function_exact
       function_clone alloc)).fields
   fields_sync = (
     bare_sync,
     (
-      slots_sync A alloc segments OfTable.the_row table_rule ya segments_send segments_sync,
+      slots_sync A alloc table OfTable.the_row table_rule ya table_send table_sync,
       (
         search (sendable, atomic.the_sync) depth 20,
         (search sendable depth 20, (search sendable depth 20, (search (sendable, tag.the_sync) depth 20, tt))),
@@ -134,9 +151,11 @@ module _ (K V F A : RattleType) (hash : HashKey.Ghosts K.Denot) (key_eq : Eq.Gho
   )
 
   pub map_send : IsSend
-      (Bins.the_row K V F A hash key_eq key_same key_clone value value_clone value_eq value_same remap function_clone alloc)
+      (Bins.the_row K V F A hash key_eq key_same key_exact key_clone value value_exact value_clone value_eq value_same remap function_exact
+      function_clone alloc)
   map_send = search (sendable, fields_send) depth 30
 
   pub map_sync : IsSync
-      (Bins.the_row K V F A hash key_eq key_same key_clone value value_clone value_eq value_same remap function_clone alloc)
+      (Bins.the_row K V F A hash key_eq key_same key_exact key_clone value value_exact value_clone value_eq value_same remap function_exact
+      function_clone alloc)
   map_sync = search (sendable, fields_sync) depth 30

@@ -8,7 +8,7 @@ ghost use Rattle.lean_bins.specs.Segments.{IsSegment, AreSegments, first_named, 
 ghost use Rattle.lean_bins.specs.Homes.{IsIndexOf, IsSlotRefOf};
 
 use crate::hold::index_among;
-use crate::segments::{SEGMENT, Segments, Tables};
+use crate::segments::{SEGMENT, Segment, SegmentTable, Tables};
 use crate::slot::{BinSlot, SegmentTag};
 use bin_history::{Remap, Value};
 use bin_layout::Refused;
@@ -99,26 +99,26 @@ impl<K: HashKey, V: Value, F: Remap<K, V>, A: Allocator> LeanBins<K, V, F, A> {
         self.salt
     }
 
-    /// The slots of a table's segments, once there are any.
+    /// A table, once it was made.
     #[inline(always)]
-    fn table(&self, exponent: u32) -> Option<&Segments<K, V, F, A>>
+    fn table(&self, exponent: u32) -> Option<&SegmentTable<K, V, F, A>>
         requires { exponent < most_exponent }
-        ensures { IfSome result (λ t. AreSegments self.now (2 ^ exponent) t.now.items) }
+        ensures { IfSome result (λ t. AreSegments self.now (2 ^ exponent) t.now.segments.items) }
     {
         self.tables[exponent as usize].get()
     }
 
     /// A segment of a table, where it was made.
     #[inline(always)]
-    fn segment(&self, exponent: u32, number: u32) -> Option<&LockedSlots<BinSlot<K, V, F, A>, A>>
+    fn segment(&self, exponent: u32, number: u32) -> Option<&Segment<K, V, F, A>>
         requires table { exponent < most_exponent }
         requires within { number * segment_places < 2 ^ exponent }
         ensures { IfSome result
             (λ r. IsSegment self.now (2 ^ exponent + number * segment_places)
             (min (2 ^ exponent + number * segment_places) segment_places)
-            r.now.table.shared.key.tag r.now.table.shared.table_id.slots) }
+            r.now.places.table.shared.key.tag r.now.places.table.shared.table_id.slots) }
     {
-        self.table(exponent)?[number as usize].get()
+        self.table(exponent)?.segments[number as usize].get()
     }
 
     /// The place of an index, where its segment was made.
@@ -137,9 +137,9 @@ impl<K: HashKey, V: Value, F: Remap<K, V>, A: Allocator> LeanBins<K, V, F, A> {
         }
         let exponent = index.ilog2();
         let at = index - (1u32 << exponent);
-        let rows = self.segment(exponent, at / SEGMENT)?;
+        let segment = self.segment(exponent, at / SEGMENT)?;
         Some(SlotRef {
-            rows,
+            rows: &segment.places,
             at: (at % SEGMENT) as usize,
         })
     }
@@ -224,10 +224,10 @@ impl<K: HashKey, V: Value, F: Remap<K, V>, A: Allocator + Clone> LeanBins<K, V, 
         self.tables.allocator()
     }
 
-    /// The slots of the segments of a table. No segment is in them yet.
-    fn new_segments(&self, exponent: u32) -> Result<Segments<K, V, F, A>, AllocError>
+    /// A table. No segment is in it yet.
+    fn new_segments(&self, exponent: u32) -> Result<SegmentTable<K, V, F, A>, AllocError>
         requires { exponent < most_exponent }
-        ensures { IfOk result (λ t. AreSegments self.now (2 ^ exponent) t.items) }
+        ensures { IfOk result (λ t. AreSegments self.now (2 ^ exponent) t.segments.items) }
     {
         let first = 1u32 << exponent;
         let count = first.div_ceil(SEGMENT);
@@ -236,11 +236,11 @@ impl<K: HashKey, V: Value, F: Remap<K, V>, A: Allocator + Clone> LeanBins<K, V, 
             let tag = tag_of(first + number * SEGMENT, self.n, self.salt, &self.ledger);
             segments.push_reserved(OnceSlot::new(&tag));
         }
-        Ok(segments)
+        Ok(SegmentTable { segments })
     }
 
-    /// A segment of a table, with nothing in its places.
-    fn new_segment(
+    /// The places of a segment of a table, with nothing in them.
+    fn new_places(
         &self,
         exponent: u32,
         number: u32,
@@ -268,13 +268,26 @@ impl<K: HashKey, V: Value, F: Remap<K, V>, A: Allocator + Clone> LeanBins<K, V, 
         LockedSlots::absent(self.allocator(), Terms { tag, stride }, blanks)
     }
 
+    /// A segment of a table, with nothing in its places.
+    fn new_segment(&self, exponent: u32, number: u32) -> Result<Segment<K, V, F, A>, AllocError>
+        requires table { exponent < most_exponent }
+        requires within { number * segment_places < 2 ^ exponent }
+        ensures { IfOk result
+            (λ r. IsSegment self.now (2 ^ exponent + number * segment_places)
+            (min (2 ^ exponent + number * segment_places) segment_places)
+            r.places.table.shared.key.tag r.places.table.shared.table_id.slots) }
+    {
+        let places = self.new_places(exponent, number)?;
+        Ok(Segment { places })
+    }
+
     /// Makes the slots of a table's segments, if there are none yet.
     pub(crate) fn keep_parts(&self, exponent: u32) -> Result<(), AllocError>
         requires { exponent < most_exponent }
     {
         if self.table(exponent).is_none() {
-            let segments = self.new_segments(exponent)?;
-            drop(self.tables[exponent as usize].set_written(segments));
+            let table = self.new_segments(exponent)?;
+            drop(self.tables[exponent as usize].set_written(table));
             self.widest.fetch_max(u64::from(exponent) + 1, SeqCst);
         }
         Ok(())
@@ -286,9 +299,9 @@ impl<K: HashKey, V: Value, F: Remap<K, V>, A: Allocator + Clone> LeanBins<K, V, 
         requires within { number * segment_places < 2 ^ exponent }
     {
         if self.segment(exponent, number).is_none() {
-            let rows = self.new_segment(exponent, number)?;
-            if let Some(segments) = self.table(exponent) {
-                drop(segments[number as usize].set_written(rows));
+            let segment = self.new_segment(exponent, number)?;
+            if let Some(table) = self.table(exponent) {
+                drop(table.segments[number as usize].set_written(segment));
             }
         }
         Ok(())

@@ -2,7 +2,6 @@
 ghost use Rattle.std.specs.Prelude.{◌≡◌, ◌<◌, ◌≤◌, IfErr};
 ghost use Rattle.hashkeys.specs.Limits.{most_bins};
 ghost use Rattle.bin_history.specs.Calls.{after};
-ghost use Rattle.bin_history.specs.Copies.{IsExact};
 ghost use Rattle.bin_layout.specs.Places.{AreAt};
 ghost use Rattle.bin_layout.specs.Views.{place_of};
 
@@ -27,9 +26,6 @@ impl<'a, K: HashKey, V: Value, F: Remap<K, V>, A: Allocator + Clone> Held<'a, K,
         self,
         ledger: &Ledger<K, V, F, A>,
     ) -> Result<(), (Held<'a, K, V, F, A>, Refused)>
-        requires keys { IsExact K.is_clone }
-        requires values { IsExact V.is_clone }
-        requires functions { IsExact F.is_clone }
         requires at { AreAt K.eq (after V.eq F.remapped F.merged)
             (place_of self.place.home.now self.place.class) self.bin self.role }
         requires ledger { self.role.ledger ≡ ledger.now.id }
@@ -74,9 +70,6 @@ impl<K: HashKey, V: Value, F: Remap<K, V>, A: Allocator + Clone> LeanBins<K, V, 
     ///
     /// `NoMemory`, or `Busy` where the bin is held just then. The bin stays.
     pub fn try_forward(&self, ledger: &Ledger<K, V, F, A>, class: Class) -> Result<Moved, Refused>
-        requires keys { IsExact K.is_clone }
-        requires values { IsExact V.is_clone }
-        requires functions { IsExact F.is_clone }
         requires ledger { ledger.now.id ≡ self.now.ledger }
         requires size { class.n < most_bins }
     {

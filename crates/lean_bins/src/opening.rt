@@ -2,7 +2,6 @@
 ghost use Rattle.std.specs.Prelude.{◌≡◌, ◌^◌, true, All, IfOk, [], length};
 ghost use Rattle.hashkeys.specs.Classes.{IsTableSize, is_of};
 ghost use Rattle.bin_history.specs.Calls.{after};
-ghost use Rattle.bin_history.specs.Copies.{IsExact};
 ghost use Rattle.bin_history.specs.Entries.{HasDistinctKeys};
 ghost use Rattle.bin_history.specs.declared.form.Form.TheVariants.{Lean};
 ghost use Rattle.count_ledger.specs.Opening.{AreOfTheirClasses, lists_of, new_roles};
@@ -29,8 +28,6 @@ fn opening_bin<K: HashKey, V: Value, F: Remap<K, V>, A: Allocator + Clone>(
     base: Vec<(K, V), A>,
     role: BinRole<K, V, F>,
 ) -> Result<BinSlot<K, V, F, A>, AllocError>
-    requires keys { IsExact K.is_clone }
-    requires values { IsExact V.is_clone }
     requires distinct { HasDistinctKeys K.eq base.items }
     requires of_class { All (λ e. is_of K.code salt class e.0 ≡ true) base.items }
     requires role { role
@@ -50,8 +47,6 @@ fn opening_bins<K: HashKey, V: Value, F: Remap<K, V>, A: Allocator + Clone>(
     bases: Vec<Vec<(K, V), A>, A>,
     roles: Vec<BinRole<K, V, F>, A>,
 ) -> Result<Vec<BinSlot<K, V, F, A>, A>, AllocError>
-    requires keys { IsExact K.is_clone }
-    requires values { IsExact V.is_clone }
     requires size { IsTableSize n }
     requires count { length bases.items ≡ n }
     requires distinct { All (λ base. HasDistinctKeys K.eq base.items) bases.items }
@@ -142,8 +137,6 @@ impl<K: HashKey, V: Value, F: Remap<K, V>, A: Allocator + Clone> LeanBins<K, V, 
         bases: Vec<Vec<(K, V), A>, A>,
         roles: Vec<BinRole<K, V, F>, A>,
     ) -> Result<LeanBins<K, V, F, A>, AllocError>
-        requires keys { IsExact K.is_clone }
-        requires values { IsExact V.is_clone }
         requires size { IsTableSize n }
         requires count { length bases.items ≡ n }
         requires distinct { All (λ base. HasDistinctKeys K.eq base.items) bases.items }

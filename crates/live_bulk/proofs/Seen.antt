@@ -30,3 +30,9 @@ none-seen (old ∷ olds) = (record { seen = BeginsWith-all old.seen; pass = refl
 pub seen-as-before : {K V F : Type 0} (olds news : List (PassView K V F)) → news ≡ olds → AllZip HasSeenMore olds news
 seen-as-before {K} {V} {F} olds news is =
     subst (λ (ps : List (PassView K V F)). AllZip HasSeenMore olds ps) (sym is) (none-seen olds)
+
+-- no pass after a first step, so there was none before it
+pub none-later : {X : Type 0} (old mid : List X) → length mid ≡ length old → mid ≡ [] → old ≡ []
+none-later [] mid len none = refl
+none-later (x ∷ old) [] len none = absurd cc
+none-later (x ∷ old) (y ∷ mid) len none = absurd cc

@@ -1,5 +1,5 @@
 //! The names that calls are made on.
-use hashkeys::{HashKey, Key};
+use hashkeys::{Exact, HashKey, Key};
 use std::alloc::AllocError;
 use std::marker::Model;
 
@@ -26,6 +26,10 @@ impl Clone for Name {
     fn clone(&self) -> Result<Name, AllocError> {
         Ok(Name(self.0))
     }
+}
+
+impl Exact for Name {
+    ghost copies_exactly = { λ x y e. e };
 }
 
 impl PartialEq for Name {

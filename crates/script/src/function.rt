@@ -1,7 +1,7 @@
 //! The functions that scripts name.
 ghost use Rattle.std.specs.Prelude.{◌≡◌};
 
-use bin_history::Remap;
+use bin_history::{Exact, Remap};
 use hashkeys::Key;
 use std::alloc::AllocError;
 
@@ -70,6 +70,10 @@ impl Clone for Function {
             Function::Drop => Ok(Function::Drop),
         }
     }
+}
+
+impl Exact for Function {
+    ghost copies_exactly = { λ x y e. e };
 }
 
 /// A compute call applies the function to the value at the key; a merge on a present key applies it

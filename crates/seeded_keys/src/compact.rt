@@ -2,7 +2,7 @@
 ghost use Rattle.std.specs.Prelude.{◌≡◌, ◌<◌, ◌≤◌, IfOk, IsOk, MatchOption, length};
 
 use crate::short::ShortBytes;
-use hashkeys::{Bytes, HashKey};
+use hashkeys::{Bytes, Exact, HashKey};
 use std::alloc::{AllocError, Allocator};
 use std::marker::Model;
 
@@ -93,6 +93,10 @@ impl<A: Allocator + Clone> Clone for CompactBytes<A> {
         };
         Ok(CompactBytes { place })
     }
+}
+
+impl<A: Allocator + Clone> Exact for CompactBytes<A> {
+    ghost copies_exactly = { λ x y e. e };
 }
 
 impl<A: Allocator> PartialEq for CompactBytes<A> {

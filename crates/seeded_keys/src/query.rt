@@ -1,7 +1,6 @@
 //! Bytes with their code, in place of a key.
 ghost use Rattle.std.specs.Prelude.{◌≡◌};
 
-use crate::compact::CompactBytes;
 use crate::hashed::Hashed;
 use hashkeys::AsKey;
 use std::alloc::Allocator;
@@ -14,14 +13,14 @@ pub struct Query<'a> {
     pub(crate) bytes: &'a [u8],
 }
 
-impl<'a, A: Allocator + Clone> AsKey<Hashed<CompactBytes<A>>> for Query<'a> {
+impl<'a, A: Allocator + Clone> AsKey<Hashed<A>> for Query<'a> {
     ghost stands_for = { λ q. record { code = q.code; bytes = q.bytes.now } };
 
     fn key_code(&self) -> u32 {
         self.code
     }
 
-    fn is_key(&self, key: &Hashed<CompactBytes<A>>) -> bool {
+    fn is_key(&self, key: &Hashed<A>) -> bool {
         key.code == self.code && key.bytes.bytes() == self.bytes
     }
 }

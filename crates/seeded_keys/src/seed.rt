@@ -53,7 +53,7 @@ impl Seed {
     }
 
     /// The key of these bytes. It keeps its code, so that the bytes are hashed once.
-    pub fn key<A: Allocator>(&self, bytes: CompactBytes<A>) -> Hashed<CompactBytes<A>>
+    pub fn key<A: Allocator>(&self, bytes: CompactBytes<A>) -> Hashed<A>
         ensures code { result.code ≡ keyed self.now bytes }
         ensures bytes { result.bytes ≡ bytes }
     {

@@ -1,6 +1,7 @@
 //! Byte strings that lie in themselves.
 ghost use Rattle.std.specs.Prelude.{◌≡◌, ◌≤◌, ◌<◌, MatchOption, length};
 
+use hashkeys::Exact;
 use std::alloc::AllocError;
 use std::marker::Model;
 
@@ -62,4 +63,8 @@ impl Clone for ShortBytes {
             bytes: self.bytes,
         })
     }
+}
+
+impl Exact for ShortBytes {
+    ghost copies_exactly = { λ x y e. e };
 }

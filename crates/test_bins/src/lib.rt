@@ -10,6 +10,8 @@ mod chains;
 #[cfg(test)]
 mod compact;
 #[cfg(test)]
+mod composites;
+#[cfg(test)]
 mod held;
 #[cfg(test)]
 mod keys;
@@ -37,3 +39,5 @@ mod settling;
 mod turns;
 #[cfg(test)]
 mod twins;
+#[cfg(test)]
+mod updates;

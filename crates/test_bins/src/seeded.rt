@@ -65,10 +65,10 @@ fn codes_under_a_seed_are_known(rt: HostRuntime) {
 
 /// The code of a query, as a map of byte strings asks for it.
 fn code_of(query: Query<'_>) -> u32 {
-    AsKey::<Hashed<CompactBytes<Global>>>::key_code(&query)
+    AsKey::<Hashed<Global>>::key_code(&query)
 }
 
-fn key(rt: &impl Abort, alloc: Global, seed: Seed, text: &[u8]) -> Hashed<CompactBytes<Global>> {
+fn key(rt: &impl Abort, alloc: Global, seed: Seed, text: &[u8]) -> Hashed<Global> {
     seed.key(CompactBytes::new(Vec::from_slice(alloc, text).expect(rt, "memory")))
 }
 

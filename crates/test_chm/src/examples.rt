@@ -4,7 +4,7 @@ ghost use Rattle.std.specs.Prelude.{◌≡◌, All};
 
 use crate::call_examples::first_wrong;
 use crate::maps::assert_same;
-use bin_history::{Form, Remap};
+use bin_history::{Exact, Form, Remap};
 use chm::{Fault, Map, Opened, Quiet, Sharing};
 use count_ledger::{Pass, retire_all};
 use hashkeys::Salt;
@@ -26,6 +26,10 @@ impl Clone for Plus {
     fn clone(&self) -> Result<Plus, AllocError> {
         Ok(Plus(self.0))
     }
+}
+
+impl Exact for Plus {
+    ghost copies_exactly = { λ x y e. e };
 }
 
 impl Remap<u64, u64> for Plus {

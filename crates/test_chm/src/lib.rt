@@ -17,6 +17,8 @@ mod filling;
 #[cfg(test)]
 mod growth;
 #[cfg(test)]
+mod lent_examples;
+#[cfg(test)]
 mod live_examples;
 #[cfg(test)]
 mod loads;
@@ -24,6 +26,10 @@ mod loads;
 mod maps;
 #[cfg(test)]
 mod memory;
+#[cfg(test)]
+mod modify_tries;
+#[cfg(test)]
+mod modifying;
 #[cfg(test)]
 mod moment_examples;
 #[cfg(test)]

@@ -1,6 +1,5 @@
 //! A call that helps with a move.
 ghost use Rattle.std.specs.Prelude.{◌≡◌};
-ghost use Rattle.bin_history.specs.Copies.{IsExact};
 
 use crate::asserts::{assert_same, numbered};
 use crate::waiting::{Event, Paired, WAIT};
@@ -63,8 +62,6 @@ fn put_24<R: Wait + Abort, V: Value, F: Remap<Key, V>>(
     last: &V,
     told: &AtomicU64,
 )
-    requires values { IsExact V.is_clone }
-    requires functions { IsExact F.is_clone }
     requires pass { pass.old.ledger ≡ map.now.ledger.id }
     ensures { pass.new.ledger ≡ map.now.ledger.id }
 {
@@ -90,16 +87,11 @@ fn call_while_another_moves<
     R: Threads + Wait + Abort + Sync,
     V: Value + Send + Sync,
     F: Remap<Key, V> + Send + Sync,
->(rt: &R, alloc: Global, value: &V, last: &V, event: &Event, told: &AtomicU64) -> u64
-    requires values { IsExact V.is_clone }
-    requires functions { IsExact F.is_clone }
-{
+>(rt: &R, alloc: Global, value: &V, last: &V, event: &Event, told: &AtomicU64) -> u64 {
     let (map, mut passes) = open::<Key, V, F, Global>(alloc, Form::Recorded, 32, 2).expect(
         rt, "a map",
     );
     let work = |number: usize, pass: &mut Pass<Key, V, F>|
-        requires values { IsExact V.is_clone }
-        requires functions { IsExact F.is_clone }
         requires pass { pass.now.ledger ≡ map.ledger.id }
         ensures { pass.exit.now.ledger ≡ map.ledger.id }
     {

@@ -2,7 +2,7 @@
 ghost use Rattle.std.specs.Prelude.{◌≡◌, All};
 
 use crate::asserts::assert_same;
-use bin_history::{Form, KeyArg, Op, Remap, Reply};
+use bin_history::{Exact, Form, KeyArg, Op, Remap, Reply};
 use chm::{Fault, Map};
 use count_ledger::Pass;
 use hashkeys::ByteString;
@@ -30,6 +30,10 @@ impl Clone for TakesAway {
     fn clone(&self) -> Result<TakesAway, AllocError> {
         Ok(TakesAway)
     }
+}
+
+impl Exact for TakesAway {
+    ghost copies_exactly = { λ x y e. e };
 }
 
 impl<A: Allocator> Remap<Text<A>, Text<A>> for TakesAway {

@@ -1,6 +1,5 @@
 //! A bin that a move skips, since it is held.
 ghost use Rattle.std.specs.Prelude.{◌≡◌, All};
-ghost use Rattle.bin_history.specs.Copies.{IsExact};
 
 use crate::asserts::{assert_same, key, numbered};
 use crate::waiting::{Event, Paired, WAIT};
@@ -38,8 +37,6 @@ fn put_others<R: Wait + Abort, V: Value, F: Remap<Key, V>>(
     value: &V,
     wanted: u32,
 )
-    requires values { IsExact V.is_clone }
-    requires functions { IsExact F.is_clone }
     requires pass { pass.old.ledger ≡ map.now.ledger.id }
     ensures { pass.new.ledger ≡ map.now.ledger.id }
 {
@@ -65,8 +62,6 @@ fn look_at_a<R: Wait + Abort, V: Value, F: Remap<Key, V>>(
     value: &V,
     told: &AtomicU64,
 )
-    requires values { IsExact V.is_clone }
-    requires functions { IsExact F.is_clone }
     requires pass { pass.old.ledger ≡ map.now.ledger.id }
     ensures { pass.new.ledger ≡ map.now.ledger.id }
 {
@@ -85,7 +80,6 @@ fn count_bins<R: Wait + Abort, V: Value, F: Remap<Key, V>>(
     map: &Map<Key, V, F, Global>,
     pass: &mut Pass<Key, V, F>,
 ) -> usize
-    requires values { IsExact V.is_clone }
     requires pass { pass.old.ledger ≡ map.now.ledger.id }
     ensures { pass.new.ledger ≡ map.now.ledger.id }
 {
@@ -98,8 +92,6 @@ fn bins_round_a_call<R: Wait + Abort, V: Value, F: Remap<Key, V>>(
     map: &Map<Key, V, F, Global>,
     pass: &mut Pass<Key, V, F>,
 ) -> [usize; 2]
-    requires values { IsExact V.is_clone }
-    requires functions { IsExact F.is_clone }
     requires pass { pass.old.ledger ≡ map.now.ledger.id }
     ensures { pass.new.ledger ≡ map.now.ledger.id }
 {
@@ -116,8 +108,6 @@ fn call_and_close<R: Wait + Abort, V: Value, F: Remap<Key, V>>(
     map: Map<Key, V, F, Global>,
     mut passes: Vec<Pass<Key, V, F>, Global>,
 ) -> ([usize; 2], u64)
-    requires values { IsExact V.is_clone }
-    requires functions { IsExact F.is_clone }
     requires passes { All (λ p. p.ledger ≡ map.ledger.id) passes.items }
 {
     assert!(rt; passes.len() == 2);
@@ -141,14 +131,9 @@ fn grow_round_a_held_bin<
     other: &V,
     event: &Event,
     told: &AtomicU64,
-) -> ([usize; 2], u64)
-    requires values { IsExact V.is_clone }
-    requires functions { IsExact F.is_clone }
-{
+) -> ([usize; 2], u64) {
     let (map, mut passes) = open::<Key, V, F, Global>(alloc, form, 16, 2).expect(rt, "a map");
     let work = |number: usize, pass: &mut Pass<Key, V, F>|
-        requires values { IsExact V.is_clone }
-        requires functions { IsExact F.is_clone }
         requires pass { pass.now.ledger ≡ map.ledger.id }
         ensures { pass.exit.now.ledger ≡ map.ledger.id }
     {

@@ -1,6 +1,5 @@
 //! Calls that are tried while another client holds a bin.
 ghost use Rattle.std.specs.Prelude.{◌≡◌};
-ghost use Rattle.bin_history.specs.Copies.{IsExact};
 
 use crate::asserts::{assert_same, key};
 use crate::waiting::{Event, OneAfter};
@@ -21,7 +20,6 @@ fn try_put<F: Remap<Key, u64>>(
     pass: &mut Pass<Key, u64, F>,
     text: &[u8],
 ) -> Option<Result<Reply<u64>, Fault>>
-    requires functions { IsExact F.is_clone }
     requires pass { pass.old.ledger ≡ map.now.ledger.id }
     ensures { pass.new.ledger ≡ map.now.ledger.id }
 {
@@ -39,13 +37,10 @@ fn try_while_another_computes<R: Threads + Wait + Abort + Sync, F: Remap<Key, u6
     form: Form,
     function: &F,
     both: (&Event, &Event),
-) -> u64
-    requires { IsExact F.is_clone }
-{
+) -> u64 {
     let (asked, event) = both;
     let (map, mut passes) = open::<Key, u64, F, Global>(alloc, form, 16, 2).expect(rt, "a map");
     let work = |number: usize, pass: &mut Pass<Key, u64, F>|
-        requires functions { IsExact F.is_clone }
         requires pass { pass.now.ledger ≡ map.ledger.id }
         ensures { pass.exit.now.ledger ≡ map.ledger.id }
     {

@@ -1,9 +1,8 @@
 //! Functions and copies that wait for another thread while a bin is held or read.
 ghost use Rattle.std.specs.Prelude.{◌≡◌, All};
-ghost use Rattle.bin_history.specs.Copies.{IsExact};
 
 use crate::asserts::{assert_same, key};
-use bin_history::{Form, Remap, Reply};
+use bin_history::{Exact, Form, Remap, Reply};
 use chm::{Fault, Map};
 use count_ledger::Pass;
 use crossbeam_utils::Backoff;
@@ -72,6 +71,10 @@ impl<'a> Clone for OneAfter<'a> {
     }
 }
 
+impl<'a> Exact for OneAfter<'a> {
+    ghost copies_exactly = { λ x y e. e };
+}
+
 impl<'a> Remap<Key, u64> for OneAfter<'a> {
     ghost use Rattle.std.specs.Prelude.{Some};
 
@@ -98,13 +101,10 @@ fn compute_while_another_puts<R: Threads + Wait + Abort + Sync, F: Remap<Key, u6
     form: Form,
     function: &F,
     both: (&Event, &Event),
-) -> u64
-    requires { IsExact F.is_clone }
-{
+) -> u64 {
     let (asked, event) = both;
     let (map, mut passes) = open::<Key, u64, F, Global>(alloc, form, 16, 2).expect(rt, "a map");
     let work = |number: usize, pass: &mut Pass<Key, u64, F>|
-        requires functions { IsExact F.is_clone }
         requires pass { pass.now.ledger ≡ map.ledger.id }
         ensures { pass.exit.now.ledger ≡ map.ledger.id }
     {
@@ -180,6 +180,10 @@ impl<'a> Clone for Paired<'a> {
         }
         Ok(Paired::new(self.event, self.told))
     }
+}
+
+impl<'a> Exact for Paired<'a> {
+    ghost copies_exactly = { λ x y e. e };
 }
 
 impl<'a> PartialEq for Paired<'a> {

@@ -29,34 +29,34 @@ fn call_of_kind<'a>(counts: &'a Counts, kind: usize) -> CountedCall<'a> {
     }
 }
 
-/// Of a kind of call: whether it changes the value 1 at its key, whether it adds an entry where
-/// there is no value, and how often it asks its function where there is one and where there is none.
+/// Of a kind of call: whether it takes out the entry of its key with the value 1, whether it adds an
+/// entry where there is no value, and how often it asks its function where there is one and where there is none.
 type Row = (bool, bool, u64, u64);
 
 const ROWS: [Row; 12] = [
     (false, false, 0, 0),
     (false, false, 0, 0),
-    (true, true, 0, 0),
+    (false, true, 0, 0),
     (false, true, 0, 0),
     (true, false, 0, 0),
     (true, false, 0, 0),
-    (true, false, 0, 0),
-    (true, false, 0, 0),
+    (false, false, 0, 0),
+    (false, false, 0, 0),
     (false, true, 0, 1),
-    (true, false, 1, 0),
-    (true, true, 1, 1),
-    (true, true, 1, 0),
+    (false, false, 1, 0),
+    (false, true, 1, 1),
+    (false, true, 1, 0),
 ];
 
 /// What is counted in a call whose bin has another key of another hash in front. The key is hashed
-/// once. A lean bin compares keys of one hash alone: once to find the entry, and once more to
-/// change it. A recorded one compares the key with each up to its own, and copies a key that it
-/// adds, for the record.
+/// once. A lean bin compares keys of one hash alone: once to find the entry, and once more to take it
+/// out; the last entry, which is there, is changed without another comparison. A recorded one compares
+/// the key with each up to its own, and copies a key that it adds, for the record.
 fn wanted(form: Form, row: Row, present: bool) -> [u64; 4] {
-    let (changes, adds, of_present, of_absent) = row;
+    let (takes, adds, of_present, of_absent) = row;
     let asked = if present { of_present } else { of_absent };
     match (form, present) {
-        (Form::Lean, true) => [1, if changes { 2 } else { 1 }, 0, asked],
+        (Form::Lean, true) => [1, if takes { 2 } else { 1 }, 0, asked],
         (Form::Lean, false) => [1, 0, 0, asked],
         (Form::Recorded, true) => [1, 2, 0, asked],
         (Form::Recorded, false) => [1, 1, if adds { 1 } else { 0 }, asked],

@@ -1,5 +1,5 @@
 //! Keys and functions that count what they are asked.
-use bin_history::Remap;
+use bin_history::{Exact, Remap};
 use hashkeys::HashKey;
 use std::alloc::AllocError;
 use std::fmt::Debug;
@@ -73,6 +73,10 @@ impl<'a> Clone for Counted<'a> {
     }
 }
 
+impl<'a> Exact for Counted<'a> {
+    ghost copies_exactly = { λ x y e. e };
+}
+
 impl<'a> PartialEq for Counted<'a> {
     ghost use Rattle.std.specs.Prelude.{nat_eq};
     ghost use Rattle.std.specs.Cmp.{partial_equiv_from_equiv, nat_eq_equiv};
@@ -133,6 +137,10 @@ impl<'a> Clone for Seven<'a> {
             counts: self.counts,
         })
     }
+}
+
+impl<'a> Exact for Seven<'a> {
+    ghost copies_exactly = { λ x y e. e };
 }
 
 impl<'a> Remap<Counted<'a>, u64> for Seven<'a> {

@@ -2,7 +2,7 @@
 ghost use Rattle.std.specs.Prelude.{◌≡◌, All};
 
 use crate::counted::assert_same;
-use bin_history::{Form, Remap, Reply};
+use bin_history::{Exact, Form, Remap, Reply};
 use chm::Map;
 use count_ledger::Pass;
 use std::alloc::{AllocError, Global};
@@ -23,6 +23,10 @@ impl Clone for Away {
     fn clone(&self) -> Result<Away, AllocError> {
         Ok(Away)
     }
+}
+
+impl Exact for Away {
+    ghost copies_exactly = { λ x y e. e };
 }
 
 impl Remap<u32, u64> for Away {

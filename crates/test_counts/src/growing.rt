@@ -120,12 +120,13 @@ fn refuse_each<R: Wait + Abort>(
 
 #[test]
 fn a_walk_shows_what_a_refused_put_left(rt: HostRuntime) {
-    // The put asks for room for the entry, and in a recorded map for the record. The move of a
+    // The put asks in a recorded map for room for the entry and for the record, and in a lean one for
+    // none, since the key is its bin's first. The move of a
     // recorded map asks for the table, three times for the strides, once for each half of a bin and
     // twice more for each of the twelve that have a key; that of a lean one for the slots of the
     // table's parts, four times for the strides, and four times for the part.
     let counts = Counts::new();
-    for (form, own, wanted) in [(Form::Recorded, 2, 2 + 60), (Form::Lean, 1, 1 + 9)] {
+    for (form, own, wanted) in [(Form::Recorded, 2, 2 + 60), (Form::Lean, 0, 9)] {
         let requests = refuse_each(&rt, rt.alloc(), &counts, form, own);
         assert_same(&rt, &requests, &wanted);
     }

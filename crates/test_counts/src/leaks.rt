@@ -195,6 +195,6 @@ fn refuse_each<R: Wait + Abort>(rt: &R, memory: Global, form: Form) -> u64 {
 fn a_refused_put_or_move_gives_all_back(rt: HostRuntime) {
     for form in BOTH {
         let requests = refuse_each(&rt, rt.alloc(), form);
-        assert!(rt; requests > 9 && requests < 1000);
+        assert!(rt; requests > 8 && requests < 1000);
     }
 }

@@ -65,17 +65,18 @@ fn bytes_with<R: Wait + Abort, A: Allocator + Clone>(
 
 #[test]
 fn a_lean_map_has_room_for_its_own_bins_alone(rt: HostRuntime) {
-    // A bin has 24 bytes, and up to 256 bins have two cache lines each for their words, up to 1,024
-    // one, and else 8 bytes; all else takes 8,192.
+    // A bin has 48 bytes: 8 say what it has and its first entry's hash, 24 are that entry, and 16 lead
+    // to the next. Up to 256 bins have two cache lines each for their words, up to 1,024 one, and else
+    // 8 bytes; all else takes 8,192.
     for (bins, each) in [
-        (1u64, 152u64),
-        (16, 152),
-        (64, 152),
-        (256, 152),
-        (512, 88),
-        (1024, 88),
-        (2048, 32),
-        (4096, 32),
+        (1u64, 176u64),
+        (16, 176),
+        (64, 176),
+        (256, 176),
+        (512, 112),
+        (1024, 112),
+        (2048, 56),
+        (4096, 56),
     ] {
         let bytes = bytes_of(&rt, rt.alloc(), bins as usize);
         assert_same(
@@ -91,8 +92,8 @@ fn a_lean_map_of_16_keys_has_room_for_128_bins(rt: HostRuntime) {
     let counts = Counts::new();
     let alloc = Refusing::new(rt.alloc());
     let bytes = bytes_with(&rt, (&alloc, &alloc), &counts, 16);
-    // 8,192 bytes, 152 for each of 128 bins, and what the keys and three moves take.
-    assert!(rt; 8192 + 128 * 152 < bytes && bytes < 32_256, "{bytes} bytes");
+    // 8,192 bytes, 176 for each of 128 bins, and what three moves take: each key is its bin's first.
+    assert!(rt; 8192 + 128 * 176 < bytes && bytes < 35_328, "{bytes} bytes");
 }
 
 /// How many requests the put of the next key makes into 16 bins with so many.
@@ -117,14 +118,15 @@ fn requests_of_growth<R: Wait + Abort, A: Allocator + Clone>(
 
 #[test]
 fn a_move_asks_for_its_table_its_strides_and_copies(rt: HostRuntime) {
-    // The put asks for room for the entry, and in a recorded map for the record; the move for the
-    // table, and three times for the strides, or in a lean map four times. Each half of a recorded
+    // The put asks in a recorded map for room for the entry and for the record, and in a lean one for
+    // none, since the key is its bin's first; the move for the table, and three times for the strides,
+    // or in a lean map four times. Each half of a recorded
     // bin asks for the bin, and where it has the entry and the record of a key for room for both: no
     // two of the twelve keys share a bin. The lean bins' other halves come to one part of the table,
     // which asks for its places and for their words, and once more for both.
     let counts = Counts::new();
     for (form, keys, wanted) in [
-        (Form::Lean, 3, 1 + 1 + 4 + 4),
+        (Form::Lean, 3, 1 + 4 + 4),
         (Form::Recorded, 11, 2 + 1 + 3 + 32 + 12 * 2),
     ] {
         let alloc = Refusing::new(rt.alloc());
@@ -173,8 +175,9 @@ fn requests_of_calls<R: Wait + Abort, A: Allocator + Clone>(
 
 #[test]
 fn calls_on_one_key_ask_for_records_and_for_one_fold(rt: HostRuntime) {
-    // Room for the entry; for four records, and for twice as many whenever they are full, up to
-    // 1,024; and in the base for the key, in the first fold.
+    // In a recorded map room for the entry; for four records, and for twice as many whenever they are
+    // full, up to 1,024; and in the base for the key, in the first fold. In a lean one the entry lies
+    // in its place.
     let counts = Counts::new();
     let rows = [
         (1u32, 2u64),
@@ -190,7 +193,7 @@ fn calls_on_one_key_ask_for_records_and_for_one_fold(rt: HostRuntime) {
     ];
     for (calls, wanted) in rows {
         let gets = calls.wrapping_sub(1);
-        for (form, requests) in [(Form::Recorded, wanted), (Form::Lean, 1)] {
+        for (form, requests) in [(Form::Recorded, wanted), (Form::Lean, 0)] {
             let alloc = Refusing::new(rt.alloc());
             let found = requests_of_calls(&rt, (&alloc, &alloc), &counts, form, gets);
             assert_same(&rt, &(form, calls, found), &(form, calls, requests));
@@ -198,12 +201,14 @@ fn calls_on_one_key_ask_for_records_and_for_one_fold(rt: HostRuntime) {
     }
 }
 
-/// How many bytes of a lean map are out before a key is put, with it, after another call on it, and
-/// once it is removed.
+/// How many bytes of a lean map of five keys are out before a key is put, with it, after another call
+/// on it, and once another key is removed.
 fn bytes_of_a_key<R: Wait + Abort, A: Allocator + Clone>(
     rt: &R,
     (switch, alloc): (&Refusing<Global>, A),
     counts: &Counts,
+    number: u32,
+    taken: u32,
 ) -> [u64; 4] {
     let Single {
         map,
@@ -211,24 +216,33 @@ fn bytes_of_a_key<R: Wait + Abort, A: Allocator + Clone>(
         place,
     } = filled(rt, alloc, counts, Form::Lean, 5);
     let before = switch.bytes_out();
-    put_new(rt, &map, &mut pass, counts, 21);
+    put_new(rt, &map, &mut pass, counts, number);
     let with = switch.bytes_out();
-    let put = map.put(rt, &mut pass, Counted { number: 21, counts }, 7);
+    let put = map.put(rt, &mut pass, Counted { number, counts }, u64::from(number));
     let again = switch.bytes_out();
-    let removed = map.remove(rt, &mut pass, Counted { number: 21, counts });
+    let number = taken;
+    let removed = map.remove(rt, &mut pass, Counted { number, counts });
     let without = switch.bytes_out();
     drop(close_single(map, pass, place).expect(rt, "a closed map"));
-    assert!(rt; put == Ok(Reply::Value(Some(21))) && removed == Ok(Reply::Value(Some(7))));
+    assert!(rt; put.is_ok() && removed == Ok(Reply::Value(Some(u64::from(taken)))));
     [before, with, again, without]
 }
 
 #[test]
-fn a_key_of_a_lean_map_has_room_for_itself_alone(rt: HostRuntime) {
-    let alloc = Refusing::new(rt.alloc());
+fn the_first_key_of_a_bin_takes_no_room_and_the_next_a_box(rt: HostRuntime) {
+    // Five keys are in 32 bins, where 21 shares its bin with none, and 36 with 4, behind which it
+    // lies in a box of 48 bytes, as large as a bin. Of two keys either can be removed: the box is freed.
     let counts = Counts::new();
-    let [before, with, again, without] = bytes_of_a_key(&rt, (&alloc, &alloc), &counts);
-    // The key has 16 bytes, its value 8, and what leads to the next entry at most 24.
-    let size = with.wrapping_sub(before);
-    assert!(rt; 24 <= size && size <= 48);
-    assert_same(&rt, &(again, without), &(with, before));
+    for (number, taken, size) in [(21, 21, 0u64), (36, 36, 48), (36, 4, 48)] {
+        let alloc = Refusing::new(rt.alloc());
+        let [before, with, again, without] = bytes_of_a_key(
+            &rt,
+            (&alloc, &alloc),
+            &counts,
+            number,
+            taken,
+        );
+        let wanted = (before.wrapping_add(size), with, before);
+        assert_same(&rt, &(with, again, without), &wanted);
+    }
 }

@@ -1,7 +1,7 @@
 //! Maps whose keys, values and functions take memory.
 ghost use Rattle.std.specs.Prelude.{◌≡◌, All};
 
-use bin_history::{Call, Form, Remap, Reply};
+use bin_history::{Call, Exact, Form, Remap, Reply};
 use chm::{Map, Quiet};
 use count_ledger::Pass;
 use hashkeys::ByteString;
@@ -38,6 +38,10 @@ impl<A: Allocator + Clone> Clone for Says<A> {
             text: self.text.clone()?,
         })
     }
+}
+
+impl<A: Allocator + Clone> Exact for Says<A> {
+    ghost copies_exactly = { λ x y e. e };
 }
 
 impl<A: Allocator + Clone> Remap<Text<A>, Text<A>> for Says<A> {

@@ -1,6 +1,5 @@
 //! Maps and the passes of their clients.
 ghost use Rattle.std.specs.Prelude.{◌≡◌, [], ◌∷◌, ◌++◌, All, IfOk, IfSome};
-ghost use Rattle.bin_history.specs.Copies.{IsExact};
 ghost use Rattle.bin_history.specs.Limits.{most_clients};
 ghost use Rattle.chm.specs.Opened.{IsLimited, IsNew};
 ghost use Rattle.chm.specs.Refusals.{IsCapacityOf};
@@ -44,8 +43,6 @@ pub fn open_salted<K: HashKey, V: Value, F: Remap<K, V>, A: Allocator + Clone>(
     capacity: usize,
     clients: u32,
 ) -> Result<Opened<K, V, F, A>, Fault>
-    requires keys { IsExact K.is_clone }
-    requires values { IsExact V.is_clone }
     ensures new { IfOk result (λ r. IsNew form salt capacity clients r.0 r.1.items) }
     ensures limits { IsLimited (IsCapacityOf form capacity) (most_clients form) clients result }
     ensures own { IfOk result (λ r. All (λ p. p.ledger ≡ r.0.ledger.id) r.1.items) }
@@ -63,8 +60,6 @@ pub fn open<K: HashKey, V: Value, F: Remap<K, V>, A: Allocator + Clone>(
     capacity: usize,
     clients: u32,
 ) -> Result<Opened<K, V, F, A>, Fault>
-    requires keys { IsExact K.is_clone }
-    requires values { IsExact V.is_clone }
     ensures new { IfOk result (λ r. IsNew form (record { 0 = 0 }) capacity clients r.0 r.1.items) }
     ensures limits { IsLimited (IsCapacityOf form capacity) (most_clients form) clients result }
     ensures own { IfOk result (λ r. All (λ p. p.ledger ≡ r.0.ledger.id) r.1.items) }
@@ -98,8 +93,6 @@ pub fn open_single<K: HashKey, V: Value, F: Remap<K, V>, A: Allocator + Clone>(
     form: Form,
     capacity: usize,
 ) -> Option<Single<K, V, F, A>>
-    requires keys { IsExact K.is_clone }
-    requires values { IsExact V.is_clone }
     ensures new { IfSome result (λ s. IsNew form (record { 0 = 0 }) capacity 1 s.map
         (s.place.items ++ (s.pass ∷ []))) }
     ensures pass { IfSome result (λ s. s.pass.ledger ≡ s.map.ledger.id) }

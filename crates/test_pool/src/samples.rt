@@ -2,7 +2,7 @@
 //! actions.
 ghost use Rattle.std.specs.Prelude.{◌≡◌};
 
-use bin_history::Remap;
+use bin_history::{Exact, Remap};
 use bulk_tasks::{Action, Probe, Reducer};
 use chm::{Map, NotClosed, Quiet};
 use count_ledger::{Pass, retire_all};
@@ -32,6 +32,10 @@ impl Clone for Forget {
     fn clone(&self) -> Result<Forget, AllocError> {
         Ok(Forget)
     }
+}
+
+impl Exact for Forget {
+    ghost copies_exactly = { λ x y e. e };
 }
 
 impl Remap<Key, i64> for Forget {

@@ -1,6 +1,6 @@
 //! How often a call asks its function.
 use crate::asserts::assert_same;
-use bin_history::{Bin, Call, Form, KeyArg, Remap};
+use bin_history::{Bin, Call, Exact, Form, KeyArg, Remap};
 use hashkeys::{Class, Key, Salt};
 use std::alloc::{AllocError, Global};
 use std::process::Abort;
@@ -22,6 +22,10 @@ impl<'a> Clone for Counted<'a> {
     fn clone(&self) -> Result<Counted<'a>, AllocError> {
         Ok(Counted { asked: self.asked })
     }
+}
+
+impl<'a> Exact for Counted<'a> {
+    ghost copies_exactly = { λ x y e. e };
 }
 
 impl<'a> Remap<Key, u64> for Counted<'a> {

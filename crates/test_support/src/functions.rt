@@ -1,5 +1,5 @@
 //! Functions of a value.
-use bin_history::Remap;
+use bin_history::{Exact, Remap};
 use std::alloc::AllocError;
 
 /// Adds a number to the value, or takes the value away.
@@ -14,6 +14,10 @@ impl Clone for Plus {
     fn clone(&self) -> Result<Plus, AllocError> {
         Ok(Plus(self.0))
     }
+}
+
+impl Exact for Plus {
+    ghost copies_exactly = { λ x y e. e };
 }
 
 impl<K> Remap<K, u64> for Plus {
@@ -47,6 +51,10 @@ impl Clone for Keep {
     fn clone(&self) -> Result<Keep, AllocError> {
         Ok(Keep)
     }
+}
+
+impl Exact for Keep {
+    ghost copies_exactly = { λ x y e. e };
 }
 
 impl<K> Remap<K, u64> for Keep {

@@ -1,6 +1,6 @@
 //! Values and functions that ask for memory where they are copied or called.
 use crate::Refusing;
-use bin_history::Remap;
+use bin_history::{Exact, Remap};
 use hashkeys::Key;
 use std::alloc::{AllocError, Global};
 use std::marker::Model;
@@ -42,6 +42,10 @@ impl<'a> Clone for Number<'a> {
             alloc: self.alloc,
         })
     }
+}
+
+impl<'a> Exact for Number<'a> {
+    ghost copies_exactly = { λ x y e. e };
 }
 
 impl<'a> PartialEq for Number<'a> {
@@ -91,6 +95,10 @@ impl<'a> Clone for Answer<'a> {
             alloc: self.alloc,
         })
     }
+}
+
+impl<'a> Exact for Answer<'a> {
+    ghost copies_exactly = { λ x y e. e };
 }
 
 impl<'a> Remap<Key, Number<'a>> for Answer<'a> {

@@ -2,11 +2,10 @@
 ghost use Rattle.std.specs.Prelude.{◌≡◌, ◌<◌, true, length, IfOk, IsOk, OnErr};
 ghost use Rattle.hashkeys.specs.Classes.{covers, is_of};
 ghost use Rattle.bin_history.specs.Calls.{after};
-ghost use Rattle.bin_history.specs.Copies.{IsExact};
 ghost use Rattle.bin_history.specs.Hashes.{hash_by};
 ghost use Rattle.bin_history.specs.Leans.{as_bin};
 ghost use Rattle.bin_history.specs.Ops.{call_on, key_in};
-ghost use Rattle.bin_history.specs.Sure.{IsSpared, IsSure};
+ghost use Rattle.bin_history.specs.Sure.{IsKept, IsSpared, IsSure};
 ghost use Rattle.count_ledger.specs.Agreement.{BinAgrees};
 ghost use Rattle.count_ledger.specs.Fronts.{HasSeen};
 ghost use Rattle.count_ledger.specs.Limits.{most_calls};
@@ -36,8 +35,6 @@ impl<K: HashKey, V: Value, F: Remap<K, V>, A: Allocator + Clone> Map<K, V, F, A>
         key: KeyArg<'_, K>,
         op: Op<V, F>,
     ) -> Result<(Reply<V>, Growth), AllocError>
-        requires keys { IsExact K.is_clone }
-        requires values { IsExact V.is_clone }
         requires pass { pass.old.ledger ≡ self.now.ledger.id }
         requires role { role.old.ledger ≡ self.now.ledger.id }
         requires room { length pass.old.made < most_calls self.now.ledger.form self.now.ledger.clients }
@@ -78,8 +75,6 @@ impl<K: HashKey, V: Value, F: Remap<K, V>, A: Allocator + Clone> Map<K, V, F, A>
         key: KeyArg<'_, K>,
         op: Op<V, F>,
     ) -> Result<(Reply<V>, Growth), AllocError>
-        requires keys { IsExact K.is_clone }
-        requires values { IsExact V.is_clone }
         requires pass { pass.old.ledger ≡ self.now.ledger.id }
         requires room { length pass.old.made < most_calls self.now.ledger.form self.now.ledger.clients }
         requires lies { IsInSlot K.eq (after V.eq F.remapped F.merged)
@@ -93,8 +88,8 @@ impl<K: HashKey, V: Value, F: Remap<K, V>, A: Allocator + Clone> Map<K, V, F, A>
         ensures called { IfOk result
             (λ r. IsCalled K.eq V.eq F.remapped F.merged self.now.ledger
             (call_on (key_in key.entry) op) pass.old pass.new r.0) }
-        ensures spared { IsSpared K.eq V.is_infallible bin_slot.old.entries.entries (key_in key.entry)
-            op → IsOk result }
+        ensures spared { IsSpared K.eq (IsKept K.is_infallible key.entry) V.is_infallible
+            bin_slot.old.entries.entries (key_in key.entry) op → IsOk result }
         ensures refused { OnErr result (pass.new ≡ pass.old) }
         ensures stayed { OnErr result (bin_slot.new ≡ bin_slot.old) }
         ensures lies { IsInSlot K.eq (after V.eq F.remapped F.merged)

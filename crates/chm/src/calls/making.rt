@@ -3,7 +3,6 @@
 ghost use Rattle.std.specs.Prelude.{◌≡◌, ◌<◌, true, length, IfNone, IfOk, IfSome, IsOk, IsSomeAnd, OnErr};
 ghost use Rattle.hashkeys.specs.Classes.{covers};
 ghost use Rattle.bin_history.specs.Calls.{after};
-ghost use Rattle.bin_history.specs.Copies.{IsExact};
 ghost use Rattle.bin_history.specs.Hashes.{hash_by};
 ghost use Rattle.bin_history.specs.Lawful.{BinView};
 ghost use Rattle.bin_history.specs.Ops.{call_on, key_in};
@@ -45,8 +44,6 @@ impl<K: HashKey, V: Value, F: Remap<K, V>, A: Allocator + Clone> Map<K, V, F, A>
         key: KeyArg<'_, K>,
         op: Op<V, F>,
     ) -> Made<V>
-        requires keys { IsExact K.is_clone }
-        requires values { IsExact V.is_clone }
         requires pass { pass.old.ledger ≡ self.now.ledger.id }
         requires room { length pass.old.made < most_calls self.now.ledger.form self.now.ledger.clients }
         requires hash { hash ≡ hash_by K.code self.now.ledger.salt (key_in key) }
@@ -85,8 +82,6 @@ impl<K: HashKey, V: Value, F: Remap<K, V>, A: Allocator + Clone> Map<K, V, F, A>
         key: KeyArg<'_, K>,
         op: Op<V, F>,
     ) -> Made<V>
-        requires keys { IsExact K.is_clone }
-        requires values { IsExact V.is_clone }
         requires pass { pass.old.ledger ≡ self.now.ledger.id }
         requires room { length pass.old.made < most_calls self.now.ledger.form self.now.ledger.clients }
         ensures called { IfOk result
@@ -109,8 +104,6 @@ impl<K: HashKey, V: Value, F: Remap<K, V>, A: Allocator + Clone> Map<K, V, F, A>
         key: KeyArg<'_, K>,
         op: Op<V, F>,
     ) -> Option<Made<V>>
-        requires keys { IsExact K.is_clone }
-        requires values { IsExact V.is_clone }
         requires pass { pass.old.ledger ≡ self.now.ledger.id }
         requires room { length pass.old.made < most_calls self.now.ledger.form self.now.ledger.clients }
         ensures called { IfSome result (λ made. IfOk made
@@ -135,8 +128,6 @@ impl<K: HashKey, V: Value, F: Remap<K, V>, A: Allocator + Clone> Map<K, V, F, A>
         key: KeyArg<'_, K>,
         op: Op<V, F>,
     ) -> Made<V>
-        requires keys { IsExact K.is_clone }
-        requires values { IsExact V.is_clone }
         requires pass { pass.old.ledger ≡ self.now.ledger.id }
         requires room { length pass.old.made < most_calls self.now.ledger.form self.now.ledger.clients }
         requires hash { hash ≡ hash_by K.code self.now.ledger.salt (key_in key) }
@@ -167,8 +158,6 @@ impl<K: HashKey, V: Value, F: Remap<K, V>, A: Allocator + Clone> Map<K, V, F, A>
         key: KeyArg<'_, K>,
         op: Op<V, F>,
     ) -> Made<V>
-        requires keys { IsExact K.is_clone }
-        requires values { IsExact V.is_clone }
         requires pass { pass.old.ledger ≡ self.now.ledger.id }
         requires room { length pass.old.made < most_calls self.now.ledger.form self.now.ledger.clients }
         ensures called { IfOk result
@@ -196,8 +185,6 @@ impl<K: HashKey, V: Value, F: Remap<K, V>, A: Allocator + Clone> Map<K, V, F, A>
         key: KeyArg<'_, K>,
         op: Op<V, F>,
     ) -> Option<Made<V>>
-        requires keys { IsExact K.is_clone }
-        requires values { IsExact V.is_clone }
         requires pass { pass.old.ledger ≡ self.now.ledger.id }
         requires room { length pass.old.made < most_calls self.now.ledger.form self.now.ledger.clients }
         ensures called { IfSome result (λ made. IfOk made

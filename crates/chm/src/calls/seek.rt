@@ -4,7 +4,6 @@
 ghost use Rattle.std.specs.Prelude.{◌≡◌, ◌<◌, true, length, IfOk, IsOk, IsSomeAnd, OnErr};
 ghost use Rattle.hashkeys.specs.Classes.{covers};
 ghost use Rattle.bin_history.specs.Calls.{after};
-ghost use Rattle.bin_history.specs.Copies.{IsExact};
 ghost use Rattle.bin_history.specs.Hashes.{hash_by};
 ghost use Rattle.bin_history.specs.Ops.{call_on};
 ghost use Rattle.bin_history.specs.Seeks.{op_for};
@@ -15,7 +14,7 @@ ghost use Rattle.lock_table.specs.Taken.{taken};
 ghost use Rattle.bin_history.specs.Limits.{most_calls};
 ghost use Rattle.lean_bins.specs.BinSlot.{IsInSlot};
 ghost use Rattle.bin_layout.specs.Views.{place_of};
-ghost use Rattle.chm.specs.Headline.{AreExact, IsAnswered, IsCalled};
+ghost use Rattle.chm.specs.Headline.{IsAnswered, IsCalled};
 ghost use Rattle.chm.specs.Sure.{IsMadeOrFull};
 ghost use Rattle.chm.specs.Views.{bins_of};
 
@@ -45,7 +44,6 @@ impl<K: HashKey, V: Value, F: Remap<K, V>, A: Allocator + Clone> Map<K, V, F, A>
         query: Q,
         seek: Seek,
     ) -> Result<Reply<V>, AllocError>
-        requires values { IsExact V.is_clone }
         requires pass { pass.old.ledger ≡ self.now.ledger.id }
         requires room { length pass.old.made < most_calls self.now.ledger.form self.now.ledger.clients }
         requires lies { IsInSlot K.eq (after V.eq F.remapped F.merged)
@@ -85,7 +83,6 @@ impl<K: HashKey, V: Value, F: Remap<K, V>, A: Allocator + Clone> Map<K, V, F, A>
         query: Q,
         seek: Seek,
     ) -> Made<V>
-        requires values { IsExact V.is_clone }
         requires pass { pass.old.ledger ≡ self.now.ledger.id }
         requires room { length pass.old.made < most_calls self.now.ledger.form self.now.ledger.clients }
         requires hash { hash ≡ hash_by K.code self.now.ledger.salt (Q.stands_for query) }
@@ -125,7 +122,6 @@ impl<K: HashKey, V: Value, F: Remap<K, V>, A: Allocator + Clone> Map<K, V, F, A>
         seek: Seek,
     ) -> Result<Reply<V>, Fault>
         requires form { self.now.ledger.form ≡ Lean }
-        requires exact { AreExact K.is_clone V.is_clone F.is_clone }
         requires pass { pass.old.ledger ≡ self.now.ledger.id }
         ensures answered { IsAnswered K.eq V.eq F.remapped F.merged self.now.ledger
             (call_on (Q.stands_for query) (op_for seek)) pass.old pass.new result }
@@ -165,7 +161,6 @@ impl<K: HashKey, V: Value, F: Remap<K, V>, A: Allocator + Clone> Map<K, V, F, A>
         query: Q,
     ) -> Result<Reply<V>, Fault>
         requires form { self.now.ledger.form ≡ Lean }
-        requires exact { AreExact K.is_clone V.is_clone F.is_clone }
         requires pass { pass.old.ledger ≡ self.now.ledger.id }
         ensures answered { IsAnswered K.eq V.eq F.remapped F.merged self.now.ledger
             (Get (Q.stands_for query)) pass.old pass.new result }
@@ -192,7 +187,6 @@ impl<K: HashKey, V: Value, F: Remap<K, V>, A: Allocator + Clone> Map<K, V, F, A>
         query: Q,
     ) -> Result<Reply<V>, Fault>
         requires form { self.now.ledger.form ≡ Lean }
-        requires exact { AreExact K.is_clone V.is_clone F.is_clone }
         requires pass { pass.old.ledger ≡ self.now.ledger.id }
         ensures answered { IsAnswered K.eq V.eq F.remapped F.merged self.now.ledger
             (Contains (Q.stands_for query)) pass.old pass.new result }
@@ -219,7 +213,6 @@ impl<K: HashKey, V: Value, F: Remap<K, V>, A: Allocator + Clone> Map<K, V, F, A>
         query: Q,
     ) -> Result<Reply<V>, Fault>
         requires form { self.now.ledger.form ≡ Lean }
-        requires exact { AreExact K.is_clone V.is_clone F.is_clone }
         requires pass { pass.old.ledger ≡ self.now.ledger.id }
         ensures answered { IsAnswered K.eq V.eq F.remapped F.merged self.now.ledger
             (Remove (Q.stands_for query)) pass.old pass.new result }

@@ -3,7 +3,6 @@
 ghost use Rattle.std.specs.Prelude.{◌≡◌, ◌≤◌, length, true, IfOk, IfSome, IfNone, IsSome, IsSomeAnd, OnErr};
 ghost use Rattle.hashkeys.specs.Classes.{covers};
 ghost use Rattle.bin_history.specs.Calls.{after};
-ghost use Rattle.bin_history.specs.Copies.{IsExact};
 ghost use Rattle.bin_history.specs.Hashes.{hash_by};
 ghost use Rattle.bin_history.specs.Ops.{call_on, key_in};
 ghost use Rattle.bin_history.specs.declared.form.Form.TheVariants.{Lean};
@@ -13,7 +12,6 @@ ghost use Rattle.bin_store.specs.Places.{tag_of};
 ghost use Rattle.lean_bins.specs.BinSlot.{IsInSlot};
 ghost use Rattle.bin_layout.specs.Places.{AreAt};
 ghost use Rattle.bin_layout.specs.Views.{place_of};
-ghost use Rattle.chm.specs.Headline.{AreExact};
 ghost use Rattle.chm.specs.Updates.{AnswersAt, IsUpdate, IsUpdated, IsWithin, MayAdd, call_for, op_for};
 ghost use Rattle.chm.specs.Views.{bins_of};
 
@@ -83,7 +81,6 @@ impl<K: HashKey, V: Value, F: Remap<K, V>, A: Allocator + Clone> Map<K, V, F, A>
     ) -> Result<T, Fault>
     where
         G: Drop,
-        requires exact { AreExact K.is_clone V.is_clone F.is_clone }
         requires callable { IsWithin self.now.ledger pass.old → G.IsAlwaysCallable f }
         requires pass { pass.old.ledger ≡ self.now.ledger.id }
         ensures { IsUpdate K.eq V.eq F.remapped F.merged (G.post f) self.now.ledger key pass.old
@@ -112,7 +109,6 @@ impl<K: HashKey, V: Value, F: Remap<K, V>, A: Allocator + Clone> Map<K, V, F, A>
     ) -> Result<T, Fault>
     where
         G: Drop,
-        requires exact { AreExact K.is_clone V.is_clone F.is_clone }
         requires callable { IsWithin self.now.ledger pass.old → G.IsAlwaysCallable f }
         requires pass { pass.old.ledger ≡ self.now.ledger.id }
         ensures { IsUpdate K.eq V.eq F.remapped F.merged (G.post f) self.now.ledger key.now
@@ -138,7 +134,6 @@ impl<K: HashKey, V: Value, F: Remap<K, V>, A: Allocator + Clone> Map<K, V, F, A>
     ) -> Result<T, Fault>
     where
         G: Drop,
-        requires exact { AreExact K.is_clone V.is_clone F.is_clone }
         requires callable { IsWithin self.now.ledger pass.old → G.IsAlwaysCallable f }
         requires pass { pass.old.ledger ≡ self.now.ledger.id }
         ensures { IsUpdate K.eq V.eq F.remapped F.merged (G.post f) self.now.ledger
@@ -170,7 +165,6 @@ impl<K: HashKey, V: Value, F: Remap<K, V>, A: Allocator + Clone> Map<K, V, F, A>
     ) -> Option<Result<T, Fault>>
     where
         G: Drop,
-        requires exact { AreExact K.is_clone V.is_clone F.is_clone }
         requires callable { IsWithin self.now.ledger pass.old → G.IsAlwaysCallable f }
         requires pass { pass.old.ledger ≡ self.now.ledger.id }
         ensures updated { IfSome result (IsUpdate K.eq V.eq F.remapped F.merged (G.post f)
@@ -200,8 +194,6 @@ impl<K: HashKey, V: Value, F: Remap<K, V>, A: Allocator + Clone> Map<K, V, F, A>
         key: KeyArg<'_, K>,
         f: G,
     ) -> Result<(T, CallEffect), AllocError>
-        requires keys { IsExact K.is_clone }
-        requires values { IsExact V.is_clone }
         requires callable { G.IsAlwaysCallable f }
         requires pass { pass.old.ledger ≡ self.now.ledger.id }
         requires room { IsWithin self.now.ledger pass.old }
@@ -235,8 +227,6 @@ impl<K: HashKey, V: Value, F: Remap<K, V>, A: Allocator + Clone> Map<K, V, F, A>
     ) -> Option<Result<(T, CallEffect), AllocError>>
     where
         G: Drop,
-        requires keys { IsExact K.is_clone }
-        requires values { IsExact V.is_clone }
         requires callable { G.IsAlwaysCallable f }
         requires pass { pass.old.ledger ≡ self.now.ledger.id }
         requires room { IsWithin self.now.ledger pass.old }
@@ -273,8 +263,6 @@ impl<K: HashKey, V: Value, F: Remap<K, V>, A: Allocator + Clone> Map<K, V, F, A>
         key: KeyArg<'_, K>,
         f: G,
     ) -> Result<(T, CallEffect), AllocError>
-        requires keys { IsExact K.is_clone }
-        requires values { IsExact V.is_clone }
         requires callable { G.IsAlwaysCallable f }
         requires pass { pass.old.ledger ≡ self.now.ledger.id }
         requires room { IsWithin self.now.ledger pass.old }
@@ -309,8 +297,6 @@ impl<K: HashKey, V: Value, F: Remap<K, V>, A: Allocator + Clone> Map<K, V, F, A>
         key: KeyArg<'_, K>,
         f: G,
     ) -> Result<(T, CallEffect), AllocError>
-        requires keys { IsExact K.is_clone }
-        requires values { IsExact V.is_clone }
         requires callable { G.IsAlwaysCallable f }
         requires pass { pass.old.ledger ≡ self.now.ledger.id }
         requires room { IsWithin self.now.ledger pass.old }
@@ -345,8 +331,6 @@ impl<K: HashKey, V: Value, F: Remap<K, V>, A: Allocator + Clone> Map<K, V, F, A>
         key: KeyArg<'_, K>,
         f: G,
     ) -> Result<(T, Growth), AllocError>
-        requires keys { IsExact K.is_clone }
-        requires values { IsExact V.is_clone }
         requires callable { G.IsAlwaysCallable f }
         requires pass { pass.old.ledger ≡ self.now.ledger.id }
         requires room { IsWithin self.now.ledger pass.old }

@@ -3,7 +3,6 @@
 ghost use Rattle.std.specs.Prelude.{◌≡◌, true, IfNone, IfOk, IfErr, IfSome, IsOk, IsSomeAnd, option_copied};
 ghost use Rattle.hashkeys.specs.Classes.{covers};
 ghost use Rattle.bin_history.specs.Calls.{after};
-ghost use Rattle.bin_history.specs.Copies.{IsExact};
 ghost use Rattle.bin_history.specs.Entries.{lookup};
 ghost use Rattle.bin_history.specs.Hashes.{hash_by};
 ghost use Rattle.bin_history.specs.Plain.{run};
@@ -20,7 +19,7 @@ ghost use Rattle.chm.specs.Visits.{IsShown};
 
 use crate::fault::Fault;
 use crate::map::Map;
-use bin_history::{Remap, Value};
+use bin_history::{Exact, Remap, Value};
 use bin_store::{Held, StoreKind};
 use count_ledger::Pass;
 use hashkeys::{AsKey, Class, HashKey};
@@ -263,7 +262,6 @@ impl<K: HashKey, V: Value, F: Remap<K, V>, A: Allocator + Clone> Map<K, V, F, A>
         pass: &mut Pass<K, V, F>,
         key: &K,
     ) -> Result<Option<V>, Fault>
-        requires values { IsExact V.is_clone }
         requires pass { pass.old.ledger ≡ self.now.ledger.id }
         ensures seen { HasSeen K.eq (after V.eq F.remapped F.merged) self.now.ledger pass.old
             pass.new }
@@ -291,7 +289,6 @@ impl<K: HashKey, V: Value, F: Remap<K, V>, A: Allocator + Clone> Map<K, V, F, A>
         pass: &mut Pass<K, V, F>,
         query: Q,
     ) -> Result<Option<V>, Fault>
-        requires values { IsExact V.is_clone }
         requires pass { pass.old.ledger ≡ self.now.ledger.id }
         ensures seen { HasSeen K.eq (after V.eq F.remapped F.merged) self.now.ledger pass.old
             pass.new }
@@ -311,7 +308,6 @@ impl<K: HashKey, V: Value, F: Remap<K, V>, A: Allocator + Clone> Map<K, V, F, A>
     ///     map.put(rt, pass, 1, 5)?;
     ///     map.glance(rt, &1)? == Some(5)
     pub fn glance<R: Wait>(&self, rt: &R, key: &K) -> Result<Option<V>, Fault>
-        requires values { IsExact V.is_clone }
         ensures shown { IfOk result
             (IsShown K.eq K.code (after V.eq F.remapped F.merged) self.now key.now) }
         ensures sure { IsNeverRefused V.is_infallible → IsOk result }
@@ -326,7 +322,6 @@ impl<K: HashKey, V: Value, F: Remap<K, V>, A: Allocator + Clone> Map<K, V, F, A>
     ///     map.put(rt, pass, Bytes(b"one"), 5)?;
     ///     map.glance_as(rt, b"one".as_slice())? == Some(5)
     pub fn glance_as<R: Wait, Q: AsKey<K>>(&self, rt: &R, query: Q) -> Result<Option<V>, Fault>
-        requires values { IsExact V.is_clone }
         ensures shown { IfOk result
             (IsShown K.eq K.code (after V.eq F.remapped F.merged) self.now (Q.stands_for query)) }
         ensures sure { IsNeverRefused V.is_infallible → IsOk result }
@@ -338,8 +333,7 @@ impl<K: HashKey, V: Value, F: Remap<K, V>, A: Allocator + Clone> Map<K, V, F, A>
 }
 
 /// A copy of a value, if there is one.
-fn copied<V: Clone>(value: Option<&V>) -> Result<Option<V>, AllocError>
-    requires { IsExact V.is_clone }
+fn copied<V: Exact>(value: Option<&V>) -> Result<Option<V>, AllocError>
     ensures copy { IfOk result (λ copy. copy ≡ option_copied value.entry) }
     ensures sure { IsNeverRefused V.is_infallible → IsOk result }
 {

@@ -7,8 +7,7 @@ ghost use Rattle.count_ledger.specs.Books.{classes_of_roles};
 ghost use Rattle.count_ledger.specs.Opening.{left_in};
 ghost use Rattle.count_ledger.specs.Settled.{AreReconciled, HasOrderFrom, seen_at};
 ghost use Rattle.count_ledger.specs.Words.{total_made, word_of};
-ghost use Rattle.chm.specs.Closing.{IsKnown, IsNotClosed, IsNotClosedFor};
-ghost use Rattle.chm.specs.Closing.{IsNotClosedWith, IsRestOf};
+ghost use Rattle.chm.specs.Closing.{IsKnown, IsNotClosed, IsNotClosedWith, IsRestOf};
 ghost use Rattle.chm.specs.Closing.{passes_with, seen_with, taken_with};
 
 use crate::closed::quiet::Quiet;
@@ -19,7 +18,6 @@ use count_ledger::{BinRole, Ledger, Moment, Pass, Roster, retire_all};
 use hashkeys::HashKey;
 use std::alloc::Allocator;
 use std::marker::Model;
-use std::snapshot::Snapshot;
 
 /// Why a map could not be closed, with the passes as they were handed in. The map comes back too,
 /// as it was, but where bins were missing.
@@ -100,20 +98,20 @@ impl<K: HashKey, V: Value, F: Remap<K, V>, A: Allocator + Clone> NotClosedWith<K
 /// What a map is closed with beside the passes that were taken: the roster, and a moment.
 #[derive(Drop)]
 pub(crate) struct Rest<K, V, F> {
-    roster: Roster<K, V, F>,
-    known: Option<Moment<K, V, F>>,
+    pub(crate) roster: Roster<K, V, F>,
+    pub(crate) known: Option<Moment<K, V, F>>,
 }
 
 /// A map that was not closed, and all that was handed in.
-struct Refused<K: HashKey, V: Value, F: Remap<K, V>, A: Allocator> {
-    fault: Fault,
-    map: Option<Map<K, V, F, A>>,
-    rest: Option<Rest<K, V, F>>,
-    passes: Vec<Pass<K, V, F>, A>,
+pub(crate) struct Refused<K: HashKey, V: Value, F: Remap<K, V>, A: Allocator> {
+    pub(crate) fault: Fault,
+    pub(crate) map: Option<Map<K, V, F, A>>,
+    pub(crate) rest: Option<Rest<K, V, F>>,
+    pub(crate) passes: Vec<Pass<K, V, F>, A>,
 }
 
 /// How many passes were taken: all, but for those that a roster has.
-fn taken<K, V, F>(clients: u32, rest: &Option<Rest<K, V, F>>) -> u32
+pub(crate) fn taken<K, V, F>(clients: u32, rest: &Option<Rest<K, V, F>>) -> u32
     ensures { result ≡ taken_with clients rest.now }
 {
     match rest {
@@ -124,7 +122,9 @@ fn taken<K, V, F>(clients: u32, rest: &Option<Rest<K, V, F>>) -> u32
 
 /// The entries of each of these bins are the replay of its records over its base. It changes
 /// nothing.
-fn replayed<K: HashKey, V: Value, F: Remap<K, V>, A: Allocator + Clone>(bins: &[Bin<K, V, F, A>])
+pub(crate) fn replayed<K: HashKey, V: Value, F: Remap<K, V>, A: Allocator + Clone>(
+    bins: &[Bin<K, V, F, A>],
+)
     ensures { All (λ b. b.entries ≡ replay K.eq b.base b.records) bins.now }
 {
     for bin in bins {
@@ -133,7 +133,7 @@ fn replayed<K: HashKey, V: Value, F: Remap<K, V>, A: Allocator + Clone>(bins: &[
 }
 
 /// Ends a ledger of which all is back, and returns the sum of all deltas.
-fn settle_all<K: HashKey, V: Value, F: Remap<K, V>, A: Allocator + Clone>(
+pub(crate) fn settle_all<K: HashKey, V: Value, F: Remap<K, V>, A: Allocator + Clone>(
     ledger: Ledger<K, V, F, A>,
     rest: Option<Rest<K, V, F>>,
     passes: Vec<Pass<K, V, F>, A>,
@@ -293,71 +293,5 @@ impl<K: HashKey, V: Value, F: Remap<K, V>, A: Allocator + Clone> Map<K, V, F, A>
                 })
             }
         }
-    }
-
-    fn close_all(
-        self,
-        rest: Option<Rest<K, V, F>>,
-        passes: Vec<Pass<K, V, F>, A>,
-    ) -> Result<Quiet<K, V, F, A>, Refused<K, V, F, A>>
-        requires rest { IfSome rest (IsRestOf self.ledger) }
-        requires own { All (λ p. p.ledger ≡ self.ledger.id) passes.items }
-        ensures ledger { IfOk result (λ q. q.ledger ≡ self.ledger) }
-        ensures n { IfOk result (λ q. q.n ≡ self.n) }
-        ensures known { IfOk result
-            (IsKnown K.eq K.code (after V.eq F.remapped F.merged) (seen_with rest)) }
-        ensures passes { IfOk result (λ q. q.passes ≡ passes_with rest passes.items) }
-        ensures refused { IfErr result
-            (λ e. IsNotClosedFor (taken_with self.ledger.clients rest) self passes.items
-            (record { fault = e.fault; map = e.map; passes = e.passes.items })) }
-        ensures rest { IfErr result (λ e. e.rest ≡ rest) }
-    {
-        if passes.len() < taken(self.clients(), &rest) as usize {
-            return Err(Refused {
-                fault: Fault::PassMissing,
-                map: Some(self),
-                rest,
-                passes,
-            });
-        }
-        let Ok(room) = self.bins.room_for_leaves() else {
-            return Err(Refused {
-                fault: Fault::NoMemory,
-                map: Some(self),
-                rest,
-                passes,
-            });
-        };
-        let (n, salt, form) = (self.bins.n(), self.salt(), self.form());
-        let Map {
-            ledger,
-            bins,
-            resizer: _,
-            opened,
-        } = self;
-        let Some((bins, roles)) = bins.into_leaves(room) else {
-            return Err(Refused {
-                fault: Fault::BinMissing,
-                map: None,
-                rest,
-                passes,
-            });
-        };
-        replayed(&bins);
-        let books = Snapshot::of(&ledger);
-        let kept = Snapshot::of(&roles);
-        let made = (Snapshot::of(&passes), Snapshot::of(&rest));
-        let total = settle_all(ledger, rest, passes, roles);
-        Ok(Quiet {
-            bins,
-            n,
-            salt,
-            form,
-            count: opened.wrapping_add(total),
-            ledger: books,
-            roles: kept,
-            passes: made.0,
-            rest: made.1,
-        })
     }
 }

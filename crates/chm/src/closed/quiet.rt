@@ -16,7 +16,6 @@ use std::snapshot::Snapshot;
 
 /// A map that nobody calls any more: its bins do not change. Contracts see its bins beside the
 /// books that it was closed with. In the examples of its calls it has one key, 1, with the value 5.
-#[derive(Drop)]
 pub struct Quiet<K: HashKey, V: Value, F: Remap<K, V>, A: Allocator> {
     pub(crate) bins: Vec<Bin<K, V, F, A>, A>,
     pub(crate) n: u32,
@@ -54,7 +53,42 @@ impl<K: HashKey, V: Value, F: Remap<K, V>, A: Allocator> Model for Quiet<K, V, F
         × (q.form ≡ q.ledger.value.form) };
 }
 
+// Written out, so that a crate above calls it: of a derived one it would prove each part anew.
+impl<K: HashKey, V: Value, F: Remap<K, V>, A: Allocator> Drop for Quiet<K, V, F, A> {
+    fn drop(self) {
+        let Quiet {
+            bins: _,
+            n: _,
+            salt: _,
+            form: _,
+            count: _,
+            ledger: _,
+            roles: _,
+            passes: _,
+            rest: _,
+        } = self;
+    }
+}
+
 impl<K: HashKey, V: Value, F: Remap<K, V>, A: Allocator> Quiet<K, V, F, A> {
+    /// The bins of a closed map that is taken apart, in walk order.
+    pub(crate) fn into_bins(self) -> Vec<Bin<K, V, F, A>, A>
+        ensures { result.items ≡ self.bins }
+    {
+        let Quiet {
+            bins,
+            n: _,
+            salt: _,
+            form: _,
+            count: _,
+            ledger: _,
+            roles: _,
+            passes: _,
+            rest: _,
+        } = self;
+        bins
+    }
+
     /// Returns the bins, in walk order.
     pub fn bins(&self) -> &[Bin<K, V, F, A>]
         ensures { result.now ≡ self.now.bins }

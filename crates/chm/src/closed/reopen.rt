@@ -1,7 +1,6 @@
 //! Opening a map again with the pairs of a closed one.
 ghost use Rattle.std.specs.Prelude.{◌≡◌, ◌≤◌, length, flat_map, IfOk};
 ghost use Rattle.hashkeys.specs.Classes.{IsTableSize};
-ghost use Rattle.bin_history.specs.Copies.{IsExact};
 ghost use Rattle.bin_history.specs.Limits.{most_clients};
 ghost use Rattle.count_ledger.specs.Opening.{left_in, lists_of};
 ghost use Rattle.chm.specs.Headline.{entries_of};
@@ -27,8 +26,6 @@ fn deal<K: HashKey, V: Value, F: Remap<K, V>, A: Allocator + Clone>(
     n: u32,
     pairs: Entries<'_, K, V, F, A>,
 ) -> Result<Vec<Vec<(K, V), A>, A>, AllocError>
-    requires keys { IsExact K.is_clone }
-    requires values { IsExact V.is_clone }
     requires size { IsTableSize n }
     ensures dealt { IfOk result
         (λ bases. lists_of bases ≡ parts_by_class K.code salt n pairs.entry) }
@@ -58,8 +55,6 @@ impl<K: HashKey, V: Value, F: Remap<K, V>, A: Allocator + Clone> Quiet<K, V, F, 
     /// `BadCapacity` where there are more than 2^32 - 1 pairs, else `BadClients` where there are not
     /// 1 to 32 clients, or in a lean map to 65,536; `NoMemory` out of memory.
     pub fn reopen(&self, clients: u32) -> Result<Opened<K, V, F, A>, Fault>
-        requires keys { IsExact K.is_clone }
-        requires values { IsExact V.is_clone }
         ensures new { IfOk result
             (λ r. IsReopened K.eq K.code self.now self.now.ledger.salt clients r.0 r.1.items) }
         ensures limits { IsLimited (length (entries_of self.now.bins) ≤ most_pairs)
@@ -73,8 +68,6 @@ impl<K: HashKey, V: Value, F: Remap<K, V>, A: Allocator + Clone> Quiet<K, V, F, 
     ///     let (map, passes) = quiet.reopen_with(2, Salt(7))?;
     ///     map.salt() == Salt(7)
     pub fn reopen_with(&self, clients: u32, salt: Salt) -> Result<Opened<K, V, F, A>, Fault>
-        requires keys { IsExact K.is_clone }
-        requires values { IsExact V.is_clone }
         ensures new { IfOk result
             (λ r. IsReopened K.eq K.code self.now salt clients r.0 r.1.items) }
         ensures limits { IsLimited (length (entries_of self.now.bins) ≤ most_pairs)
@@ -92,8 +85,6 @@ impl<K: HashKey, V: Value, F: Remap<K, V>, A: Allocator + Clone> Quiet<K, V, F, 
     ///     let (map, roster) = quiet.restart(2, Salt(7))?;
     ///     map.clients() == 2 && roster.taken() == 0
     pub fn restart(&self, clients: u32, salt: Salt) -> Result<Started<K, V, F, A>, Fault>
-        requires keys { IsExact K.is_clone }
-        requires values { IsExact V.is_clone }
         ensures new { IfOk result
             (λ r. IsReopened K.eq K.code self.now salt clients r.0 (left_in r.1)) }
         ensures roster { IfOk result

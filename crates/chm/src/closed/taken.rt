@@ -47,10 +47,7 @@ impl<K: HashKey, V: Value, F: Remap<K, V>, A: Allocator + Clone> Quiet<K, V, F, 
     {
         self.histories();
         match self.room() {
-            Ok(room) => {
-                let Quiet { bins, .. } = self;
-                Ok(move_all(bins, room))
-            }
+            Ok(room) => Ok(move_all(self.into_bins(), room)),
             Err(AllocError) => Err(self),
         }
     }

@@ -5,7 +5,6 @@ ghost use Rattle.hashkeys.specs.Classes.{IsTableSize};
 ghost use Rattle.hashkeys.specs.Limits.{most_exponent};
 ghost use Rattle.bin_history.specs.Deltas.{sum_of_deltas};
 ghost use Rattle.count_ledger.specs.Words.{word_of};
-ghost use Rattle.chm.specs.Headline.{AreExact};
 ghost use Rattle.chm.specs.Sizes.{most_bins_of};
 ghost use Rattle.transfer.specs.Views.{IsUnfinished};
 
@@ -34,9 +33,7 @@ impl<K: HashKey, V: Value, F: Remap<K, V>, A: Allocator + Clone> Map<K, V, F, A>
     /// is ready with one stride, and opens a move where the table is full. Most calls have nothing to
     /// do: they look at the resize word alone.
     #[inline(always)]
-    pub(crate) fn after_call(&self, effect: &CallEffect)
-        requires exact { AreExact K.is_clone V.is_clone F.is_clone }
-    {
+    pub(crate) fn after_call(&self, effect: &CallEffect) {
         let table = self.resizer.table();
         if !table.is_settled_for(effect.class) {
             self.catch_up(table, effect.class, effect.client);
@@ -50,7 +47,6 @@ impl<K: HashKey, V: Value, F: Remap<K, V>, A: Allocator + Clone> Map<K, V, F, A>
     #[cold]
     #[inline(never)]
     fn catch_up(&self, table: ResizeState, class: Class, client: u32)
-        requires exact { AreExact K.is_clone V.is_clone F.is_clone }
         requires table { table.exponent ≤ most_exponent }
     {
         if class.n() < table.n() {
@@ -65,7 +61,6 @@ impl<K: HashKey, V: Value, F: Remap<K, V>, A: Allocator + Clone> Map<K, V, F, A>
     /// or the call's bin is crowded.
     #[inline(never)]
     fn look_whether_full(&self, table: ResizeState, client: u32, balance: u64, crowded: bool)
-        requires exact { AreExact K.is_clone V.is_clone F.is_clone }
         requires table { table.exponent ≤ most_exponent }
     {
         if is_due(self.form(), table.n(), balance, crowded) {
@@ -110,7 +105,6 @@ impl<K: HashKey, V: Value, F: Remap<K, V>, A: Allocator + Clone> Map<K, V, F, A>
 
     /// Opens a move where the table is full.
     fn grow_if_full(&self, table: ResizeState, client: u32)
-        requires exact { AreExact K.is_clone V.is_clone F.is_clone }
         requires table { table.exponent ≤ most_exponent }
     {
         if is_full(self.form(), table.n(), self.mapping_count()) {
@@ -120,9 +114,7 @@ impl<K: HashKey, V: Value, F: Remap<K, V>, A: Allocator + Clone> Map<K, V, F, A>
 
     /// Moves one bin into its halves. Where another call has it locked, or out of memory, it stays,
     /// and a later call on it moves it; under a wider bin it stays too.
-    fn move_bin(&self, class: Class)
-        requires exact { AreExact K.is_clone V.is_clone F.is_clone }
-    {
+    fn move_bin(&self, class: Class) {
         if self.bins.n() <= class.n() && class.n() < most_bins(self.form()) {
             // where it fails, the bin stays
             let _ = self.bins.try_forward(&self.ledger, class);
@@ -132,7 +124,6 @@ impl<K: HashKey, V: Value, F: Remap<K, V>, A: Allocator + Clone> Map<K, V, F, A>
     /// Moves the bins of a range that the mover claimed, and publishes the wider table where it was
     /// the last.
     fn move_range(&self, resize: &Resize<A>, mover: &mut Mover, range: Range)
-        requires exact { AreExact K.is_clone V.is_clone F.is_clone }
         requires mover { mover.old.strides ≡ resize.now.move_strides }
         requires range { IsUnfinished mover.old range }
         ensures mover { mover.new.strides ≡ mover.old.strides }
@@ -148,18 +139,14 @@ impl<K: HashKey, V: Value, F: Remap<K, V>, A: Allocator + Clone> Map<K, V, F, A>
     }
 
     /// Takes part in the open move with one stride, if there is a mover left for the client.
-    fn help(&self, table: ResizeState, client: u32)
-        requires exact { AreExact K.is_clone V.is_clone F.is_clone }
-    {
+    fn help(&self, table: ResizeState, client: u32) {
         if let Some(resize) = self.resizer.open_move(table) {
             self.take_turn(resize, client);
         }
     }
 
     /// Moves one stride of a move, if there is a mover left for the client.
-    fn take_turn(&self, resize: &Resize<A>, client: u32)
-        requires exact { AreExact K.is_clone V.is_clone F.is_clone }
-    {
+    fn take_turn(&self, resize: &Resize<A>, client: u32) {
         let move_strides = &resize.move_strides;
         let Some(mut mover) = move_strides.enter(client) else {
             return;
@@ -186,7 +173,6 @@ impl<K: HashKey, V: Value, F: Remap<K, V>, A: Allocator + Clone> Map<K, V, F, A>
     /// until none is left, or in a lean map one. Out of memory for its places or its strides there is
     /// no move.
     fn grow(&self, table: ResizeState, client: u32)
-        requires exact { AreExact K.is_clone V.is_clone F.is_clone }
         requires table { table.exponent < most_exponent }
         requires few { 2 ^ table.exponent < most_bins_of self.now.ledger.form }
     {
@@ -218,7 +204,6 @@ impl<K: HashKey, V: Value, F: Remap<K, V>, A: Allocator + Clone> Map<K, V, F, A>
 
     /// Moves strides until none is left.
     fn move_all_left(&self, resize: &Resize<A>, client: u32, mover: Mover)
-        requires exact { AreExact K.is_clone V.is_clone F.is_clone }
         requires mover { mover.strides ≡ resize.now.move_strides }
     {
         let mut mover = mover;

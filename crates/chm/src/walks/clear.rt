@@ -1,7 +1,6 @@
 //! Emptying a map, bin by bin in walk order.
 ghost use Rattle.std.specs.Prelude.{◌≡◌, ◌≤◌, false, length, IfErr, IsErrOf, OnOk, OnErr};
 ghost use Rattle.bin_history.specs.Calls.{after};
-ghost use Rattle.bin_history.specs.Copies.{IsExact};
 ghost use Rattle.bin_history.specs.Sure.{IsNeverRefused};
 ghost use Rattle.bin_history.specs.declared.form.Form.TheVariants.{Lean};
 ghost use Rattle.count_ledger.specs.Limits.{most_calls};
@@ -27,8 +26,6 @@ impl<K: HashKey, V: Value, F: Remap<K, V>, A: Allocator + Clone> Map<K, V, F, A>
     ///     map.clear(rt, pass)?;
     ///     map.get(rt, pass, 1)? == Reply::Value(None)
     pub fn clear<R: Wait>(&self, rt: &R, pass: &mut Pass<K, V, F>) -> Result<(), Fault>
-        requires keys { IsExact K.is_clone }
-        requires values { IsExact V.is_clone }
         requires pass { pass.old.ledger ≡ self.now.ledger.id }
         ensures cleared { OnOk result
             (IsCleared K.eq K.code (after V.eq F.remapped F.merged) self.now.n

@@ -78,7 +78,6 @@ impl<K: HashKey, V: Value, F: Remap<K, V>, A: Allocator + Clone> Map<K, V, F, A>
     ghost use Rattle.std.specs.Prelude.{IfErr, IsOk, IsSomeAnd, OnErr};
     ghost use Rattle.hashkeys.specs.Classes.{covers};
     ghost use Rattle.bin_history.specs.Calls.{after};
-    ghost use Rattle.bin_history.specs.Copies.{IsExact};
     ghost use Rattle.count_ledger.specs.Fronts.{HasSeen, HasSeenMore};
     ghost use Rattle.count_ledger.specs.Views.{PassView};
     ghost use Rattle.bin_store.specs.Places.{tag_of};
@@ -133,8 +132,6 @@ impl<K: HashKey, V: Value, F: Remap<K, V>, A: Allocator + Clone> Map<K, V, F, A>
         pass: &mut Pass<K, V, F>,
         cursor: &mut Cursor,
     ) -> Result<Option<Visit<K, V, A>>, Fault>
-        requires keys { IsExact K.is_clone }
-        requires values { IsExact V.is_clone }
         requires pass { pass.old.ledger ≡ self.now.ledger.id }
         ensures visit { IfOk result (λ v. IfSome v (λ v.
             HasSeen K.eq (after V.eq F.remapped F.merged) self.now.ledger pass.old pass.new
@@ -174,8 +171,6 @@ impl<K: HashKey, V: Value, F: Remap<K, V>, A: Allocator + Clone> Map<K, V, F, A>
         pass: &mut Pass<K, V, F>,
         cursor: &mut Cursor,
     ) -> Option<Result<Option<Visit<K, V, A>>, Fault>>
-        requires keys { IsExact K.is_clone }
-        requires values { IsExact V.is_clone }
         requires pass { pass.old.ledger ≡ self.now.ledger.id }
         ensures visit { IfSome result (λ tried. IfOk tried (λ v. IfSome v (λ v.
             HasSeen K.eq (after V.eq F.remapped F.merged) self.now.ledger pass.old pass.new
@@ -217,8 +212,6 @@ impl<K: HashKey, V: Value, F: Remap<K, V>, A: Allocator + Clone> Map<K, V, F, A>
         cursor: &mut Cursor,
         next: Class,
     ) -> Result<Visit<K, V, A>, AllocError>
-        requires keys { IsExact K.is_clone }
-        requires values { IsExact V.is_clone }
         requires pass { pass.old.ledger ≡ self.now.ledger.id }
         requires next { cursor.old.next ≡ Some next }
         ensures seen { HasSeen K.eq (after V.eq F.remapped F.merged) self.now.ledger pass.old
@@ -250,8 +243,6 @@ impl<K: HashKey, V: Value, F: Remap<K, V>, A: Allocator + Clone> Map<K, V, F, A>
         cursor: &mut Cursor,
         next: Class,
     ) -> Option<Result<Visit<K, V, A>, AllocError>>
-        requires keys { IsExact K.is_clone }
-        requires values { IsExact V.is_clone }
         requires pass { pass.old.ledger ≡ self.now.ledger.id }
         requires next { cursor.old.next ≡ Some next }
         ensures seen { IfSome result (λ _. HasSeen K.eq (after V.eq F.remapped F.merged)
@@ -286,8 +277,6 @@ impl<K: HashKey, V: Value, F: Remap<K, V>, A: Allocator + Clone> Map<K, V, F, A>
         cursor: &mut Cursor,
         next: Class,
     ) -> Result<Visit<K, V, A>, AllocError>
-        requires keys { IsExact K.is_clone }
-        requires values { IsExact V.is_clone }
         requires pass { pass.old.ledger ≡ self.now.ledger.id }
         requires next { cursor.old.next ≡ Some next }
         requires covers { covers held.bin.class next.index ≡ true }

@@ -3,7 +3,6 @@ ghost use Rattle.std.specs.Prelude.{◌≡◌, ◌<◌, ◌≤◌, ◌++◌, [],
 ghost use Rattle.std.specs.Prelude.{IfOk, IfErr, IsErrOf, IsSomeAnd, OnOk, OnErr};
 ghost use Rattle.hashkeys.specs.Classes.{ClassView, covers, is_of};
 ghost use Rattle.bin_history.specs.Calls.{after};
-ghost use Rattle.bin_history.specs.Copies.{IsExact};
 ghost use Rattle.bin_history.specs.Part.{part_of_entries};
 ghost use Rattle.bin_history.specs.Sure.{IsNeverRefused};
 ghost use Rattle.bin_history.specs.declared.form.Form.TheVariants.{Lean};
@@ -42,8 +41,6 @@ impl<K: HashKey, V: Value, F: Remap<K, V>, A: Allocator + Clone> Map<K, V, F, A>
         class: Class,
         keeps: &G,
     ) -> Result<bool, Fault>
-        requires keys { IsExact K.is_clone }
-        requires values { IsExact V.is_clone }
         requires callable { G.IsAlwaysCallable keeps.now }
         requires pass { pass.old.ledger ≡ self.now.ledger.id }
         requires lies { IsInSlot K.eq (after V.eq F.remapped F.merged)
@@ -91,8 +88,6 @@ impl<K: HashKey, V: Value, F: Remap<K, V>, A: Allocator + Clone> Map<K, V, F, A>
         class: Class,
         keeps: &G,
     ) -> Result<(), Fault>
-        requires keys { IsExact K.is_clone }
-        requires values { IsExact V.is_clone }
         requires callable { G.IsAlwaysCallable keeps.now }
         requires pass { pass.old.ledger ≡ self.now.ledger.id }
         requires lies { IsInSlot K.eq (after V.eq F.remapped F.merged)
@@ -125,8 +120,6 @@ impl<K: HashKey, V: Value, F: Remap<K, V>, A: Allocator + Clone> Map<K, V, F, A>
         class: Class,
         keeps: &G,
     ) -> Result<(), Fault>
-        requires keys { IsExact K.is_clone }
-        requires values { IsExact V.is_clone }
         requires callable { G.IsAlwaysCallable keeps.now }
         requires pass { pass.old.ledger ≡ self.now.ledger.id }
         requires lies { IsInSlot K.eq (after V.eq F.remapped F.merged)
@@ -164,8 +157,6 @@ impl<K: HashKey, V: Value, F: Remap<K, V>, A: Allocator + Clone> Map<K, V, F, A>
         next: Class,
         keeps: &G,
     ) -> Result<(), Fault>
-        requires keys { IsExact K.is_clone }
-        requires values { IsExact V.is_clone }
         requires callable { G.IsAlwaysCallable keeps.now }
         requires pass { pass.old.ledger ≡ self.now.ledger.id }
         requires next { cursor.old.next ≡ Some next }

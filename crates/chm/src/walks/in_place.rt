@@ -3,7 +3,6 @@ ghost use Rattle.std.specs.Prelude.{◌≡◌, ◌++◌, [], ◌∷◌, ℕ, Lis
 ghost use Rattle.std.specs.List.{FoldsTo};
 ghost use Rattle.hashkeys.specs.Classes.{ClassView, covers};
 ghost use Rattle.bin_history.specs.Calls.{after};
-ghost use Rattle.bin_history.specs.Copies.{IsExact};
 ghost use Rattle.bin_history.specs.Leans.{as_bin};
 ghost use Rattle.lock_table.specs.Taken.{taken};
 ghost use Rattle.count_ledger.specs.Fronts.{HasSeen};
@@ -60,8 +59,6 @@ impl<K: HashKey, V: Value, F: Remap<K, V>, A: Allocator + Clone> Map<K, V, F, A>
         own: Class,
         class: Class,
     ) -> Result<Vec<(K, V), A>, AllocError>
-        requires keys { IsExact K.is_clone }
-        requires values { IsExact V.is_clone }
         requires pass { pass.old.ledger ≡ self.now.ledger.id }
         requires lies { IsInSlot K.eq (after V.eq F.remapped F.merged)
             (place_of (bins_of self.now) own) bin_slot.old }
@@ -153,8 +150,6 @@ impl<K: HashKey, V: Value, F: Remap<K, V>, A: Allocator + Clone> Map<K, V, F, A>
         cursor: &mut Cursor,
         next: Class,
     ) -> Result<Visit<K, V, A>, AllocError>
-        requires keys { IsExact K.is_clone }
-        requires values { IsExact V.is_clone }
         requires pass { pass.old.ledger ≡ self.now.ledger.id }
         requires next { cursor.old.next ≡ Some next }
         requires lies { IsSomeAnd (taken held.inner.seat.me.1)

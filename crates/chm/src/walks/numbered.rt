@@ -71,7 +71,6 @@ impl<K: HashKey, V: Value, F: Remap<K, V>, A: Allocator + Clone> Map<K, V, F, A>
     ghost use Rattle.hashkeys.specs.Classes.{covers};
     ghost use Rattle.hashkeys.specs.Limits.{most_bins};
     ghost use Rattle.bin_history.specs.Calls.{after};
-    ghost use Rattle.bin_history.specs.Copies.{IsExact};
     ghost use Rattle.count_ledger.specs.Fronts.{HasSeen, HasSeenMore};
     ghost use Rattle.chm.specs.Numbered.{HasComeAt, IsEnd};
     ghost use Rattle.chm.specs.Visits.{IsVisit, VisitView};
@@ -96,8 +95,6 @@ impl<K: HashKey, V: Value, F: Remap<K, V>, A: Allocator + Clone> Map<K, V, F, A>
         pass: &mut Pass<K, V, F>,
         number: u64,
     ) -> Option<Result<Step<K, V, A>, Fault>>
-        requires keys { IsExact K.is_clone }
-        requires values { IsExact V.is_clone }
         requires pass { pass.old.ledger ≡ self.now.ledger.id }
         ensures visit { IfSome result (λ tried. IfOk tried (λ step. IfSome step.0 (λ v.
             (v.class.index ≡ number)

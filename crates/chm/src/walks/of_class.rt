@@ -3,7 +3,6 @@
 ghost use Rattle.std.specs.Prelude.{◌≡◌, ◌++◌, List, All, IfNone, IfOk, IfSome, true, false};
 ghost use Rattle.std.specs.List.{FoldsTo};
 ghost use Rattle.hashkeys.specs.Classes.{is_of};
-ghost use Rattle.bin_history.specs.Copies.{IsExact};
 ghost use Rattle.bin_history.specs.Part.{part_of_entries};
 ghost use Rattle.chm.specs.Cursors.{IsUsedAt};
 ghost use Rattle.chm.specs.Retained.{HasEntry, SaysAt};
@@ -20,8 +19,6 @@ fn copies_of_some<K: HashKey, V: Value, A: Allocator + Clone>(
     salt: Salt,
     class: Class,
 ) -> Result<Vec<(K, V), A>, AllocError>
-    requires keys { IsExact K.is_clone }
-    requires values { IsExact V.is_clone }
     ensures { IfOk result (λ copies. copies.items
         ≡ part_of_entries (is_of K.code salt class) walk.entry) }
 {
@@ -42,8 +39,6 @@ pub(crate) fn copies_of_class<K: HashKey, V: Value, F: Remap<K, V>, A: Allocator
     bin: &Bin<K, V, F, A>,
     class: Class,
 ) -> Result<Vec<(K, V), A>, AllocError>
-    requires keys { IsExact K.is_clone }
-    requires values { IsExact V.is_clone }
     ensures { IfOk result (λ copies. copies.items
         ≡ part_of_entries (is_of K.code bin.now.salt class) bin.now.entries) }
 {
@@ -64,8 +59,6 @@ pub(crate) fn copies_of_entries<K: HashKey, V: Value, A: Allocator + Clone>(
     own: Class,
     class: Class,
 ) -> Result<Vec<(K, V), A>, AllocError>
-    requires keys { IsExact K.is_clone }
-    requires values { IsExact V.is_clone }
     requires own { All (λ e. is_of K.code salt own e.0 ≡ true) entries.now.entries }
     ensures { IfOk result (λ copies. copies.items
         ≡ part_of_entries (is_of K.code salt class) entries.now.entries) }

@@ -17,7 +17,6 @@ impl<K: HashKey, V: Value, F: Remap<K, V>, A: Allocator + Clone> Map<K, V, F, A>
     ghost use Rattle.std.specs.Prelude.{IfOk, IfErr, IsErrOf, IsOk, IsSomeAnd, OnOk, OnErr};
     ghost use Rattle.hashkeys.specs.Classes.{ClassView, covers, is_of};
     ghost use Rattle.bin_history.specs.Calls.{after};
-    ghost use Rattle.bin_history.specs.Copies.{IsExact};
     ghost use Rattle.bin_history.specs.Part.{part_of_entries};
     ghost use Rattle.bin_history.specs.Sure.{IsNeverRefused};
     ghost use Rattle.bin_history.specs.declared.form.Form.TheVariants.{Lean};
@@ -42,8 +41,6 @@ impl<K: HashKey, V: Value, F: Remap<K, V>, A: Allocator + Clone> Map<K, V, F, A>
         class: Class,
         keeps: &G,
     ) -> Result<bool, Fault>
-        requires keys { IsExact K.is_clone }
-        requires values { IsExact V.is_clone }
         requires callable { G.IsAlwaysCallable keeps.now }
         requires pass { pass.old.ledger ≡ self.now.ledger.id }
         requires role { role.old.ledger ≡ self.now.ledger.id }
@@ -94,8 +91,6 @@ impl<K: HashKey, V: Value, F: Remap<K, V>, A: Allocator + Clone> Map<K, V, F, A>
         class: Class,
         keeps: &G,
     ) -> Result<(), Fault>
-        requires keys { IsExact K.is_clone }
-        requires values { IsExact V.is_clone }
         requires callable { G.IsAlwaysCallable keeps.now }
         requires pass { pass.old.ledger ≡ self.now.ledger.id }
         requires role { role.old.ledger ≡ self.now.ledger.id }
@@ -133,8 +128,6 @@ impl<K: HashKey, V: Value, F: Remap<K, V>, A: Allocator + Clone> Map<K, V, F, A>
         class: Class,
         keeps: &G,
     ) -> Result<(), Fault>
-        requires keys { IsExact K.is_clone }
-        requires values { IsExact V.is_clone }
         requires callable { G.IsAlwaysCallable keeps.now }
         requires pass { pass.old.ledger ≡ self.now.ledger.id }
         requires first { IsSomeAnd cursor.old.next (λ next. IsFirstOf next class) }
@@ -185,8 +178,6 @@ impl<K: HashKey, V: Value, F: Remap<K, V>, A: Allocator + Clone> Map<K, V, F, A>
         next: Class,
         keeps: &G,
     ) -> Result<(), Fault>
-        requires keys { IsExact K.is_clone }
-        requires values { IsExact V.is_clone }
         requires callable { G.IsAlwaysCallable keeps.now }
         requires pass { pass.old.ledger ≡ self.now.ledger.id }
         requires next { cursor.old.next ≡ Some next }
@@ -248,8 +239,6 @@ impl<K: HashKey, V: Value, F: Remap<K, V>, A: Allocator + Clone> Map<K, V, F, A>
         cursor: &mut Cursor,
         keeps: &G,
     ) -> Result<bool, Fault>
-        requires keys { IsExact K.is_clone }
-        requires values { IsExact V.is_clone }
         requires callable { G.IsAlwaysCallable keeps.now }
         requires pass { pass.old.ledger ≡ self.now.ledger.id }
         ensures dropped { HasDropped (SaysAt (G.post keeps.now)) pass.old pass.new }
@@ -290,8 +279,6 @@ impl<K: HashKey, V: Value, F: Remap<K, V>, A: Allocator + Clone> Map<K, V, F, A>
         start: Cursor,
         keeps: &G,
     ) -> Result<(), Fault>
-        requires keys { IsExact K.is_clone }
-        requires values { IsExact V.is_clone }
         requires callable { G.IsAlwaysCallable keeps.now }
         requires pass { pass.old.ledger ≡ self.now.ledger.id }
         requires begun { HasPassed start [] }
@@ -337,8 +324,6 @@ impl<K: HashKey, V: Value, F: Remap<K, V>, A: Allocator + Clone> Map<K, V, F, A>
         pass: &mut Pass<K, V, F>,
         keeps: &G,
     ) -> Result<(), Fault>
-        requires keys { IsExact K.is_clone }
-        requires values { IsExact V.is_clone }
         requires callable { G.IsAlwaysCallable keeps.now }
         requires pass { pass.old.ledger ≡ self.now.ledger.id }
         ensures retained { OnOk result (IsRetained K.eq K.code (after V.eq F.remapped F.merged)

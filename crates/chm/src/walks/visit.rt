@@ -1,7 +1,6 @@
 //! Walks over a map that others write, bin by bin in walk order.
 ghost use Rattle.std.specs.Prelude.{◌≡◌, All, IfOk, IfErr};
 ghost use Rattle.bin_history.specs.Calls.{after};
-ghost use Rattle.bin_history.specs.Copies.{IsExact};
 ghost use Rattle.bin_history.specs.Entries.{HasDistinctKeys};
 ghost use Rattle.count_ledger.specs.Fronts.{HasSeenMore};
 ghost use Rattle.chm.specs.Visits.{AreVisits, IsOwn, shown_by};
@@ -45,8 +44,6 @@ impl<K: HashKey, V: Value, F: Remap<K, V>, A: Allocator + Clone> Map<K, V, F, A>
         rt: &R,
         pass: &mut Pass<K, V, F>,
     ) -> Result<Vec<Visit<K, V, A>, A>, Fault>
-        requires keys { IsExact K.is_clone }
-        requires values { IsExact V.is_clone }
         requires pass { pass.old.ledger ≡ self.now.ledger.id }
         ensures visits { IfOk result
             (λ v. AreVisits K.eq K.code (after V.eq F.remapped F.merged) self.now.n self.now.ledger

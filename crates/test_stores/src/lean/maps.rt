@@ -2,7 +2,6 @@
 ghost use Rattle.std.specs.Prelude.{◌≡◌, ◌<◌, ◌^◌, ◌≤◌, true, [], All, IfOk, length};
 ghost use Rattle.hashkeys.specs.Classes.{IsTableSize, covers, is_of};
 ghost use Rattle.bin_history.specs.Calls.{after};
-ghost use Rattle.bin_history.specs.Copies.{IsExact};
 ghost use Rattle.bin_history.specs.Hashes.{hash_by};
 ghost use Rattle.bin_history.specs.Ops.{key_in};
 ghost use Rattle.count_ledger.specs.Agreement.{BinAgrees};
@@ -10,7 +9,7 @@ ghost use Rattle.count_ledger.specs.Limits.{most_calls};
 ghost use Rattle.lean_bins.specs.BinSlot.{IsInSlot};
 ghost use Rattle.bin_layout.specs.Views.{place_of};
 
-use bin_history::{Bin, Form, KeyArg, Op, Remap, Value, lawful_entries};
+use bin_history::{Bin, Exact, Form, KeyArg, Op, Remap, Value, lawful_entries};
 use count_ledger::{BinRole, Ledger, Pass, retire_all};
 use hashkeys::{Class, HashKey, Key, Salt};
 use lean_bins::{BinSlot, LeanBins};
@@ -37,6 +36,10 @@ impl Clone for Keep {
     fn clone(&self) -> Result<Keep, AllocError> {
         Ok(Keep)
     }
+}
+
+impl Exact for Keep {
+    ghost copies_exactly = { λ x y e. e };
 }
 
 impl Remap<Key, u64> for Keep {
@@ -172,8 +175,6 @@ fn make<'a, K: HashKey, V: Value, F: Remap<K, V>, A: Allocator + Clone>(
     key: K,
     op: Op<V, F>,
 ) -> Result<(), AllocError>
-    requires keys { IsExact K.is_clone }
-    requires values { IsExact V.is_clone }
     requires pass { pass.old.ledger ≡ ledger.now.id }
     requires role { role.old.ledger ≡ ledger.now.id }
     requires room { length pass.old.made < most_calls ledger.now.form ledger.now.clients }
@@ -232,8 +233,6 @@ fn make_in_place<K: HashKey, V: Value, F: Remap<K, V>, A: Allocator + Clone>(
     key: KeyArg<'_, K>,
     op: Op<V, F>,
 ) -> Result<(), AllocError>
-    requires keys { IsExact K.is_clone }
-    requires values { IsExact V.is_clone }
     requires pass { pass.old.ledger ≡ ledger.now.id }
     requires ledger { map.now.ledger ≡ ledger.now.id }
     requires room { length pass.old.made < most_calls ledger.now.form ledger.now.clients }
@@ -268,8 +267,6 @@ fn call_in_place<'a, R: Wait, K: HashKey, V: Value, F: Remap<K, V>, A: Allocator
     key: K,
     op: Op<V, F>,
 ) -> Result<(), AllocError>
-    requires keys { IsExact K.is_clone }
-    requires values { IsExact V.is_clone }
     requires pass { pass.old.ledger ≡ ledger.now.id }
     requires ledger { map.now.ledger ≡ ledger.now.id }
     requires room { length pass.old.made < most_calls ledger.now.form ledger.now.clients }

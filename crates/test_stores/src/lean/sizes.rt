@@ -77,15 +77,16 @@ fn bytes_of(alloc: &Refusing<Global>, exponent: u32) -> Result<u64, AllocError>
 
 #[test]
 fn opening_bins_have_two_cache_lines_each_or_one_or_none(rt: HostRuntime) {
-    // A bin's place takes 24 bytes, the head of its chain: whether it has a node, where that lies, and
-    // where its allocator does. Its word takes 128, 64 or 8 bytes. The rest is the same for each map.
+    // A bin's place takes 72 bytes: 8 say what it has and its first entry's hash, 48 are that entry, of
+    // a key of 33 bytes and a number, and 16 lead to the next and to its allocator. Its word takes 128,
+    // 64 or 8 bytes. The rest is the same for each map.
     let alloc = Refusing::new(rt.alloc());
-    let rest = bytes_of(&alloc, 0).expect(&rt, "memory").wrapping_sub(152);
+    let rest = bytes_of(&alloc, 0).expect(&rt, "memory").wrapping_sub(200);
     for exponent in 0..13u32 {
         let each = match exponent {
-            0..=8 => 152u64,
-            9..=10 => 88,
-            _ => 32,
+            0..=8 => 200u64,
+            9..=10 => 136,
+            _ => 80,
         };
         let wanted = (1u64 << exponent).wrapping_mul(each).wrapping_add(rest);
         assert_same(

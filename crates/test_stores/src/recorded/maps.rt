@@ -2,7 +2,6 @@
 ghost use Rattle.std.specs.Prelude.{◌≡◌, ◌<◌, ◌^◌, ◌≤◌, true, [], All, IfOk, length};
 ghost use Rattle.hashkeys.specs.Classes.{IsTableSize, is_of};
 ghost use Rattle.bin_history.specs.Calls.{after};
-ghost use Rattle.bin_history.specs.Copies.{IsExact};
 ghost use Rattle.count_ledger.specs.Agreement.{BinAgrees};
 ghost use Rattle.count_ledger.specs.Limits.{most_calls};
 
@@ -142,8 +141,6 @@ fn make<'a, K: HashKey, V: Value, F: Remap<K, V>, A: Allocator + Clone>(
     key: K,
     op: Op<V, F>,
 ) -> Result<(), AllocError>
-    requires keys { IsExact K.is_clone }
-    requires values { IsExact V.is_clone }
     requires pass { pass.old.ledger ≡ ledger.now.id }
     requires role { role.old.ledger ≡ ledger.now.id }
     requires room { length pass.old.made < most_calls ledger.now.form ledger.now.clients }

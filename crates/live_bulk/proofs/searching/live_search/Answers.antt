@@ -1,6 +1,6 @@
 use Rattle.std.proofs.Common.{IsTrue, true}
 use Rattle.bin_history.specs.Calls.{after}
-use Rattle.live_bulk.proofs.Seen.{clients-later, seen-later}
+use Rattle.live_bulk.proofs.Seen.{clients-later, none-later, seen-later}
 use Rattle.live_bulk.proofs.Sought.{found-something, found-nothing, found-later-ok}
 use Rattle.live_bulk.proofs.searching.live_search.Goals as goal
 
@@ -35,3 +35,7 @@ pub returns-in-GaveUp-clause-seen : goal.returns-in-GaveUp-clause-seen
 returns-in-GaveUp-clause-seen g c =
     seen-later c.args.passes.now.items c.search_once.new.passes.items c.search_whole.new.passes.items
     c.in_ok-part.ensures.seen c.search_whole.ensures.seen
+
+pub returns-in-GaveUp-clause-no_client : goal.returns-in-GaveUp-clause-no_client
+returns-in-GaveUp-clause-no_client g c is =
+    none-later c.args.passes.now.items c.search_once.new.passes.items c.in_ok-part.ensures.len (c.search_whole.ensures.no_client is)

@@ -11,7 +11,11 @@ use Rattle.bin_history.proofs.recorded.RecordedBin.prepare_on.Goals as goal
 
 kept : (g : _) (c : goal.After-fold g) → IsKeptOrFolded g.K.PartialEq.eq c.self.inside.log.base c.self.inside.log.records
     c.fold.new.self.base c.fold.new.self.records
-kept g c = rw (c.in_ok-reserve.ensures.base, c.in_ok-reserve.ensures.records) at c.fold.ensures.kept
+kept g c =
+    let base = c.in_ok-reserve.ensures.base in
+    let records = c.in_ok-reserve.ensures.records in
+    subst (λ (X : Type 0). X) (λ i. IsKeptOrFolded g.K.PartialEq.eq (base i) (records i) c.fold.new.self.base c.fold.new.self.records)
+    c.fold.ensures.kept
 
 -- room for what the call may add was in hand
 pub returns-in_err-make_room_for-clause-succeeds : goal.returns-in_err-make_room_for-clause-succeeds

@@ -1,5 +1,4 @@
-use Rattle.std.proofs.Common.{◌≡◌, Option, None, Some, is_some, option_copied, ap, ◌∙◌, sym, refl, subst}
-use Rattle.std.specs.Borrow.{Bor}
+use Rattle.std.proofs.Common.{◌≡◌, None, is_some, ap, ◌∙◌, sym, refl, subst}
 use Rattle.bin_history.specs.Entries.{lookup}
 use Rattle.bin_history.specs.Leans.{LeanView, as_bin}
 use Rattle.bin_history.specs.Made.{IsMadeOn}
@@ -14,12 +13,9 @@ use Rattle.bin_history.specs.declared.seek.Seek.{Seek}
 use Rattle.bin_history.specs.declared.seen.Seen.{Seen}
 use Rattle.bin_entries.proofs.Entries.{store_same}
 use Rattle.bin_history.proofs.Leans.{IsMadeOn-lean}
+use Rattle.bin_history.proofs.Sure.{copied_is_some}
 use Rattle.bin_history.proofs.seek.Seek.make_on.Goals.{in-Get+in_ok-copy_of_option-in-Get, in-Contains, in-Remove}
 use Rattle.bin_history.proofs.seek.Seek.make_on.Goals as goal
-
-is_some-copied : {V : Type 0} (o : Option (Bor V)) → is_some o ≡ is_some (option_copied o)
-is_some-copied None = refl
-is_some-copied (Some x) = refl
 
 pub returns-clause-made : goal.returns-clause-made
 returns-clause-made g c =
@@ -56,7 +52,7 @@ returns-clause-made g c =
           (before ∙ ap (λ (m : Reply _ × Seen _ _ _). value_seen m.1.before) w.made-is ∙ seen.before_is ∙ found)
           (after ∙ ap (λ (m : Reply _ × Seen _ _ _). value_seen m.1.after) w.made-is ∙ seen.after_is ∙ found)
           (ap (λ (m : Reply _ × Seen _ _ _). m.0) w.made-is
-          ∙ ap Truth (w.is_some.ensures ∙ is_some-copied _ ∙ ap is_some found))
+          ∙ ap Truth (w.is_some.ensures ∙ copied_is_some _ ∙ ap is_some found))
           (ap (λ (e : LeanView _ _). e.entries) w.entries-is ∙ sym (store_same same l.entries k v refl)))
       | in-Remove w ↦
           let seen = w.of_taken-seen.ensures in

@@ -1,9 +1,10 @@
 use Rattle.std.proofs.Common.{◌≡◌, ℕ, suc, ◌+◌, List, ◌∷◌, ◌++◌, Some, length, get_or, slice_range, ap, subst, sym, ◌∙◌}
 use Rattle.std.proofs.Common.{arith}
+use Rattle.std.proofs.lemmas.Bool.{false≢true}
 use Rattle.std.proofs.lemmas.List.{length-append}
 use Rattle.chm.specs.Headline.{entries_of}
 use Rattle.bulk_tasks.specs.Folds.{fold_from, plain_fold}
-use Rattle.bulk_tasks.proofs.Folding.{begun}
+use Rattle.bulk_tasks.proofs.Folding.{begun, IsFolded-refused}
 use Rattle.bulk_tasks.proofs.Ranges.{entries_after_none}
 use Rattle.bulk_tasks.proofs.reducing.FoldingCollector.collect.Goals as goal
 
@@ -74,3 +75,10 @@ fold_onto-requires g c =
     ∙ ap length all in
     let few = c.requires.few in
     record { few = (1, c.in_ok-lifted.ensures.within, omega (arith, both, few)) }
+
+pub returns-in_err-fold_bins_onto : goal.returns-in_err-fold_bins_onto
+returns-in_err-fold_bins_onto g c =
+    let reducer = c.args.self.now.reducer.now in
+    IsFolded-refused (g.R.Reducer.lifted reducer) (g.R.Reducer.joined reducer) (g.R.Reducer.within reducer) g.R.Reducer.never_refuses
+    (entries_of c.args.bins.now) c.from_residual-in_err-fold_bins_onto.result _ c.from_residual-in_err-fold_bins_onto.ensures.1
+    (λ never. false≢true (c.in_err-fold_bins_onto.ensures.total never))

@@ -47,9 +47,9 @@ loop-key-preserved g c =
     let small : i < c.args.n = mod-lt c.hash_of.result (positive c.args.n c.requires.size) in
     let its : hash_of c.args.salt (g.K.HashKey.code e.0) % c.args.n ≡ i =
     ap (λ (h : ℕ). h % c.args.n) (sym c.hash_of.ensures.hash) in
-    let key : c.in_ok-clone.field-0 ≡ e.0 = c.requires.keys e.0 c.in_ok-clone.field-0 c.in_ok-clone.ensures.cases in
+    let key : c.in_ok-clone.field-0 ≡ e.0 = g.met.K.Exact.copies_exactly e.0 c.in_ok-clone.field-0 c.in_ok-clone.ensures.cases in
     let value : c.in_ok-clone-2.field-0 ≡ e.1 =
-    c.requires.values e.1 c.in_ok-clone-2.field-0 c.in_ok-clone-2.ensures.cases in
+    g.met.V.Exact.copies_exactly e.1 c.in_ok-clone-2.field-0 c.in_ok-clone-2.ensures.cases in
     let its_list : c.index_mut.result.now.items ≡ get_or (lists_of c.loop-key.bases) i [] =
     ap (λ (v : Vec _ _). v.items) c.index_mut.ensures.value
     ∙ sym (get_or-map (λ (v : Vec _ _). v.items) c.loop-key.bases.items i c.index_mut.result.now [] (omega arith)) in

@@ -13,15 +13,17 @@ use Rattle.chm.proofs.InPlace.{class_at, salt_at}
 use Rattle.chm.proofs.PartVisits.{IsVisit-met, all_of}
 use Rattle.chm.proofs.map.Map.copies_in_place.Goals as goal
 
-pub copies_of_entries-copies-requires-clause-own : goal.copies_of_entries-copies-requires-clause-own
-copies_of_entries-copies-requires-clause-own g c =
+pub copies_of_entries-copies-requires : goal.copies_of_entries-copies-requires
+copies_of_entries-copies-requires g c =
     let x = c.args.bin_slot.now in
     let after_is = after g.V.PartialEq.eq g.F.Remap.remapped g.F.Remap.merged in
     let p = place_of (bins_of c.args.self.now) c.args.own in
     let salt = salt_at g.K.PartialEq.eq after_is p x.entries x.role c.requires.lies in
     let class = class_at g.K.PartialEq.eq after_is p x.entries x.role c.requires.lies in
-    all_of g.K.HashKey.code x.entries.entries x.entries.entries c.salt.result x.entries.salt c.args.own x.entries.class
-    (c.salt.ensures ∙ sym salt) (sym class) refl c.lawful_entries.ensures.of_class
+    record {
+      own = all_of g.K.HashKey.code x.entries.entries x.entries.entries c.salt.result x.entries.salt c.args.own x.entries.class
+          (c.salt.ensures ∙ sym salt) (sym class) refl c.lawful_entries.ensures.of_class;
+    }
 
 pub returns-clause-visit : goal.returns-clause-visit
 returns-clause-visit g c =

@@ -35,7 +35,7 @@ pub call_by_value-requires-clause-of_class : goal.call_by_value-requires-clause-
 call_by_value-requires-clause-of_class g c =
     let of = is_of g.K.HashKey.code c.args.bin.now.salt c.args.bin.now.class in
     let entry = c.in-Some.entry.now in
-    let key = c.requires.keys entry.0 c.in_ok-key.key c.in_ok-key.ensures.cases in
+    let key = g.met.K.Exact.copies_exactly entry.0 c.in_ok-key.key c.in_ok-key.ensures.cases in
     ap of key
     ∙ entry_of (λ e. of e.0 ≡ true) c.args.bin.now.entries entry c.in-Some.ensures.found
     c.lawful.ensures.lawful.of_class
@@ -46,7 +46,7 @@ taken : (g : Given.Over) (c : goal.Joined-branch-3 g) →
     c.args.pass.now c.call_by_value.new.pass × (length c.call_by_value.new.bin.entries < length c.args.bin.now.entries)
 taken g c =
     let entry = c.in-Some.entry.now in
-    let key = c.requires.keys entry.0 c.in_ok-key.key c.in_ok-key.ensures.cases in
+    let key = g.met.K.Exact.copies_exactly entry.0 c.in_ok-key.key c.in_ok-key.ensures.cases in
     let of = is_of g.K.HashKey.code c.args.bin.now.salt c.args.class in
     let (front, r, is_front, made, met, before, stored) = c.in_ok-call_by_value.ensures.called in
     dropped_one g.K.PartialEq.eq (key_tells g.met.K.Eq.laws g.met.K.HashKey.equal_is_same) g.K.HashKey.code

@@ -56,7 +56,7 @@ call_in_place-requires-clause-covers g c =
     x.entries.class (c.salt-salt.ensures ∙ sym salt) (sym class) refl c.lawful_entries.ensures.of_class in
     let of = is_of g.K.HashKey.code c.salt-salt.result c.args.own in
     let entry = c.in-Some.entry.now in
-    let key = c.requires.keys entry.0 c.in_ok-key.key c.in_ok-key.ensures.cases in
+    let key = g.met.K.Exact.copies_exactly entry.0 c.in_ok-key.key c.in_ok-key.ensures.cases in
     ap (covers c.args.own) c.hash_of-hash.ensures.hash ∙ ap of key
     ∙ entry_of (λ e. of e.0 ≡ true) x.entries.entries entry c.in-Some.ensures.found all
 
@@ -67,7 +67,7 @@ taken : (g : Given.Over) (c : goal.Joined-branch-3 g) →
     × (length c.call_in_place.new.bin_slot.entries.entries < length c.args.bin_slot.now.entries.entries)
 taken g c =
     let entry = c.in-Some.entry.now in
-    let key = c.requires.keys entry.0 c.in_ok-key.key c.in_ok-key.ensures.cases in
+    let key = g.met.K.Exact.copies_exactly entry.0 c.in_ok-key.key c.in_ok-key.ensures.cases in
     let of = is_of g.K.HashKey.code c.args.self.now.ledger.salt c.args.class in
     let of_class : of entry.0 ≡ true =
     subst (λ (s : Salt). is_of g.K.HashKey.code s c.args.class entry.0 ≡ true) c.salt-salt.ensures c.in-Some.ensures.of in
@@ -116,7 +116,7 @@ returns-in_err-call_in_place-clause-left g c =
     absurd (false≢true (c.in_err-call_in_place.ensures.spared (record {
       values = λ is. absurd (false≢true (sym is));
       asks_none = refl;
-      adds_none = λ _. refl;
+      adds = λ none may. absurd (false≢true may);
     })))
 
 pub returns-in_err-call_in_place-clause-sure : goal.returns-in_err-call_in_place-clause-sure
@@ -124,5 +124,5 @@ returns-in_err-call_in_place-clause-sure g c = λ keys.
     absurd (false≢true (c.in_err-call_in_place.ensures.spared (record {
       values = λ is. absurd (false≢true (sym is));
       asks_none = refl;
-      adds_none = λ _. refl;
+      adds = λ none may. absurd (false≢true may);
     })))

@@ -1,4 +1,4 @@
-use Rattle.std.proofs.Common.{◌≡◌, ℕ, Option, List, ◌∷◌, ◌++◌, [], sym, subst, ap, ◌∙◌}
+use Rattle.std.proofs.Common.{◌≡◌, ℕ, Option, List, ◌∷◌, ◌++◌, [], refl, sym, subst, ap, ◌∙◌}
 use Rattle.hashkeys.specs.Classes.{ClassView}
 use Rattle.bin_history.specs.Calls.{after}
 use Rattle.bin_history.proofs.Keys.{key_tells}
@@ -6,7 +6,7 @@ use Rattle.count_ledger.specs.Views.{PassView}
 use Rattle.bin_layout.specs.Walks.{IsWalk}
 use Rattle.chm.specs.Cursors.{HasCome, HasComeTo}
 use Rattle.chm.specs.Visits.{VisitView, classes_of_visits, AreVisited}
-use Rattle.chm.proofs.Visiting.{AreVisited-push, AreVisited-seen, HasSeenMore-more}
+use Rattle.chm.proofs.Visiting.{AreVisited-push, AreVisited-seen, HasSeenMore-more, HasSeenMore-same}
 use Rattle.chm.proofs.Visiting.{distinct_visits, visits_own}
 use Rattle.chm.proofs.map.Map.walk.Goals as goal
 
@@ -79,3 +79,6 @@ returns-in_err-push-clause-seen g c =
     (AreVisited-seen g.K.PartialEq.eq (after g.V.PartialEq.eq g.F.Remap.remapped g.F.Remap.merged)
     c.args.self.now.ledger (key_tells g.met.K.Eq.laws g.met.K.HashKey.equal_is_same) g.K.HashKey.code
     c.args.pass.now c.loop.pass c.loop.visits.items c.loop.invariant.visited) c.visit_next.ensures.seen
+
+pub returns-in_err-clone-clause-seen : goal.returns-in_err-clone-clause-seen
+returns-in_err-clone-clause-seen g c = HasSeenMore-same c.args.pass.now c.args.pass.now refl

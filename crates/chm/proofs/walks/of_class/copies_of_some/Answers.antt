@@ -25,8 +25,8 @@ loop-key-preserved-in_ok-push g c =
     let e = c.in-Some.field-0.now in
     let test : g.row.K.Denot × g.row.V.Denot → Bool = λ x. is_of code c.args.salt class x.0 in
     let passes : test e ≡ true = ap (covers class) (sym c.hash_of.ensures.hash) ∙ sym c.covers.ensures ∙ c.if-covers.true in
-    let key = c.requires.keys e.0 c.in_ok-copied_key.copied_key c.in_ok-copied_key.ensures.cases in
-    let value = c.requires.values e.1 c.in_ok-copied_value.copied_value c.in_ok-copied_value.ensures.cases in (
+    let key = g.met.K.Exact.copies_exactly e.0 c.in_ok-copied_key.copied_key c.in_ok-copied_key.ensures.cases in
+    let value = g.met.V.Exact.copies_exactly e.1 c.in_ok-copied_value.copied_value c.in_ok-copied_value.ensures.cases in (
       tt,
       tt,
       (

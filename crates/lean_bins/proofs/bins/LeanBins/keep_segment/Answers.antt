@@ -5,8 +5,8 @@ use Rattle.lean_bins.proofs.bins.LeanBins.keep_segment.Goals as goal
 
 pub set_written-requires : goal.set_written-requires
 set_written-requires g c =
-    let slots = c.in-Some.segments.now.items in
+    let slots = c.in-Some.table.now.segments.items in
     let segments : AreSegments c.args.self.now (2 ^ c.args.exponent) slots = c.in-Some.ensures in
     let lt : c.args.number < length slots = omega (arith, segments.reach, c.requires.within) in
     segment_into c.args.self.now (2 ^ c.args.exponent) c.args.number slots c.index.result.now _ _ segments lt
-    c.index.ensures c.in_ok-rows.ensures
+    c.index.ensures c.in_ok-segment.ensures

@@ -5,7 +5,7 @@ use Rattle.lean_bins.proofs.bins.LeanBins.segment.Goals as goal
 
 pub returns : goal.returns
 returns g c =
-    let slots = c.in_ok-table.field-0.now.items in
+    let slots = c.in_ok-table.field-0.now.segments.items in
     let segments : AreSegments c.args.self.now (2 ^ c.args.exponent) slots = c.in_ok-table.ensures in
     let lt : c.args.number < length slots = omega (arith, segments.reach, c.requires.within) in
     some_then c.get.result _ _

@@ -14,4 +14,4 @@ returns g c =
     let small : c.args.index < 4294967296 = c.ranges.index.fits in
     let same : 1 * p % 4294967296 ≡ p = omega (arith, mod-eq_of_lt {n = p} {m = 4294967296} (omega arith)) in
     slot_ref_there c.args.self.now c.args.index p _ _ _ low c.ilog2-exponent.ensures.next_power_gt
-    (ap (λ (k : ℕ). c.args.index - k) same) c.in_ok-rows.ensures
+    (ap (λ (k : ℕ). c.args.index - k) same) c.in_ok-segment.ensures
