@@ -1,5 +1,5 @@
 //! The function of maps that have none.
-use bin_history::Remap;
+use bin_history::{Exact, Remap};
 use std::alloc::AllocError;
 
 /// No function, for maps whose calls compute and merge nothing. A compute call that is made with it
@@ -7,6 +7,12 @@ use std::alloc::AllocError;
 /// there.
 #[derive(Clone, Copy, PartialEq, Eq, Debug)]
 pub struct NoFunction;
+
+impl Exact for NoFunction {
+    ghost use Rattle.std.proofs.Common.{rules};
+
+    ghost copies_exactly = { Prim.search rules };
+}
 
 impl<K, V> Remap<K, V> for NoFunction {
     ghost use Rattle.std.specs.Prelude.{◌≡◌, None, Ok};

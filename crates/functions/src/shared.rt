@@ -2,6 +2,7 @@
 ghost use Rattle.std.specs.Prelude.{◌≡◌, IfOk, IfErr, IfSome};
 ghost use Rattle.std.specs.Arc.{arc_value};
 
+use bin_history::Exact;
 use std::alloc::{AllocError, AllocFailed, Allocator};
 use std::fmt;
 use std::fmt::{Debug, Formatter, Write};
@@ -90,6 +91,10 @@ impl<T: Drop, A: Allocator> Clone for Shared<T, A> {
             owner: Arc::try_clone(&self.owner)?,
         })
     }
+}
+
+impl<T: Drop, A: Allocator> Exact for Shared<T, A> {
+    ghost copies_exactly = { λ x y e. e };
 }
 
 impl<T: PartialEq, A: Allocator> PartialEq for Shared<T, A> {
