@@ -2,7 +2,7 @@
 ghost use Rattle.std.specs.Prelude.{◌≡◌, option_copied};
 ghost use Rattle.example_sessions.specs.Steps.{stepped};
 
-use facingberyl::{Client, OwnedClient, Remap, SharedMap};
+use facingberyl::{Client, Exact, OwnedClient, Remap, SharedMap};
 use std::alloc::{AllocError, Global};
 
 /// When a session ends, in milliseconds of the program's watch, and how often it was touched.
@@ -12,6 +12,12 @@ pub(crate) struct Session {
     pub(crate) touches: u64,
 }
 
+impl Exact for Session {
+    ghost use Rattle.std.proofs.Common.{rules};
+
+    ghost copies_exactly = { Prim.search rules };
+}
+
 /// What a call makes of a session: a function of two cases.
 #[derive(Clone, Copy)]
 pub(crate) enum Step {
@@ -19,6 +25,12 @@ pub(crate) enum Step {
     Open(u64),
     /// Touches a session, which then has this deadline.
     Touch(u64),
+}
+
+impl Exact for Step {
+    ghost use Rattle.std.proofs.Common.{rules};
+
+    ghost copies_exactly = { Prim.search rules };
 }
 
 impl Step {

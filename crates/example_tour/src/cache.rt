@@ -3,7 +3,7 @@
 //! and emptied.
 use anyhow::Result;
 use facingberyl::bulk::{Plan, Sum, reduce};
-use facingberyl::{Client, Fault, Loan, Quiet, Remap, Team, Work};
+use facingberyl::{Client, Exact, Fault, Loan, Quiet, Remap, Team, Work};
 use std::alloc::{AllocError, Global};
 use std::sync::Wait;
 use std::thread::Threads;
@@ -12,6 +12,12 @@ use std::thread::Threads;
 /// gives the one given.
 #[derive(Clone, Copy)]
 struct Square;
+
+impl Exact for Square {
+    ghost use Rattle.std.proofs.Common.{rules};
+
+    ghost copies_exactly = { Prim.search rules };
+}
 
 impl Remap<u64, u64> for Square {
     ghost use Rattle.std.specs.Prelude.{◌*◌, ◌%◌, ◌^◌, Some, unwrap_or};

@@ -1,6 +1,6 @@
 //! Visits counted by user and day: the map's key is a type of its own.
 use anyhow::Result;
-use facingberyl::{Add, Client, Fault, HashKey, Loan, Team, Work};
+use facingberyl::{Add, Client, Exact, Fault, HashKey, Loan, Team, Work};
 use std::alloc::Global;
 use std::sync::Wait;
 use std::thread::Threads;
@@ -10,6 +10,12 @@ use std::thread::Threads;
 struct UserDay {
     user: u64,
     day: u32,
+}
+
+impl Exact for UserDay {
+    ghost use Rattle.std.proofs.Common.{rules};
+
+    ghost copies_exactly = { Prim.search rules };
 }
 
 impl HashKey for UserDay {

@@ -1,7 +1,7 @@
 //! Each user may make three requests a second: the map's value is what a user asked for, and its
 //! function is a request.
 use anyhow::Result;
-use facingberyl::{ByValue, Client, Fault, Loan, Team, Update, Work};
+use facingberyl::{ByValue, Client, Exact, Fault, Loan, Team, Update, Work};
 use std::alloc::Global;
 use std::sync::Wait;
 use std::thread::Threads;
@@ -13,10 +13,22 @@ struct Used {
     requests: u64,
 }
 
+impl Exact for Used {
+    ghost use Rattle.std.proofs.Common.{rules};
+
+    ghost copies_exactly = { Prim.search rules };
+}
+
 /// A request in this second.
 #[derive(Clone, Copy)]
 struct Ask {
     second: u64,
+}
+
+impl Exact for Ask {
+    ghost use Rattle.std.proofs.Common.{rules};
+
+    ghost copies_exactly = { Prim.search rules };
 }
 
 impl Update<Used> for Ask {

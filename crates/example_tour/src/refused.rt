@@ -10,8 +10,13 @@ use test_support::Refusing;
 /// An allocator that refuses where it is told to.
 type Alloc<'a> = &'a Refusing<Global>;
 
-/// Puts 5 at 1, after no more requests are granted, and again where that was refused. It answers
-/// what the first try answered, and the value at 1 after both.
+/// A key that shares its bucket with 1 in a table of at most 1,024 buckets. The first key of a bucket
+/// takes no memory, the second does.
+const SECOND: u64 = 887;
+
+/// Puts 4 at 1. Then puts 5 at the second key of the bucket, after no more requests are granted, and
+/// again where that was refused. It answers what the first try answered, and the value at that key
+/// after both.
 #[derive(Clone, Copy)]
 struct PutTwice<'a> {
     alloc: Alloc<'a>,
@@ -33,13 +38,14 @@ impl<'a> Work<u64, u64, Add, Alloc<'a>> for PutTwice<'a> {
         rt: &R,
         client: &mut Client<'_, L, u64, u64, Add, Alloc<'a>>,
     ) -> Result<Tried, Fault> {
+        client.put(rt, 1, 4)?;
         self.alloc.refuse_after(0);
-        let first = client.put(rt, 1, 5);
-        let between = client.get(rt, &1)?;
+        let first = client.put(rt, SECOND, 5);
+        let between = client.get(rt, &SECOND)?;
         if first.is_err() {
-            client.put(rt, 1, 5)?;
+            client.put(rt, SECOND, 5)?;
         }
-        let value = client.get(rt, &1)?;
+        let value = client.get(rt, &SECOND)?;
         Ok(Tried {
             first,
             between,

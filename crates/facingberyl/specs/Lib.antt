@@ -1,7 +1,0 @@
-pub mod Teams
-pub mod Computed
-pub mod Tallies
-pub mod Replies
-pub mod PassPools
-pub mod Folds
-pub mod Filled

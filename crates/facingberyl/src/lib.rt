@@ -1,51 +1,17 @@
-//! A concurrent hash map, in one import: the map and what its calls name, keys and functions ready
-//! to use, a team of clients that work on one map in threads, a shared map whose clients come and
-//! go, and bulk operations on a closed one.
+//! A concurrent hash map, in one import: the map and its clients, keys and functions ready to use,
+//! bulk operations on a closed map, and on one that others call meanwhile.
 #![tactic(auto)]
-
-mod calls;
-mod clearing;
-mod client;
-mod client_fault;
-mod computed;
-mod filling;
-mod folding;
-mod letter;
-mod moments;
-mod not_closed;
-mod owned;
-mod pass_pool;
-mod pass_slot;
-mod reading;
-mod retaining;
-mod seeking;
-mod shared;
-mod shown;
-mod slot;
-mod team;
-mod unshared;
-mod update;
-mod updating;
-mod viewing;
-mod walking;
-mod work;
 
 /// Bulk operations on a closed map.
 pub use bulk_tasks as bulk;
-pub use chm::{
-    AsKey, ByteString, Bytes, Call, Change, Class, Cursor, Entries, Fault, Form, HashKey, Key,
-    KeyArg, MOST_BINS, MOST_CALLS, MOST_CLIENTS, MOST_LEAN_CALLS, MOST_LEAN_CLIENTS, Map, Moment,
-    NotClosed, NotClosedWith, Op, Opened, Pass, Quiet, Remap, Reply, Roster, Salt, Sharing,
-    Started, Value, Visit, retire_all,
+pub use clients::{
+    About, Add, AsKey, Boxed, ByValue, ByteString, Bytes, Call, Change, Class, Client, ClientFault,
+    ClientOf, Computed, Cursor, Entries, Exact, Fault, Form, Greatest, HashKey, Holder, Key,
+    KeyArg, Lent, Letter, ListOf, Loan, MOST_BINS, MOST_CALLS, MOST_CLIENTS, MOST_LEAN_CALLS,
+    MOST_LEAN_CLIENTS, Map, Moment, NoFunction, NotClosed, NotClosedWith, Op, Opened, Owned,
+    OwnedClient, OwnedPass, Pass, Quiet, Remap, Reply, Roster, Salt, Seat, Set, Shared, SharedMap,
+    SharedNotClosed, Sharing, Started, Team, TeamNotClosed, Text, Unshared, Update, Value, Visit,
+    Work, Worked, Working, retire_all,
 };
-pub use client::{Client, Loan};
-pub use client_fault::ClientFault;
-pub use computed::Computed;
-pub use functions::{Add, Greatest, NoFunction, Set, Shared};
-pub use letter::{About, Letter};
-pub use owned::{OwnedClient, Worked, Working};
-pub use shared::SharedMap;
-pub use team::{Team, TeamNotClosed};
-pub use unshared::{SharedNotClosed, Unshared};
-pub use update::{ByValue, Update};
-pub use work::Work;
+/// Bulk operations on a map that others call meanwhile.
+pub use live_maps as live;

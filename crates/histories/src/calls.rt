@@ -2,7 +2,7 @@
 use crate::event::{Asked, Kind, MOST_KEYS, Shown, Told, Updated};
 use crate::pause::pause;
 use crate::step::Step;
-use facingberyl::{Change, Client, Fault, KeyArg, Loan};
+use clients::{Change, Client, Fault, KeyArg, Loan};
 use std::alloc::Global;
 use std::sync::Wait;
 

@@ -1,7 +1,7 @@
 //! What happens in a history, and which calls a client makes: both are drawn from the seed.
 use crate::event::{Asked, Kind};
 use crate::random::Random;
-use facingberyl::Form;
+use clients::Form;
 
 /// About how many calls the clients of a history make together.
 const CALLS: u32 = 160;

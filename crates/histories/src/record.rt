@@ -5,7 +5,7 @@ use crate::pause::pause;
 use crate::plan::Plan;
 use crate::random::Random;
 use crate::step::Step;
-use facingberyl::{Fault, Form, Loan, Map, Quiet, Team, Work};
+use clients::{Fault, Form, Loan, Map, Quiet, Team, Work};
 use std::alloc::Global;
 use std::sync::Wait;
 use std::sync::atomic::AtomicU64;

@@ -4,7 +4,7 @@ use crate::random::Random;
 use crate::record::{Closed, open};
 use crate::step::Step;
 use anyhow::{Result, bail};
-use facingberyl::{Fault, Form, Loan, Team, Work};
+use clients::{Fault, Form, Loan, Team, Work};
 use std::alloc::Global;
 use std::sync::Wait;
 use std::thread::Threads;

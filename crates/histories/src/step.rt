@@ -3,7 +3,7 @@ ghost use Rattle.std.specs.Prelude.{◌≡◌};
 ghost use Rattle.histories.specs.Steps.{added};
 
 use crate::pause::pause;
-use facingberyl::Remap;
+use clients::{Exact, Remap};
 use std::alloc::AllocError;
 
 /// The least value that a step takes away.
@@ -28,6 +28,12 @@ fn added(amount: u64, value: u64) -> Option<u64>
 pub(crate) struct Step {
     pub(crate) amount: u64,
     pub(crate) pauses: u32,
+}
+
+impl Exact for Step {
+    ghost use Rattle.std.proofs.Common.{rules};
+
+    ghost copies_exactly = { Prim.search rules };
 }
 
 impl Remap<u64, u64> for Step {

@@ -8,8 +8,8 @@
 
 use anyhow::{Result, anyhow};
 use facingberyl::bulk::{Action, Plan, Probe, Sum};
+use facingberyl::live::{live_for_each, live_reduce, live_search};
 use facingberyl::{Add, Client, Fault, Loan, SharedMap, Work};
-use live_maps::{live_for_each, live_reduce, live_search};
 use std::alloc::{AllocError, Global};
 use std::env;
 use std::sync::Wait;

@@ -2,7 +2,7 @@
 use Rattle.std.proofs.Common.{◌≡◌, List, length, ◌∙◌, arith}
 use Rattle.count_ledger.specs.Views.{PassView}
 use Rattle.chm.specs.Shares.{AreSameClients}
-use Rattle.facingberyl.specs.Teams.{AreInOrder}
+use Rattle.clients.specs.Teams.{AreInOrder}
 
 -- where at each place is a pass of the client that was there, they stand in order still
 pub AreInOrder-same : {K V F : Type 0} (old new : List (PassView K V F)) → length new ≡ length old →

@@ -6,7 +6,7 @@ ghost use Rattle.live_bulk.specs.Plans.{IsPlanned};
 use bin_history::{Remap, Value};
 use bulk_tasks::Plan;
 use chm::{Fault, Map, Moment, Pass};
-use facingberyl::SharedMap;
+use clients::SharedMap;
 use hashkeys::HashKey;
 use live_bulk::LiveFault;
 use std::alloc::Allocator;

@@ -11,7 +11,7 @@ use crate::moments::{hear_each, tell_each};
 use bin_history::{Remap, Value};
 use bulk_tasks::{Action, Gate, Plan, Probe, Reducer};
 use chm::{Moment, Pass};
-use facingberyl::SharedMap;
+use clients::SharedMap;
 use hashkeys::HashKey;
 use live_bulk::LiveFault;
 use std::alloc::Allocator;

@@ -9,7 +9,7 @@ use crate::moments::any_moment;
 use crate::ordered::{live_for_each_after, live_reduce_after, live_search_after};
 use bin_history::{Remap, Value};
 use bulk_tasks::{Action, Gate, Plan, Probe, Reducer};
-use facingberyl::SharedMap;
+use clients::SharedMap;
 use hashkeys::HashKey;
 use live_bulk::LiveFault;
 use std::alloc::Allocator;

@@ -8,7 +8,7 @@ ghost use Rattle.live_bulk.specs.Shared.{AreTooMany, IsActed, IsFound, IsReduced
 
 use bin_history::{Remap, Value};
 use bulk_tasks::{Action, Gate, Plan, Probe, Reducer};
-use facingberyl::Team;
+use clients::Team;
 use hashkeys::HashKey;
 use live_bulk::LiveFault;
 use std::alloc::Allocator;

@@ -1,6 +1,6 @@
 //! What clients answer, and in which order.
 use crate::asserts::assert_same;
-use facingberyl::{Add, Client, Fault, Loan, Team, Work};
+use clients::{Add, Client, Fault, Loan, Team, Work};
 use std::alloc::Global;
 use std::sync::Wait;
 

@@ -1,6 +1,6 @@
 //! Threads that share a map without a team, and the pairs of a closed map.
 use crate::asserts::assert_same;
-use facingberyl::{
+use clients::{
     Add, Bytes, Client, Fault, HashKey, Loan, Map, NotClosed, Pass, Quiet, Remap, Salt, Sharing,
     Team, Value, Work, retire_all,
 };

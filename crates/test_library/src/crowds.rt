@@ -1,7 +1,7 @@
 //! Shared maps of many clients: each has a place for its pass, to which it comes back.
 use crate::asserts::assert_same;
 use crate::shared::{Numbers, Owned, share};
-use facingberyl::Fault;
+use clients::Fault;
 use std::alloc::Global;
 use std::sync::Wait;
 use std::thread;

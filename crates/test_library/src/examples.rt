@@ -1,6 +1,6 @@
 //! The examples of the calls of a client, each as it stands with its call.
 use crate::asserts::assert_same;
-use facingberyl::{Add, Client, Computed, Fault, Loan, Team, Work};
+use clients::{Add, Client, Computed, Fault, Loan, Team, Work};
 use std::alloc::Global;
 use std::sync::Wait;
 

@@ -1,6 +1,6 @@
 //! What follows when a client has made all the calls that it may: 1,000,000 in a recorded map.
 use crate::asserts::assert_same;
-use facingberyl::{Add, Change, ClientFault, Fault, KeyArg, Map, Op, OwnedClient, SharedMap};
+use clients::{Add, Change, ClientFault, Fault, KeyArg, Map, Op, OwnedClient, SharedMap};
 use std::alloc::Global;
 use std::sync::Wait;
 use std::thread;

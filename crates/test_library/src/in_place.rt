@@ -3,7 +3,7 @@ ghost use Rattle.std.specs.Prelude.{◌≡◌};
 ghost use Rattle.bin_history.specs.declared.form.Form.TheVariants.{Lean};
 
 use crate::asserts::assert_same;
-use facingberyl::{
+use clients::{
     Add, Bytes, Change, Client, Fault, KeyArg, Loan, OwnedClient, Salt, SharedMap, Team, Work,
 };
 use std::alloc::Global;

@@ -1,6 +1,6 @@
 //! Functions of numbers.
 use crate::asserts::assert_same;
-use facingberyl::{Add, Greatest, Remap, Set};
+use clients::{Add, Greatest, Remap, Set};
 
 #[test]
 fn functions_merge(rt: HostRuntime) {

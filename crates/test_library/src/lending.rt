@@ -1,6 +1,6 @@
 //! Passes of a shared map that are lent.
 use crate::asserts::assert_same;
-use facingberyl::{Add, Fault, Salt, SharedMap};
+use clients::{Add, Fault, Salt, SharedMap};
 use std::alloc::Global;
 
 /// A map of up to 65,536 clients lends as many passes as are wanted; the map closes once they are

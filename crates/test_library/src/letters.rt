@@ -3,8 +3,8 @@ ghost use Rattle.std.specs.Prelude.{◌≡◌};
 ghost use Rattle.count_ledger.specs.Fronts.{BeginsWith};
 
 use crate::asserts::assert_same;
+use clients::{About, Add, Client, Fault, Letter, Loan, Moment, Team, Work};
 use crossbeam_channel::{Receiver, Sender, bounded};
-use facingberyl::{About, Add, Client, Fault, Letter, Loan, Moment, Team, Work};
 use std::alloc::{AllocError, Global};
 use std::marker::Brand;
 use std::sync::{Mutex, Wait};
@@ -32,7 +32,7 @@ fn tell_all<B: About<u64, u64, Add>, L: Loan, R: Wait>(
     client: &mut Numbers<'_, L>,
     told: &Sender<Message<B>, Global>,
 ) -> Result<u64, Fault>
-    requires ledger { B.ledger ≡ client.old.map.now.ledger.id }
+    requires ledger { B.ledger ≡ client.old.map.ledger.id }
     requires told { (seen : _) → B.told seen }
 {
     for number in 0..MOST {
@@ -48,9 +48,9 @@ fn tell_all<B: About<u64, u64, Add>, L: Loan, R: Wait>(
 /// Learns of a moment, as its contract says: no get tells whether a client has learned of the calls
 /// before it.
 fn learn_of<L: Loan>(client: &mut Numbers<'_, L>, moment: &mut Moment<u64, u64, Add>)
-    requires { moment.old.ledger ≡ client.old.map.now.ledger.id }
-    ensures learned { BeginsWith client.new.pass.now.seen moment.old.seen }
-    ensures map { client.new.map.now ≡ client.old.map.now }
+    requires { moment.old.ledger ≡ client.old.map.ledger.id }
+    ensures learned { BeginsWith client.new.pass.seen moment.old.seen }
+    ensures map { client.new.map ≡ client.old.map }
 {
     client.learn(moment);
 }
@@ -61,7 +61,7 @@ fn hear_all<B: About<u64, u64, Add>, L: Loan, R: Wait>(
     client: &mut Numbers<'_, L>,
     heard: &Receiver<Message<B>, Global>,
 ) -> Result<u64, Fault>
-    requires ledger { B.ledger ≡ client.old.map.now.ledger.id }
+    requires ledger { B.ledger ≡ client.old.map.ledger.id }
 {
     let mut found = 0u64;
     for number in 0..MOST {

@@ -7,6 +7,10 @@ mod answers;
 #[cfg(test)]
 mod asserts;
 #[cfg(test)]
+mod both;
+#[cfg(test)]
+mod boxes;
+#[cfg(test)]
 mod closed;
 #[cfg(test)]
 mod crowds;
@@ -22,6 +26,8 @@ mod keys;
 mod lending;
 #[cfg(test)]
 mod letters;
+#[cfg(test)]
+mod lists;
 #[cfg(test)]
 mod live;
 #[cfg(test)]

@@ -1,6 +1,6 @@
 //! Pairs that are put all at once, and folds over a map that lives.
 use crate::asserts::assert_same;
-use facingberyl::{Add, Client, Fault, Loan, Team, Work};
+use clients::{Add, Client, Fault, Loan, Team, Work};
 use std::alloc::Global;
 use std::sync::Wait;
 

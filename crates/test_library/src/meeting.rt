@@ -1,9 +1,7 @@
 //! Clients that work in threads of their own: each waits until the others have begun.
 use crate::asserts::assert_same;
+use clients::{Client, Fault, Loan, Map, NoFunction, Pass, Salt, Sharing, Team, Work, retire_all};
 use crossbeam_utils::Backoff;
-use facingberyl::{
-    Client, Fault, Loan, Map, NoFunction, Pass, Salt, Sharing, Team, Work, retire_all,
-};
 use std::alloc::Global;
 use std::sync::Wait;
 use std::sync::atomic::AtomicU64;

@@ -2,7 +2,7 @@
 ghost use Rattle.std.specs.Prelude.{◌≡◌, ◌<◌, length};
 
 use crate::asserts::assert_same;
-use facingberyl::{About, Add, Client, Fault, Letter, Loan, Team, Work};
+use clients::{About, Add, Client, Fault, Letter, Loan, Team, Work};
 use std::alloc::Global;
 use std::marker::{Brand, PhantomData};
 use std::sync::Wait;

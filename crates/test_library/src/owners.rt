@@ -1,7 +1,7 @@
 //! Values with several owners: no call copies what they own.
 use crate::asserts::assert_same;
-use facingberyl::{
-    Change, Client, Fault, Loan, NoFunction, OwnedClient, Shared, SharedMap, Team, Work,
+use clients::{
+    Change, Client, Exact, Fault, Loan, NoFunction, OwnedClient, Shared, SharedMap, Team, Work,
 };
 use std::alloc::{AllocError, Global};
 use std::marker::Model;
@@ -35,6 +35,10 @@ impl Clone for Page {
             copies: self.copies.saturating_add(1),
         })
     }
+}
+
+impl Exact for Page {
+    ghost copies_exactly = { λ x y e. e };
 }
 
 impl PartialEq for Page {

@@ -2,7 +2,7 @@
 //! when all are back.
 use crate::asserts::assert_same;
 use crate::shared::{AddFive, Numbers, Owned, close, share};
-use facingberyl::{Fault, SharedMap};
+use clients::{Fault, SharedMap};
 use std::process::Abort;
 use std::sync::Wait;
 

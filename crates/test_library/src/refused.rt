@@ -1,6 +1,6 @@
 //! Shared maps and teams where requests for memory are refused: what was there is there still.
 use crate::asserts::assert_same;
-use facingberyl::{
+use clients::{
     Add, ClientFault, Fault, Quiet, Salt, SharedMap, SharedNotClosed, Team, TeamNotClosed,
 };
 use std::alloc::{Allocator, Global};

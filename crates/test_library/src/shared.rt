@@ -1,6 +1,6 @@
 //! Shared maps and the clients that own their passes.
 use crate::asserts::assert_same;
-use facingberyl::{
+use clients::{
     Add, Call, Client, Computed, Fault, KeyArg, Loan, Op, OwnedClient, Reply, Salt, SharedMap,
     SharedNotClosed, Work, Worked,
 };

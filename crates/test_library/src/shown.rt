@@ -1,6 +1,6 @@
 //! What teams, shared maps and clients show of themselves.
 use crate::asserts::assert_same;
-use facingberyl::{Add, Client, Fault, Loan, Salt, SharedMap, Team, Work};
+use clients::{Add, Client, Fault, Loan, Salt, SharedMap, Team, Work};
 use std::alloc::{AllocError, Global};
 use std::sync::Wait;
 
@@ -40,7 +40,7 @@ fn each_shows_its_map(rt: HostRuntime) {
     let map = "Map { form: Lean, clients: 1, keys: 0, .. }";
     let of_team = format!(in rt.alloc(); "Team {{ map: {map} }}").expect(&rt, "no fault");
     let of_shared = format!(in rt.alloc(); "SharedMap {{ map: {map} }}").expect(&rt, "no fault");
-    let of_owned = format!(in rt.alloc(); "OwnedClient {{ number: 0, map: {map} }}").expect(
+    let of_owned = format!(in rt.alloc(); "Client {{ number: 0, map: {map} }}").expect(
         &rt, "no fault",
     );
     let of_client = format!(in rt.alloc(); "Client {{ number: 0, map: {map} }}").expect(

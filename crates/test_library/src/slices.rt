@@ -1,9 +1,8 @@
 //! Keys of bytes that are looked for by slices, of which no key is made.
-ghost use Rattle.bin_history.specs.Copies.{IsExact};
 
 use crate::asserts::assert_same;
 use crate::closed::close_or_give_up;
-use facingberyl::{
+use clients::{
     AsKey, ByteString, Bytes, Client, Fault, Form, HashKey, Loan, Map, NoFunction, Quiet, Team,
     Work,
 };
@@ -118,9 +117,7 @@ impl<'a> Work<ByteString<Alloc<'a>>, Number<'a>, NoFunction, Alloc<'a>> for Look
 /// A team of one client, on a map whose bins store records.
 fn recorded_team<'a, K: HashKey>(
     alloc: Alloc<'a>,
-) -> Result<Team<K, Number<'a>, NoFunction, Alloc<'a>>, Fault>
-    requires { IsExact K.is_clone }
-{
+) -> Result<Team<K, Number<'a>, NoFunction, Alloc<'a>>, Fault> {
     let (map, passes) = Map::new(alloc, 16, 1)?;
     Ok(Team::of(map, passes))
 }
@@ -129,9 +126,7 @@ fn recorded_team<'a, K: HashKey>(
 fn team_of<'a, K: HashKey>(
     alloc: Alloc<'a>,
     form: Form,
-) -> Result<Team<K, Number<'a>, NoFunction, Alloc<'a>>, Fault>
-    requires { IsExact K.is_clone }
-{
+) -> Result<Team<K, Number<'a>, NoFunction, Alloc<'a>>, Fault> {
     match form {
         Form::Lean => Team::new(alloc, 16, 1),
         Form::Recorded => recorded_team(alloc),

@@ -1,7 +1,6 @@
 //! A team of one client, and refused teams.
 use crate::asserts::assert_same;
-use facingberyl::bulk::{Greatest, Plan, reduce};
-use facingberyl::{Add, Client, Computed, Fault, Loan, NoFunction, Quiet, Team, Work};
+use clients::{Add, Client, Computed, Fault, Loan, NoFunction, Quiet, Team, Work};
 use std::alloc::Global;
 use std::process::Abort;
 use std::sync::Wait;
@@ -149,7 +148,7 @@ fn assert_answers<R: Threads + Wait + Abort + Sync>(
     let answers = team.work(rt, &table).expect(rt, "no fault");
     let made = team.passes().first().map_or(0, |pass| pass.made());
     let closed = team.close().expect(rt, "no fault");
-    let greatest = reduce(rt, alloc, &closed, &Plan::new(0, 2), &Greatest).expect(rt, "no fault");
+    let greatest = closed.entries().map(|pair| pair.1).max();
     let left = (
         made,
         closed.mapping_count(),

@@ -2,7 +2,7 @@
 //! them call it.
 use crate::asserts::assert_same;
 use crate::shared::{Owned, close, share};
-use facingberyl::{Add, Change, Client, KeyArg, Loan, Work};
+use clients::{Add, Change, Client, ClientOf, Holder, KeyArg, Loan, Work};
 use std::alloc::Global;
 use std::sync::Wait;
 
@@ -10,7 +10,10 @@ use std::sync::Wait;
 /// function was called.
 type Tried = ([bool; 3], [bool; 3]);
 
-fn try_owned(client: &mut Owned) -> Tried {
+/// What any client tries, lent or owned.
+fn try_by<H: Holder<u64, u64, Add, Global>>(
+    client: &mut ClientOf<H, u64, u64, Add, Global>,
+) -> Tried {
     let (mut by_view, mut by_form, mut by_update) = (false, false, false);
     let viewed = client.try_view(&1, |_value| by_view = true).is_some();
     let viewed_as = client.try_view_as(&1, |_value| by_form = true).is_some();
@@ -35,22 +38,13 @@ impl Work<u64, u64, Add, Global> for Try {
         _rt: &R,
         client: &mut Client<'_, L, u64, u64, Add, Global>,
     ) -> Tried {
-        let (mut by_view, mut by_form, mut by_update) = (false, false, false);
-        let viewed = client.try_view(&1, |_value| by_view = true).is_some();
-        let viewed_as = client.try_view_as(&1, |_value| by_form = true).is_some();
-        let updated = client
-            .try_update(KeyArg::Borrowed(&1), |_value| {
-                by_update = true;
-                (Change::Keep, ())
-            })
-            .is_some();
-        ([viewed, viewed_as, updated], [by_view, by_form, by_update])
+        try_by(client)
     }
 }
 
 /// What the second client tries, by both kinds of a client.
 fn try_both<R: Wait>(rt: &R, second: &mut Owned) -> [Tried; 2] {
-    [try_owned(second), second.work(rt, &Try)]
+    [try_by(second), second.work(rt, &Try)]
 }
 
 /// What it tries while the first looks at the one bucket, and then.

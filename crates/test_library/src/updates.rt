@@ -1,12 +1,18 @@
 //! Functions of one's own, of the value alone.
 use crate::asserts::assert_same;
-use facingberyl::{ByValue, Client, Fault, Loan, Team, Update, Work};
+use clients::{ByValue, Client, Exact, Fault, Loan, Team, Update, Work};
 use std::alloc::Global;
 use std::sync::Wait;
 
 /// Twice the value, and 1 where there is none.
 #[derive(Clone, Copy)]
 struct Double;
+
+impl Exact for Double {
+    ghost use Rattle.std.proofs.Common.{rules};
+
+    ghost copies_exactly = { Prim.search rules };
+}
 
 impl Update<u64> for Double {
     ghost use Rattle.test_library.specs.Doubles.{doubled};

@@ -13,9 +13,9 @@ use Rattle.count_ledger.specs.Fronts.{HasSeen}
 use Rattle.count_ledger.specs.Views.{LedgerId, LedgerView}
 use Rattle.chm.specs.Shares.{HaveWorked}
 use Rattle.chm.specs.declared.fault.Fault.{Fault}
-use Rattle.facingberyl.proofs.Passes.{length-new_passes, same-clients-seen, same-made-seen}
+use Rattle.clients.proofs.Passes.{length-new_passes, same-clients-seen, same-made-seen}
 use Rattle.functions.specs.declared.numbers.Add.{Add}
-use Rattle.facingberyl.specs.Tallies.{AddsOne, AllCounted}
+use Rattle.clients.specs.Tallies.{AddsOne, AllCounted}
 use Rattle.word_count.specs.Counted.{WordPass, WordRecord, HasCounted, HasWorked, most_words, same_word}
 
 -- one word more was counted

@@ -10,7 +10,7 @@ use Rattle.bin_history.specs.Records.{RecordView}
 use Rattle.bin_history.specs.declared.form.Form.TheVariants.{Lean}
 use Rattle.count_ledger.specs.Views.{PassView}
 use Rattle.chm.specs.declared.fault.Fault.{Fault}
-use Rattle.facingberyl.specs.Tallies.{AddsOne, times_in_all, stored_count}
+use Rattle.clients.specs.Tallies.{AddsOne, times_in_all, stored_count}
 use Rattle.functions.specs.declared.numbers.Add.{Add}
 
 abbrev pub WordRecord : Type 0

@@ -4,7 +4,7 @@ ghost use Rattle.bin_history.specs.Limits.{most_calls};
 ghost use Rattle.word_count.specs.Counted.{AreCounts, HasCounted};
 
 use anyhow::bail;
-use facingberyl::{Add, Bytes, Client, Fault, Loan, Team, Work};
+use clients::{Add, Bytes, Client, Fault, Loan, Team, Work};
 use std::alloc::Global;
 use std::sync::Wait;
 use std::thread::Threads;
@@ -24,10 +24,10 @@ fn count_part<'a, L: Loan, R: Wait>(
     client: &mut Client<'_, L, Bytes<'a>, u64, Add, Global>,
     part: &[Bytes<'a>],
 ) -> Result<(), Fault>
-    ensures client { client.new.pass.now.client ≡ client.old.pass.now.client }
+    ensures client { client.new.pass.client ≡ client.old.pass.client }
     ensures counted { OnOk result
-        (client.old.pass.now.made ≡ [] → HasCounted (most_calls client.old.map.now.ledger.form
-        client.old.map.now.ledger.clients) part.now client.new.pass.now.made) }
+        (client.old.pass.made ≡ [] → HasCounted (most_calls client.old.map.ledger.form
+        client.old.map.ledger.clients) part.now client.new.pass.made) }
 {
     for word in part {
         client.merge(rt, Bytes(word.0), 1, Add)?;

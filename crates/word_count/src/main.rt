@@ -7,8 +7,8 @@
 mod count;
 
 use anyhow::Result;
+use clients::Bytes;
 use count::count;
-use facingberyl::Bytes;
 use std::alloc::{AllocError, Global};
 use std::io::Read;
 use std::{env, fs};

@@ -1,5 +1,5 @@
 use Rattle.std.proofs.Common.{sym, ◌∙◌}
-use Rattle.facingberyl.proofs.Passes.{in-order-new, length-new_passes}
+use Rattle.clients.proofs.Passes.{in-order-new, length-new_passes}
 use Rattle.histories.proofs.record.open.Goals as goal
 
 pub of-requires-clause-all : goal.of-requires-clause-all

@@ -1,7 +1,7 @@
 use Rattle.std.proofs.Common.{List, All, length, drop, sym, subst, ◌∙◌}
 use Rattle.count_ledger.specs.Fronts.{BeginsWith}
 use Rattle.count_ledger.specs.Views.{PassView}
-use Rattle.facingberyl.proofs.Passes.{restored}
+use Rattle.clients.proofs.Passes.{restored}
 use Rattle.live_maps.proofs.ordered.take_some.Goals as goal
 
 pub returns-clause-told : goal.returns-clause-told

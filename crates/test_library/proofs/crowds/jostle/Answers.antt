@@ -1,6 +1,6 @@
 use denote.Param.Send.{sendable}
 use Rattle.std.proofs.Crossing.{crosses}
-use Rattle.facingberyl.proofs.Crossing.{shared_sync}
+use Rattle.clients.proofs.Crossing.{shared_sync}
 use Rattle.test_library.proofs.crowds.jostle.Goals as goal
 
 pub for_each_mut-requires-sync-F : goal.for_each_mut-requires-sync-F

@@ -1,6 +1,6 @@
 use denote.Param.Send.{sendable}
 use Rattle.std.proofs.Crossing.{crosses}
-use Rattle.facingberyl.proofs.Crossing.{owned_send, shared_sync}
+use Rattle.clients.proofs.Crossing.{owned_send, shared_sync}
 use Rattle.test_library.proofs.full.wait_for_each.Goals as goal
 
 pub join-waited-requires-send-F : goal.join-waited-requires-send-F

@@ -1,6 +1,6 @@
 use denote.Param.Send.{sendable}
 use Rattle.std.proofs.Crossing.{crosses}
-use Rattle.facingberyl.proofs.Crossing.{shared_sync}
+use Rattle.clients.proofs.Crossing.{shared_sync}
 use Rattle.test_library.proofs.shared.each_thread_makes_its_clients.Goals as goal
 
 pub join-first-requires-send-F : goal.join-first-requires-send-F

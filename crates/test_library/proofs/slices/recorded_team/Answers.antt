@@ -1,5 +1,5 @@
 use Rattle.std.proofs.Common.{sym, ◌∙◌}
-use Rattle.facingberyl.proofs.Passes.{length-new_passes}
+use Rattle.clients.proofs.Passes.{length-new_passes}
 use Rattle.test_library.proofs.slices.recorded_team.Goals as goal
 
 pub of-requires-clause-all : goal.of-requires-clause-all

@@ -1,7 +1,7 @@
 use denote.Param.Send.{sendable}
 use Rattle.std.proofs.Crossing.{crosses}
 use Rattle.std.proofs.sync.atomic.AtomicU64.TheSendSync as atomic
-use Rattle.facingberyl.proofs.Crossing.{shared_sync}
+use Rattle.clients.proofs.Crossing.{shared_sync}
 use Rattle.test_live.proofs.growing.one_worker_is_shown_what_was_put_before_it_began.Goals as goal
 
 pub live_reduce-requires-sync-G : goal.live_reduce-requires-sync-G

@@ -9,9 +9,9 @@ use Rattle.bin_history.specs.declared.call.Call.{Call}
 use Rattle.count_ledger.specs.Views.{LedgerView}
 use Rattle.chm.specs.Headline.{entries_of}
 use Rattle.functions.specs.declared.numbers.Add.{Add}
-use Rattle.facingberyl.proofs.Tallies.{stored_count-of-key, times-few}
-use Rattle.facingberyl.specs.Tallies.{AllCounted, times_in_all}
-use Rattle.facingberyl.proofs.Passes.{as-many-seen, length-new_passes}
+use Rattle.clients.proofs.Tallies.{stored_count-of-key, times-few}
+use Rattle.clients.specs.Tallies.{AllCounted, times_in_all}
+use Rattle.clients.proofs.Passes.{as-many-seen, length-new_passes}
 use Rattle.word_count.proofs.Worked.{all-counted, all-few, all-met}
 use Rattle.word_count.specs.Counted.{WordPass, most_words, same_word}
 use Rattle.word_count.proofs.count.count.Goals as goal

@@ -1,0 +1,12 @@
+mod AllPasses
+mod Rows
+pub mod Passes
+mod Computing
+mod ManyPuts
+mod Turns
+mod Whole
+mod Kept
+mod Made
+mod Replies
+pub mod Tallies
+pub mod Crossing

@@ -1,0 +1,9 @@
+use Rattle.std.proofs.Common.{◌≡◌, rules}
+use Rattle.clients.proofs.client.ClientOf.visit_next.Goals as goal
+
+pub returns-clause-shown : goal.returns-clause-shown
+returns-clause-shown g c =
+    let map_is : c.map.result.now ≡ c.args.self.now.map = search rules in
+    let pass_is : c.pass_mut.result.now ≡ c.args.self.now.pass = search rules in
+    let left = g.met.H.Seat.Seat.pass_is c.self.inside.seat c.visit_next.new.pass in
+    rw (left) (rw (map_is, pass_is) at c.visit_next.ensures.shown)

@@ -1,8 +1,0 @@
-use Rattle.std.proofs.Common.{◌≡◌, rules}
-use Rattle.facingberyl.proofs.owned.OwnedClient.try_visit_next.Goals as goal
-
-pub returns-clause-shown : goal.returns-clause-shown
-returns-clause-shown g c =
-    let map_is : c.map.result.now ≡ c.args.self.now.map = search rules in
-    let pass_is : c.self.inside.pass ≡ c.args.self.now.pass = search rules in
-    rw (map_is, pass_is) at c.try_visit_next.ensures.shown
