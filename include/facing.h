@@ -112,7 +112,7 @@ FACING_CHECKED FACING_API uint32_t facing_client(facing_handle *map, facing_hand
  *
  * Each call locks the bucket of its key, and no other lock; while another thread has that lock it spins, then yields, then
  * sleeps for a millisecond at a time. It returns FACING_NO_MEMORY, FACING_CLIENT_FULL, FACING_AFTER_FORK or
- * FACING_WRONG_HANDLE, and then the call was not made. A call that adds a key allocates one node.
+ * FACING_WRONG_HANDLE, and then the call was not made. A call that adds a key to a bucket that has one allocates one node.
  * A call may also allocate parts of a table that grows, and goes on where there is no memory for them. */
 #define FACING_CALL(export_and_arguments)                                                                                   \
     uint32_t status;                                                                                                        \

@@ -172,9 +172,9 @@ FACING_INNER void facing_bytes_tell(facing_bytes_answer *answer, facing_answer t
  * Each call locks the bucket of its key, and no other lock; while another thread has that lock it spins, then yields, then
  * sleeps for a millisecond at a time. It returns FACING_TOO_LONG, FACING_NO_MEMORY, FACING_CLIENT_FULL, FACING_AFTER_FORK or
  * FACING_WRONG_HANDLE, and then the call was not made. Each value that a call is given is copied, in one allocation, or in two
- * where it has more than 318 bytes; a call that adds a key allocates the key and a node too, and one with a longer key than
- * the client had before, room for it. facing_bytes_get and facing_bytes_contains allocate nothing for key and value. Any
- * call may allocate parts of a table that grows, and goes on where there is no memory for them. */
+ * where it has more than 318 bytes; a call that adds a key allocates the key too, and a node if its bucket has one; a key
+ * longer than the client had before takes room of the client's. facing_bytes_get and facing_bytes_contains allocate nothing for
+ * key and value. Any call may allocate parts of a table that grows, and goes on where there is no memory for them. */
 #define FACING_BYTES_CALL(is_wrong, export_and_arguments)                                                                   \
     uint32_t status;                                                                                                        \
     unsigned round = 0;                                                                                                     \

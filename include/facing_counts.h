@@ -99,9 +99,9 @@ FACING_CHECKED FACING_API uint32_t facing_counts_client(facing_counts_handle *ma
  *
  * Each call locks the bucket of its key, and no other lock; while another thread has that lock it spins, then yields, then
  * sleeps for a millisecond at a time. It returns FACING_TOO_LONG, FACING_NO_MEMORY, FACING_CLIENT_FULL, FACING_AFTER_FORK or
- * FACING_WRONG_HANDLE, and then the call was not made. A call that adds a key allocates it and a node, and one with a longer
- * key than the client had before, room for it; others allocate nothing for key and value. Any call may allocate parts of a
- * table that grows, and goes on where there is no memory for them. */
+ * FACING_WRONG_HANDLE, and then the call was not made. A call that adds a key allocates it, and a node if its bucket has one;
+ * one with a longer key than the client had before, room for it; others allocate nothing for key and value. Any call may
+ * allocate parts of a table that grows, and goes on where there is no memory for them. */
 #define FACING_COUNTS_CALL(export_and_arguments)                                                                            \
     uint32_t status;                                                                                                        \
     unsigned round = 0;                                                                                                     \

@@ -12,16 +12,16 @@ use Rattle.std.specs.declared.cmp.Eq as Eq
 use Rattle.std.specs.declared.cmp.PartialEq as PartialEq
 use Rattle.std_heap.specs.contracts.Global as Heap
 use Rattle.std_heap.specs.contracts.GlobalAllocator.TheImpl.{ghosts}
+use Rattle.hashkeys.specs.declared.exact.Exact as Exact
 use Rattle.hashkeys.specs.declared.hashing.HashKey as HashKey
 use Rattle.seeded_keys.proofs.Crossing.{short_send, short_sync, compact_send, compact_sync}
-use Rattle.seeded_keys.specs.contracts.compact.CompactBytes as CompactBytes
 use Rattle.seeded_keys.specs.contracts.hashed.Hashed as Hashed
 use Rattle.bin_history.specs.declared.call.Remap as Remap
 use Rattle.bin_history.specs.declared.call.Value as Value
 use Rattle.bin_history.proofs.Shared.{bin_send, bin_sync}
 use Rattle.chm.specs.contracts.closed.quiet.Quiet as Quiet
 use Rattle.chm.specs.contracts.closed.quiet.Quiet.TheInside as QuietInside
-use Rattle.facingberyl.proofs.Crossing.{owned_send, shared_send, unshared_send}
+use Rattle.clients.proofs.Crossing.{owned_send, shared_send, unshared_send}
 use Rattle.facing_maps.specs.contracts.closed.ClosedMap as ClosedMap
 use Rattle.facing_maps.specs.contracts.closed.ClosedMap.TheInside as ClosedInside
 use Rattle.facing_maps.specs.contracts.closed.Owner as Owner
@@ -29,6 +29,7 @@ use Rattle.facing_maps.specs.contracts.keys.Keys as Keys
 use Rattle.facing_maps.specs.contracts.keys.Keys.TheInside as KeysInside
 use Rattle.facing_maps.specs.contracts.padded.Padded as Padded
 use Rattle.facing_maps.specs.contracts.padded.Padded.TheInside as PaddedInside
+use Rattle.facing_maps.specs.contracts.shared.Block as Block
 use Rattle.facing_maps.specs.contracts.shared.Place as Place
 use Rattle.facing_maps.specs.contracts.shared.SharedBytes as SharedBytes
 use Rattle.facing_maps.specs.contracts.shared.SharedBytes.TheInside as SharedInside
@@ -36,15 +37,16 @@ use Rattle.facing_maps.specs.contracts.stage.Stage as Stage
 
 module _ (K V F A : RattleType) (hash : HashKey.Ghosts K.Denot) (key_eq : Eq.Ghosts K.Denot)
     (key_same : PartialEq.Ghosts K.Denot)
-    (key_clone : Clone.Ghosts K.Denot) (value : Value.Ghosts V.Denot) (value_clone : Clone.Ghosts V.Denot) (value_eq : Eq.Ghosts V.Denot)
+    (key_exact : Exact.Ghosts K.Denot) (key_clone : Clone.Ghosts K.Denot) (value : Value.Ghosts V.Denot) (value_exact : Exact.Ghosts V.Denot)
+    (value_clone : Clone.Ghosts V.Denot) (value_eq : Eq.Ghosts V.Denot)
     (value_same : PartialEq.Ghosts V.Denot)
-    (remap : Remap.Ghosts F.Denot K.Denot V.Denot) (function_clone : Clone.Ghosts F.Denot)
+    (remap : Remap.Ghosts F.Denot K.Denot V.Denot) (function_exact : Exact.Ghosts F.Denot) (function_clone : Clone.Ghosts F.Denot)
     (alloc : Allocator.Ghosts A.Denot)
     (sk : IsSend K) (sv : IsSend V) (sf : IsSend F) (sa : IsSend A) (yk : IsSync K) (yv : IsSync V) (yf : IsSync F)
     (ya : IsSync A)
     (frees : Frees alloc alloc.dealloc_token) where
   quiet_fields : AllSend
-      (shape (QuietInside.the_type K V F A hash key_eq key_same key_clone value_clone value_eq value_same remap
+      (shape (QuietInside.the_type K V F A hash key_eq key_same key_exact key_clone value_clone value_eq value_same remap function_exact
       function_clone alloc)).fields
   quiet_fields = (
     search (sendable, crosses, bin_send) depth 30,
@@ -68,11 +70,11 @@ module _ (K V F A : RattleType) (hash : HashKey.Ghosts K.Denot) (key_eq : Eq.Gho
 
   -- a closed map
   quiet_send : IsSend
-      (Quiet.the_row K V F A hash key_eq key_same key_clone value_clone value_eq value_same remap function_clone alloc)
+      (Quiet.the_row K V F A hash key_eq key_same key_exact key_clone value_clone value_eq value_same remap function_exact function_clone alloc)
   quiet_send = search (sendable, quiet_fields) depth 30
 
   quiet_fields_sync : AllSync
-      (shape (QuietInside.the_type K V F A hash key_eq key_same key_clone value_clone value_eq value_same remap
+      (shape (QuietInside.the_type K V F A hash key_eq key_same key_exact key_clone value_clone value_eq value_same remap function_exact
       function_clone alloc)).fields
   quiet_fields_sync = (
     search (sendable, crosses, bin_sync) depth 30,
@@ -99,17 +101,18 @@ module _ (K V F A : RattleType) (hash : HashKey.Ghosts K.Denot) (key_eq : Eq.Gho
 
   -- the same, lent to several
   quiet_sync : IsSync
-      (Quiet.the_row K V F A hash key_eq key_same key_clone value_clone value_eq value_same remap function_clone alloc)
+      (Quiet.the_row K V F A hash key_eq key_same key_exact key_clone value_clone value_eq value_same remap function_exact function_clone alloc)
   quiet_sync = search (sendable, quiet_fields_sync) depth 30
 
 module _ (K V F : RattleType) (hash : HashKey.Ghosts K.Denot) (key_eq : Eq.Ghosts K.Denot)
     (key_same : PartialEq.Ghosts K.Denot)
-    (key_clone : Clone.Ghosts K.Denot) (value : Value.Ghosts V.Denot) (value_clone : Clone.Ghosts V.Denot) (value_eq : Eq.Ghosts V.Denot)
+    (key_exact : Exact.Ghosts K.Denot) (key_clone : Clone.Ghosts K.Denot) (value : Value.Ghosts V.Denot) (value_exact : Exact.Ghosts V.Denot)
+    (value_clone : Clone.Ghosts V.Denot) (value_eq : Eq.Ghosts V.Denot)
     (value_same : PartialEq.Ghosts V.Denot)
-    (remap : Remap.Ghosts F.Denot K.Denot V.Denot) (function_clone : Clone.Ghosts F.Denot)
+    (remap : Remap.Ghosts F.Denot K.Denot V.Denot) (function_exact : Exact.Ghosts F.Denot) (function_clone : Clone.Ghosts F.Denot)
     (sk : IsSend K) (sv : IsSend V) (sf : IsSend F) (yk : IsSync K) (yv : IsSync V) (yf : IsSync F) where
   owners_send : EachSend
-      (enum.shape (Owner.the_type K V F hash key_eq key_same key_clone value_clone value_eq value_same remap
+      (enum.shape (Owner.the_type K V F hash key_eq key_same key_exact key_clone value_clone value_eq value_same remap function_exact
       function_clone)).variants
   owners_send = (
     (search (sendable, crosses, heap.crosses, quiet_send) depth 30, tt),
@@ -117,22 +120,23 @@ module _ (K V F : RattleType) (hash : HashKey.Ghosts K.Denot) (key_eq : Eq.Ghost
   )
 
   closed_fields : AllSend
-      (shape (ClosedInside.the_type K V F hash key_eq key_same key_clone value_clone value_eq value_same remap
+      (shape (ClosedInside.the_type K V F hash key_eq key_same key_exact key_clone value_clone value_eq value_same remap function_exact
       function_clone)).fields
   closed_fields = (search (sendable, owners_send) depth 30, tt)
 
   -- a closed map, with one owner or several
   closed_send : IsSend
-      (ClosedMap.the_row K V F hash key_eq key_same key_clone value_clone value_eq value_same remap function_clone)
+      (ClosedMap.the_row K V F hash key_eq key_same key_exact key_clone value_clone value_eq value_same remap function_exact function_clone)
   closed_send = search (sendable, closed_fields) depth 30
 
   stages_send : EachSend
-      (enum.shape (Stage.the_type K V F hash key_eq key_same key_clone value value_clone value_eq value_same remap
+      (enum.shape (Stage.the_type K V F hash key_eq key_same key_exact key_clone value value_exact value_clone value_eq value_same remap
+          function_exact
       function_clone)).variants
   stages_send = (
     (search (sendable, crosses, heap.crosses, shared_send) depth 30, tt),
     (
-      (search (sendable, crosses, heap.crosses, owned_send) depth 30, tt),
+      (search (sendable, crosses, heap.crosses, owned_send) depth 60 fits 60000, tt),
       (
         (search (sendable, crosses, heap.crosses, unshared_send) depth 30, tt),
         ((search (sendable, crosses, heap.crosses, closed_send) depth 30, tt), (tt, tt)),
@@ -142,19 +146,21 @@ module _ (K V F : RattleType) (hash : HashKey.Ghosts K.Denot) (key_eq : Eq.Ghost
 
   -- a map, or a client
   pub stage_send : IsSend
-      (Stage.the_row K V F hash key_eq key_same key_clone value value_clone value_eq value_same remap function_clone)
+      (Stage.the_row K V F hash key_eq key_same key_exact key_clone value value_exact value_clone value_eq value_same remap function_exact
+          function_clone)
   stage_send = search (sendable, stages_send) depth 30
 
   -- the same in a field
   pub stage_within : IsSend
-      (Stage.the_field K V F hash key_eq key_same key_clone value value_clone value_eq value_same remap function_clone).row
+      (Stage.the_field K V F hash key_eq key_same key_exact key_clone value value_exact value_clone value_eq value_same remap
+          function_exact function_clone).row
   stage_within = search (sendable, stages_send) depth 30
 
 -- a key with its code
-pub key_send : IsSend (Hashed.the_row (CompactBytes.the_row Heap.the_row ghosts))
+pub key_send : IsSend (Hashed.the_row Heap.the_row ghosts)
 key_send = search (sendable, compact_send, heap.crosses) depth 20
 
-pub key_sync : IsSync (Hashed.the_row (CompactBytes.the_row Heap.the_row ghosts))
+pub key_sync : IsSync (Hashed.the_row Heap.the_row ghosts)
 key_sync = search (sendable, compact_sync, heap.crosses) depth 20
 
 -- bytes in a block of their own
@@ -171,10 +177,10 @@ module _ (N : RattleType) where
   padded_sync : IsSync (Padded.the_row N)
   padded_sync = search (sendable, padded_fields_sync) depth 20
 
--- a value
-places_send : EachSend (enum.shape Place.the_type).variants
-places_send = (
-  (search (sendable, short_send) depth 20, tt),
+-- a value of more than 30 bytes
+blocks_send : EachSend (enum.shape Block.the_type).variants
+blocks_send = (
+  (search (sendable, heap.crosses, padded_send, padded_sync) depth 20, tt),
   (
     (search (sendable, heap.crosses, padded_send, padded_sync) depth 20, tt),
     (
@@ -197,10 +203,7 @@ places_send = (
                       (search (sendable, heap.crosses, padded_send, padded_sync) depth 20, tt),
                       (
                         (search (sendable, heap.crosses, padded_send, padded_sync) depth 20, tt),
-                        (
-                          (search (sendable, heap.crosses, padded_send, padded_sync) depth 20, tt),
-                          ((search (sendable, heap.crosses) depth 20, tt), tt),
-                        ),
+                        ((search (sendable, heap.crosses) depth 20, tt), tt),
                       ),
                     ),
                   ),
@@ -214,9 +217,9 @@ places_send = (
   ),
 )
 
-places_sync : EachSync (enum.shape Place.the_type).variants
-places_sync = (
-  (search (sendable, short_sync) depth 20, tt),
+blocks_sync : EachSync (enum.shape Block.the_type).variants
+blocks_sync = (
+  (search (sendable, heap.crosses, padded_send, padded_sync) depth 20, tt),
   (
     (search (sendable, heap.crosses, padded_send, padded_sync) depth 20, tt),
     (
@@ -239,10 +242,7 @@ places_sync = (
                       (search (sendable, heap.crosses, padded_send, padded_sync) depth 20, tt),
                       (
                         (search (sendable, heap.crosses, padded_send, padded_sync) depth 20, tt),
-                        (
-                          (search (sendable, heap.crosses, padded_send, padded_sync) depth 20, tt),
-                          ((search (sendable, heap.crosses) depth 20, tt), tt),
-                        ),
+                        ((search (sendable, heap.crosses) depth 20, tt), tt),
                       ),
                     ),
                   ),
@@ -254,6 +254,19 @@ places_sync = (
       ),
     ),
   ),
+)
+
+-- a value
+places_send : EachSend (enum.shape Place.the_type).variants
+places_send = (
+  (search (sendable, short_send) depth 20, tt),
+  ((search (sendable, blocks_send) depth 20, tt), tt),
+)
+
+places_sync : EachSync (enum.shape Place.the_type).variants
+places_sync = (
+  (search (sendable, short_sync) depth 20, tt),
+  ((search (sendable, blocks_sync) depth 20, tt), tt),
 )
 
 shared_fields_send : AllSend (shape SharedInside.the_type).fields

@@ -9,7 +9,7 @@ use Rattle.count_ledger.specs.Fronts.{HasSeen}
 use Rattle.count_ledger.specs.Views.{LedgerView, PassView}
 use Rattle.chm.specs.Headline.{IsAnswered, entries_of}
 use Rattle.chm.specs.declared.fault.Fault.TheVariants.{NoMemory}
-use Rattle.facingberyl.specs.PassPools.{ClientView}
+use Rattle.clients.specs.Clients.{ClientView}
 use Rattle.facing_maps.specs.Answers.{Tried}
 use Rattle.facing_maps.specs.Statuses.{facing_wrong_handle}
 use Rattle.facing_maps.specs.declared.stage.Stage.{Stage}

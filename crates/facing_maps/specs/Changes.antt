@@ -8,7 +8,7 @@ use Rattle.chm.specs.Updates.{IsUpdate}
 use Rattle.chm.specs.declared.calls.update.Change.{Change}
 use Rattle.chm.specs.declared.calls.update.Change.TheVariants.{Keep, Set, Remove}
 use Rattle.chm.specs.declared.fault.Fault.{Fault}
-use Rattle.facingberyl.specs.PassPools.{ClientView}
+use Rattle.clients.specs.Clients.{ClientView}
 use Rattle.facing_maps.specs.Answers.{code_of, found_by}
 use Rattle.facing_maps.specs.Rooms.{found_room}
 use Rattle.facing_maps.specs.Statuses.{facing_busy, facing_no_memory, facing_wrong_handle}

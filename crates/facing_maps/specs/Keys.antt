@@ -1,6 +1,7 @@
 -- Keys of bytes under a seed.
 use Rattle.std.specs.Prelude.{◌≡◌, ◌⊎◌, ℕ, ◌<◌, ◌≤◌, Bool, ◌&&◌, nat_eq, max, List, length}
 use Rattle.std.specs.Cmp.Lexicographic.{pointwise}
+use Rattle.std.specs.Global.{Global}
 use Rattle.bin_history.specs.declared.op.Op.{Op}
 use Rattle.bin_history.specs.declared.op.Op.TheVariants as op
 use Rattle.functions.specs.declared.nothing.NoFunction.{NoFunction}
@@ -15,7 +16,7 @@ Bytes = List ℕ
 
 -- bytes beside their code
 abbrev pub Key : Type 0
-Key = Hashed Bytes
+Key = Hashed Global
 
 -- the key that a seed makes of bytes: its code is that of the seed, so equal bytes under one seed are one key
 abbrev pub key_of : Seed → Bytes → Key

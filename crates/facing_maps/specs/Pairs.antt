@@ -10,7 +10,7 @@ use Rattle.count_ledger.specs.Views.{PassView}
 use Rattle.chm.specs.Numbered.{HasComeAt, IsEnd, end_of_walk}
 use Rattle.chm.specs.Views.{MapView}
 use Rattle.chm.specs.Visits.{VisitView, IsVisit}
-use Rattle.facingberyl.specs.PassPools.{ClientView}
+use Rattle.clients.specs.Clients.{ClientView}
 use Rattle.facing_maps.specs.Keys.{Bytes, Key}
 use Rattle.facing_maps.specs.Statuses.{facing_busy, facing_no_memory, facing_wrong_handle}
 use Rattle.facing_maps.specs.declared.stage.Stage.{Stage}

@@ -14,7 +14,7 @@ use crate::shared::SharedBytes;
 use crate::stage::Stage;
 use crate::status::{MOST_BYTES, MOST_VALUE, NO_MEMORY, TOO_LONG, Tried, WRONG_HANDLE};
 use bin_history::Op;
-use facingberyl::OwnedClient;
+use clients::OwnedClient;
 use functions::NoFunction;
 use hashkeys::Bytes;
 use std::alloc::{AllocError, Global};

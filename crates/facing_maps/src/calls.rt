@@ -1,7 +1,6 @@
 //! Calls of clients, and what is read of closed maps.
 ghost use Rattle.std.specs.Prelude.{⊤};
 ghost use Rattle.bin_history.specs.Ops.{call_on, key_in};
-ghost use Rattle.chm.specs.Headline.{AreExact};
 ghost use Rattle.facing_maps.specs.Calls.{IsCalled, IsFound};
 
 use crate::stage::Stage;
@@ -12,7 +11,6 @@ use hashkeys::{AsKey, HashKey};
 impl<K: HashKey, V: Value, F: Remap<K, V>> Stage<K, V, F> {
     /// Tries a call of the client that this is. It waits for nobody.
     pub fn try_call(&mut self, key: KeyArg<'_, K>, op: Op<V, F>) -> Tried<V>
-        requires { AreExact K.is_clone V.is_clone F.is_clone }
         ensures { IsCalled K.eq V.eq F.remapped F.merged ⊤ (λ _. ⊥) self.old
             (call_on (key_in key.entry) op) self.new result }
     {

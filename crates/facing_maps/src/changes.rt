@@ -6,7 +6,7 @@ ghost use Rattle.facing_maps.specs.Keys.{same_bytes};
 use crate::changing::{Changed, Changing, Told};
 use crate::seeded::copied;
 use crate::shared::SharedBytes;
-use facingberyl::Change;
+use clients::Change;
 
 /// Gives the key a value, or none, where it has the one that is expected, or none. It tells what was
 /// there.

@@ -1,8 +1,6 @@
 //! Calls that change the value at a key by what it is, under one lock.
 ghost use Rattle.std.specs.Prelude.{◌≡◌, ◌≤◌, ⊤, length, option_copied, IfSome, IfNone};
-ghost use Rattle.bin_history.specs.Copies.{IsExact};
 ghost use Rattle.bin_history.specs.Ops.{key_in};
-ghost use Rattle.chm.specs.Headline.{AreExact};
 ghost use Rattle.chm.specs.Updates.{IsUpdate};
 ghost use Rattle.facing_maps.specs.Changes.{IsChanged, IsChangeTried};
 ghost use Rattle.facing_maps.specs.Keys.{key_of, same_key, IsRefusal};
@@ -13,7 +11,7 @@ use crate::stage::Stage;
 use crate::status::{MOST_BYTES, NO_MEMORY, TOO_LONG, WRONG_HANDLE};
 use bin_history::{KeyArg, Remap, Value};
 use chm::Fault;
-use facingberyl::{Change, OwnedClient};
+use clients::{Change, OwnedClient};
 use hashkeys::HashKey;
 use std::alloc::{AllocError, Global};
 
@@ -50,7 +48,6 @@ fn try_change_with<K: HashKey, V: Value, F: Remap<K, V>, C: Changing<V>>(
     key: KeyArg<'_, K>,
     changing: C,
 ) -> Option<Result<Told<V>, Fault>>
-    requires exact { AreExact K.is_clone V.is_clone F.is_clone }
     ensures updated { IfSome result (IsUpdate K.eq V.eq F.remapped F.merged
         (λ shown made. C.changes changing (option_copied shown) made) client.old.map.ledger
         (key_in key.entry) client.old.pass client.new.pass) }
@@ -63,7 +60,6 @@ fn try_change_with<K: HashKey, V: Value, F: Remap<K, V>, C: Changing<V>>(
 impl<K: HashKey, V: Value, F: Remap<K, V>> Stage<K, V, F> {
     /// Tries a change on this key, by the client that this is. It waits for nobody.
     pub fn try_change<C: Changing<V>>(&mut self, key: KeyArg<'_, K>, changing: C) -> TriedChange<V>
-        requires { AreExact K.is_clone V.is_clone F.is_clone }
         ensures { IsChanged K.eq V.eq F.remapped F.merged ⊤ (λ _. ⊥) (C.changes changing) self.old
             (key_in key.entry) self.new result }
     {
@@ -84,8 +80,6 @@ pub(crate) fn try_change_at<V: Value, F: Remap<SeededKey, V>, C: Changing<V>>(
     key: &[u8],
     changing: C,
 ) -> TriedChange<V>
-    requires values { IsExact V.is_clone }
-    requires functions { IsExact F.is_clone }
     ensures tried { IsChangeTried same_key V.eq F.remapped F.merged
         (length key.now ≤ facing_longest) (IsRefusal (length key.now)) (C.changes changing)
         client.old.map.ledger (key_of keys.old key.now) client.old.pass client.new.pass result }
@@ -112,8 +106,6 @@ pub fn try_change_on<V: Value, F: Remap<SeededKey, V>, C: Changing<V>>(
     key: &[u8],
     changing: C,
 ) -> TriedChange<V>
-    requires values { IsExact V.is_clone }
-    requires functions { IsExact F.is_clone }
     ensures changed { IsChanged same_key V.eq F.remapped F.merged
         (length key.now ≤ facing_longest) (IsRefusal (length key.now)) (C.changes changing) stage.old
         (key_of keys.old key.now) stage.new result }

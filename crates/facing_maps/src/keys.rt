@@ -9,7 +9,7 @@ use std::marker::Model;
 use std::mem;
 
 /// A key of bytes, with its code under the seed of its map.
-pub type SeededKey = Hashed<CompactBytes<Global>>;
+pub type SeededKey = Hashed<Global>;
 
 /// The seed of a map's keys, and room for the bytes of one key of more than 30, which grows to those of
 /// the longest key that a call was made on. Contracts see the seed.

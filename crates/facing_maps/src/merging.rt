@@ -1,5 +1,5 @@
 //! What merges make.
-use bin_history::Remap;
+use bin_history::{Exact, Remap};
 use std::alloc::AllocError;
 
 /// What a merge makes of the value that is there and the one given: their sum, or the end of the
@@ -10,6 +10,12 @@ pub enum Merging {
     Add,
     Greatest,
     Set,
+}
+
+impl Exact for Merging {
+    ghost use Rattle.std.proofs.Common.{rules};
+
+    ghost copies_exactly = { Prim.search rules };
 }
 
 impl<K> Remap<K, u64> for Merging {

@@ -1,7 +1,6 @@
 //! Pairs that are copied out of a bucket.
 ghost use Rattle.std.specs.Prelude.{◌≡◌, ◌≤◌, ◌<◌, ◌+◌, ◌++◌, true, false, length, take, drop, min};
 ghost use Rattle.bin_history.specs.Calls.{after};
-ghost use Rattle.bin_history.specs.Copies.{IsExact};
 ghost use Rattle.facing_maps.specs.Pairs.{AreNumbers, AreCopied, bytes_of, IsSeen, IsClosedSeen, IsLiveSeen};
 ghost use Rattle.seeded_keys.specs.Mixing.{unmixed};
 
@@ -12,7 +11,7 @@ use crate::stage::Stage;
 use crate::status::{BUSY, NO_MEMORY, WRONG_HANDLE, code_of};
 use bin_history::{Remap, Value};
 use chm::{END_OF_WALK, Quiet, Visit};
-use facingberyl::OwnedClient;
+use clients::OwnedClient;
 use hashkeys::HashKey;
 use seeded_keys::NumberSeed;
 use std::alloc::Global;
@@ -51,8 +50,6 @@ fn try_visit_of<K: HashKey, V: Value, F: Remap<K, V>>(
     client: &mut OwnedClient<K, V, F, Global>,
     at: u64,
 ) -> Seen<K, V>
-    requires keys { IsExact K.is_clone }
-    requires values { IsExact V.is_clone }
     ensures seen { IsLiveSeen K.eq K.code (after V.eq F.remapped F.merged) client.old.map at
         client.old.pass client.new.pass result }
     ensures map { client.new.map ≡ client.old.map }
@@ -78,8 +75,6 @@ fn visit_of<K: HashKey, V: Value, F: Remap<K, V>>(
     quiet: &Quiet<K, V, F, Global>,
     at: u64,
 ) -> Seen<K, V>
-    requires keys { IsExact K.is_clone }
-    requires values { IsExact V.is_clone }
     ensures { IsClosedSeen quiet.now.bins at result }
 {
     let bins = quiet.bins();
@@ -97,8 +92,6 @@ fn visit_closed<K: HashKey, V: Value, F: Remap<K, V>>(
     closed: &ClosedMap<K, V, F>,
     at: u64,
 ) -> Seen<K, V>
-    requires keys { IsExact K.is_clone }
-    requires values { IsExact V.is_clone }
     ensures { IsClosedSeen closed.now.bins at result }
 {
     visit_of(closed.quiet(), at)
@@ -109,8 +102,6 @@ impl<K: HashKey, V: Value, F: Remap<K, V>> Stage<K, V, F> {
     /// number, and of a map whose client this is the one that has the hash of this number. It waits
     /// for nobody, and takes memory for the copies.
     pub fn try_visit(&mut self, at: u64) -> Seen<K, V>
-        requires keys { IsExact K.is_clone }
-        requires values { IsExact V.is_clone }
         ensures { IsSeen K.eq K.code (after V.eq F.remapped F.merged) self.old at self.new result }
     {
         match self {

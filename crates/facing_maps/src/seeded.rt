@@ -2,11 +2,9 @@
 //! key that is too long is refused, and only where the handle is a right one.
 ghost use Rattle.std.specs.Prelude.{◌≡◌, ◌≤◌, IfOk, IsOk, ⊤, length, option_copied, is_some};
 ghost use Rattle.bin_history.specs.Calls.{after};
-ghost use Rattle.bin_history.specs.Copies.{IsExact};
 ghost use Rattle.bin_history.specs.Ops.{call_on};
 ghost use Rattle.bin_history.specs.Sure.{IsNeverRefused};
 ghost use Rattle.bin_history.specs.declared.call.Reply.TheVariants.{Value, Truth};
-ghost use Rattle.chm.specs.Headline.{AreExact};
 ghost use Rattle.facing_maps.specs.Calls.{IsCalled, IsTried, IsLooked, IsLook, IsFound};
 ghost use Rattle.facing_maps.specs.Keys.{key_of, same_key, code_in, IsRefusal, IsTooLong};
 ghost use Rattle.facing_maps.specs.Statuses.{facing_longest};
@@ -14,14 +12,13 @@ ghost use Rattle.facing_maps.specs.Statuses.{facing_longest};
 use crate::keys::{Keys, SeededKey};
 use crate::stage::Stage;
 use crate::status::{MOST_BYTES, NO_MEMORY, TOO_LONG, Tried, WRONG_HANDLE};
-use bin_history::{KeyArg, Op, Remap, Reply, Value};
+use bin_history::{Exact, KeyArg, Op, Remap, Reply, Value};
 use chm::Fault;
-use facingberyl::OwnedClient;
+use clients::OwnedClient;
 use std::alloc::{AllocError, Global};
 
 /// A copy of a value, if there is one.
-pub(crate) fn copied<V: Clone>(value: Option<&V>) -> Result<Option<V>, AllocError>
-    requires { IsExact V.is_clone }
+pub(crate) fn copied<V: Exact>(value: Option<&V>) -> Result<Option<V>, AllocError>
     ensures copy { IfOk result (λ copy. copy ≡ option_copied value.entry) }
     ensures sure { IsNeverRefused V.is_infallible → IsOk result }
 {
@@ -38,8 +35,6 @@ pub(crate) fn try_at<V: Value, F: Remap<SeededKey, V>>(
     key: &[u8],
     op: Op<V, F>,
 ) -> Tried<V>
-    requires values { IsExact V.is_clone }
-    requires functions { IsExact F.is_clone }
     ensures tried { IsTried same_key V.eq F.remapped F.merged
         (length key.now ≤ facing_longest) (IsRefusal (length key.now)) client.old.map.ledger
         (call_on (key_of keys.old key.now) op) client.old.pass client.new.pass result }
@@ -65,7 +60,6 @@ fn try_look_at<V: Value, F: Remap<SeededKey, V>>(
     keys: &Keys,
     key: &[u8],
 ) -> Tried<V>
-    requires { IsExact V.is_clone }
     ensures look { IsLook same_key (after V.eq F.remapped F.merged)
         (IsNeverRefused V.is_infallible) Value (length key.now ≤ facing_longest)
         (IsTooLong (length key.now)) client.old.map.ledger (key_of keys.now key.now)
@@ -109,8 +103,6 @@ pub fn try_on<V: Value, F: Remap<SeededKey, V>>(
     key: &[u8],
     op: Op<V, F>,
 ) -> Tried<V>
-    requires values { IsExact V.is_clone }
-    requires functions { IsExact F.is_clone }
     ensures called { IsCalled same_key V.eq F.remapped F.merged
         (length key.now ≤ facing_longest) (IsRefusal (length key.now)) stage.old
         (call_on (key_of keys.old key.now) op) stage.new result }
@@ -132,7 +124,6 @@ pub fn try_look<V: Value, F: Remap<SeededKey, V>>(
     keys: &Keys,
     key: &[u8],
 ) -> Tried<V>
-    requires { IsExact V.is_clone }
     ensures { IsLooked same_key (after V.eq F.remapped F.merged) (IsNeverRefused V.is_infallible)
         Value (length key.now ≤ facing_longest) (IsTooLong (length key.now)) stage.old
         (key_of keys.now key.now) stage.new result }

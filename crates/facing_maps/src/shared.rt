@@ -1,19 +1,19 @@
 //! Values of bytes.
 ghost use Rattle.std.specs.Prelude.{◌≡◌, ◌≤◌, IfOk, IsOk, length};
 ghost use Rattle.std.specs.Arc.{arc_value};
-ghost use Rattle.facing_maps.specs.Places.{bytes_at};
+ghost use Rattle.facing_maps.specs.Places.{bytes_in};
 
+use bin_history::Exact;
 use crate::padded::Padded;
 use seeded_keys::ShortBytes;
 use std::alloc::{AllocError, Global};
 use std::marker::Model;
 use std::sync::Arc;
 
-/// Where the bytes lie.
+/// More than 30 bytes, with several owners.
 #[derive(Drop)]
-enum Place {
-    Inline(ShortBytes),
-    /// More than 30 of them, in one block with the number of their owners.
+enum Block {
+    /// At most 318 of them, in one block with the number of their owners.
     UpTo46(Arc<Padded<46>, Global>),
     UpTo62(Arc<Padded<62>, Global>),
     UpTo78(Arc<Padded<78>, Global>),
@@ -26,8 +26,15 @@ enum Place {
     UpTo222(Arc<Padded<222>, Global>),
     UpTo254(Arc<Padded<254>, Global>),
     UpTo318(Arc<Padded<318>, Global>),
-    /// More than 318 of them, in a block beside that of their owners.
+    /// More of them, in a block beside that of their owners.
     Longer(Arc<Vec<u8, Global>, Global>),
+}
+
+/// Where the bytes lie.
+#[derive(Drop)]
+enum Place {
+    Inline(ShortBytes),
+    Shared(Block),
 }
 
 /// Bytes as a value of any length. At most 30 lie in the value itself, and a clone copies them. More have
@@ -58,73 +65,67 @@ fn in_one_block<const N: usize>(
     Ok(Arc::new(alloc, Padded::copy_of(bytes))?)
 }
 
-impl Place {
+impl Block {
     /// A copy of these bytes.
-    fn copy_of(alloc: Global, bytes: &[u8]) -> Result<Place, AllocError>
-        ensures copy { IfOk result (λ place. bytes_at place ≡ bytes.now) }
-        ensures short { length bytes.now ≤ 30 → IsOk result }
+    fn copy_of(alloc: Global, bytes: &[u8]) -> Result<Block, AllocError>
+        ensures { IfOk result (λ block. bytes_in block ≡ bytes.now) }
     {
-        if let Some(short) = ShortBytes::copy_of(bytes) {
-            return Ok(Place::Inline(short));
-        }
         Ok(match bytes.len() {
-            ..=46 => Place::UpTo46(in_one_block(alloc, bytes)?),
-            ..=62 => Place::UpTo62(in_one_block(alloc, bytes)?),
-            ..=78 => Place::UpTo78(in_one_block(alloc, bytes)?),
-            ..=94 => Place::UpTo94(in_one_block(alloc, bytes)?),
-            ..=110 => Place::UpTo110(in_one_block(alloc, bytes)?),
-            ..=126 => Place::UpTo126(in_one_block(alloc, bytes)?),
-            ..=142 => Place::UpTo142(in_one_block(alloc, bytes)?),
-            ..=158 => Place::UpTo158(in_one_block(alloc, bytes)?),
-            ..=190 => Place::UpTo190(in_one_block(alloc, bytes)?),
-            ..=222 => Place::UpTo222(in_one_block(alloc, bytes)?),
-            ..=254 => Place::UpTo254(in_one_block(alloc, bytes)?),
-            ..=318 => Place::UpTo318(in_one_block(alloc, bytes)?),
-            _ => Place::Longer(Arc::new(alloc, bytes.to_vec(alloc)?)?),
+            ..=46 => Block::UpTo46(in_one_block(alloc, bytes)?),
+            ..=62 => Block::UpTo62(in_one_block(alloc, bytes)?),
+            ..=78 => Block::UpTo78(in_one_block(alloc, bytes)?),
+            ..=94 => Block::UpTo94(in_one_block(alloc, bytes)?),
+            ..=110 => Block::UpTo110(in_one_block(alloc, bytes)?),
+            ..=126 => Block::UpTo126(in_one_block(alloc, bytes)?),
+            ..=142 => Block::UpTo142(in_one_block(alloc, bytes)?),
+            ..=158 => Block::UpTo158(in_one_block(alloc, bytes)?),
+            ..=190 => Block::UpTo190(in_one_block(alloc, bytes)?),
+            ..=222 => Block::UpTo222(in_one_block(alloc, bytes)?),
+            ..=254 => Block::UpTo254(in_one_block(alloc, bytes)?),
+            ..=318 => Block::UpTo318(in_one_block(alloc, bytes)?),
+            _ => Block::Longer(Arc::new(alloc, bytes.to_vec(alloc)?)?),
         })
     }
 
     /// The bytes.
     fn bytes(&self) -> &[u8]
-        ensures { result.now ≡ bytes_at self.now }
+        ensures { result.now ≡ bytes_in self.now }
     {
         match self {
-            Place::Inline(short) => short.bytes(),
-            Place::UpTo46(bytes) => bytes.bytes(),
-            Place::UpTo62(bytes) => bytes.bytes(),
-            Place::UpTo78(bytes) => bytes.bytes(),
-            Place::UpTo94(bytes) => bytes.bytes(),
-            Place::UpTo110(bytes) => bytes.bytes(),
-            Place::UpTo126(bytes) => bytes.bytes(),
-            Place::UpTo142(bytes) => bytes.bytes(),
-            Place::UpTo158(bytes) => bytes.bytes(),
-            Place::UpTo190(bytes) => bytes.bytes(),
-            Place::UpTo222(bytes) => bytes.bytes(),
-            Place::UpTo254(bytes) => bytes.bytes(),
-            Place::UpTo318(bytes) => bytes.bytes(),
-            Place::Longer(bytes) => bytes.as_slice(),
+            Block::UpTo46(bytes) => bytes.bytes(),
+            Block::UpTo62(bytes) => bytes.bytes(),
+            Block::UpTo78(bytes) => bytes.bytes(),
+            Block::UpTo94(bytes) => bytes.bytes(),
+            Block::UpTo110(bytes) => bytes.bytes(),
+            Block::UpTo126(bytes) => bytes.bytes(),
+            Block::UpTo142(bytes) => bytes.bytes(),
+            Block::UpTo158(bytes) => bytes.bytes(),
+            Block::UpTo190(bytes) => bytes.bytes(),
+            Block::UpTo222(bytes) => bytes.bytes(),
+            Block::UpTo254(bytes) => bytes.bytes(),
+            Block::UpTo318(bytes) => bytes.bytes(),
+            Block::Longer(bytes) => bytes.as_slice(),
         }
     }
 
-    /// This, where the bytes lie in it; or one more owner of them.
-    fn again(&self) -> Result<Place, AllocError>
-        ensures { IfOk result (λ place. bytes_at place ≡ bytes_at self.now) }
+    /// One more owner of the bytes.
+    fn again(&self) -> Result<Block, AllocError>
+        ensures { IfOk result (λ block. bytes_in block ≡ bytes_in self.now) }
     {
         Ok(match self {
-            Place::Inline(short) => Place::Inline(short.clone()?),
-            Place::UpTo46(bytes) => Place::UpTo46(Arc::try_clone(bytes)?),
-            Place::UpTo62(bytes) => Place::UpTo62(Arc::try_clone(bytes)?),
-            Place::UpTo78(bytes) => Place::UpTo78(Arc::try_clone(bytes)?),
-            Place::UpTo94(bytes) => Place::UpTo94(Arc::try_clone(bytes)?),
-            Place::UpTo110(bytes) => Place::UpTo110(Arc::try_clone(bytes)?),
-            Place::UpTo126(bytes) => Place::UpTo126(Arc::try_clone(bytes)?),
-            Place::UpTo142(bytes) => Place::UpTo142(Arc::try_clone(bytes)?),
-            Place::UpTo158(bytes) => Place::UpTo158(Arc::try_clone(bytes)?),
-            Place::UpTo190(bytes) => Place::UpTo190(Arc::try_clone(bytes)?),
-            Place::UpTo222(bytes) => Place::UpTo222(Arc::try_clone(bytes)?),
-            Place::UpTo254(bytes) => Place::UpTo254(Arc::try_clone(bytes)?),
-            Place::UpTo318(bytes) => Place::UpTo318(Arc::try_clone(bytes)?),
-            Place::Longer(bytes) => Place::Longer(Arc::try_clone(bytes)?),
+            Block::UpTo46(bytes) => Block::UpTo46(Arc::try_clone(bytes)?),
+            Block::UpTo62(bytes) => Block::UpTo62(Arc::try_clone(bytes)?),
+            Block::UpTo78(bytes) => Block::UpTo78(Arc::try_clone(bytes)?),
+            Block::UpTo94(bytes) => Block::UpTo94(Arc::try_clone(bytes)?),
+            Block::UpTo110(bytes) => Block::UpTo110(Arc::try_clone(bytes)?),
+            Block::UpTo126(bytes) => Block::UpTo126(Arc::try_clone(bytes)?),
+            Block::UpTo142(bytes) => Block::UpTo142(Arc::try_clone(bytes)?),
+            Block::UpTo158(bytes) => Block::UpTo158(Arc::try_clone(bytes)?),
+            Block::UpTo190(bytes) => Block::UpTo190(Arc::try_clone(bytes)?),
+            Block::UpTo222(bytes) => Block::UpTo222(Arc::try_clone(bytes)?),
+            Block::UpTo254(bytes) => Block::UpTo254(Arc::try_clone(bytes)?),
+            Block::UpTo318(bytes) => Block::UpTo318(Arc::try_clone(bytes)?),
+            Block::Longer(bytes) => Block::Longer(Arc::try_clone(bytes)?),
         })
     }
 }
@@ -136,7 +137,10 @@ impl SharedBytes {
         ensures copy { IfOk result (λ b. b ≡ bytes.now) }
         ensures short { length bytes.now ≤ 30 → IsOk result }
     {
-        let place = Place::copy_of(alloc, bytes)?;
+        let place = match ShortBytes::copy_of(bytes) {
+            Some(short) => Place::Inline(short),
+            None => Place::Shared(Block::copy_of(alloc, bytes)?),
+        };
         Ok(SharedBytes { place })
     }
 
@@ -144,7 +148,10 @@ impl SharedBytes {
     pub fn bytes(&self) -> &[u8]
         ensures { result.now ≡ self.now }
     {
-        self.place.bytes()
+        match &self.place {
+            Place::Inline(short) => short.bytes(),
+            Place::Shared(block) => block.bytes(),
+        }
     }
 }
 
@@ -154,9 +161,16 @@ impl Clone for SharedBytes {
     ghost is_clone = { λ x y. y ≡ x };
 
     fn clone(&self) -> Result<SharedBytes, AllocError> {
-        let place = self.place.again()?;
+        let place = match &self.place {
+            Place::Inline(short) => Place::Inline(short.clone()?),
+            Place::Shared(block) => Place::Shared(block.again()?),
+        };
         Ok(SharedBytes { place })
     }
+}
+
+impl Exact for SharedBytes {
+    ghost copies_exactly = { λ x y e. e };
 }
 
 impl PartialEq for SharedBytes {

@@ -1,7 +1,6 @@
 //! Maps, from their opening to their close.
 ghost use Rattle.std.specs.Prelude.{◌≡◌, ◌≤◌, IfOk, length};
 ghost use Rattle.bin_history.specs.Calls.{after};
-ghost use Rattle.bin_history.specs.Copies.{IsExact};
 ghost use Rattle.bin_history.specs.Limits.{most_clients};
 ghost use Rattle.bin_history.specs.declared.form.Form.TheVariants.{Lean};
 ghost use Rattle.chm.specs.Headline.{entries_of};
@@ -16,7 +15,7 @@ use crate::closed::ClosedMap;
 use crate::status::{DONE, NO_MEMORY, WRONG_HANDLE, code_of};
 use bin_history::{Remap, Value};
 use chm::{Fault, Quiet};
-use facingberyl::{OwnedClient, SharedMap, SharedNotClosed, Unshared};
+use clients::{OwnedClient, SharedMap, SharedNotClosed, Unshared};
 use hashkeys::{HashKey, Salt};
 use std::alloc::Global;
 use std::mem;
@@ -44,8 +43,6 @@ impl<K: HashKey, V: Value, F: Remap<K, V>> Stage<K, V, F> {
         clients: u32,
         salt: u32,
     ) -> Result<Stage<K, V, F>, Fault>
-        requires keys { IsExact K.is_clone }
-        requires values { IsExact V.is_clone }
         ensures new { IfOk result (IsOpened (record { 0 = salt }) capacity clients) }
         ensures limits { IsLimited (IsCapacityOf Lean capacity) (most_clients Lean) clients result }
     {
@@ -54,8 +51,6 @@ impl<K: HashKey, V: Value, F: Remap<K, V>> Stage<K, V, F> {
 
     /// A map that begins with copies of these pairs, whose clients are all in.
     fn reopened(quiet: &Quiet<K, V, F, Global>, clients: u32) -> Result<Stage<K, V, F>, Fault>
-        requires keys { IsExact K.is_clone }
-        requires values { IsExact V.is_clone }
         ensures new { IfOk result (IsReopenedFrom K.eq K.code (Stage.Closed quiet.now) clients) }
         ensures limits { IsLimited (length (entries_of quiet.now.bins) ≤ most_pairs)
             (most_clients quiet.now.ledger.form) clients result }
@@ -66,8 +61,6 @@ impl<K: HashKey, V: Value, F: Remap<K, V>> Stage<K, V, F> {
     /// A map that begins with copies of the pairs of the closed map that this is, which stays as it
     /// is.
     pub fn reopen(&self, clients: u32) -> Result<Stage<K, V, F>, u32>
-        requires keys { IsExact K.is_clone }
-        requires values { IsExact V.is_clone }
         ensures made { IsMadeOr (IsReopenedFrom K.eq K.code self.now clients) result }
         ensures status { IsReopeningStatus self.now clients (status_in result) }
     {
