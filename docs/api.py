@@ -30,9 +30,9 @@ allocates, and most calls have an example there. `rt` is the runtime handle.
 CLOSED = ("quiet.rt", "single.rt", "taken.rt", "reopen.rt")
 # What is listed: the crate, a heading, the files, and those that are left out; no files for all of the crate.
 PARTS = (
-    ("facingberyl", "The library", (), ()),
+    ("clients", "The library", (), ()),
     ("bulk_tasks", "Bulk operations (`facingberyl::bulk`)", ("operations.rt", "reducing.rt", "searching.rt", "acting.rt", "plan.rt"), ()),
-    ("live_maps", "Bulk operations on a live map (`live_maps`)", (), ()),
+    ("live_maps", "Bulk operations on a live map (`facingberyl::live`)", (), ()),
     ("chm", "The closed map (`facingberyl::Quiet`)", CLOSED, ()),
     ("chm", "The map and its passes apart (`facingberyl::Map`)", (), CLOSED + ("debug.rt", "fault.rt", "laws.rt")),
     ("count_ledger", "Passes (`facingberyl::Pass`)", ("tokens.rt",), ()),
@@ -43,8 +43,6 @@ PARTS = (
 )
 # The crate that a program names.
 LIBRARY = "facingberyl"
-# A type whose calls are those of another, which are listed: its folder, and what is said of it.
-ALIKE = ("crates/facingberyl/src/owned/", "An `OwnedClient` has all calls of a `Client` besides, with the same promises ([owned](../crates/facingberyl/src/owned)).")
 
 
 def comment_before(lines, index):
@@ -100,7 +98,7 @@ def head_of(text):
 def signature_of(head):
     """Returns a function's head up to its answer, in one line, and the type of its answer."""
     flat = " ".join(head.split())
-    flat = re.split(r" (?:where|requires|ensures) ", flat + " where ")[0].strip()
+    flat = re.split(r" (?:where|requires|ensures)\*? ", flat + " where ")[0].strip()
     flat = flat.replace("( ", "(").replace(", )", ")").replace(",)", ")")
     depth, end = 0, 0
     for end, letter in enumerate(flat):
@@ -140,7 +138,7 @@ class Call:
         head = head_of((sources.heads_of(self.name, "\n".join(lines[index:])) or [""])[0])
         signature, answer = signature_of(head)
         parts = sections(comment_before(lines, index))
-        clauses = re.findall(r"(?m)^\s*ensures (\w+) \{", head)
+        clauses = re.findall(r"(?m)^\s*ensures\*? (\w+) \{", head)
         self.owner = owner_of(lines, index) if lines[index].startswith(" ") else ""
         shown = f"{self.owner}::{self.name}" if self.owner else self.name
         self.link = f"[`{shown}`](../{path}#L{index + 1})"
@@ -171,12 +169,6 @@ def calls_in(path):
     lines = sources.text_of(path).splitlines()
     inside = [it for it, line in enumerate(lines) if re.match(r"    (?:pub )?fn \w+|pub fn \w+", line)]
     return [Call(path, lines, it) for it in inside if "pub fn" in lines[it] or in_public_trait(lines, it)]
-
-
-def unlisted(path):
-    """Returns the names of calls in the folder of ALIKE that the other type does not have."""
-    others = {it.name for it in calls_in(path.replace(ALIKE[0], ALIKE[0].removesuffix("owned/")))}
-    return [it for it in calls_in(path) if it.name not in others]
 
 
 def exports_of(crate):
@@ -219,12 +211,9 @@ def page():
         for path in sources.sources_of(crate):
             if files and os.path.basename(path) not in files or os.path.basename(path) in without:
                 continue
-            calls = unlisted(path) if path.startswith(ALIKE[0]) else calls_in(path)
-            if calls:
+            if calls := calls_in(path):
                 shared = shared_by(calls)
                 out.append(f"### {sources.sentence(sources.module_comment(path))}\n")
-                if path == ALIKE[0].removesuffix("/") + ".rt":
-                    out += [wrapped(ALIKE[1]), ""]
                 if shared:
                     out += [wrapped(f"Errors: {shared}."), ""]
                 out += [it.entry(shared) for it in calls]

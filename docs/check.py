@@ -50,7 +50,7 @@ COLUMNS_OF_BODIES = ["crate", "body", "function", "clauses", "test", "edit"]
 TESTS_OF_HEADERS = ("examples/c/tests", "examples/cpp", "examples/rust/tests", "examples/python", "examples", "packaging")
 LINK = r"\[((?:[^\[\]]|\[[^\]]*\])+)\]\(([^()\s]+)\)"
 EXAMPLES = {
-    "crates/facingberyl/src/*.rt": "crates/test_library/src/*.rt",
+    "crates/clients/src/*.rt": "crates/test_library/src/*.rt",
     "crates/chm/src/*.rt": "crates/test_c[ho]*/src/*.rt",
     "crates/chm/src/*/*.rt": "crates/test_c[ho]*/src/*.rt",
     "crates/bulk_tasks/src/*.rt": "crates/test_pool/src/*.rt",

@@ -108,7 +108,7 @@ def fields_of(head):
 
 
 def has_clause(head, clause, kinds="ensures|requires"):
-    return bool(re.search(rf"\b(?:{kinds}) {clause} \{{", head)) or clause in fields_of(head)
+    return bool(re.search(rf"\b(?:{kinds})\*? {clause} \{{", head)) or clause in fields_of(head)
 
 
 def tests_in(path):

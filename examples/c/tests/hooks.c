@@ -6,6 +6,9 @@
 
 enum { KEYS = 1000 };
 
+/* Longer than what lies in the entry itself, so each value has a block. */
+static const char value[100];
+
 static long blocks, requests;
 static int is_refusing;
 
@@ -54,11 +57,12 @@ int main(void) {
     expect("client", facing_bytes_client(&map, &client), FACING_DONE);
     for (i = 0; i < KEYS; i++) {
         size_t len = (size_t)snprintf(key, sizeof key, "a key of some bytes, %d", i);
-        expect("put", facing_bytes_put(&client, key, len, key, len, NULL, 0, NULL), FACING_DONE);
+        expect("put", facing_bytes_put(&client, key, len, value, sizeof value, NULL, 0, NULL), FACING_DONE);
     }
     expect("a block or more for each key", blocks >= KEYS, 1);
     is_refusing = 1;
-    expect("a put without memory", facing_bytes_put(&client, "one", 3, "more", 4, NULL, 0, NULL), FACING_NO_MEMORY);
+    expect("a put without memory", facing_bytes_put(&client, "one", 3, value, sizeof value, NULL, 0, NULL),
+           FACING_NO_MEMORY);
     is_refusing = 0;
     facing_bytes_free(&client);
     expect("close", facing_bytes_close(&map), FACING_DONE);
