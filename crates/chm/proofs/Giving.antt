@@ -1,5 +1,6 @@
 -- Calls by a function that is lent or given the value at a key.
-use Rattle.std.proofs.Common.{◌≡◌, ℕ, Bool, true, false, Option, Some, None, MatchOption, is_some, IfSome, Result, Ok, Err, OnErr, List, refl, sym, ap, subst, ◌∙◌}
+use Rattle.std.proofs.Common.{◌≡◌, ℕ, Bool, true, false, Option, Some, None, MatchOption, is_some, IfSome, Result, Ok, Err}
+use Rattle.std.proofs.Common.{OnErr, List, refl, sym, ap, subst, ◌∙◌}
 use Rattle.hashkeys.specs.Classes.{is_of}
 use Rattle.bin_history.specs.Calls.{key_of, reply}
 use Rattle.bin_history.specs.Entries.{lookup}

@@ -107,19 +107,23 @@ module _ (K V F A : RattleType) (hash : HashKey.Ghosts K.Denot) (key_eq : Eq.Gho
   bare_sync = search (sendable, crosses, the_words.the_sync, the_lease.the_sync, bin_slot_send) depth 30
 
   segment_send : IsSend segment
-  segment_send = declared_send (Segment.the_type K V F A hash key_eq key_same key_exact key_clone value value_exact value_clone value_eq value_same remap function_exact
+  segment_send = declared_send
+      (Segment.the_type K V F A hash key_eq key_same key_exact key_clone value value_exact value_clone value_eq value_same remap function_exact
       function_clone alloc) (as_row_send rows_field bare_send, tt)
 
   segment_sync : IsSync segment
-  segment_sync = declared_sync (Segment.the_type K V F A hash key_eq key_same key_exact key_clone value value_exact value_clone value_eq value_same remap function_exact
+  segment_sync = declared_sync
+      (Segment.the_type K V F A hash key_eq key_same key_exact key_clone value value_exact value_clone value_eq value_same remap function_exact
       function_clone alloc) (as_row_sync rows_field bare_sync, tt)
 
   table_send : IsSend table
-  table_send = declared_send (SegmentTable.the_type K V F A hash key_eq key_same key_exact key_clone value value_exact value_clone value_eq value_same remap function_exact
+  table_send = declared_send
+      (SegmentTable.the_type K V F A hash key_eq key_same key_exact key_clone value value_exact value_clone value_eq value_same remap function_exact
       function_clone alloc) (as_row_send segments_field (slots_send A alloc segment OfSegment.the_row segment_rule sa frees segment_send), tt)
 
   table_sync : IsSync table
-  table_sync = declared_sync (SegmentTable.the_type K V F A hash key_eq key_same key_exact key_clone value value_exact value_clone value_eq value_same remap function_exact
+  table_sync = declared_sync
+      (SegmentTable.the_type K V F A hash key_eq key_same key_exact key_clone value value_exact value_clone value_eq value_same remap function_exact
       function_clone alloc) (as_row_sync segments_field (slots_sync A alloc segment OfSegment.the_row segment_rule ya segment_send segment_sync), tt)
 
   fields_send : AllSend

@@ -18,7 +18,8 @@ returns-in-Some-clause-made g c =
       met,
       IsMadeOn-lean g.K.PartialEq.eq g.V.PartialEq.eq g.F.Remap.remapped g.F.Remap.merged c.args.client
           c.args.ordinal (Put (g.Q.AsKey.stands_for c.args.query) put) c.args.entries.now c.change_seen.new.entries
-          (Some before) (Some put) (Value (Some before)) c.seen.result (sym there) refl (ap (λ (x : RecordView _ _ _). x.client) is) (ap (λ (x : RecordView _ _ _). x.ordinal) is)
+          (Some before) (Some put) (Value (Some before)) c.seen.result (sym there) refl (ap (λ (x : RecordView _ _ _). x.client) is)
+          (ap (λ (x : RecordView _ _ _). x.ordinal) is)
           (ap (λ (x : RecordView _ _ _). x.call) is ∙ seen.call) (ap (λ (x : RecordView _ _ _). x.before) is ∙ seen.before)
           (ap (λ (x : RecordView _ _ _). x.after) is ∙ seen.after ∙ ap Some twice) refl stored,
     )
