@@ -77,21 +77,21 @@ fn is_made<'a>(
         .is_ok()
 }
 
-/// Makes the call of a kind on a new bin of all keys, in which `a` has the value 1 or none, with
-/// the request after so many refused. Answers whether the call was made, and how often its function
-/// was asked.
+/// Makes the call of a kind on a new bin of all keys, in which this key, if any, has the value 1,
+/// with the request after so many refused. Answers whether the call was made, and how often its
+/// function was asked.
 fn ask(
     rt: &impl Abort,
     memory: Global,
     form: Form,
-    (kind, present): (usize, bool),
+    (kind, held): (usize, Option<&[u8]>),
     granted: u64,
 ) -> Result<(bool, u64), AllocError> {
     let alloc = Refusing::new(memory);
     let asked = AtomicU64::new(0);
     let mut bin = Bin::new(&&alloc, form, Salt(0), Class::new(1, 0), Vec::new(&alloc))?;
-    if present {
-        let key = Key::read(b"a").expect(rt, "a key");
+    if let Some(text) = held {
+        let key = Key::read(text).expect(rt, "a key");
         assert_same(rt, &is_made(rt, &alloc, &mut bin, Call::Put(key, 1)), &true);
     }
     alloc.refuse_after(granted);
@@ -104,8 +104,8 @@ fn ask(
 fn assert_asked_once(rt: &impl Abort, memory: Global, form: Form) -> Result<(), AllocError> {
     // How often each kind of call asks its function, where `a` has none and where it has a value.
     for (kind, absent, present) in [(0usize, 1, 0), (1, 0, 1), (2, 1, 1), (3, 0, 1)] {
-        let of_absent = ask(rt, memory, form, (kind, false), u64::MAX)?;
-        let of_present = ask(rt, memory, form, (kind, true), u64::MAX)?;
+        let of_absent = ask(rt, memory, form, (kind, None), u64::MAX)?;
+        let of_present = ask(rt, memory, form, (kind, Some(b"a")), u64::MAX)?;
         assert_same(rt, &(kind, of_absent), &(kind, (true, absent)));
         assert_same(rt, &(kind, of_present), &(kind, (true, present)));
     }
@@ -118,25 +118,25 @@ fn a_function_is_asked_once_where_its_answer_is_used(rt: HostRuntime) {
     assert_asked_once(&rt, rt.alloc(), Form::Lean).expect(&rt, "memory");
 }
 
-/// Refuses each of so many requests of the call of a kind, where `a` has none, and then none. Where
-/// one is refused the function was asked so often.
+/// Refuses each of so many requests of the call of a kind, where `a` has none and this key, if any,
+/// has a value, and then none. Where one is refused the function was asked so often.
 fn refuse_room(
     rt: &impl Abort,
     memory: Global,
     form: Form,
-    kind: usize,
+    (kind, held): (usize, Option<&[u8]>),
     requests: u64,
     asked: u64,
 ) -> Result<(), AllocError> {
     for granted in 0..requests {
-        let refused = ask(rt, memory, form, (kind, false), granted)?;
+        let refused = ask(rt, memory, form, (kind, held), granted)?;
         assert_same(
             rt,
             &(kind, granted, refused),
             &(kind, granted, (false, asked)),
         );
     }
-    let made = ask(rt, memory, form, (kind, false), requests)?;
+    let made = ask(rt, memory, form, (kind, held), requests)?;
     assert_same(rt, &(kind, made), &(kind, (true, 1)));
     Ok(())
 }
@@ -145,14 +145,15 @@ fn refuse_room(
 fn a_recorded_bin_asks_once_there_is_room(rt: HostRuntime) {
     // Room for the entry and for the record.
     for kind in [0, 2] {
-        refuse_room(&rt, rt.alloc(), Form::Recorded, kind, 2, 0).expect(&rt, "memory");
+        refuse_room(&rt, rt.alloc(), Form::Recorded, (kind, None), 2, 0).expect(&rt, "memory");
     }
 }
 
 #[test]
 fn a_lean_bin_asks_before_it_makes_a_node(rt: HostRuntime) {
-    // The node of the entry, which the value goes into.
+    // The first entry lies in the bin. Each other has a node, which the value goes into.
     for kind in [0, 2] {
-        refuse_room(&rt, rt.alloc(), Form::Lean, kind, 1, 1).expect(&rt, "memory");
+        refuse_room(&rt, rt.alloc(), Form::Lean, (kind, None), 0, 1).expect(&rt, "memory");
+        refuse_room(&rt, rt.alloc(), Form::Lean, (kind, Some(b"b")), 1, 1).expect(&rt, "memory");
     }
 }

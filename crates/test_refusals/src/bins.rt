@@ -79,15 +79,15 @@ pub(crate) fn put<'a>(
     call(rt, alloc, bin, Call::Put(key, value))
 }
 
-/// Asserts that a bin was made of one pair, or where a request was refused that none was.
+/// Asserts that a bin was made of two pairs, or where a request was refused that none was.
 fn assert_new(rt: &impl Abort, made: Result<NumberBin<'_>, AllocError>, refused: bool) {
     assert_same(rt, &made.is_err(), &refused);
     if let Ok(bin) = made {
-        assert_entries(rt, &bin, &[(b"q", 1)]);
+        assert_entries(rt, &bin, &[(b"q", 1), (b"a", 2)]);
     }
 }
 
-/// Makes a bin of one pair with the request after so many refused, and answers whether there was
+/// Makes a bin of two pairs with the request after so many refused, and answers whether there was
 /// one.
 fn refuse_new(
     rt: &impl Abort,
@@ -95,9 +95,11 @@ fn refuse_new(
     form: Form,
     granted: u64,
 ) -> Result<bool, AllocError> {
-    let base = Vec::from_array(alloc, [pair(rt, alloc, b"q", 1)])?;
-    let (key, _) = &base[0];
-    assert!(rt; Class::new(16, 1).covers(Salt(0).hash_of(key)));
+    let pairs = [pair(rt, alloc, b"q", 1), pair(rt, alloc, b"a", 2)];
+    let base = Vec::from_array(alloc, pairs)?;
+    for (key, _) in base.iter() {
+        assert!(rt; Class::new(16, 1).covers(Salt(0).hash_of(key)));
+    }
     alloc.refuse_after(granted);
     let made = Bin::new(&alloc, form, Salt(0), Class::new(16, 1), base);
     let refused = alloc.has_refused();
@@ -114,7 +116,7 @@ fn refuse_news(
     requests: u64,
 ) -> Result<(), AllocError> {
     let alloc = Refusing::new(memory);
-    for granted in 0..5 {
+    for granted in 0..6 {
         let refused = refuse_new(rt, &alloc, form, granted)?;
         assert_same(rt, &(granted, refused), &(granted, granted < requests));
     }
@@ -123,9 +125,9 @@ fn refuse_news(
 
 #[test]
 fn a_new_bin_takes_its_base(rt: HostRuntime) {
-    // Of a recorded bin a list, a copy, and the bin itself. A lean one makes a node of each pair,
-    // which it moves.
-    refuse_news(&rt, rt.alloc(), Form::Recorded, 3).expect(&rt, "memory");
+    // Of a recorded bin a list, a copy of each value, and the bin itself. A lean one holds the first
+    // pair in it and makes a node of each other, and moves them.
+    refuse_news(&rt, rt.alloc(), Form::Recorded, 4).expect(&rt, "memory");
     refuse_news(&rt, rt.alloc(), Form::Lean, 1).expect(&rt, "memory");
 }
 
@@ -160,31 +162,46 @@ fn call_with_function<'a>(key: Key, given: Number<'a>, kind: usize) -> NumberCal
     }
 }
 
-/// A bin in which `a` has this value, if any.
+/// Where a call begins: its kind, the value of `a`, and whether `q` has the value 9, which was put
+/// before it.
+#[derive(Clone, Copy)]
+struct Start {
+    kind: usize,
+    value: Option<u64>,
+    is_second: bool,
+}
+
+/// A bin as a call begins with it.
 fn bin_of<'a>(
     rt: &impl Abort,
     alloc: Alloc<'a>,
     form: Form,
-    value: Option<u64>,
+    start: Start,
 ) -> Result<NumberBin<'a>, AllocError> {
     let mut bin = empty(alloc, form)?;
-    if let Some(number) = value {
+    if start.is_second {
+        put(rt, alloc, &mut bin, b"q", 9)?;
+    }
+    if let Some(number) = start.value {
         put(rt, alloc, &mut bin, b"a", number)?;
     }
     Ok(bin)
 }
 
-/// Asserts that `a` has this value, if any, after so many calls, of each of which a recorded bin
-/// has a record over no base. Gives the bin back.
+/// Asserts that `a` has this value, if any, and `q` what it had, after so many calls, of each of
+/// which a recorded bin has a record over no base. Gives the bin back.
 fn assert_value<'a>(
     rt: &impl Abort,
     bin: NumberBin<'a>,
+    start: Start,
     value: Option<u64>,
     calls: usize,
 ) -> NumberBin<'a> {
-    match value {
-        Some(number) => assert_entries(rt, &bin, &[(b"a", number)]),
-        None => assert!(rt; bin.first().is_none()),
+    match (start.is_second, value) {
+        (false, None) => assert_entries(rt, &bin, &[]),
+        (false, Some(number)) => assert_entries(rt, &bin, &[(b"a", number)]),
+        (true, None) => assert_entries(rt, &bin, &[(b"q", 9)]),
+        (true, Some(number)) => assert_entries(rt, &bin, &[(b"q", 9), (b"a", number)]),
     }
     let kind = bin.into_kind();
     if let BinKind::Recorded(own) = &kind {
@@ -210,47 +227,56 @@ fn answer_of(reply: Result<Reply<Number<'_>>, AllocError>) -> Option<Told> {
 }
 
 /// What a call tells, the value that it leaves, and how often it asks for memory in a recorded bin
-/// and in a lean one.
+/// and in a lean one, the lists of records and entries and the entry's node left out.
 type Outcome = (Told, Option<u64>, u64, u64);
 
-/// Makes a call on a bin in which `a` has this value, with the request after so many refused, and
-/// once more where there was one. Answers whether there was.
+/// Makes a call with the request after so many refused, and once more where there was one. Answers
+/// whether there was.
 fn refuse_call_after(
     rt: &impl Abort,
     alloc: Alloc<'_>,
     form: Form,
-    (kind, value): (usize, Option<u64>),
+    start: Start,
     (wanted, left, _, _): Outcome,
     granted: u64,
 ) -> Result<bool, AllocError> {
-    let mut bin = bin_of(rt, alloc, form, value)?;
-    let made = if value.is_some() { 1 } else { 0 };
+    let Start {
+        kind,
+        value,
+        is_second,
+    } = start;
+    let mut bin = bin_of(rt, alloc, form, start)?;
+    let made = match (is_second, value) {
+        (false, None) => 0,
+        (true, Some(_)) => 2,
+        _ => 1,
+    };
     alloc.refuse_after(granted);
     let mut found = answer_of(make(rt, alloc, &mut bin, call_of_kind(rt, alloc, kind)));
     let refused = alloc.has_refused();
     alloc.refuse_after(u64::MAX);
     if refused {
         assert_same(rt, &(kind, granted, found), &(kind, granted, None));
-        bin = assert_value(rt, bin, value, made);
+        bin = assert_value(rt, bin, start, value, made);
         found = answer_of(make(rt, alloc, &mut bin, call_of_kind(rt, alloc, kind)));
     }
     assert_same(rt, &(kind, granted, found), &(kind, granted, Some(wanted)));
-    drop(assert_value(rt, bin, left, made + 1));
+    drop(assert_value(rt, bin, start, left, made + 1));
     Ok(refused)
 }
 
-/// Makes a call on a bin in which `a` has this value, with each request refused in turn and the
-/// call then made again. Answers how many requests there were.
+/// Makes a call with each request refused in turn and the call then made again. Answers how many
+/// requests there were.
 fn refuse_call(
     rt: &impl Abort,
     memory: Global,
     form: Form,
-    call: (usize, Option<u64>),
+    start: Start,
     wanted: Outcome,
 ) -> Result<u64, AllocError> {
     let alloc = Refusing::new(memory);
     for granted in 0..MANY {
-        if !refuse_call_after(rt, &alloc, form, call, wanted, granted)? {
+        if !refuse_call_after(rt, &alloc, form, start, wanted, granted)? {
             return Ok(granted);
         }
     }
@@ -260,24 +286,23 @@ fn refuse_call(
 
 /// Of each kind of call what it does where `a` has the value 1, and where it has none.
 ///
-/// The requests, in this order. In a recorded bin, where `a` has none and the call may give it one:
-/// room for the entry. A request of the function, where it is asked. A copy for the reply, where
+/// The requests, in this order. A request of the function, where it is asked. A copy for the reply, where
 /// that is the value after the call. In a recorded bin, for the record: a copy of the argument,
 /// where it is the value after the call; of the value before and of the value after, if there is
-/// one. In a lean bin, where the call gives `a` a value and it has none: the entry's node.
+/// one.
 const OUTCOMES: [(Outcome, Outcome); 12] = [
     ((SOME_1, Some(1), 3, 1), (NONE, None, 0, 0)),
     ((TRUE, Some(1), 2, 0), (FALSE, None, 0, 0)),
-    ((SOME_1, Some(5), 3, 0), (NONE, Some(5), 3, 1)),
-    ((SOME_1, Some(1), 3, 1), (NONE, Some(5), 3, 1)),
+    ((SOME_1, Some(5), 3, 0), (NONE, Some(5), 2, 0)),
+    ((SOME_1, Some(1), 3, 1), (NONE, Some(5), 2, 0)),
     ((SOME_1, None, 1, 0), (NONE, None, 0, 0)),
     ((TRUE, None, 1, 0), (FALSE, None, 0, 0)),
     ((SOME_1, Some(5), 3, 0), (NONE, None, 0, 0)),
     ((TRUE, Some(5), 3, 0), (FALSE, None, 0, 0)),
-    ((SOME_1, Some(1), 3, 1), (SOME_7, Some(7), 4, 3)),
+    ((SOME_1, Some(1), 3, 1), (SOME_7, Some(7), 3, 2)),
     ((SOME_7, Some(7), 4, 2), (NONE, None, 0, 0)),
-    ((SOME_7, Some(7), 4, 2), (SOME_7, Some(7), 4, 3)),
-    ((SOME_7, Some(7), 4, 2), (SOME_5, Some(5), 4, 2)),
+    ((SOME_7, Some(7), 4, 2), (SOME_7, Some(7), 3, 2)),
+    ((SOME_7, Some(7), 4, 2), (SOME_5, Some(5), 3, 1)),
 ];
 
 const NONE: Told = Told::Value(None);
@@ -292,32 +317,49 @@ const TRUE: Told = Told::Truth(true);
 
 const FALSE: Told = Told::Truth(false);
 
-/// How many requests a call makes in a bin of the form.
-fn requests(outcome: Outcome, form: Form) -> u64 {
-    match form {
-        Form::Recorded => outcome.2,
-        Form::Lean => outcome.3,
+/// How many requests a call makes in a bin of the form. The first call on a recorded bin makes the
+/// list of records, and the first entry the list of entries: both have room for some. In a lean bin
+/// the first entry lies in the bin, and each other has a node.
+fn requests(outcome: Outcome, form: Form, start: Start) -> u64 {
+    let (_, left, recorded, lean) = outcome;
+    match (form, start.value, start.is_second) {
+        (Form::Recorded, None, false) if left.is_some() => recorded.wrapping_add(2),
+        (Form::Recorded, None, false) => recorded.wrapping_add(1),
+        (Form::Recorded, _, _) => recorded,
+        (Form::Lean, None, true) if left.is_some() => lean.wrapping_add(1),
+        (Form::Lean, _, _) => lean,
     }
 }
 
-/// Refuses each request of each kind of call. The first call on a bin makes so many requests more.
-fn refuse_calls(rt: &impl Abort, memory: Global, form: Form, first: u64) -> Result<(), AllocError> {
+/// Refuses each request of each kind of call.
+fn refuse_calls(
+    rt: &impl Abort,
+    memory: Global,
+    form: Form,
+    is_second: bool,
+) -> Result<(), AllocError> {
     for (kind, (present, absent)) in OUTCOMES.iter().enumerate() {
-        let of_present = refuse_call(rt, memory, form, (kind, Some(1)), *present)?;
-        let of_absent = refuse_call(rt, memory, form, (kind, None), *absent)?;
-        let wanted = requests(*absent, form).wrapping_add(first);
-        assert_same(
-            rt,
-            &(kind, of_present, of_absent),
-            &(kind, requests(*present, form), wanted),
-        );
+        for (value, outcome) in [(Some(1), present), (None, absent)] {
+            let start = Start {
+                kind,
+                value,
+                is_second,
+            };
+            let found = refuse_call(rt, memory, form, start, *outcome)?;
+            assert_same(
+                rt,
+                &(kind, value, found),
+                &(kind, value, requests(*outcome, form, start)),
+            );
+        }
     }
     Ok(())
 }
 
 #[test]
 fn a_refused_call_leaves_the_bin(rt: HostRuntime) {
-    // In a recorded bin the list of records, which has room for the second.
-    refuse_calls(&rt, rt.alloc(), Form::Recorded, 1).expect(&rt, "memory");
-    refuse_calls(&rt, rt.alloc(), Form::Lean, 0).expect(&rt, "memory");
+    for form in [Form::Recorded, Form::Lean] {
+        refuse_calls(&rt, rt.alloc(), form, false).expect(&rt, "memory");
+        refuse_calls(&rt, rt.alloc(), form, true).expect(&rt, "memory");
+    }
 }
