@@ -11,7 +11,7 @@
 #include <sys/wait.h>
 #include <unistd.h>
 
-enum { KEYS = 100, ADDS = 20000 };
+enum { KEYS = 100, OTHERS = 1000, ADDS = 20000 };
 
 static unsigned wrong;
 
@@ -21,8 +21,9 @@ static void want(int is_so, const char *what) {
     printf("%s\n", what);
 }
 
-/* The number of the request, from now on, at which this thread's malloc stops, until it is let go. */
+/* The number of the request, from now on, at which this thread's malloc stops, until it is let go by the semaphore. */
 static __thread unsigned stops_at;
+static __thread sem_t *waits_for;
 static sem_t stopped, let_go;
 
 #ifdef __cplusplus
@@ -36,13 +37,14 @@ extern "C"
 void *__wrap_malloc(size_t size) {
     if (stops_at != 0 && --stops_at == 0) {
         sem_post(&stopped);
-        sem_wait(&let_go);
+        sem_wait(waits_for);
     }
     return __real_malloc(size);
 }
 
-/* A thread of the child that is stopped, and ends when a call of another yields for the first time. */
+/* A thread of the child that is stopped, and ends when a call of another yields for the first time; and what lets it go. */
 static pthread_t ending;
+static sem_t *ends;
 static int is_ending;
 
 #ifdef __cplusplus
@@ -56,7 +58,7 @@ extern "C"
 int __wrap_sched_yield(void) {
     if (is_ending) {
         is_ending = 0;
-        sem_post(&let_go);
+        sem_post(ends);
         pthread_join(ending, NULL);
         while (!facing_is_alone()) __real_sched_yield();
     }
@@ -102,30 +104,35 @@ struct stopping {
     unsigned kind, at;
     uint64_t key;
     pthread_t thread;
+    sem_t let_go;
     uint32_t status;
 };
 
 static void *stop(void *of) {
     struct stopping *it = (struct stopping *)of;
     stops_at = it->at;
+    waits_for = &it->let_go;
     it->status = put(it->kind, it->key);
     if (stops_at != 0) sem_post(&stopped);
     stops_at = 0;
     return NULL;
 }
 
-/* Lets a thread stop in a put that holds the lock of its bucket. */
+/* Lets a thread stop in a put that holds the lock of its bucket. A bucket's first entry takes no memory, so other keys are there
+ * first, and a key is sought whose bucket has one. */
 static void stop_under_lock(struct stopping *it, unsigned kind) {
     it->kind = kind;
-    for (it->at = 1; it->at < 8; it->at++) {
-        it->key = 1000 + it->at;
+    for (uint64_t key = 0; key < OTHERS; key++) want(put(kind, 100000 + key) == FACING_DONE, "a put of another key");
+    for (unsigned tried = 0; tried < 200; tried++) {
+        it->key = 1000 + tried;
+        it->at = 1 + tried % 4;
+        sem_init(&it->let_go, 0, 0);
         if (pthread_create(&it->thread, NULL, stop, it)) break;
         sem_wait(&stopped);
         if (is_locked(kind, it->key)) return;
-        sem_post(&let_go);
+        sem_post(&it->let_go);
         pthread_join(it->thread, NULL);
-        while (sem_trywait(&let_go) == 0) {
-        }
+        sem_destroy(&it->let_go);
     }
     want(0, "no put stops under a lock");
 }
@@ -255,6 +262,7 @@ static void call_after_a_thread(void) {
     want(facing_client(&map, &client) == FACING_DONE && facing_client(&map, &reader) == FACING_DONE, "its clients");
     stop_under_lock(&it, 0);
     ending = it.thread;
+    ends = &it.let_go;
     is_ending = 1;
     want(facing_get(&reader, it.key, &answer) == FACING_DONE && answer.found == 1, "a get of what was unlocked");
     want(!is_ending && it.status == FACING_DONE, "the put of the thread that ended");
@@ -272,6 +280,7 @@ static void *take_and_give(void *of) {
 static void call_pool_after_a_thread(void) {
     want(pthread_create(&ending, NULL, take_and_give, NULL) == 0, "a thread that takes the client");
     sem_wait(&stopped);
+    ends = &let_go;
     is_ending = 1;
     want(facing_pool_add(&shared, 1, 1, NULL) == FACING_DONE && !is_ending, "a call by what was given back");
 }
@@ -330,7 +339,7 @@ int main(void) {
     fork_for(call_in_a_grandchild, "a grandchild");
     want(pthread_create(&waiting, NULL, get_in_parent, NULL) == 0, "a thread");
     nanosleep(&a_while, NULL);
-    for (int i = 0; i < 3; i++) sem_post(&let_go);
+    for (int i = 0; i < 3; i++) sem_post(&stops[i].let_go);
     for (int i = 0; i < 3; i++) {
         pthread_join(stops[i].thread, NULL);
         want(stops[i].status == FACING_DONE, "a put of the parent");
