@@ -29,7 +29,7 @@ module _ (K V F A : RattleType) (hash : HashKey.Ghosts K.Denot) (key_eq : Eq.Gho
     (frees : Frees alloc alloc.dealloc_token) where
   recorded_send : IsSend
       (Generations.the_row K V F A hash key_eq key_same key_exact key_clone value value_exact value_clone value_eq value_same remap
-          function_exact function_clone
+      function_exact function_clone
       alloc)
   recorded_send = generations.map_send K V F A hash key_eq key_same key_exact key_clone value value_exact value_clone value_eq value_same
       remap function_exact
@@ -37,14 +37,14 @@ module _ (K V F A : RattleType) (hash : HashKey.Ghosts K.Denot) (key_eq : Eq.Gho
 
   lean_send : IsSend
       (LeanBins.the_row K V F A hash key_eq key_same key_exact key_clone value value_exact value_clone value_eq value_same remap
-          function_exact function_clone
+      function_exact function_clone
       alloc)
   lean_send = lean.map_send K V F A hash key_eq key_same key_exact key_clone value value_exact value_clone value_eq value_same remap function_exact
       function_clone alloc sk sv sf sa yk yv yf ya frees
 
   recorded_sync : IsSync
       (Generations.the_row K V F A hash key_eq key_same key_exact key_clone value value_exact value_clone value_eq value_same remap
-          function_exact function_clone
+      function_exact function_clone
       alloc)
   recorded_sync = generations.map_sync K V F A hash key_eq key_same key_exact key_clone value value_exact value_clone value_eq value_same
       remap function_exact
@@ -52,7 +52,7 @@ module _ (K V F A : RattleType) (hash : HashKey.Ghosts K.Denot) (key_eq : Eq.Gho
 
   lean_sync : IsSync
       (LeanBins.the_row K V F A hash key_eq key_same key_exact key_clone value value_exact value_clone value_eq value_same remap
-          function_exact function_clone
+      function_exact function_clone
       alloc)
   lean_sync = lean.map_sync K V F A hash key_eq key_same key_exact key_clone value value_exact value_clone value_eq value_same remap function_exact
       function_clone alloc sk sv sf sa yk yv yf ya frees
@@ -69,10 +69,10 @@ module _ (K V F A : RattleType) (hash : HashKey.Ghosts K.Denot) (key_eq : Eq.Gho
 
   pub map_send : IsSend
       (BinStore.the_row K V F A hash key_eq key_same key_exact key_clone value value_exact value_clone value_eq value_same remap
-          function_exact function_clone alloc)
+      function_exact function_clone alloc)
   map_send = search (sendable, fields_send) depth 20
 
   pub map_sync : IsSync
       (BinStore.the_row K V F A hash key_eq key_same key_exact key_clone value value_exact value_clone value_eq value_same remap
-          function_exact function_clone alloc)
+      function_exact function_clone alloc)
   map_sync = search (sendable, fields_sync) depth 20

@@ -60,13 +60,13 @@ module _ (K V F A : RattleType) (hash : HashKey.Ghosts K.Denot) (key_eq : Eq.Gho
 
   fields : AllSync
       (shape (MapInside.the_type K V F A hash key_eq key_same key_exact key_clone value value_exact value_clone value_eq value_same remap
-          function_exact
+      function_exact
       function_clone alloc)).fields
   fields = (
     ledger_sync,
     (
       bin_store.map_sync K V F A hash key_eq key_same key_exact key_clone value value_exact value_clone value_eq value_same remap
-      function_exact function_clone
+          function_exact function_clone
           alloc sk sv sf sa yk yv yf ya frees,
       (
         search (sendable, crosses, ruled.the_sync, once.the_sync, turns_send, turns_sync) depth 30,
@@ -77,5 +77,5 @@ module _ (K V F A : RattleType) (hash : HashKey.Ghosts K.Denot) (key_eq : Eq.Gho
 
   pub map_sync : IsSync
       (Map.the_row K V F A hash key_eq key_same key_exact key_clone value value_exact value_clone value_eq value_same remap function_exact
-          function_clone alloc)
+      function_clone alloc)
   map_sync = search (sendable, fields) depth 30

@@ -131,7 +131,7 @@ module _ (K V F : RattleType) (hash : HashKey.Ghosts K.Denot) (key_eq : Eq.Ghost
 
   stages_send : EachSend
       (enum.shape (Stage.the_type K V F hash key_eq key_same key_exact key_clone value value_exact value_clone value_eq value_same remap
-          function_exact
+      function_exact
       function_clone)).variants
   stages_send = (
     (search (sendable, crosses, heap.crosses, shared_send) depth 30, tt),
@@ -147,13 +147,13 @@ module _ (K V F : RattleType) (hash : HashKey.Ghosts K.Denot) (key_eq : Eq.Ghost
   -- a map, or a client
   pub stage_send : IsSend
       (Stage.the_row K V F hash key_eq key_same key_exact key_clone value value_exact value_clone value_eq value_same remap function_exact
-          function_clone)
+      function_clone)
   stage_send = search (sendable, stages_send) depth 30
 
   -- the same in a field
   pub stage_within : IsSend
       (Stage.the_field K V F hash key_eq key_same key_exact key_clone value value_exact value_clone value_eq value_same remap
-          function_exact function_clone).row
+      function_exact function_clone).row
   stage_within = search (sendable, stages_send) depth 30
 
 -- a key with its code

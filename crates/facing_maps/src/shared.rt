@@ -3,8 +3,8 @@ ghost use Rattle.std.specs.Prelude.{◌≡◌, ◌≤◌, IfOk, IsOk, length};
 ghost use Rattle.std.specs.Arc.{arc_value};
 ghost use Rattle.facing_maps.specs.Places.{bytes_in};
 
-use bin_history::Exact;
 use crate::padded::Padded;
+use bin_history::Exact;
 use seeded_keys::ShortBytes;
 use std::alloc::{AllocError, Global};
 use std::marker::Model;

@@ -66,12 +66,12 @@ module _ (K V F A : RattleType) (hash : HashKey.Ghosts K.Denot) (key_eq : Eq.Gho
 
   pub place_send : IsSend
       (Place.the_row K V F A hash key_eq key_same key_exact key_clone value value_exact value_clone value_eq value_same remap
-          function_exact function_clone alloc)
+      function_exact function_clone alloc)
   place_send = search (sendable, place_fields_send) depth 30
 
   pub place_sync : IsSync
       (Place.the_row K V F A hash key_eq key_same key_exact key_clone value value_exact value_clone value_eq value_same remap
-          function_exact function_clone alloc)
+      function_exact function_clone alloc)
   place_sync = search (sendable, place_fields_sync) depth 30
 
   map_fields_send : AllSend
@@ -107,10 +107,10 @@ module _ (K V F A : RattleType) (hash : HashKey.Ghosts K.Denot) (key_eq : Eq.Gho
 
   pub map_send : IsSend
       (Gens.the_row K V F A hash key_eq key_same key_exact key_clone value value_exact value_clone value_eq value_same remap function_exact
-          function_clone alloc)
+      function_clone alloc)
   map_send = search (sendable, map_fields_send) depth 30
 
   pub map_sync : IsSync
       (Gens.the_row K V F A hash key_eq key_same key_exact key_clone value value_exact value_clone value_eq value_same remap function_exact
-          function_clone alloc)
+      function_clone alloc)
   map_sync = search (sendable, map_fields_sync) depth 30

@@ -12,5 +12,5 @@ for_each_mut-requires-sync-F g c κs within =
     let yr = c.type_bounds.sync-R in let ys = c.type_bounds.sync-S in let yg = c.type_bounds.sync-G in
     let frees = c.type_bounds.frees-A-Allocator in
     let ym = map_sync _ _ _ _ g.K.HashKey g.K.Eq g.K.PartialEq g.K.Exact g.K.Clone g.V.Value g.V.Exact g.V.Clone g.V.Eq g.V.PartialEq
-        g.F.Remap g.F.Exact g.F.Clone g.A.Allocator sk sv sf sa yk yv yf ya frees in
+    g.F.Remap g.F.Exact g.F.Clone g.A.Allocator sk sv sf sa yk yv yf ya frees in
     search (sendable, job_sync) depth 40 fits 20000
