@@ -1,9 +1,10 @@
-//! `example_tour` runs six short programs over the library, one after the other: a cache that clients
-//! share, a key of its own, a value and a function of its own, one client that tells another, a
-//! reducer of its own, and a call that is refused memory.
+//! `example_tour` runs seven short programs over the library, one after the other: counts that clients
+//! share, a cache that they share, a key of its own, a value and a function of its own, one client
+//! that tells another, a reducer of its own, and a call that is refused memory.
 #![tactic(auto)]
 
 mod cache;
+mod counter;
 mod key;
 mod limiter;
 mod moment;
@@ -13,6 +14,8 @@ mod refused;
 use anyhow::Result;
 
 fn main(rt: HostRuntime) -> Result<()> {
+    println!(rt; "counter")?;
+    counter::run(&rt, rt.alloc())?;
     println!(rt; "cache")?;
     cache::run(&rt, rt.alloc())?;
     println!(rt; "key")?;

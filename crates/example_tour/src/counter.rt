@@ -1,11 +1,9 @@
-//! `example_counter` has four clients count the same ten keys at the same time, and prints the
-//! counts.
-#![tactic(auto)]
-
+//! Four clients count the same ten keys at the same time.
 use anyhow::Result;
 use facingberyl::{Add, Client, Fault, Loan, Team, Work};
 use std::alloc::Global;
 use std::sync::Wait;
+use std::thread::Threads;
 
 /// Adds 1 to each of the keys 0 to 9, a hundred times.
 #[derive(Clone, Copy)]
@@ -26,9 +24,9 @@ impl Work<u64, u64, Add, Global> for CountUp {
     }
 }
 
-fn main(rt: HostRuntime) -> Result<()> {
-    let mut team = Team::new(rt.alloc(), 16, 4)?;
-    for answer in team.work(&rt, &CountUp)? {
+pub(crate) fn run<R: Threads + Wait + Print + Sync>(rt: &R, alloc: Global) -> Result<()> {
+    let mut team = Team::new(alloc, 16, 4)?;
+    for answer in team.work(rt, &CountUp)? {
         answer?;
     }
     let counts = team.close()?;
