@@ -103,19 +103,21 @@ def jdk(_kind):
 def bulk_of_jdk(_):
     build("JdkBulk.java", ["javac", "-d", f"{OUT}/jdk", f"{PEERS}/JdkBulk.java"])
     need("java")
-    return [("JDK", ["java", "-cp", f"{OUT}/jdk", "JdkBulk"], False)]
+    return [("JDK", lambda *them: ["java", "-cp", f"{OUT}/jdk", "JdkBulk", *them], False)]
 
 
 def bulk_of_dashmap(_):
-    return [(WITH_RAYON, [f"{of_rust('dashmap_bulk')}/dashmap_bulk"], False)]
+    program = f"{of_rust('dashmap_bulk')}/dashmap_bulk"
+    return [(WITH_RAYON, lambda *them: [program, *them], False)]
 
 
 def own_bulk(binary):
-    """This repository's bulk operations, by the given live_bench, or else by the proved one."""
-    binary = binary or f"{TOP}/crates/live_bench/out/live_bench"
-    if not os.access(binary, os.X_OK):
-        raise Lacking(f"{binary} is not there: make it with `rt run` in crates/live_bench")
-    return [("facingberyl", [binary], True)]
+    """This repository's bulk operations, by the given binary, or else by the proved one."""
+    program = own_program(binary)
+    words = lambda entries, workers, writers, runs: [
+        *[program, "--mode", "bulk", "--entries", entries, "--workers", workers, "--writers", writers, "--runs", runs],
+    ]
+    return [("facingberyl", words, True)]
 
 
 def jdk_memory(kind):
@@ -175,16 +177,22 @@ def called_from_c(library, kind):
     return [peer("facingberyl, from C", program, kind, is_own=True, most_threads=OWN_CLIENTS)]
 
 
-def own(binary):
-    """This repository's map in each form, by the given binary, or else by the proved one, which is built where it is not current."""
+def own_program(binary):
+    """Returns the given binary, or else the proved map_bench, which is built where it is not current."""
     if not binary:
         if subprocess.run([f"{TOP}/bin/map_bench"], stdout=subprocess.DEVNULL).returncode:
             raise Lacking("map_bench was not proved and built")
         binary = f"{TOP}/crates/map_bench/out/map_bench"
     if not os.access(binary, os.X_OK):
         raise Lacking(f"{binary} is no program")
+    return binary
+
+
+def own(binary):
+    """This repository's map in each form."""
+    program = own_program(binary)
     words = lambda more: lambda it: [
-        *[binary, "--mode", it.mode, "--threads", it.threads, "--calls", it.calls, "--keys", it.keys, "--choice", it.choice],
+        *[program, "--mode", it.mode, "--threads", it.threads, "--calls", it.calls, "--keys", it.keys, "--choice", it.choice],
         *more,
     ]
     modes = [*IN_PLACE_MODES, "copies", "list", "churn"]
@@ -193,7 +201,8 @@ def own(binary):
 
 OWN_NAME = "this repository's map"
 JDK_BUILD, PEER_BUILDS = ("the JDK's map", jdk), [("dashmap", dashmap), ("TBB", tbb), ("libcuckoo", libcuckoo)]
-# Of bulk operations: what builds gives a name, the first words of a command, and whether it is this repository's.
+# Of bulk operations: what builds gives a name, the command for numbers of entries, workers, writers and runs, and whether it is this
+# repository's.
 BULK_BUILDS = [(OWN_NAME, own_bulk), ("the JDK's map", bulk_of_jdk), (WITH_RAYON, bulk_of_dashmap)]
 
 

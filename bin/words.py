@@ -263,11 +263,11 @@ MAPCLI = Command(
     file="The script, or - for standard input",
     after=SCRIPTS,
 )
-MODES = "mix: 80 gets, 15 puts, 5 removes; get; merge; glance; look; view; update; walk, copies or list: go over all; churn: put, remove; fill an empty map; stall: its longest call"
-MODE_NAMES = ("mix", "get", "merge", "glance", "look", "view", "update", "walk", "copies", "list", "churn", "fill", "stall")
+MODES = "mix: 80 gets, 15 puts, 5 removes; get; merge; glance; look; view; update; walk, copies or list: go over all; churn: put, remove; fill an empty map; stall: its longest call; bulk: bulk operations on a live map"
+MODE_NAMES = ("mix", "get", "merge", "glance", "look", "view", "update", "walk", "copies", "list", "churn", "fill", "stall", "bulk")
 MAP_BENCH = Command(
     "map_bench",
-    "Measures how many million calls a second threads make of one map",
+    "Measures how many million calls a second threads make of one map, or how long bulk operations take",
     [
         Option("threads", "How many threads make calls, 1 to 31", "4", 1, 31),
         Option("calls", "How many calls each makes, 1 to 100000000; of a recorded map 1000000", "1000000", 1, 10**8),
@@ -283,6 +283,10 @@ MAP_BENCH = Command(
             value="CHOICE",
         ),
         Option("lanes", "own, or one: all threads add into one word of the count", "own", names=("own", "one"), value="LANES"),
+        Option("entries", "In mode bulk, how many entries the map has, 0 to 4294967295", "1000000", 0, U32),
+        Option("workers", "In mode bulk, how many workers an operation has, 1 to 16", "4", 1, 16),
+        Option("writers", "In mode bulk, how many clients put and remove other keys meanwhile", "0", names=("0", "2")),
+        Option("runs", "In mode bulk, of how many runs the best time is printed; 0: what operations return", "20", 0, U32),
     ],
     help_status=2,
 )

@@ -131,7 +131,8 @@ def test_messages(tests, run, program):
 ANY = ["", "-", "--", "--help", "-h", "-hx", "-xh", "--help=", "--nothing", "--=", "---", "-1", "0", "4", "+5", "04", "x", "a b", "\u00e9", "nothing/here", "9" * 23]
 PROGRAMS = {
     "mapcli": [*ANY, "--workers", "--workers=3", "--workers=17", "--capacity", "--capacity=", "--salt", "--salt=x", "--salt=-4", "-V", "--version", "--work", "--salty", "--versio"],
-    "map_bench": [*ANY, "--threads", "--threads=32", "--calls=0", "--keys=1e3", "--mode", "--mode=mic", "--mode=", "--form=leen", "--choice", "--mod", "--version", "--formm"],
+    "map_bench": [*ANY, "--threads", "--threads=32", "--calls=0", "--keys=1e3", "--mode", "--mode=mic", "--mode=", "--form=leen", "--choice", "--mod", "--version", "--formm"]
+    + ["--mode=bulk", "--mode=bulky", "--entries=-1", "--entries=4294967296", "--entries=x", "--workers=17", "--workers=0", "--writers=1", "--writers", "--writers=2", "--runs=", "--runs=0", "--run", "--worker"],
 }
 
 

@@ -1,8 +1,8 @@
 """Fault injection: runs the proved programs while each request for memory, and each start of a thread, fails in turn.
 
-usage: python3 docs/check_refusals.py [MAPCLI [LIVE_BENCH]]
+usage: python3 docs/check_refusals.py [MAPCLI [MAP_BENCH]]
 
-It proves nothing, and takes some seconds. MAPCLI and LIVE_BENCH are the programs; without one, that which was proved and built last is used.
+It proves nothing, and takes some seconds. MAPCLI and MAP_BENCH are the programs; without one, that which was proved and built last is used.
 It compiles tools/refuse.c with `cc`, and preloads that into each program, which runs again and again:
   the first request fails, then the second, and so on to the last; and all fail from the first on, then from the second on:
     the program writes what it writes without a failure, or it ends with its status and its line for want of memory;
@@ -20,10 +20,12 @@ SCRIPTS = [
     "client\n" + "".join(f"put k{number} {number}\n" for number in range(24)) + "query\ncount\nreduce sum 1\nreduce max 1\nsearch above 22 1\nlist 1\n",
     "client\nput a 1\nput b 2\nmerge a 4 sum\nquery\nreduce sum 1\nsearch above 4 1\nlist 18446744073709551615\n",
 ]
-# What a program does: its words, what it reads, and its status and its errors for want of memory. live_bench has four workers, too.
+# What a program does: its words, what it reads, and its status and its errors for want of memory. The bulk operations of
+# map_bench on a live map have four workers, too.
 Case = collections.namedtuple("Case", "program words script short")
 CASES = [Case("mapcli", ["--workers", "4", "-"], it, (3, ["mapcli: no memory\n"])) for it in SCRIPTS]
-CASES += [Case("live_bench", [], "", (1, [f"Error: {it}\n" for it in ("no memory", "out of memory", "memory allocation failed")]))]
+BULK = ["--mode", "bulk", "--entries", "100", "--runs", "0"]
+CASES += [Case("map_bench", BULK, "", (1, [f"Error: {it}\n" for it in ("no memory", "out of memory", "memory allocation failed")]))]
 
 
 class Program:

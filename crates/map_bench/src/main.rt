@@ -1,10 +1,12 @@
 //! `map_bench` measures the map: how many million calls a second some threads make of one map
-//! together.
+//! together, and how long bulk operations on a live map take.
 #![tactic(auto)]
 
 ghost use Rattle.std.specs.Prelude.{◌≡◌, ◌*◌, ◌/◌, ◌<◌};
 
+mod bulk;
 mod choice;
+mod command;
 mod name;
 mod random;
 mod run;
@@ -13,9 +15,12 @@ mod walks;
 mod work;
 
 use anyhow::Result;
+use clap::ArgMatches;
+use clap::error::ErrorKind;
+use command::command;
 use run::measure;
-use settings::{Mode, SMALL, Settings, command};
-use std::alloc::Global;
+use settings::{BulkSettings, Mode, SMALL, SMALL_BULK, Settings};
+use std::alloc::{AllocError, Global};
 use std::env;
 use std::process::ExitCode;
 use std::sync::Wait;
@@ -30,8 +35,11 @@ fn hundredths(calls: u64, nanoseconds: u128) -> u128
     u128::from(calls) * 100_000 / nanoseconds
 }
 
-/// Makes the run that needs no words, and says nothing of time.
-fn make_small_run<R: Threads + Wait + Clock + Print + Sync>(rt: &R, alloc: Global) -> Result<()> {
+/// Makes the runs that need no words, and say nothing of time: of calls, and of bulk operations.
+fn make_small_runs<R: Threads + Wait + Clock + Print + Sync + Copy + Send + 'static>(
+    rt: &R,
+    alloc: Global,
+) -> Result<()> {
     let _measured = measure(rt, alloc, &SMALL)?;
     println!(rt;
         "facingberyl {} {}: {} calls",
@@ -39,7 +47,7 @@ fn make_small_run<R: Threads + Wait + Clock + Print + Sync>(rt: &R, alloc: Globa
         SMALL.threads,
         SMALL.all_calls()
     )?;
-    Ok(())
+    bulk::run(rt, alloc, &SMALL_BULK)
 }
 
 /// Makes a run, and says how fast it was, or how many milliseconds its longest call took.
@@ -63,10 +71,22 @@ fn make_run<R: Threads + Wait + Clock + Print + Sync>(
     Ok(())
 }
 
+/// Makes the run that the words name: of bulk operations, or of calls.
+fn make_named_run<R: Threads + Wait + Clock + Print + Sync + Copy + Send + 'static>(
+    rt: &R,
+    alloc: Global,
+    matches: &ArgMatches,
+) -> Result<()> {
+    match matches.get_str("mode").unwrap_or("mix") {
+        "bulk" => bulk::run(rt, alloc, &BulkSettings::matched(matches)),
+        _ => make_run(rt, alloc, &Settings::matched(matches)),
+    }
+}
+
 fn main(rt: HostRuntime) -> Result<ExitCode> {
     let words: Vec<String> = env::args(&rt)?.collect(rt.alloc())?;
     if words.len() < 2 {
-        make_small_run(&rt, rt.alloc())?;
+        make_small_runs(&rt, rt.alloc())?;
         return Ok(ExitCode::SUCCESS);
     }
     let mut line: Vec<&str> = Vec::with_capacity(rt.alloc(), words.len())?;
@@ -75,10 +95,13 @@ fn main(rt: HostRuntime) -> Result<ExitCode> {
     }
     match command(rt.alloc())?.try_get_matches_from(&line) {
         Ok(matches) => {
-            make_run(&rt, rt.alloc(), &Settings::matched(&matches))?;
+            make_named_run(&rt, rt.alloc(), &matches)?;
             Ok(ExitCode::SUCCESS)
         }
         Err(error) => {
+            if matches!(error.kind(), ErrorKind::OutOfMemory) {
+                return Err(AllocError.into());
+            }
             eprint!(rt; "{error}")?;
             Ok(ExitCode::from(2))
         }

@@ -3,8 +3,7 @@ ghost use Rattle.std.specs.Prelude.{◌<◌, ◌≤◌};
 
 use crate::choice::Choice;
 use bin_history::Form;
-use clap::{Arg, ArgAction, ArgMatches, Command};
-use std::alloc::{AllocError, Global};
+use clap::ArgMatches;
 
 /// Which calls are made.
 #[derive(Clone, Copy, PartialEq, Eq, Debug)]
@@ -213,111 +212,39 @@ impl Settings {
     }
 }
 
-fn number<'a>(alloc: Global, name: &'a str, help: &'a str, default: &'a str) -> Arg<'a> {
-    Arg::new(alloc, name)
-        .long(name)
-        .value_name("N")
-        .help(help)
-        .action(ArgAction::Set)
-        .default_value(default)
+/// Bulk operations on a live map of so many entries, by so many workers, while two clients put and
+/// remove other keys where `is_written`. Each operation runs so many times, and the best time is
+/// printed; with 0 runs what it returns is printed.
+#[derive(Clone, Copy, Debug)]
+pub(crate) struct BulkSettings {
+    pub(crate) entries: u32,
+    pub(crate) capacity: u16,
+    pub(crate) workers: u8,
+    pub(crate) is_written: bool,
+    pub(crate) runs: u32,
 }
 
-fn threads_arg<'a>(alloc: Global) -> Arg<'a> {
-    number(
-        alloc,
-        "threads",
-        "How many threads make calls, 1 to 31",
-        "4",
-    )
-    .value_parser(clap::value_parser!(u8).range(1..=31))
-}
+/// The bulk operations that are run without words.
+pub(crate) const SMALL_BULK: BulkSettings = BulkSettings {
+    entries: 100,
+    capacity: 16,
+    workers: 4,
+    is_written: false,
+    runs: 0,
+};
 
-fn calls_arg<'a>(alloc: Global) -> Arg<'a> {
-    number(
-        alloc,
-        "calls",
-        "How many calls each makes, 1 to 100000000; of a recorded map 1000000",
-        "1000000",
-    )
-    .value_parser(clap::value_parser!(u32).range(1..=100_000_000))
-}
-
-fn keys_arg<'a>(alloc: Global) -> Arg<'a> {
-    number(alloc, "keys", "On how many keys, 1 to 10000000", "20000").value_parser(
-        clap::value_parser!(u32).range(1..=10_000_000),
-    )
-}
-
-fn capacity_arg<'a>(alloc: Global) -> Arg<'a> {
-    number(
-        alloc,
-        "capacity",
-        "How many buckets the map opens with at least, 1 to 4096",
-        "16",
-    )
-    .value_parser(clap::value_parser!(u16).range(1..=4096))
-}
-
-/// The words that name modes.
-const MODES: [&'static str; 13] = [
-    "mix", "get", "merge", "glance", "look", "view", "update", "walk", "copies", "list", "churn",
-    "fill", "stall",
-];
-
-/// What they are.
-const MODES_HELP: &'static str =
-    "mix: 80 gets, 15 puts, 5 removes; get; merge; glance; look; view; update; walk, copies or list: go over all; churn: put, remove; fill an empty map; stall: its longest call";
-
-fn mode_arg<'a>(alloc: Global) -> Arg<'a> {
-    Arg::new(alloc, "mode")
-        .long("mode")
-        .value_name("MODE")
-        .help(MODES_HELP)
-        .action(ArgAction::Set)
-        .value_parser(MODES.as_slice())
-        .default_value("mix")
-}
-
-fn lanes_arg<'a>(alloc: Global) -> Arg<'a> {
-    Arg::new(alloc, "lanes")
-        .long("lanes")
-        .value_name("LANES")
-        .help("own, or one: all threads add into one word of the count")
-        .action(ArgAction::Set)
-        .value_parser(["own", "one"].as_slice())
-        .default_value("own")
-}
-
-fn form_arg<'a>(alloc: Global) -> Arg<'a> {
-    Arg::new(alloc, "form")
-        .long("form")
-        .value_name("FORM")
-        .help("lean, or recorded: a map that stores a record of each call")
-        .action(ArgAction::Set)
-        .value_parser(["lean", "recorded"].as_slice())
-        .default_value("lean")
-}
-
-fn choice_arg<'a>(alloc: Global) -> Arg<'a> {
-    Arg::new(alloc, "choice")
-        .long("choice")
-        .value_name("CHOICE")
-        .help("uniform, or zipf: keys are chosen by Zipf's law with the exponent 0.99")
-        .action(ArgAction::Set)
-        .value_parser(["uniform", "zipf"].as_slice())
-        .default_value("uniform")
-}
-
-/// The command line that the program takes.
-pub(crate) fn command<'a>(alloc: Global) -> Result<Command<'a>, AllocError> {
-    Command::new(alloc, "map_bench")
-        .about("Measures how many million calls a second threads make of one map")
-        .arg(threads_arg(alloc))?
-        .arg(calls_arg(alloc))?
-        .arg(keys_arg(alloc))?
-        .arg(capacity_arg(alloc))?
-        .arg(mode_arg(alloc))?
-        .arg(form_arg(alloc))?
-        .arg(choice_arg(alloc))?
-        .arg(lanes_arg(alloc))
+impl BulkSettings {
+    /// What the matches of `command` name.
+    pub(crate) fn matched(matches: &ArgMatches) -> BulkSettings {
+        BulkSettings {
+            entries: matches.get_one::<u32>("entries").unwrap_or(1_000_000),
+            capacity: matches.get_one::<u16>("capacity").unwrap_or(16),
+            workers: matches.get_one::<u8>("workers").unwrap_or(4),
+            is_written: match matches.get_str("writers").unwrap_or("0") {
+                "2" => true,
+                _ => false,
+            },
+            runs: matches.get_one::<u32>("runs").unwrap_or(20),
+        }
+    }
 }

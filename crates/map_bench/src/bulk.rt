@@ -1,17 +1,12 @@
-//! `live_bench` measures bulk operations on a live map: how many microseconds the best of some runs
-//! of each took, with so many workers. With 2 writers two clients put and remove keys meanwhile.
-//!
-//!     live_bench KEYS WORKERS WRITERS RUNS
-//!
-//! With no words it makes a small run, and says nothing of time.
-#![tactic(auto)]
-
-use anyhow::{Result, anyhow};
+//! Bulk operations on a live map: how many microseconds the best of some runs of each takes, with so
+//! many workers, while nobody else calls the map or while two clients write.
+use crate::random::drawn_at;
+use crate::settings::BulkSettings;
+use anyhow::Result;
 use facingberyl::bulk::{Action, Plan, Probe, Sum};
 use facingberyl::live::{live_for_each, live_reduce, live_search};
 use facingberyl::{Add, Client, Fault, Loan, SharedMap, Work};
 use std::alloc::{AllocError, Global};
-use std::env;
 use std::sync::Wait;
 use std::thread::Threads;
 use std::time::{Clock, Instant};
@@ -53,16 +48,9 @@ impl Action<u64, u64> for Nothing {
     }
 }
 
-/// The key that is in the map for as long as others are to write. It is none of `key_of`, but of 0.
+/// The key that is in the map for as long as others are to write. It is drawn in place 0, which no
+/// other key is.
 const WRITING: u64 = 0;
-
-/// What the generator splitmix64 draws in this place: keys in no order, each once.
-fn key_of(place: u64) -> u64 {
-    let z = place.wrapping_mul(0x9e37_79b9_7f4a_7c15);
-    let z = (z ^ (z >> 30)).wrapping_mul(0xbf58_476d_1ce4_e5b9);
-    let z = (z ^ (z >> 27)).wrapping_mul(0x94d0_49bb_1331_11eb);
-    z ^ (z >> 31)
-}
 
 /// Puts the keys of a thousand places from the first on and removes them, one after the other, again
 /// and again until the key `WRITING` is out of the map.
@@ -81,7 +69,7 @@ impl Work<u64, u64, Add, Global> for Write {
     ) -> Result<(), Fault> {
         let writing = WRITING;
         for round in 0..u64::MAX {
-            let key = key_of(self.first.wrapping_add(round % 1_000));
+            let key = drawn_at(self.first.wrapping_add(round % 1_000));
             client.put(rt, key, 0)?;
             client.remove(rt, &key)?;
             if round % 64 == 63 && !client.contains_key(rt, &writing)? {
@@ -100,12 +88,11 @@ type Times = [u128; 4];
 fn measure<R: Threads + Wait + Clock + Sync>(
     rt: &R,
     map: &Numbers,
-    workers: usize,
-    runs: u64,
+    settings: &BulkSettings,
 ) -> Result<Times> {
-    let plan = Plan::new(0, workers);
+    let plan = Plan::new(0, usize::from(settings.workers));
     let mut best = [u128::MAX; 4];
-    for _run in 0..runs {
+    for _run in 0..settings.runs {
         let start = Instant::now(rt)?;
         let _sum = live_reduce(rt, map, &plan, &Sum)?;
         best[0] = best[0].min(start.elapsed(rt)?.as_micros());
@@ -126,69 +113,68 @@ fn measure<R: Threads + Wait + Clock + Sync>(
 fn measure_written<R: Threads + Wait + Clock + Sync + Copy + Send + 'static>(
     rt: &R,
     map: &Numbers,
-    keys: u64,
-    workers: usize,
-    runs: u64,
+    settings: &BulkSettings,
 ) -> Result<Times> {
     let writing = WRITING;
     let mut own = map.client()?;
     own.put(rt, writing, 0)?;
-    let first = keys.saturating_add(1);
+    let first = u64::from(settings.entries) + 1;
     let one = map.client()?.start(rt, Write { first })?;
-    let first = first.wrapping_add(1_000);
+    let first = first + 1_000;
     let other = map.client()?.start(rt, Write { first })?;
-    let best = measure(rt, map, workers, runs);
+    let best = measure(rt, map, settings);
     own.remove(rt, &writing)?;
     drop(one.join(rt));
     drop(other.join(rt));
     best
 }
 
-fn number(words: &[String], place: usize) -> Result<u64> {
-    match words.get(place) {
-        Some(word) => word
-            .parse::<u64>()
-            .map_err(|_error| anyhow!("a number is wanted")),
-        None => Err(anyhow!("usage: live_bench KEYS WORKERS WRITERS RUNS")),
-    }
-}
-
-/// A map with the keys of so many places from 1 on, whose values are the places.
-fn filled<R: Wait>(rt: &R, alloc: Global, keys: u64) -> Result<Numbers> {
-    let map: Numbers = SharedMap::new(alloc, 16)?;
+/// A map with the keys of the places from 1 on, whose values are the places.
+fn filled<R: Wait>(rt: &R, alloc: Global, settings: &BulkSettings) -> Result<Numbers> {
+    let map: Numbers = SharedMap::new(alloc, usize::from(settings.capacity))?;
     let mut client = map.client()?;
-    for place in 1..=keys {
-        client.put(rt, key_of(place), place)?;
+    for place in 1..=u64::from(settings.entries) {
+        client.put(rt, drawn_at(place), place)?;
     }
     drop(client);
     Ok(map)
 }
 
-/// The sum of the values 1 to 100, the one that is found above 99, and how many actions were done.
-fn run_small<R: Threads + Wait + Print + Sync>(rt: &R, map: &Numbers) -> Result<()> {
-    let plan = Plan::new(0, 4);
+/// Prints the sum of the values, the one that is found above all others, and how many actions were
+/// done.
+fn print_results<R: Threads + Wait + Print + Sync>(
+    rt: &R,
+    map: &Numbers,
+    settings: &BulkSettings,
+) -> Result<()> {
+    let last = u64::from(settings.entries);
+    let before = last.saturating_sub(1);
+    let workers = usize::from(settings.workers);
+    let plan = Plan::new(0, workers);
     let sum = live_reduce(rt, map, &plan, &Sum)?.unwrap_or(0);
-    let found = live_search(rt, map, &plan, &Above(99))?.unwrap_or(0);
+    let found = live_search(rt, map, &plan, &Above(before))?.unwrap_or(0);
     let done = live_for_each(rt, map, &plan, &Nothing)?.len();
-    println!(rt; "the sum of 1 to 100 is {sum}, {found} is above 99, {done} actions were done")?;
+    println!(rt;
+        "the sum of 1 to {last} is {sum}, {found} is above {before}, {done} actions were done"
+    )?;
     Ok(())
 }
 
-fn main(rt: HostRuntime) -> Result<()> {
-    let words: Vec<String> = env::args(&rt)?.collect(rt.alloc())?;
-    if words.len() < 2 {
-        let map = filled(&rt, rt.alloc(), 100)?;
-        return run_small(&rt, &map);
+/// Runs bulk operations, and prints the times of the best runs, or what they return where none is
+/// timed.
+pub(crate) fn run<R: Threads + Wait + Clock + Print + Sync + Copy + Send + 'static>(
+    rt: &R,
+    alloc: Global,
+    settings: &BulkSettings,
+) -> Result<()> {
+    let map = filled(rt, alloc, settings)?;
+    if settings.runs == 0 {
+        return print_results(rt, &map, settings);
     }
-    let keys = number(&words, 1)?;
-    let workers = number(&words, 2)? as usize;
-    let writers = number(&words, 3)?;
-    let runs = number(&words, 4)?;
-    let map = filled(&rt, rt.alloc(), keys)?;
-    let [reduce, none, found, each] = match writers {
-        0 => measure(&rt, &map, workers, runs)?,
-        2 => measure_written(&rt, &map, keys, workers, runs)?,
-        _ => return Err(anyhow!("there are 0 or 2 writers")),
+    let [reduce, none, found, each] = if settings.is_written {
+        measure_written(rt, &map, settings)?
+    } else {
+        measure(rt, &map, settings)?
     };
     println!(rt; "reduce {reduce} none {none} found {found} for_each {each}")?;
     Ok(())
