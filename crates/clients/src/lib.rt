@@ -13,6 +13,8 @@ mod folding;
 mod holder;
 mod lent;
 mod letter;
+mod making;
+mod modifying;
 mod moments;
 mod not_closed;
 mod owned;
@@ -35,9 +37,9 @@ mod work;
 
 pub use chm::{
     AsKey, ByteString, Bytes, Call, Change, Class, Cursor, Entries, Exact, Fault, Form, HashKey,
-    Key, KeyArg, MOST_BINS, MOST_CALLS, MOST_CLIENTS, MOST_LEAN_CALLS, MOST_LEAN_CLIENTS, Map,
-    Moment, NotClosed, NotClosedWith, Op, Opened, Pass, Quiet, Remap, Reply, Roster, Salt, Sharing,
-    Started, Text, Value, Visit, retire_all,
+    Key, KeyArg, MOST_BINS, MOST_CALLS, MOST_CLIENTS, MOST_LEAN_CALLS, MOST_LEAN_CLIENTS, MakesKey,
+    Map, Moment, NotClosed, NotClosedWith, NotMade, Op, Opened, Pass, Quiet, Remap, Reply, Roster,
+    Salt, Sharing, Started, Text, Value, Visit, retire_all,
 };
 pub use client::ClientOf;
 pub use client_fault::ClientFault;
