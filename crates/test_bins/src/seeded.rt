@@ -1,11 +1,12 @@
 //! Codes of bytes under a seed, and keys that keep them. The codes are the lower halves of SipHash-1-3
 //! as Rust's and Python's libraries compute it.
-use hashkeys::{AsKey, HashKey};
+use hashkeys::{AsKey, HashKey, MakesKey};
 use seeded_keys::{CompactBytes, Hashed, Query, Seed};
 use std::alloc::Global;
 use std::io;
 use std::process::Abort;
 use std::random::RandomSource;
+use test_support::{Alloc, Refusing};
 
 /// How many of the bytes 0, 1, 2 and so on, and their code under the seed of the bytes 0 to 15.
 #[derive(Drop)]
@@ -92,6 +93,27 @@ fn a_query_finds_the_key_of_its_seed_alone(rt: HostRuntime) {
     assert!(rt; one != key(&rt, rt.alloc(), second, b"AaAaBB"));
     assert!(rt; one.bytes().bytes() == b"AaAaBB".as_slice());
     assert!(rt; one.into_bytes().bytes() == b"AaAaBB".as_slice());
+}
+
+/// At most thirty bytes lie in the key itself. Out of memory for more, none is made.
+#[test]
+fn a_query_makes_its_key_and_asks_for_memory_for_long_bytes(rt: HostRuntime) {
+    let alloc = Refusing::new(rt.alloc());
+    let seed = Seed::of(1, 2);
+    let thirty = b"abcdefghijklmnopqrstuvwxyz0123".as_slice();
+    let more = b"abcdefghijklmnopqrstuvwxyz01234".as_slice();
+    alloc.refuse_after(0);
+    for text in [b"".as_slice(), thirty] {
+        let made: Hashed<Alloc<'_>> = seed.query(text).make(&&alloc).expect(&rt, "no request");
+        assert!(rt; made.hash_code() == seed.code(text));
+        assert!(rt; made.bytes().bytes() == text);
+    }
+    assert!(rt; alloc.requests() == 0);
+    let refused: Result<Hashed<Alloc<'_>>, _> = seed.query(more).make(&&alloc);
+    assert!(rt; refused.is_err());
+    let made: Hashed<Alloc<'_>> = seed.query(more).make(&&alloc).expect(&rt, "memory");
+    assert!(rt; made.hash_code() == seed.code(more));
+    assert!(rt; made.bytes().bytes() == more);
 }
 
 #[test]

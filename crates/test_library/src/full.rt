@@ -1,5 +1,6 @@
 //! What follows when a client has made all the calls that it may: 1,000,000 in a recorded map.
 use crate::asserts::assert_same;
+use crate::given_back::refusal;
 use clients::{Add, Change, ClientFault, Fault, KeyArg, Map, Op, OwnedClient, SharedMap};
 use std::alloc::Global;
 use std::sync::Wait;
@@ -48,6 +49,42 @@ fn refusals<R: Wait>(rt: &R, client: &mut Owned) -> ([Option<Fault>; 6], bool) {
     (faults, called)
 }
 
+/// Why calls by functions that are lent or given a value are refused, of those that give it back whether
+/// what was given came back, and whether a function was called.
+fn refused_functions<R: Wait>(
+    rt: &R,
+    client: &mut Owned,
+) -> ([Option<Fault>; 2], [(Option<Fault>, bool); 4], bool) {
+    let (mut lent, mut tried, mut defaulted, mut given, mut shown) = (
+        false, false, false, false, false,
+    );
+    let modified = client.modify(rt, &1, |value: &mut u64| {
+        lent = true;
+        *value = 6;
+    });
+    let modified_or_busy = client.try_modify(&1, |value: &mut u64| {
+        tried = true;
+        *value = 6;
+    });
+    let faults = [modified.err(), modified_or_busy.and_then(|made| made.err())];
+    let back = [
+        refusal(client.modify_or_insert(rt, &2, 5, |value: &mut u64| {
+            defaulted = true;
+            *value = 6;
+        })),
+        refusal(client.update_owned(rt, &2, |_value| {
+            given = true;
+            (Some(6), ())
+        })),
+        refusal(client.put_as(rt, &2, 6)),
+        refusal(client.update_as(rt, &1, |_value| {
+            shown = true;
+            (Change::Set(6), ())
+        })),
+    ];
+    (faults, back, lent || tried || defaulted || given || shown)
+}
+
 /// What the client reads without a call: the values at 1 and 2, how many keys there are, and how
 /// many its calls added.
 fn reads<R: Wait>(rt: &R, client: &mut Owned) -> (Option<u64>, Option<u64>, u64, u64) {
@@ -61,7 +98,7 @@ fn reads<R: Wait>(rt: &R, client: &mut Owned) -> (Option<u64>, Option<u64>, u64,
     )
 }
 
-/// A full client's calls are refused, its function is not called, nothing is changed, and it still
+/// A full client's calls are refused, its functions are not called and come back, nothing is changed, and it still
 /// reads.
 #[test]
 fn a_full_client_makes_no_more_calls(rt: HostRuntime) {
@@ -69,11 +106,15 @@ fn a_full_client_makes_no_more_calls(rt: HostRuntime) {
     let mut client = map.client().expect(&rt, "a client");
     let used = use_up(&rt, &mut client);
     let refused = refusals(&rt, &mut client);
+    let (lent, given, called) = refused_functions(&rt, &mut client);
     let read = reads(&rt, &mut client);
     drop(client);
     drop(map);
     assert_same(&rt, &used, &Ok(()));
     assert_same(&rt, &refused, &([Some(Fault::PassFull); 6], false));
+    assert_same(&rt, &lent, &[Some(Fault::PassFull); 2]);
+    assert_same(&rt, &given, &[(Some(Fault::PassFull), true); 4]);
+    assert_same(&rt, &called, &false);
     assert_same(&rt, &read, &(Some(5), None, 1, 1));
 }
 

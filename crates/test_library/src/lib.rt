@@ -17,7 +17,11 @@ mod crowds;
 #[cfg(test)]
 mod examples;
 #[cfg(test)]
+mod fallible;
+#[cfg(test)]
 mod full;
+#[cfg(test)]
+mod given_back;
 #[cfg(test)]
 mod in_place;
 #[cfg(test)]
@@ -32,6 +36,8 @@ mod lists;
 mod live;
 #[cfg(test)]
 mod meeting;
+#[cfg(test)]
+mod modifying;
 #[cfg(test)]
 mod moments;
 #[cfg(test)]
