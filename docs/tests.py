@@ -29,6 +29,7 @@ THINGS = (
     ("calls by a slice, which make no key", "calls_by_a_slice_ask_for_a_copy_of_the_value_alone", "a_slice_finds_the_key_of_its_bytes_and_makes_none"),
     ("`view`: what it shows, what it copies, and what it locks", "a_view_sees_what_the_call_before_it_left", "a_view_copies_nothing_and_a_look_up_a_value", "a_function_that_calls_the_map_finds_its_own_bucket_locked", "a_busy_try_calls_no_function", "a_busy_try_of_a_client_calls_no_function"),
     ("`update`: which call it is, and what it allocates", "an_update_is_the_call_for_its_change", "a_lean_update_asks_for_memory_where_it_makes_an_entry", "a_refused_update_of_a_recorded_map_changes_nothing"),
+    ("functions that are lent or given a value, and keys that are made only where there are none", "each_example_of_a_value_that_a_client_lends_is_as_it_says", "each_example_of_what_makes_its_key_is_as_it_says", "a_list_grows_where_it_lies", "an_error_of_the_function_leaves_the_value", "what_is_refused_comes_back_uncalled", "a_key_that_is_there_asks_for_no_memory", "a_busy_try_lends_nothing"),
     ("`retain`", "each_entry_that_goes_is_a_remove", "a_refused_remove_leaves_those_before_it"),
     ("walks by a cursor, one bucket at a time", "a_client_calls_between_two_steps_of_its_walk", "a_walk_shows_each_key_once_whatever_was_divided", "a_walk_goes_in_the_order_of_the_table_of_its_beginning", "a_cursor_of_a_wider_table_meets_each_bucket_by_its_parts"),
     ("codes, hashes, salts", "known_codes_spreads_and_slots", "known_hashes_under_salts", "numbers_have_known_codes"),
