@@ -33,6 +33,36 @@ pub(crate) fn put_new<'a, R: Wait + Abort, A: Allocator + Clone>(
     assert!(rt; reply == Ok(Reply::Value(None)));
 }
 
+/// Puts a number at its key, which has one.
+pub(crate) fn put_again<'a, R: Wait + Abort, A: Allocator + Clone>(
+    rt: &R,
+    map: &CountedMap<'a, A>,
+    pass: &mut CountedPass<'a>,
+    counts: &'a Counts,
+    number: u32,
+)
+    requires { pass.old.ledger ≡ map.now.ledger.id }
+    ensures { pass.new.ledger ≡ map.now.ledger.id }
+{
+    let reply = map.put(rt, pass, Counted { number, counts }, u64::from(number));
+    assert!(rt; reply.is_ok());
+}
+
+/// Removes the key of a number, which it has.
+pub(crate) fn remove_one<'a, R: Wait + Abort, A: Allocator + Clone>(
+    rt: &R,
+    map: &CountedMap<'a, A>,
+    pass: &mut CountedPass<'a>,
+    counts: &'a Counts,
+    number: u32,
+)
+    requires { pass.old.ledger ≡ map.now.ledger.id }
+    ensures { pass.new.ledger ≡ map.now.ledger.id }
+{
+    let reply = map.remove(rt, pass, Counted { number, counts });
+    assert!(rt; reply == Ok(Reply::Value(Some(u64::from(number)))));
+}
+
 /// Puts each number below this one at its key, which is not there.
 pub(crate) fn put_below<'a, R: Wait + Abort, A: Allocator + Clone>(
     rt: &R,

@@ -2,7 +2,7 @@
 ghost use Rattle.std.specs.Prelude.{◌≡◌};
 
 use crate::counted::{Counted, Counts, assert_same};
-use crate::maps::{CountedMap, CountedPass, filled, put_new};
+use crate::maps::{CountedMap, CountedPass, filled, put_again, put_new, remove_one};
 use bin_history::{Form, Reply};
 use count_ledger::retire_all;
 use std::alloc::{Allocator, Global};
@@ -218,13 +218,11 @@ fn bytes_of_a_key<R: Wait + Abort, A: Allocator + Clone>(
     let before = switch.bytes_out();
     put_new(rt, &map, &mut pass, counts, number);
     let with = switch.bytes_out();
-    let put = map.put(rt, &mut pass, Counted { number, counts }, u64::from(number));
+    put_again(rt, &map, &mut pass, counts, number);
     let again = switch.bytes_out();
-    let number = taken;
-    let removed = map.remove(rt, &mut pass, Counted { number, counts });
+    remove_one(rt, &map, &mut pass, counts, taken);
     let without = switch.bytes_out();
     drop(close_single(map, pass, place).expect(rt, "a closed map"));
-    assert!(rt; put.is_ok() && removed == Ok(Reply::Value(Some(u64::from(taken)))));
     [before, with, again, without]
 }
 
