@@ -34,7 +34,7 @@ THINGS = (
     ("walks by a cursor, one bucket at a time", "a_client_calls_between_two_steps_of_its_walk", "a_walk_shows_each_key_once_whatever_was_divided", "a_walk_goes_in_the_order_of_the_table_of_its_beginning", "a_cursor_of_a_wider_table_meets_each_bucket_by_its_parts"),
     ("codes, hashes, salts", "known_codes_spreads_and_slots", "known_hashes_under_salts", "numbers_have_known_codes"),
     ("seeds: known codes, and keys that collide without one", "codes_under_a_seed_are_known", "keys_that_share_a_plain_code_differ_under_a_seed"),
-    ("byte strings of which the short ones lie in themselves", "up_to_thirty_bytes_lie_inline", "short_bytes_and_their_clones_take_no_memory", "bytes_are_equal_to_the_same_bytes_alone"),
+    ("keys of bytes, of which the short ones lie in themselves", "up_to_eighteen_bytes_lie_inline", "clones_of_long_keys_alone_take_memory", "keys_are_equal_to_those_of_the_same_bytes_alone"),
     ("the functions `Add`, `Greatest`, `Set`", "functions_merge"),
     ("how a bin folds its records and splits", "the_oldest_records_are_folded", "a_salted_bin_is_split_by_salted_hashes"),
     ("many keys of one hash", "a_million_entries_under_one_hash"),

@@ -129,7 +129,7 @@ FACING_CHECKED FACING_API uint32_t facing_bytes_open_seeded(size_t capacity, uin
 }
 
 /* Opens an empty map for 1 to 65,536 clients, with a table of `capacity` buckets to begin with: 1 to 2^26, rounded up to a
- * power of two. A bucket takes some 32 bytes, so 2^26 of them take 2 GB at once; the table grows by itself, so begin small.
+ * power of two. A bucket takes 72 bytes, so 2^26 of them take 4.5 GB at once; the table grows by itself, so begin small.
  * The map's seed is drawn with getrandom. Returns FACING_NO_SEED where the system gives none, FACING_BAD_CAPACITY,
  * FACING_BAD_CLIENTS or FACING_NO_MEMORY, and the handle is null then. */
 FACING_CHECKED FACING_API uint32_t facing_bytes_open(size_t capacity, uint32_t clients, facing_bytes_handle *map) {
@@ -172,8 +172,9 @@ FACING_INNER void facing_bytes_tell(facing_bytes_answer *answer, facing_answer t
  * Each call locks the bucket of its key, and no other lock; while another thread has that lock it spins, then yields, then
  * sleeps for a millisecond at a time. It returns FACING_TOO_LONG, FACING_NO_MEMORY, FACING_CLIENT_FULL, FACING_AFTER_FORK or
  * FACING_WRONG_HANDLE, and then the call was not made. Each value that a call is given is copied, in one allocation, or in two
- * where it has more than 318 bytes; a call that adds a key allocates the key too, and a node if its bucket has one; a key
- * longer than the client had before takes room of the client's. facing_bytes_get and facing_bytes_contains allocate nothing for
+ * where it has more than 320 bytes, and in none where it has at most 22; a call that adds a key allocates a key of more than 18
+ * bytes too, in two allocations where it has more than 64, and a node if its bucket has one; a key of more than 18 bytes that
+ * is longer than those that the client had before takes room of the client's. facing_bytes_get and facing_bytes_contains allocate nothing for
  * key and value. Any call may allocate parts of a table that grows, and goes on where there is no memory for them. */
 #define FACING_BYTES_CALL(is_wrong, export_and_arguments)                                                                   \
     uint32_t status;                                                                                                        \
@@ -201,7 +202,7 @@ FACING_CHECKED FACING_API uint32_t facing_bytes_get(facing_bytes_handle *client,
 }
 
 /* Fills `held` with a handle of the value at the key, which facing_bytes_read reads and facing_bytes_free frees; it is null
- * where there is no value. The bucket is locked only while the value gets one more owner, or, where it has at most 30
+ * where there is no value. The bucket is locked only while the value gets one more owner, or, where it has at most 22
  * bytes, while it is copied. The value stays as it is when another one is put in its place. */
 FACING_CHECKED FACING_API uint32_t facing_bytes_hold(facing_bytes_handle *client, const void *key, size_t key_len,
                                                      facing_bytes_handle *held, facing_bytes_answer *answer) {

@@ -98,7 +98,7 @@ fn ask(
 }
 
 /// Gets the value at the key, where it finds room. It answers how many bytes the value has. No key is
-/// made. At most 30 bytes are copied while the bucket is locked; a longer value has an owner more for as
+/// made. At most 22 bytes are copied while the bucket is locked; a longer value has an owner more for as
 /// long as it is copied.
 #[unsafe(no_mangle)]
 pub extern "C" fn facing_c_bytes_try_get(

@@ -77,7 +77,7 @@ pub(crate) fn try_byte(
     }
 }
 
-/// Tries to look at the value at a key, by the client that this is: at most 30 bytes are copied, and a
+/// Tries to look at the value at a key, by the client that this is: at most 22 bytes are copied, and a
 /// longer value has an owner more. It waits for nobody.
 pub(crate) fn try_look_bytes(target: &mut Target, key: &[u8]) -> Tried<SharedBytes>
     ensures { IsBytesLooked target.old key.now target.new result }

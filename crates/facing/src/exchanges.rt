@@ -182,7 +182,7 @@ pub extern "C" fn facing_c_counts_try_add_up_to(
 }
 
 /// Gives the key this value, or none, where it has the one that is expected, or none. It answers whether
-/// it did, and what was there, as far as there is room for it. At most 30 bytes are copied while the
+/// it did, and what was there, as far as there is room for it. At most 22 bytes are copied while the
 /// bucket is locked; the bytes that are expected are compared there.
 #[unsafe(no_mangle)]
 pub extern "C" fn facing_c_bytes_try_exchange(

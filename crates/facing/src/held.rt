@@ -35,7 +35,7 @@ fn hold(
 }
 
 /// Gets the value at the key as a handle of its own, which lives on where the map gives its key another:
-/// a copy of at most 30 bytes, or an owner more of a longer value, until the handle is freed. It answers
+/// a copy of at most 22 bytes, or an owner more of a longer value, until the handle is freed. It answers
 /// how many bytes the value has. It takes memory for the handle.
 #[unsafe(no_mangle)]
 pub extern "C" fn facing_c_bytes_try_hold(

@@ -14,7 +14,7 @@ use Rattle.std_heap.specs.contracts.Global as Heap
 use Rattle.std_heap.specs.contracts.GlobalAllocator.TheImpl.{ghosts}
 use Rattle.hashkeys.specs.declared.exact.Exact as Exact
 use Rattle.hashkeys.specs.declared.hashing.HashKey as HashKey
-use Rattle.seeded_keys.proofs.Crossing.{short_send, short_sync, compact_send, compact_sync}
+use Rattle.seeded_keys.proofs.Crossing.{short_send, short_sync, padded_send, padded_sync, hashed_send, hashed_sync}
 use Rattle.seeded_keys.specs.contracts.hashed.Hashed as Hashed
 use Rattle.bin_history.specs.declared.call.Remap as Remap
 use Rattle.bin_history.specs.declared.call.Value as Value
@@ -25,11 +25,10 @@ use Rattle.clients.proofs.Crossing.{owned_send, shared_send, unshared_send}
 use Rattle.facing_maps.specs.contracts.closed.ClosedMap as ClosedMap
 use Rattle.facing_maps.specs.contracts.closed.ClosedMap.TheInside as ClosedInside
 use Rattle.facing_maps.specs.contracts.closed.Owner as Owner
+use Rattle.facing_maps.specs.contracts.counted.Counted as Counted
+use Rattle.facing_maps.specs.contracts.counted.Counted.TheInside as CountedInside
 use Rattle.facing_maps.specs.contracts.keys.Keys as Keys
 use Rattle.facing_maps.specs.contracts.keys.Keys.TheInside as KeysInside
-use Rattle.facing_maps.specs.contracts.padded.Padded as Padded
-use Rattle.facing_maps.specs.contracts.padded.Padded.TheInside as PaddedInside
-use Rattle.facing_maps.specs.contracts.shared.Block as Block
 use Rattle.facing_maps.specs.contracts.shared.Place as Place
 use Rattle.facing_maps.specs.contracts.shared.SharedBytes as SharedBytes
 use Rattle.facing_maps.specs.contracts.shared.SharedBytes.TheInside as SharedInside
@@ -158,115 +157,120 @@ module _ (K V F : RattleType) (hash : HashKey.Ghosts K.Denot) (key_eq : Eq.Ghost
 
 -- a key with its code
 pub key_send : IsSend (Hashed.the_row Heap.the_row ghosts)
-key_send = search (sendable, compact_send, heap.crosses) depth 20
+key_send = search (sendable, hashed_send, heap.crosses) depth 20
 
 pub key_sync : IsSync (Hashed.the_row Heap.the_row ghosts)
-key_sync = search (sendable, compact_sync, heap.crosses) depth 20
+key_sync = search (sendable, hashed_sync, heap.crosses) depth 20
 
--- bytes in a block of their own
+-- bytes in a block with the number of their owners
 module _ (N : RattleType) where
-  padded_fields_send : AllSend (shape (PaddedInside.the_type N)).fields
-  padded_fields_send = (search sendable depth 20, (search sendable depth 20, tt))
+  counted_fields_send : AllSend (shape (CountedInside.the_type N)).fields
+  counted_fields_send = (search sendable depth 20, (search (sendable, heap.crosses, padded_send, padded_sync) depth 20, tt))
 
-  padded_send : IsSend (Padded.the_row N)
-  padded_send = search (sendable, padded_fields_send) depth 20
+  counted_send : IsSend (Counted.the_row N)
+  counted_send = search (sendable, counted_fields_send) depth 20
 
-  padded_fields_sync : AllSync (shape (PaddedInside.the_type N)).fields
-  padded_fields_sync = (search sendable depth 20, (search sendable depth 20, tt))
+  counted_fields_sync : AllSync (shape (CountedInside.the_type N)).fields
+  counted_fields_sync = (search sendable depth 20, (search (sendable, heap.crosses, padded_send, padded_sync) depth 20, tt))
 
-  padded_sync : IsSync (Padded.the_row N)
-  padded_sync = search (sendable, padded_fields_sync) depth 20
-
--- a value of more than 30 bytes
-blocks_send : EachSend (enum.shape Block.the_type).variants
-blocks_send = (
-  (search (sendable, heap.crosses, padded_send, padded_sync) depth 20, tt),
-  (
-    (search (sendable, heap.crosses, padded_send, padded_sync) depth 20, tt),
-    (
-      (search (sendable, heap.crosses, padded_send, padded_sync) depth 20, tt),
-      (
-        (search (sendable, heap.crosses, padded_send, padded_sync) depth 20, tt),
-        (
-          (search (sendable, heap.crosses, padded_send, padded_sync) depth 20, tt),
-          (
-            (search (sendable, heap.crosses, padded_send, padded_sync) depth 20, tt),
-            (
-              (search (sendable, heap.crosses, padded_send, padded_sync) depth 20, tt),
-              (
-                (search (sendable, heap.crosses, padded_send, padded_sync) depth 20, tt),
-                (
-                  (search (sendable, heap.crosses, padded_send, padded_sync) depth 20, tt),
-                  (
-                    (search (sendable, heap.crosses, padded_send, padded_sync) depth 20, tt),
-                    (
-                      (search (sendable, heap.crosses, padded_send, padded_sync) depth 20, tt),
-                      (
-                        (search (sendable, heap.crosses, padded_send, padded_sync) depth 20, tt),
-                        ((search (sendable, heap.crosses) depth 20, tt), tt),
-                      ),
-                    ),
-                  ),
-                ),
-              ),
-            ),
-          ),
-        ),
-      ),
-    ),
-  ),
-)
-
-blocks_sync : EachSync (enum.shape Block.the_type).variants
-blocks_sync = (
-  (search (sendable, heap.crosses, padded_send, padded_sync) depth 20, tt),
-  (
-    (search (sendable, heap.crosses, padded_send, padded_sync) depth 20, tt),
-    (
-      (search (sendable, heap.crosses, padded_send, padded_sync) depth 20, tt),
-      (
-        (search (sendable, heap.crosses, padded_send, padded_sync) depth 20, tt),
-        (
-          (search (sendable, heap.crosses, padded_send, padded_sync) depth 20, tt),
-          (
-            (search (sendable, heap.crosses, padded_send, padded_sync) depth 20, tt),
-            (
-              (search (sendable, heap.crosses, padded_send, padded_sync) depth 20, tt),
-              (
-                (search (sendable, heap.crosses, padded_send, padded_sync) depth 20, tt),
-                (
-                  (search (sendable, heap.crosses, padded_send, padded_sync) depth 20, tt),
-                  (
-                    (search (sendable, heap.crosses, padded_send, padded_sync) depth 20, tt),
-                    (
-                      (search (sendable, heap.crosses, padded_send, padded_sync) depth 20, tt),
-                      (
-                        (search (sendable, heap.crosses, padded_send, padded_sync) depth 20, tt),
-                        ((search (sendable, heap.crosses) depth 20, tt), tt),
-                      ),
-                    ),
-                  ),
-                ),
-              ),
-            ),
-          ),
-        ),
-      ),
-    ),
-  ),
-)
+  counted_sync : IsSync (Counted.the_row N)
+  counted_sync = search (sendable, counted_fields_sync) depth 20
 
 -- a value
 places_send : EachSend (enum.shape Place.the_type).variants
 places_send = (
   (search (sendable, short_send) depth 20, tt),
-  ((search (sendable, blocks_send) depth 20, tt), tt),
+  (
+    (search (sendable, counted_send) depth 20, tt),
+    (
+      (search (sendable, counted_send) depth 20, tt),
+      (
+        (search (sendable, counted_send) depth 20, tt),
+        (
+          (search (sendable, counted_send) depth 20, tt),
+          (
+            (search (sendable, counted_send) depth 20, tt),
+            (
+              (search (sendable, counted_send) depth 20, tt),
+              (
+                (search (sendable, counted_send) depth 20, tt),
+                (
+                  (search (sendable, counted_send) depth 20, tt),
+                  (
+                    (search (sendable, counted_send) depth 20, tt),
+                    (
+                      (search (sendable, counted_send) depth 20, tt),
+                      (
+                        (search (sendable, counted_send) depth 20, tt),
+                        (
+                          (search (sendable, counted_send) depth 20, tt),
+                          (
+                            (search (sendable, counted_send) depth 20, tt),
+                            (
+                              (search (sendable, counted_send) depth 20, tt),
+                              ((search (sendable, heap.crosses) depth 20, tt), tt),
+                            ),
+                          ),
+                        ),
+                      ),
+                    ),
+                  ),
+                ),
+              ),
+            ),
+          ),
+        ),
+      ),
+    ),
+  ),
 )
 
 places_sync : EachSync (enum.shape Place.the_type).variants
 places_sync = (
   (search (sendable, short_sync) depth 20, tt),
-  ((search (sendable, blocks_sync) depth 20, tt), tt),
+  (
+    (search (sendable, counted_sync) depth 20, tt),
+    (
+      (search (sendable, counted_sync) depth 20, tt),
+      (
+        (search (sendable, counted_sync) depth 20, tt),
+        (
+          (search (sendable, counted_sync) depth 20, tt),
+          (
+            (search (sendable, counted_sync) depth 20, tt),
+            (
+              (search (sendable, counted_sync) depth 20, tt),
+              (
+                (search (sendable, counted_sync) depth 20, tt),
+                (
+                  (search (sendable, counted_sync) depth 20, tt),
+                  (
+                    (search (sendable, counted_sync) depth 20, tt),
+                    (
+                      (search (sendable, counted_sync) depth 20, tt),
+                      (
+                        (search (sendable, counted_sync) depth 20, tt),
+                        (
+                          (search (sendable, counted_sync) depth 20, tt),
+                          (
+                            (search (sendable, counted_sync) depth 20, tt),
+                            (
+                              (search (sendable, counted_sync) depth 20, tt),
+                              ((search (sendable, heap.crosses) depth 20, tt), tt),
+                            ),
+                          ),
+                        ),
+                      ),
+                    ),
+                  ),
+                ),
+              ),
+            ),
+          ),
+        ),
+      ),
+    ),
+  ),
 )
 
 shared_fields_send : AllSend (shape SharedInside.the_type).fields
@@ -285,7 +289,7 @@ value_sync = search (sendable, shared_fields_sync) depth 20
 keys_fields : AllSend (shape KeysInside.the_type).fields
 keys_fields = (
   search sendable depth 20,
-  (search (sendable, crosses, heap.crosses) depth 20, (search (sendable, heap.crosses) depth 20, tt)),
+  (search (sendable, crosses, heap.crosses) depth 30, (search (sendable, heap.crosses) depth 20, tt)),
 )
 
 pub keys_send : IsSend Keys.the_row

@@ -1,13 +1,12 @@
 -- Keys of bytes under a seed.
 use Rattle.std.specs.Prelude.{◌≡◌, ◌⊎◌, ℕ, ◌<◌, ◌≤◌, Bool, ◌&&◌, nat_eq, max, List, length}
 use Rattle.std.specs.Cmp.Lexicographic.{pointwise}
-use Rattle.std.specs.Global.{Global}
 use Rattle.bin_history.specs.declared.op.Op.{Op}
 use Rattle.bin_history.specs.declared.op.Op.TheVariants as op
 use Rattle.functions.specs.declared.nothing.NoFunction.{NoFunction}
 use Rattle.facing_maps.specs.Statuses.{facing_longest, facing_longest_value, facing_no_memory, facing_too_long}
+use Rattle.seeded_keys.specs.Places.{KeyView}
 use Rattle.seeded_keys.specs.Seeds.{keyed}
-use Rattle.seeded_keys.specs.declared.hashed.Hashed.{Hashed}
 use Rattle.seeded_keys.specs.declared.seed.Seed.{Seed}
 
 -- a key, a value, or room for a value
@@ -16,7 +15,7 @@ Bytes = List ℕ
 
 -- bytes beside their code
 abbrev pub Key : Type 0
-Key = Hashed Global
+Key = KeyView
 
 -- the key that a seed makes of bytes: its code is that of the seed, so equal bytes under one seed are one key
 abbrev pub key_of : Seed → Bytes → Key

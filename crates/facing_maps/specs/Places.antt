@@ -4,30 +4,28 @@ use Rattle.std.specs.Arc.{arc_value}
 use Rattle.chm.specs.Headline.{QuietView}
 use Rattle.facing_maps.specs.declared.closed.Owner.{Owner}
 use Rattle.facing_maps.specs.declared.closed.Owner.TheVariants.{One, Several}
-use Rattle.facing_maps.specs.declared.shared.Block.{Block}
-use Rattle.facing_maps.specs.declared.shared.Block.TheVariants.{UpTo46, UpTo62, UpTo78, UpTo94, UpTo110, UpTo126}
-use Rattle.facing_maps.specs.declared.shared.Block.TheVariants.{UpTo142, UpTo158, UpTo190, UpTo222, UpTo254, UpTo318, Longer}
 use Rattle.facing_maps.specs.declared.shared.Place.{Place}
-use Rattle.facing_maps.specs.declared.shared.Place.TheVariants.{Inline, Shared}
-
-abbrev pub bytes_in : Block → List ℕ
-bytes_in (UpTo46 bytes) = arc_value bytes
-bytes_in (UpTo62 bytes) = arc_value bytes
-bytes_in (UpTo78 bytes) = arc_value bytes
-bytes_in (UpTo94 bytes) = arc_value bytes
-bytes_in (UpTo110 bytes) = arc_value bytes
-bytes_in (UpTo126 bytes) = arc_value bytes
-bytes_in (UpTo142 bytes) = arc_value bytes
-bytes_in (UpTo158 bytes) = arc_value bytes
-bytes_in (UpTo190 bytes) = arc_value bytes
-bytes_in (UpTo222 bytes) = arc_value bytes
-bytes_in (UpTo254 bytes) = arc_value bytes
-bytes_in (UpTo318 bytes) = arc_value bytes
-bytes_in (Longer bytes) = (arc_value bytes).items
+use Rattle.facing_maps.specs.declared.shared.Place.TheVariants.{Inline, UpTo32, UpTo40, UpTo48, UpTo64, UpTo80, UpTo96}
+use Rattle.facing_maps.specs.declared.shared.Place.TheVariants.{UpTo112, UpTo128, UpTo144, UpTo160, UpTo192, UpTo224}
+use Rattle.facing_maps.specs.declared.shared.Place.TheVariants.{UpTo256, UpTo320, Longer}
 
 abbrev pub bytes_at : Place → List ℕ
 bytes_at (Inline short) = short
-bytes_at (Shared block) = bytes_in block
+bytes_at (UpTo32 bytes) = bytes
+bytes_at (UpTo40 bytes) = bytes
+bytes_at (UpTo48 bytes) = bytes
+bytes_at (UpTo64 bytes) = bytes
+bytes_at (UpTo80 bytes) = bytes
+bytes_at (UpTo96 bytes) = bytes
+bytes_at (UpTo112 bytes) = bytes
+bytes_at (UpTo128 bytes) = bytes
+bytes_at (UpTo144 bytes) = bytes
+bytes_at (UpTo160 bytes) = bytes
+bytes_at (UpTo192 bytes) = bytes
+bytes_at (UpTo224 bytes) = bytes
+bytes_at (UpTo256 bytes) = bytes
+bytes_at (UpTo320 bytes) = bytes
+bytes_at (Longer bytes) = (arc_value bytes).items
 
 abbrev pub quiet_of : {K V F : Type 0} → Owner K V F → QuietView K V F
 quiet_of (One quiet) = quiet

@@ -1,9 +1,9 @@
 //! Keys of bytes under a seed.
-ghost use Rattle.std.specs.Prelude.{◌≡◌, ◌≤◌, IfOk, IsOk, length};
+ghost use Rattle.std.specs.Prelude.{◌≡◌, ◌≤◌, IfOk, IsOk, length, []};
 ghost use Rattle.seeded_keys.specs.Seeds.{keyed};
 ghost use Rattle.facing_maps.specs.Keys.{key_of};
 
-use seeded_keys::{CompactBytes, Hashed, Query, Seed};
+use seeded_keys::{Hashed, Query, Seed};
 use std::alloc::{AllocError, Global};
 use std::marker::Model;
 use std::mem;
@@ -11,12 +11,12 @@ use std::mem;
 /// A key of bytes, with its code under the seed of its map.
 pub type SeededKey = Hashed<Global>;
 
-/// The seed of a map's keys, and room for the bytes of one key of more than 30, which grows to those of
-/// the longest key that a call was made on. Contracts see the seed.
+/// The seed of a map's keys, and room for the bytes of one key of more than 18, if a call was made on one,
+/// which grows to those of the longest. Contracts see the seed.
 #[derive(Drop)]
 pub struct Keys {
     seed: Seed,
-    room: Vec<u8, Global>,
+    room: Option<Box<Vec<u8, Global>, Global>>,
     alloc: Global,
 }
 
@@ -35,7 +35,7 @@ impl Keys {
     {
         Keys {
             seed,
-            room: Vec::new(alloc),
+            room: None,
             alloc,
         }
     }
@@ -60,29 +60,42 @@ impl Keys {
         self.seed.query(bytes)
     }
 
-    /// The key of these bytes. At most 30 lie in the key, and it takes no memory. More lie in the room,
-    /// until it is taken back: it takes memory where the room is too small, and where it gets none the
-    /// room is empty.
-    pub(crate) fn key(&mut self, bytes: &[u8]) -> Result<SeededKey, AllocError>
-        ensures key { IfOk result (λ k. k ≡ key_of self.old bytes.now) }
-        ensures short { length bytes.now ≤ 30 → IsOk result }
+    /// The room, empty. It takes memory the first time.
+    fn empty_room(&mut self) -> Result<Box<Vec<u8, Global>, Global>, AllocError>
+        ensures room { IfOk result (λ room. room.value.items ≡ []) }
         ensures same { self.new ≡ self.old }
     {
-        if let Some(short) = CompactBytes::short(bytes) {
-            return Ok(self.seed.key(short));
+        match mem::replace(&mut self.room, None) {
+            Some(mut room) => {
+                room.clear();
+                Ok(room)
+            }
+            None => Ok(Box::new(self.alloc, Vec::new(self.alloc))?),
         }
-        let mut room = mem::replace(&mut self.room, Vec::new(self.alloc));
-        room.clear();
+    }
+
+    /// The key of these bytes. At most 18 lie in the key, and it takes no memory. More lie in the room,
+    /// until it is taken back: it takes memory where the room is too small, and where it gets none there is
+    /// no room.
+    pub(crate) fn key(&mut self, bytes: &[u8]) -> Result<SeededKey, AllocError>
+        ensures key { IfOk result (λ k. k ≡ key_of self.old bytes.now) }
+        ensures short { length bytes.now ≤ 18 → IsOk result }
+        ensures same { self.new ≡ self.old }
+    {
+        if let Some(short) = self.seed.short_key(bytes) {
+            return Ok(short);
+        }
+        let mut room = self.empty_room()?;
         room.extend_from_slice(bytes)?;
-        Ok(self.seed.key(CompactBytes::new(room)))
+        Ok(self.seed.key(room))
     }
 
     /// Takes the room of a key back, where its bytes lie there.
     pub(crate) fn take_back(&mut self, key: SeededKey)
         ensures { self.new ≡ self.old }
     {
-        if let Some(room) = key.into_bytes().into_room() {
-            self.room = room;
+        if let Some(room) = key.into_room() {
+            self.room = Some(room);
         }
     }
 }

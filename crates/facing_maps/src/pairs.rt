@@ -173,7 +173,7 @@ pub fn copy_pairs<V, L: Laying<V>>(
     let mut used = 0;
     let mut rest = pairs;
     while let Some((pair, tail)) = rest.split_first() {
-        let key = pair.0.bytes().bytes();
+        let key = pair.0.bytes();
         let value = laying.laid(&pair.1);
         if count >= key_lens.len()
             || count >= numbers.len()
@@ -200,7 +200,7 @@ pub fn total<V, L: Laying<V>>(pairs: &[(SeededKey, V)], laying: &L) -> u64
     let mut total = 0u64;
     let mut rest = pairs;
     while let Some((pair, tail)) = rest.split_first() {
-        let key = pair.0.bytes().bytes().len() as u64;
+        let key = pair.0.bytes().len() as u64;
         total = total
             .saturating_add(key)
             .saturating_add(laying.laid(&pair.1).len() as u64);

@@ -1,43 +1,38 @@
 //! Values of bytes.
 ghost use Rattle.std.specs.Prelude.{◌≡◌, ◌≤◌, IfOk, IsOk, length};
-ghost use Rattle.std.specs.Arc.{arc_value};
-ghost use Rattle.facing_maps.specs.Places.{bytes_in};
+ghost use Rattle.facing_maps.specs.Places.{bytes_at};
 
-use crate::padded::Padded;
+use crate::counted::Counted;
 use bin_history::Exact;
 use seeded_keys::ShortBytes;
 use std::alloc::{AllocError, Global};
 use std::marker::Model;
 use std::sync::Arc;
 
-/// More than 30 bytes, with several owners.
-#[derive(Drop)]
-enum Block {
-    /// At most 318 of them, in one block with the number of their owners.
-    UpTo46(Arc<Padded<46>, Global>),
-    UpTo62(Arc<Padded<62>, Global>),
-    UpTo78(Arc<Padded<78>, Global>),
-    UpTo94(Arc<Padded<94>, Global>),
-    UpTo110(Arc<Padded<110>, Global>),
-    UpTo126(Arc<Padded<126>, Global>),
-    UpTo142(Arc<Padded<142>, Global>),
-    UpTo158(Arc<Padded<158>, Global>),
-    UpTo190(Arc<Padded<190>, Global>),
-    UpTo222(Arc<Padded<222>, Global>),
-    UpTo254(Arc<Padded<254>, Global>),
-    UpTo318(Arc<Padded<318>, Global>),
-    /// More of them, in a block beside that of their owners.
-    Longer(Arc<Vec<u8, Global>, Global>),
-}
-
 /// Where the bytes lie.
 #[derive(Drop)]
 enum Place {
-    Inline(ShortBytes),
-    Shared(Block),
+    Inline(ShortBytes<22>),
+    /// More than 22 of them, with several owners: at most 320 in one block with the number of their owners.
+    UpTo32(Counted<32>),
+    UpTo40(Counted<40>),
+    UpTo48(Counted<48>),
+    UpTo64(Counted<64>),
+    UpTo80(Counted<80>),
+    UpTo96(Counted<96>),
+    UpTo112(Counted<112>),
+    UpTo128(Counted<128>),
+    UpTo144(Counted<144>),
+    UpTo160(Counted<160>),
+    UpTo192(Counted<192>),
+    UpTo224(Counted<224>),
+    UpTo256(Counted<256>),
+    UpTo320(Counted<320>),
+    /// More than 320, in a block beside that of their owners.
+    Longer(Arc<Vec<u8, Global>, Global>),
 }
 
-/// Bytes as a value of any length. At most 30 lie in the value itself, and a clone copies them. More have
+/// Bytes as a value of any length. At most 22 lie in the value itself, and a clone copies them. More have
 /// several owners, and a clone is one more. So a clone takes no memory. Contracts see the bytes.
 #[derive(Drop)]
 pub struct SharedBytes {
@@ -53,93 +48,89 @@ impl Model for SharedBytes {
     ghost view = { λ b. bytes_at b.place };
 }
 
-/// A copy of these bytes in one block with the number of their owners.
-fn in_one_block<const N: usize>(
-    alloc: Global,
-    bytes: &[u8],
-) -> Result<Arc<Padded<N>, Global>, AllocError>
-    requires fits { length bytes.now ≤ N }
-    requires short { length bytes.now ≤ 1000 }
-    ensures { IfOk result (λ block. arc_value block ≡ bytes.now) }
-{
-    Ok(Arc::new(alloc, Padded::copy_of(bytes))?)
-}
-
-impl Block {
-    /// A copy of these bytes.
-    fn copy_of(alloc: Global, bytes: &[u8]) -> Result<Block, AllocError>
-        ensures { IfOk result (λ block. bytes_in block ≡ bytes.now) }
+impl Place {
+    /// A copy of these bytes in a block.
+    fn block_of(alloc: Global, bytes: &[u8]) -> Result<Place, AllocError>
+        ensures { IfOk result (λ place. bytes_at place ≡ bytes.now) }
     {
         Ok(match bytes.len() {
-            ..=46 => Block::UpTo46(in_one_block(alloc, bytes)?),
-            ..=62 => Block::UpTo62(in_one_block(alloc, bytes)?),
-            ..=78 => Block::UpTo78(in_one_block(alloc, bytes)?),
-            ..=94 => Block::UpTo94(in_one_block(alloc, bytes)?),
-            ..=110 => Block::UpTo110(in_one_block(alloc, bytes)?),
-            ..=126 => Block::UpTo126(in_one_block(alloc, bytes)?),
-            ..=142 => Block::UpTo142(in_one_block(alloc, bytes)?),
-            ..=158 => Block::UpTo158(in_one_block(alloc, bytes)?),
-            ..=190 => Block::UpTo190(in_one_block(alloc, bytes)?),
-            ..=222 => Block::UpTo222(in_one_block(alloc, bytes)?),
-            ..=254 => Block::UpTo254(in_one_block(alloc, bytes)?),
-            ..=318 => Block::UpTo318(in_one_block(alloc, bytes)?),
-            _ => Block::Longer(Arc::new(alloc, bytes.to_vec(alloc)?)?),
+            ..=32 => Place::UpTo32(Counted::copy_of(alloc, bytes)?),
+            ..=40 => Place::UpTo40(Counted::copy_of(alloc, bytes)?),
+            ..=48 => Place::UpTo48(Counted::copy_of(alloc, bytes)?),
+            ..=64 => Place::UpTo64(Counted::copy_of(alloc, bytes)?),
+            ..=80 => Place::UpTo80(Counted::copy_of(alloc, bytes)?),
+            ..=96 => Place::UpTo96(Counted::copy_of(alloc, bytes)?),
+            ..=112 => Place::UpTo112(Counted::copy_of(alloc, bytes)?),
+            ..=128 => Place::UpTo128(Counted::copy_of(alloc, bytes)?),
+            ..=144 => Place::UpTo144(Counted::copy_of(alloc, bytes)?),
+            ..=160 => Place::UpTo160(Counted::copy_of(alloc, bytes)?),
+            ..=192 => Place::UpTo192(Counted::copy_of(alloc, bytes)?),
+            ..=224 => Place::UpTo224(Counted::copy_of(alloc, bytes)?),
+            ..=256 => Place::UpTo256(Counted::copy_of(alloc, bytes)?),
+            ..=320 => Place::UpTo320(Counted::copy_of(alloc, bytes)?),
+            _ => Place::Longer(Arc::new(alloc, bytes.to_vec(alloc)?)?),
         })
     }
 
     /// The bytes.
     fn bytes(&self) -> &[u8]
-        ensures { result.now ≡ bytes_in self.now }
+        ensures { result.now ≡ bytes_at self.now }
     {
         match self {
-            Block::UpTo46(bytes) => bytes.bytes(),
-            Block::UpTo62(bytes) => bytes.bytes(),
-            Block::UpTo78(bytes) => bytes.bytes(),
-            Block::UpTo94(bytes) => bytes.bytes(),
-            Block::UpTo110(bytes) => bytes.bytes(),
-            Block::UpTo126(bytes) => bytes.bytes(),
-            Block::UpTo142(bytes) => bytes.bytes(),
-            Block::UpTo158(bytes) => bytes.bytes(),
-            Block::UpTo190(bytes) => bytes.bytes(),
-            Block::UpTo222(bytes) => bytes.bytes(),
-            Block::UpTo254(bytes) => bytes.bytes(),
-            Block::UpTo318(bytes) => bytes.bytes(),
-            Block::Longer(bytes) => bytes.as_slice(),
+            Place::Inline(short) => short.bytes(),
+            Place::UpTo32(block) => block.bytes(),
+            Place::UpTo40(block) => block.bytes(),
+            Place::UpTo48(block) => block.bytes(),
+            Place::UpTo64(block) => block.bytes(),
+            Place::UpTo80(block) => block.bytes(),
+            Place::UpTo96(block) => block.bytes(),
+            Place::UpTo112(block) => block.bytes(),
+            Place::UpTo128(block) => block.bytes(),
+            Place::UpTo144(block) => block.bytes(),
+            Place::UpTo160(block) => block.bytes(),
+            Place::UpTo192(block) => block.bytes(),
+            Place::UpTo224(block) => block.bytes(),
+            Place::UpTo256(block) => block.bytes(),
+            Place::UpTo320(block) => block.bytes(),
+            Place::Longer(bytes) => bytes.as_slice(),
         }
     }
 
-    /// One more owner of the bytes.
-    fn again(&self) -> Result<Block, AllocError>
-        ensures { IfOk result (λ block. bytes_in block ≡ bytes_in self.now) }
+    /// The same bytes, where they are inline, or one more owner of them.
+    fn again(&self) -> Result<Place, AllocError>
+        ensures { IfOk result (λ place. bytes_at place ≡ bytes_at self.now) }
     {
         Ok(match self {
-            Block::UpTo46(bytes) => Block::UpTo46(Arc::try_clone(bytes)?),
-            Block::UpTo62(bytes) => Block::UpTo62(Arc::try_clone(bytes)?),
-            Block::UpTo78(bytes) => Block::UpTo78(Arc::try_clone(bytes)?),
-            Block::UpTo94(bytes) => Block::UpTo94(Arc::try_clone(bytes)?),
-            Block::UpTo110(bytes) => Block::UpTo110(Arc::try_clone(bytes)?),
-            Block::UpTo126(bytes) => Block::UpTo126(Arc::try_clone(bytes)?),
-            Block::UpTo142(bytes) => Block::UpTo142(Arc::try_clone(bytes)?),
-            Block::UpTo158(bytes) => Block::UpTo158(Arc::try_clone(bytes)?),
-            Block::UpTo190(bytes) => Block::UpTo190(Arc::try_clone(bytes)?),
-            Block::UpTo222(bytes) => Block::UpTo222(Arc::try_clone(bytes)?),
-            Block::UpTo254(bytes) => Block::UpTo254(Arc::try_clone(bytes)?),
-            Block::UpTo318(bytes) => Block::UpTo318(Arc::try_clone(bytes)?),
-            Block::Longer(bytes) => Block::Longer(Arc::try_clone(bytes)?),
+            Place::Inline(short) => Place::Inline(short.clone()?),
+            Place::UpTo32(block) => Place::UpTo32(block.again()?),
+            Place::UpTo40(block) => Place::UpTo40(block.again()?),
+            Place::UpTo48(block) => Place::UpTo48(block.again()?),
+            Place::UpTo64(block) => Place::UpTo64(block.again()?),
+            Place::UpTo80(block) => Place::UpTo80(block.again()?),
+            Place::UpTo96(block) => Place::UpTo96(block.again()?),
+            Place::UpTo112(block) => Place::UpTo112(block.again()?),
+            Place::UpTo128(block) => Place::UpTo128(block.again()?),
+            Place::UpTo144(block) => Place::UpTo144(block.again()?),
+            Place::UpTo160(block) => Place::UpTo160(block.again()?),
+            Place::UpTo192(block) => Place::UpTo192(block.again()?),
+            Place::UpTo224(block) => Place::UpTo224(block.again()?),
+            Place::UpTo256(block) => Place::UpTo256(block.again()?),
+            Place::UpTo320(block) => Place::UpTo320(block.again()?),
+            Place::Longer(bytes) => Place::Longer(Arc::try_clone(bytes)?),
         })
     }
 }
 
 impl SharedBytes {
-    /// A copy of these bytes. Where there are more than 30, it takes memory for them and for the number of
-    /// their owners: one block, or two where there are more than 318.
+    /// A copy of these bytes. Where there are more than 22, it takes memory for them and for the number of
+    /// their owners: one block, or two where there are more than 320.
     pub fn copy_of(alloc: Global, bytes: &[u8]) -> Result<SharedBytes, AllocError>
         ensures copy { IfOk result (λ b. b ≡ bytes.now) }
-        ensures short { length bytes.now ≤ 30 → IsOk result }
+        ensures short { length bytes.now ≤ 22 → IsOk result }
     {
         let place = match ShortBytes::copy_of(bytes) {
             Some(short) => Place::Inline(short),
-            None => Place::Shared(Block::copy_of(alloc, bytes)?),
+            None => Place::block_of(alloc, bytes)?,
         };
         Ok(SharedBytes { place })
     }
@@ -148,10 +139,7 @@ impl SharedBytes {
     pub fn bytes(&self) -> &[u8]
         ensures { result.now ≡ self.now }
     {
-        match &self.place {
-            Place::Inline(short) => short.bytes(),
-            Place::Shared(block) => block.bytes(),
-        }
+        self.place.bytes()
     }
 }
 
@@ -161,11 +149,9 @@ impl Clone for SharedBytes {
     ghost is_clone = { λ x y. y ≡ x };
 
     fn clone(&self) -> Result<SharedBytes, AllocError> {
-        let place = match &self.place {
-            Place::Inline(short) => Place::Inline(short.clone()?),
-            Place::Shared(block) => Place::Shared(block.again()?),
-        };
-        Ok(SharedBytes { place })
+        Ok(SharedBytes {
+            place: self.place.again()?,
+        })
     }
 }
 

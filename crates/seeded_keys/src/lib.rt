@@ -5,17 +5,17 @@
 //! which makes no key. Keys of two seeds are different keys, also where their bytes are the same.
 #![tactic(auto)]
 
-mod compact;
 mod hashed;
 mod mixing;
 mod number_seed;
+mod padded;
 mod query;
 mod seed;
 mod short;
 
-pub use compact::CompactBytes;
 pub use hashed::Hashed;
 pub use number_seed::NumberSeed;
+pub use padded::Padded;
 pub use query::Query;
 pub use seed::Seed;
 pub use short::ShortBytes;

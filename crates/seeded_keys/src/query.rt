@@ -1,7 +1,6 @@
 //! Bytes with their code, in place of a key.
 ghost use Rattle.std.specs.Prelude.{◌≡◌};
 
-use crate::compact::CompactBytes;
 use crate::hashed::Hashed;
 use hashkeys::{AsKey, MakesKey};
 use std::alloc::{AllocError, Allocator};
@@ -22,21 +21,14 @@ impl<'a, A: Allocator + Clone> AsKey<Hashed<A>> for Query<'a> {
     }
 
     fn is_key(&self, key: &Hashed<A>) -> bool {
-        key.code == self.code && key.bytes.bytes() == self.bytes
+        key.code() == self.code && key.bytes() == self.bytes
     }
 }
 
-/// Makes the key with the code that it has: the bytes are not hashed again. At most 30 bytes take no
+/// Makes the key with the code that it has: the bytes are not hashed again. At most 18 bytes take no
 /// memory.
 impl<'a, A: Allocator + Clone> MakesKey<Hashed<A>, A> for Query<'a> {
     fn make(self, alloc: &A) -> Result<Hashed<A>, AllocError> {
-        let bytes = match CompactBytes::short(self.bytes) {
-            Some(short) => short,
-            None => CompactBytes::new(self.bytes.to_vec(alloc.clone()?)?),
-        };
-        Ok(Hashed {
-            code: self.code,
-            bytes,
-        })
+        Hashed::copy_of(alloc, self.code, self.bytes)
     }
 }

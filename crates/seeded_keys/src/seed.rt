@@ -1,8 +1,7 @@
 //! The seed of codes.
-ghost use Rattle.std.specs.Prelude.{◌≡◌, ◌<◌, ◌^◌};
+ghost use Rattle.std.specs.Prelude.{◌≡◌, ◌<◌, ◌≤◌, ◌^◌, MatchOption, length};
 ghost use Rattle.seeded_keys.specs.Seeds.{keyed};
 
-use crate::compact::CompactBytes;
 use crate::hashed::Hashed;
 use crate::query::Query;
 use core::hash::keyed_hasher;
@@ -52,13 +51,26 @@ impl Seed {
         (hasher.finish() & 0xffff_ffff) as u32
     }
 
-    /// The key of these bytes. It keeps its code, so that the bytes are hashed once.
-    pub fn key<A: Allocator>(&self, bytes: CompactBytes<A>) -> Hashed<A>
-        ensures code { result.code ≡ keyed self.now bytes }
-        ensures bytes { result.bytes ≡ bytes }
+    /// The key of these bytes, or none where they are too many to lie in it. It takes no memory.
+    pub fn short_key<A: Allocator>(&self, bytes: &[u8]) -> Option<Hashed<A>>
+        ensures { MatchOption result (18 < length bytes.now)
+            (λ key. (key ≡ record { code = keyed self.now bytes.now; bytes = bytes.now })
+            × (length bytes.now ≤ 18)) }
     {
-        let code = self.code(bytes.bytes());
-        Hashed { code, bytes }
+        if bytes.len() > 18 {
+            return None;
+        }
+        Hashed::short(self.code(bytes), bytes)
+    }
+
+    /// The key of these bytes. It keeps its code, so that the bytes are hashed once. At most 18 are copied,
+    /// and their room is given back.
+    pub fn key<A: Allocator>(&self, bytes: Box<Vec<u8, A>, A>) -> Hashed<A>
+        ensures code { result.code ≡ keyed self.now bytes.value.items }
+        ensures bytes { result.bytes ≡ bytes.value.items }
+    {
+        let code = self.code(bytes.as_slice());
+        Hashed::of_room(code, bytes)
     }
 
     /// What stands for the key of these bytes, where none is made. A query of another seed finds

@@ -8,13 +8,13 @@ mod bins;
 #[cfg(test)]
 mod chains;
 #[cfg(test)]
-mod compact;
-#[cfg(test)]
 mod composites;
 #[cfg(test)]
 mod held;
 #[cfg(test)]
 mod keys;
+#[cfg(test)]
+mod keys_of_bytes;
 #[cfg(test)]
 mod ledgers;
 #[cfg(test)]

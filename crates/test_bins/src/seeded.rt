@@ -1,7 +1,7 @@
 //! Codes of bytes under a seed, and keys that keep them. The codes are the lower halves of SipHash-1-3
 //! as Rust's and Python's libraries compute it.
 use hashkeys::{AsKey, HashKey, MakesKey};
-use seeded_keys::{CompactBytes, Hashed, Query, Seed};
+use seeded_keys::{Hashed, Query, Seed};
 use std::alloc::Global;
 use std::io;
 use std::process::Abort;
@@ -60,7 +60,7 @@ fn codes_under_a_seed_are_known(rt: HostRuntime) {
         }
         assert!(rt; seed.code(bytes.as_slice()) == row.code);
         assert!(rt; code_of(seed.query(bytes.as_slice())) == row.code);
-        assert!(rt; seed.key(CompactBytes::new(bytes)).hash_code() == row.code);
+        assert!(rt; key(&rt, rt.alloc(), seed, bytes.as_slice()).hash_code() == row.code);
     }
 }
 
@@ -70,7 +70,8 @@ fn code_of(query: Query<'_>) -> u32 {
 }
 
 fn key(rt: &impl Abort, alloc: Global, seed: Seed, text: &[u8]) -> Hashed<Global> {
-    seed.key(CompactBytes::new(Vec::from_slice(alloc, text).expect(rt, "memory")))
+    let room = Vec::from_slice(alloc, text).expect(rt, "memory");
+    seed.key(Box::new(alloc, room).expect(rt, "memory"))
 }
 
 #[test]
@@ -91,29 +92,28 @@ fn a_query_finds_the_key_of_its_seed_alone(rt: HostRuntime) {
     assert!(rt; !first.query(b"BBAaBB").is_key(&one));
     assert!(rt; one == one.clone().expect(&rt, "memory"));
     assert!(rt; one != key(&rt, rt.alloc(), second, b"AaAaBB"));
-    assert!(rt; one.bytes().bytes() == b"AaAaBB".as_slice());
-    assert!(rt; one.into_bytes().bytes() == b"AaAaBB".as_slice());
+    assert!(rt; one.bytes() == b"AaAaBB".as_slice());
 }
 
-/// At most thirty bytes lie in the key itself. Out of memory for more, none is made.
+/// At most eighteen bytes lie in the key itself. Out of memory for more, none is made.
 #[test]
 fn a_query_makes_its_key_and_asks_for_memory_for_long_bytes(rt: HostRuntime) {
     let alloc = Refusing::new(rt.alloc());
     let seed = Seed::of(1, 2);
-    let thirty = b"abcdefghijklmnopqrstuvwxyz0123".as_slice();
-    let more = b"abcdefghijklmnopqrstuvwxyz01234".as_slice();
+    let eighteen = b"abcdefghijklmnopqr".as_slice();
+    let more = b"abcdefghijklmnopqrs".as_slice();
     alloc.refuse_after(0);
-    for text in [b"".as_slice(), thirty] {
+    for text in [b"".as_slice(), eighteen] {
         let made: Hashed<Alloc<'_>> = seed.query(text).make(&&alloc).expect(&rt, "no request");
         assert!(rt; made.hash_code() == seed.code(text));
-        assert!(rt; made.bytes().bytes() == text);
+        assert!(rt; made.bytes() == text);
     }
     assert!(rt; alloc.requests() == 0);
     let refused: Result<Hashed<Alloc<'_>>, _> = seed.query(more).make(&&alloc);
     assert!(rt; refused.is_err());
     let made: Hashed<Alloc<'_>> = seed.query(more).make(&&alloc).expect(&rt, "memory");
     assert!(rt; made.hash_code() == seed.code(more));
-    assert!(rt; made.bytes().bytes() == more);
+    assert!(rt; made.bytes() == more);
 }
 
 #[test]

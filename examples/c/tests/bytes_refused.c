@@ -156,13 +156,14 @@ static void hold(facing_bytes_handle *client, unsigned key) {
     facing_bytes_free(&held);
 }
 
-/* A key of 30 bytes and values of fewer lie in the map's node: a put at such a key, where it is there, takes no memory. */
+/* A key of at most 18 bytes and values of at most 22 lie in the map's node: a put at such a key, where it is there, takes no
+ * memory. */
 static void put_short(facing_bytes_handle *map, facing_bytes_handle *client) {
     long before;
-    make(map, client, 1, 6, 1);
+    make(map, client, 1, 3, 1);
     look(map, client, 1);
     before = requests;
-    make(map, client, 1, 6, 2);
+    make(map, client, 1, 3, 24);
     want(requests == before, "a put of few bytes that takes memory");
 }
 
@@ -211,17 +212,17 @@ static void live(void) {
     want(blocks == 0, "blocks that are left");
 }
 
-/* A value of 31 to 318 bytes takes one block, and a longer one two. Nothing is refused. */
+/* A value of 23 to 320 bytes takes one block, and a longer one two. Nothing is refused. */
 static void put_longer(void) {
     static const uint8_t bytes[1000];
-    static const size_t lens[] = {31, 46, 47, 318, 319, 1000};
+    static const size_t lens[] = {23, 32, 33, 40, 41, 320, 321, 1000};
     facing_bytes_handle map, client = {NULL};
     want(facing_bytes_open(16, 1, &map) == FACING_DONE && facing_bytes_client(&map, &client) == FACING_DONE, "a map");
     want(facing_bytes_put(&client, "key", 3, "", 0, NULL, 0, NULL) == FACING_DONE, "a put of no bytes");
     for (size_t i = 0; i < sizeof lens / sizeof *lens; i++) {
         long before = requests;
         want(facing_bytes_put(&client, "key", 3, bytes, lens[i], NULL, 0, NULL) == FACING_DONE, "a put of many bytes");
-        want(requests == before + (lens[i] <= 318 ? 1 : 2), "how many blocks a value takes");
+        want(requests == before + (lens[i] <= 320 ? 1 : 2), "how many blocks a value takes");
     }
     facing_bytes_free(&client);
     facing_bytes_free(&map);

@@ -15,7 +15,7 @@ loop-pair-preserved g c =
         total,
         c.saturating_add.ensures,
         c.saturating_add-total.ensures,
-        length_snoc laid done e c.bytes-in-Some.result.now c.laid.result.now (length (bytes_of laid done))
-            (c.bytes-in-Some.ensures ∙ c.bytes.ensures) c.laid.ensures refl,
+        length_snoc laid done e c.bytes.result.now c.laid.result.now (length (bytes_of laid done))
+            c.bytes.ensures c.laid.ensures refl,
       ),
     )
