@@ -137,7 +137,7 @@ def counts_stay_right(server):
         it.calls([["PERSIST", key] for key in it.call("KEYS", "*")])
         time.sleep(0.3)
         keys = it.call("KEYS", "*")
-        wanted = [sum(len(key) + 8 + it.call("STRLEN", key) for key in keys), len(keys)]
+        wanted = [sum(len(key) + 4 + it.call("STRLEN", key) for key in keys), len(keys)]
         until = time.monotonic() + 60
         while [info(it, "used_memory_dataset"), it.call("DBSIZE")] != wanted:
             must(time.monotonic() < until, f"INFO counts {info(it, 'used_memory_dataset')} bytes, and there are {wanted}")

@@ -134,8 +134,9 @@ int64_t day_of(uint64_t deadline);
 
 /* == store.c: a client of the map, with room for a value == */
 
-/* A value in the map has a head before its bytes: a generation, and a deadline in milliseconds of CLOCK_MONOTONIC, or 0. */
-enum { HEAD = 8 };
+/* A value in the map has a head before its bytes: a generation, and a deadline in milliseconds of CLOCK_MONOTONIC, if it has
+ * one. Without one the head is short, so that a value of up to 18 bytes lies in the map's node. */
+enum { HEAD = 8, SHORT_HEAD = 4 };
 
 #define LONGEST_VALUE ((size_t)FACING_LONGEST_VALUE - HEAD)
 
@@ -155,6 +156,7 @@ struct store {
     struct buffer seen, next; /* what was there, and what is to be stored */
     uint8_t head[HEAD];       /* of what was there, where the rest is not copied */
     uint64_t next_deadline;
+    size_t next_head; /* how many bytes the head of `next` has */
     uint32_t next_status; /* why `next` cannot be stored; FACING_DONE where it can */
     struct candidates candidates;
     struct counts counts; /* what is not yet told */
@@ -164,7 +166,7 @@ struct store {
 /* What a call found at a key. A value is stored until it is removed; it is live until its deadline, or a FLUSHALL. */
 struct found {
     bool is_stored, is_live, is_dead;
-    size_t stored_len;
+    size_t stored_len, head_len;
     uint64_t deadline;
     struct bytes value; /* its bytes where the call copies them, and else only how many they are */
 };

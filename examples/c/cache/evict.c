@@ -7,12 +7,12 @@
 #include <sys/mman.h>
 
 enum { LOOKED_AT = 64, SPARING = 16, MOST_STEPS = 256, MOST_EVICTED = 128, FIRSTS = 8, LEAST_BITS = 1 << 13 };
-enum { NODE = 88, SHORT = 30, BLOCK = 16, ONE_BLOCK = 318, OWNERS = 40 };
+enum { NODE = 100, SHORT_KEY = 18, SHORT = 22, BLOCK = 16, ONE_BLOCK = 320, OWNERS = 32 };
 
-/* About how many bytes a key takes with its value and the value's head. */
+/* About how many bytes a key takes with its value and the longest head: a new deadline is never refused. */
 size_t memory_of(size_t key_len, size_t value_len) {
-    size_t stored = HEAD + value_len, beside = stored > ONE_BLOCK ? BLOCK + OWNERS : 2 * BLOCK;
-    return NODE + (key_len > SHORT ? key_len + BLOCK : 0) + (stored > SHORT ? stored + beside : 0);
+    size_t stored = HEAD + value_len, beside = stored > ONE_BLOCK ? BLOCK + OWNERS : BLOCK;
+    return NODE + (key_len > SHORT_KEY ? key_len + BLOCK : 0) + (stored > SHORT ? stored + beside : 0);
 }
 
 /* Makes the table of bits: 8 for each key of 128 bytes. The system gives its pages when they are used. */

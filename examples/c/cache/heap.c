@@ -1,5 +1,6 @@
 /* The memory of the server and of the library, which is counted: small blocks without the header that malloc puts before
- * each, larger ones from malloc. A key and a value that are short lie in one small block, of 88 bytes. The library calls the
+ * each, larger ones from malloc. A key and a value that are short lie in the
+ * table, or in one small block of 64 bytes. The library calls the
  * three functions of facing_heap.h, which are defined at the end.
  *
  * A slab has 64 KB of blocks of one size. A thread keeps free blocks of each size, and takes and gives them many at once. A
@@ -12,7 +13,7 @@
 #include <string.h>
 #include <sys/mman.h>
 
-enum { STEP = 8, LARGEST = 96, SIZES = LARGEST / STEP, BATCH = 64, SLAB = 1 << 16, SLABS = 16, LEAF = 1 << 16 };
+enum { STEP = 8, LARGEST = 128, SIZES = LARGEST / STEP, BATCH = 64, SLAB = 1 << 16, SLABS = 16, LEAF = 1 << 16 };
 enum { HEADER = 8, MOST_UNTOLD = 4096, LEAST_ROOM = 256 };
 
 /* AddressSanitizer looks at malloc's blocks. */

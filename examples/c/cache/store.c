@@ -7,13 +7,34 @@
 #include "cache.h"
 #include <string.h>
 
-/* A head has the generation's last 16 bits, the deadline, and a zero bit. If the deadline is in 2^47 milliseconds or more, it
- * has the last 8 bits, the deadline in units of 256, and a one bit. */
-enum { NEAR = 47, GENERATION_AT = 48, FAR_GENERATION_AT = 56, COARSE = 8 };
+/* The last two bits of a head tell its kind. A near head has the generation's last 16 bits and the deadline. A far one, for
+ * deadlines of 2^46 milliseconds or more, has the last 8 bits, and the deadline in units of 512. A bare one has the last 16
+ * bits alone, in 4 bytes. */
+enum { NEAR_HEAD = 0, FAR_HEAD = 1, BARE_HEAD = 2, KIND = 3, KIND_BITS = 2 };
+enum { NEAR = 46, GENERATION_AT = 48, FAR_GENERATION_AT = 56, BARE_GENERATION_AT = 16, COARSE = 9 };
 
 static uint64_t head_of(uint64_t generation, uint64_t deadline) {
-    if (deadline >> NEAR == 0) return generation << GENERATION_AT | deadline << 1;
-    return generation << FAR_GENERATION_AT | deadline >> COARSE << 1 | 1;
+    if (deadline == 0) return (generation & UINT16_MAX) << BARE_GENERATION_AT | BARE_HEAD;
+    if (deadline >> NEAR == 0) return generation << GENERATION_AT | deadline << KIND_BITS | NEAR_HEAD;
+    return generation << FAR_GENERATION_AT | deadline >> COARSE << KIND_BITS | FAR_HEAD;
+}
+
+/* Whether a head is of another generation. */
+static bool is_of_other(uint64_t head, uint64_t generation) {
+    switch (head & KIND) {
+    case BARE_HEAD: return ((head >> BARE_GENERATION_AT ^ generation) & UINT16_MAX) != 0;
+    case FAR_HEAD: return (head >> FAR_GENERATION_AT ^ (generation & UINT8_MAX)) != 0;
+    default: return (head >> GENERATION_AT ^ (generation & UINT16_MAX)) != 0;
+    }
+}
+
+/* The deadline of a head, or 0. */
+static uint64_t deadline_of(uint64_t head) {
+    switch (head & KIND) {
+    case BARE_HEAD: return 0;
+    case FAR_HEAD: return (head & (((uint64_t)1 << FAR_GENERATION_AT) - 1)) >> KIND_BITS << COARSE;
+    default: return (head & (((uint64_t)1 << GENERATION_AT) - 1)) >> KIND_BITS;
+    }
 }
 
 static uint64_t generation_of(const struct store *store) {
@@ -65,18 +86,21 @@ void store_next(struct store *store, uint64_t deadline, struct bytes front, stru
     store->next_deadline = deadline;
     if (deadline >> NEAR != 0) atomic_store(&store->cache->has_far, true);
     next->len = 0;
+    store->next_head = deadline == 0 ? SHORT_HEAD : HEAD;
     store->next_status = is_long ? FACING_TOO_LONG : reserve(store, next, HEAD + front.len + back.len);
     if (store->next_status != FACING_DONE) return;
-    memcpy(next->at, &head, HEAD);
-    if (front.len > 0) memcpy(next->at + HEAD, front.at, front.len);
-    if (back.len > 0) memcpy(next->at + HEAD + front.len, back.at, back.len);
-    next->len = HEAD + front.len + back.len;
+    memcpy(next->at, &head, store->next_head);
+    next->len = store->next_head;
+    if (front.len > 0) memcpy(next->at + next->len, front.at, front.len);
+    next->len += front.len;
+    if (back.len > 0) memcpy(next->at + next->len, back.at, back.len);
+    next->len += back.len;
 }
 
 /* Writes bytes over what is to be stored, from a place on, and zeros between its end and the place. */
 void store_over(struct store *store, size_t at, struct bytes bytes) {
     struct buffer *next = &store->next;
-    size_t begin = HEAD + at, end = begin + bytes.len;
+    size_t begin = store->next_head + at, end = begin + bytes.len;
     if (store->next_status == FACING_DONE && (at > LONGEST_VALUE || bytes.len > LONGEST_VALUE - at))
         store->next_status = FACING_TOO_LONG;
     if (store->next_status == FACING_DONE && end > next->len) store->next_status = reserve(store, next, end - next->len);
@@ -90,17 +114,17 @@ void store_over(struct store *store, size_t at, struct bytes bytes) {
 
 /* What the head of a value that is stored says, at that time; now where it is 0. */
 void store_find(const struct store *store, struct stored stored, uint64_t now, struct found *found) {
-    uint64_t head;
-    unsigned at;
+    uint64_t head = 0;
     *found = (struct found){.is_stored = true, .stored_len = stored.len};
-    if (stored.len < HEAD) return;
-    memcpy(&head, stored.head, HEAD);
-    at = head & 1 ? FAR_GENERATION_AT : GENERATION_AT;
-    found->is_dead = (head ^ generation_of(store) << at) >> at != 0;
+    if (stored.len < SHORT_HEAD) return;
+    found->head_len = (stored.head[0] & KIND) == BARE_HEAD ? SHORT_HEAD : HEAD;
+    if (stored.len < found->head_len) return;
+    memcpy(&head, stored.head, found->head_len);
+    found->is_dead = is_of_other(head, generation_of(store));
     if (found->is_dead) return;
-    found->deadline = (head & (((uint64_t)1 << at) - 1)) >> 1 << (head & 1 ? COARSE : 0);
+    found->deadline = deadline_of(head);
     found->is_live = found->deadline == 0 || (now != 0 ? now : now_ms()) < found->deadline;
-    found->value.len = stored.len - HEAD;
+    found->value.len = stored.len - found->head_len;
 }
 
 /* What a call said of a key, whose answer has the first bytes there. */
@@ -123,7 +147,7 @@ uint32_t store_view(struct store *store, struct bytes key, struct found *found, 
         if (status == FACING_DONE && held->at != NULL) status = facing_bytes_read(held, 0, seen->at, HEAD, &answer);
     }
     if (status == FACING_DONE) find_answer(store, answer, seen->at, found);
-    if (found->is_live && held->at == NULL) found->value.at = seen->at + HEAD;
+    if (found->is_live && held->at == NULL) found->value.at = seen->at + found->head_len;
     return status;
 }
 
@@ -134,7 +158,7 @@ uint32_t store_get(struct store *store, struct bytes key, struct found *found) {
     if (status == FACING_DONE && held.at != NULL) {
         status = reserve(store, &store->seen, found->stored_len);
         if (status == FACING_DONE) status = facing_bytes_read(&held, 0, store->seen.at, found->stored_len, NULL);
-        if (found->is_live) found->value.at = store->seen.at + HEAD;
+        if (found->is_live) found->value.at = store->seen.at + found->head_len;
     }
     facing_bytes_free(&held);
     return status;
@@ -178,8 +202,8 @@ static void count_stored(struct store *store, struct bytes key, const struct fou
 
 /* Sees to it that there is room for store->next in the place of what was found. */
 static uint32_t make_room_for_next(struct store *store, struct bytes key, const struct found *found) {
-    size_t more = memory_of(key.len, store->next.len - HEAD);
-    size_t less = found->is_stored && found->stored_len >= HEAD ? memory_of(key.len, found->stored_len - HEAD) : 0;
+    size_t more = memory_of(key.len, store->next.len - store->next_head);
+    size_t less = found->is_stored ? memory_of(key.len, found->stored_len - found->head_len) : 0;
     return more <= less || make_room(store, more - less) ? FACING_DONE : STORE_FULL;
 }
 

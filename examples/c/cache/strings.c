@@ -18,7 +18,7 @@ static const char *show(struct connection *c, struct bytes key) {
     const char *error = NULL;
     store_count_look(store, key, status, &found);
     if (status == FACING_DONE && found.is_live && held.at != NULL)
-        reply_held(c, &held, HEAD, found.value.len);
+        reply_held(c, &held, found.head_len, found.value.len);
     else
         error = reply_found(c, status, &found);
     facing_bytes_free(&held);
@@ -84,7 +84,7 @@ const char *run_getrange(struct connection *c) {
     if (last >= found.value.len) last = found.value.len - 1;
     is_none = found.value.len == 0 || first > last || (from < 0 && to < 0 && from > to);
     if (status == FACING_DONE && !is_none && held.at != NULL)
-        reply_held(c, &held, HEAD + first, last - first + 1);
+        reply_held(c, &held, found.head_len + first, last - first + 1);
     else if (status == FACING_DONE)
         reply_bulk(c, is_none ? NOTHING : (struct bytes){found.value.at + first, last - first + 1});
     facing_bytes_free(&held);
