@@ -90,7 +90,7 @@ fn update_or_keep<H: Holder<u64, u64, Add, Global>, R: Wait>(
 }
 
 /// The examples of values that are lent or given, by any client.
-fn lend<H: Holder<u64, u64, Add, Global>, R: Wait>(
+fn make_each<H: Holder<u64, u64, Add, Global>, R: Wait>(
     rt: &R,
     client: &mut Any<H>,
 ) -> Result<[bool; 4], Fault> {
@@ -114,7 +114,7 @@ impl Work<u64, u64, Add, Global> for Lend {
         rt: &R,
         client: &mut Client<'_, L, u64, u64, Add, Global>,
     ) -> Result<[bool; 4], Fault> {
-        lend(rt, client)
+        make_each(rt, client)
     }
 }
 
@@ -122,7 +122,7 @@ impl Work<u64, u64, Add, Global> for Lend {
 fn each_example_of_a_value_that_a_client_lends_is_as_it_says(rt: HostRuntime) {
     let map = share(rt.alloc(), 1).expect(&rt, "no fault");
     let mut client = map.client().expect(&rt, "a client");
-    let owned = lend(&rt, &mut client);
+    let owned = make_each(&rt, &mut client);
     let lent = client.work(&rt, &Lend);
     drop(client);
     let closed = close(map).ok();
