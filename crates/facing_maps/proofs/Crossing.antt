@@ -25,8 +25,6 @@ use Rattle.clients.proofs.Crossing.{owned_send, shared_send, unshared_send}
 use Rattle.facing_maps.specs.contracts.closed.ClosedMap as ClosedMap
 use Rattle.facing_maps.specs.contracts.closed.ClosedMap.TheInside as ClosedInside
 use Rattle.facing_maps.specs.contracts.closed.Owner as Owner
-use Rattle.facing_maps.specs.contracts.counted.Counted as Counted
-use Rattle.facing_maps.specs.contracts.counted.Counted.TheInside as CountedInside
 use Rattle.facing_maps.specs.contracts.keys.Keys as Keys
 use Rattle.facing_maps.specs.contracts.keys.Keys.TheInside as KeysInside
 use Rattle.facing_maps.specs.contracts.shared.Place as Place
@@ -162,52 +160,38 @@ key_send = search (sendable, hashed_send, heap.crosses) depth 20
 pub key_sync : IsSync (Hashed.the_row Heap.the_row ghosts)
 key_sync = search (sendable, hashed_sync, heap.crosses) depth 20
 
--- bytes in a block with the number of their owners
-module _ (N : RattleType) where
-  counted_fields_send : AllSend (shape (CountedInside.the_type N)).fields
-  counted_fields_send = (search sendable depth 20, (search (sendable, heap.crosses, padded_send, padded_sync) depth 20, tt))
-
-  counted_send : IsSend (Counted.the_row N)
-  counted_send = search (sendable, counted_fields_send) depth 20
-
-  counted_fields_sync : AllSync (shape (CountedInside.the_type N)).fields
-  counted_fields_sync = (search sendable depth 20, (search (sendable, heap.crosses, padded_send, padded_sync) depth 20, tt))
-
-  counted_sync : IsSync (Counted.the_row N)
-  counted_sync = search (sendable, counted_fields_sync) depth 20
-
 -- a value
 places_send : EachSend (enum.shape Place.the_type).variants
 places_send = (
   (search (sendable, short_send) depth 20, tt),
   (
-    (search (sendable, counted_send) depth 20, tt),
+    (search sendable depth 20, (search (sendable, heap.crosses, padded_send, padded_sync) depth 20, tt)),
     (
-      (search (sendable, counted_send) depth 20, tt),
+      (search sendable depth 20, (search (sendable, heap.crosses, padded_send, padded_sync) depth 20, tt)),
       (
-        (search (sendable, counted_send) depth 20, tt),
+        (search sendable depth 20, (search (sendable, heap.crosses, padded_send, padded_sync) depth 20, tt)),
         (
-          (search (sendable, counted_send) depth 20, tt),
+          (search sendable depth 20, (search (sendable, heap.crosses, padded_send, padded_sync) depth 20, tt)),
           (
-            (search (sendable, counted_send) depth 20, tt),
+            (search sendable depth 20, (search (sendable, heap.crosses, padded_send, padded_sync) depth 20, tt)),
             (
-              (search (sendable, counted_send) depth 20, tt),
+              (search sendable depth 20, (search (sendable, heap.crosses, padded_send, padded_sync) depth 20, tt)),
               (
-                (search (sendable, counted_send) depth 20, tt),
+                (search sendable depth 20, (search (sendable, heap.crosses, padded_send, padded_sync) depth 20, tt)),
                 (
-                  (search (sendable, counted_send) depth 20, tt),
+                  (search sendable depth 20, (search (sendable, heap.crosses, padded_send, padded_sync) depth 20, tt)),
                   (
-                    (search (sendable, counted_send) depth 20, tt),
+                    (search sendable depth 20, (search (sendable, heap.crosses, padded_send, padded_sync) depth 20, tt)),
                     (
-                      (search (sendable, counted_send) depth 20, tt),
+                      (search sendable depth 20, (search (sendable, heap.crosses, padded_send, padded_sync) depth 20, tt)),
                       (
-                        (search (sendable, counted_send) depth 20, tt),
+                        (search sendable depth 20, (search (sendable, heap.crosses, padded_send, padded_sync) depth 20, tt)),
                         (
-                          (search (sendable, counted_send) depth 20, tt),
+                          (search sendable depth 20, (search (sendable, heap.crosses, padded_send, padded_sync) depth 20, tt)),
                           (
-                            (search (sendable, counted_send) depth 20, tt),
+                            (search sendable depth 20, (search (sendable, heap.crosses, padded_send, padded_sync) depth 20, tt)),
                             (
-                              (search (sendable, counted_send) depth 20, tt),
+                              (search sendable depth 20, (search (sendable, heap.crosses, padded_send, padded_sync) depth 20, tt)),
                               ((search (sendable, heap.crosses) depth 20, tt), tt),
                             ),
                           ),
@@ -229,33 +213,33 @@ places_sync : EachSync (enum.shape Place.the_type).variants
 places_sync = (
   (search (sendable, short_sync) depth 20, tt),
   (
-    (search (sendable, counted_sync) depth 20, tt),
+    (search sendable depth 20, (search (sendable, heap.crosses, padded_send, padded_sync) depth 20, tt)),
     (
-      (search (sendable, counted_sync) depth 20, tt),
+      (search sendable depth 20, (search (sendable, heap.crosses, padded_send, padded_sync) depth 20, tt)),
       (
-        (search (sendable, counted_sync) depth 20, tt),
+        (search sendable depth 20, (search (sendable, heap.crosses, padded_send, padded_sync) depth 20, tt)),
         (
-          (search (sendable, counted_sync) depth 20, tt),
+          (search sendable depth 20, (search (sendable, heap.crosses, padded_send, padded_sync) depth 20, tt)),
           (
-            (search (sendable, counted_sync) depth 20, tt),
+            (search sendable depth 20, (search (sendable, heap.crosses, padded_send, padded_sync) depth 20, tt)),
             (
-              (search (sendable, counted_sync) depth 20, tt),
+              (search sendable depth 20, (search (sendable, heap.crosses, padded_send, padded_sync) depth 20, tt)),
               (
-                (search (sendable, counted_sync) depth 20, tt),
+                (search sendable depth 20, (search (sendable, heap.crosses, padded_send, padded_sync) depth 20, tt)),
                 (
-                  (search (sendable, counted_sync) depth 20, tt),
+                  (search sendable depth 20, (search (sendable, heap.crosses, padded_send, padded_sync) depth 20, tt)),
                   (
-                    (search (sendable, counted_sync) depth 20, tt),
+                    (search sendable depth 20, (search (sendable, heap.crosses, padded_send, padded_sync) depth 20, tt)),
                     (
-                      (search (sendable, counted_sync) depth 20, tt),
+                      (search sendable depth 20, (search (sendable, heap.crosses, padded_send, padded_sync) depth 20, tt)),
                       (
-                        (search (sendable, counted_sync) depth 20, tt),
+                        (search sendable depth 20, (search (sendable, heap.crosses, padded_send, padded_sync) depth 20, tt)),
                         (
-                          (search (sendable, counted_sync) depth 20, tt),
+                          (search sendable depth 20, (search (sendable, heap.crosses, padded_send, padded_sync) depth 20, tt)),
                           (
-                            (search (sendable, counted_sync) depth 20, tt),
+                            (search sendable depth 20, (search (sendable, heap.crosses, padded_send, padded_sync) depth 20, tt)),
                             (
-                              (search (sendable, counted_sync) depth 20, tt),
+                              (search sendable depth 20, (search (sendable, heap.crosses, padded_send, padded_sync) depth 20, tt)),
                               ((search (sendable, heap.crosses) depth 20, tt), tt),
                             ),
                           ),

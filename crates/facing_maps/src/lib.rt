@@ -8,7 +8,6 @@ mod changes;
 mod changing;
 mod closed;
 mod copying;
-mod counted;
 mod exchanged;
 mod keys;
 mod laying;

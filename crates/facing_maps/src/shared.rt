@@ -1,10 +1,9 @@
 //! Values of bytes.
 ghost use Rattle.std.specs.Prelude.{◌≡◌, ◌≤◌, IfOk, IsOk, length};
-ghost use Rattle.facing_maps.specs.Places.{bytes_at};
+ghost use Rattle.facing_maps.specs.Places.{bytes_at, IsPlace};
 
-use crate::counted::Counted;
 use bin_history::Exact;
-use seeded_keys::ShortBytes;
+use seeded_keys::{Padded, ShortBytes};
 use std::alloc::{AllocError, Global};
 use std::marker::Model;
 use std::sync::Arc;
@@ -13,21 +12,21 @@ use std::sync::Arc;
 #[derive(Drop)]
 enum Place {
     Inline(ShortBytes<22>),
-    /// More than 22 of them, with several owners: at most 320 in one block with the number of their owners.
-    UpTo32(Counted<32>),
-    UpTo40(Counted<40>),
-    UpTo48(Counted<48>),
-    UpTo64(Counted<64>),
-    UpTo80(Counted<80>),
-    UpTo96(Counted<96>),
-    UpTo112(Counted<112>),
-    UpTo128(Counted<128>),
-    UpTo144(Counted<144>),
-    UpTo160(Counted<160>),
-    UpTo192(Counted<192>),
-    UpTo224(Counted<224>),
-    UpTo256(Counted<256>),
-    UpTo320(Counted<320>),
+    /// So many, which are more than 22, with several owners: in one block with the number of these.
+    UpTo32(u16, Arc<Padded<32>, Global>),
+    UpTo40(u16, Arc<Padded<40>, Global>),
+    UpTo48(u16, Arc<Padded<48>, Global>),
+    UpTo64(u16, Arc<Padded<64>, Global>),
+    UpTo80(u16, Arc<Padded<80>, Global>),
+    UpTo96(u16, Arc<Padded<96>, Global>),
+    UpTo112(u16, Arc<Padded<112>, Global>),
+    UpTo128(u16, Arc<Padded<128>, Global>),
+    UpTo144(u16, Arc<Padded<144>, Global>),
+    UpTo160(u16, Arc<Padded<160>, Global>),
+    UpTo192(u16, Arc<Padded<192>, Global>),
+    UpTo224(u16, Arc<Padded<224>, Global>),
+    UpTo256(u16, Arc<Padded<256>, Global>),
+    UpTo320(u16, Arc<Padded<320>, Global>),
     /// More than 320, in a block beside that of their owners.
     Longer(Arc<Vec<u8, Global>, Global>),
 }
@@ -41,81 +40,88 @@ pub struct SharedBytes {
 
 impl Model for SharedBytes {
     ghost use Rattle.std.specs.Prelude.{ℕ, List};
-    ghost use Rattle.facing_maps.specs.Places.{bytes_at};
+    ghost use Rattle.facing_maps.specs.Places.{bytes_at, IsPlace};
 
     ghost Value = { List ℕ };
 
     ghost view = { λ b. bytes_at b.place };
+
+    ghost invariant = { λ b. IsPlace b.place };
 }
 
 impl Place {
     /// A copy of these bytes in a block.
     fn block_of(alloc: Global, bytes: &[u8]) -> Result<Place, AllocError>
-        ensures { IfOk result (λ place. bytes_at place ≡ bytes.now) }
+        ensures bytes { IfOk result (λ place. bytes_at place ≡ bytes.now) }
+        ensures lawful { IfOk result (λ place. IsPlace place) }
     {
-        Ok(match bytes.len() {
-            ..=32 => Place::UpTo32(Counted::copy_of(alloc, bytes)?),
-            ..=40 => Place::UpTo40(Counted::copy_of(alloc, bytes)?),
-            ..=48 => Place::UpTo48(Counted::copy_of(alloc, bytes)?),
-            ..=64 => Place::UpTo64(Counted::copy_of(alloc, bytes)?),
-            ..=80 => Place::UpTo80(Counted::copy_of(alloc, bytes)?),
-            ..=96 => Place::UpTo96(Counted::copy_of(alloc, bytes)?),
-            ..=112 => Place::UpTo112(Counted::copy_of(alloc, bytes)?),
-            ..=128 => Place::UpTo128(Counted::copy_of(alloc, bytes)?),
-            ..=144 => Place::UpTo144(Counted::copy_of(alloc, bytes)?),
-            ..=160 => Place::UpTo160(Counted::copy_of(alloc, bytes)?),
-            ..=192 => Place::UpTo192(Counted::copy_of(alloc, bytes)?),
-            ..=224 => Place::UpTo224(Counted::copy_of(alloc, bytes)?),
-            ..=256 => Place::UpTo256(Counted::copy_of(alloc, bytes)?),
-            ..=320 => Place::UpTo320(Counted::copy_of(alloc, bytes)?),
+        let len = bytes.len();
+        Ok(match len {
+            ..=32 => Place::UpTo32(len as u16, Arc::new(alloc, Padded::copy_of(bytes))?),
+            ..=40 => Place::UpTo40(len as u16, Arc::new(alloc, Padded::copy_of(bytes))?),
+            ..=48 => Place::UpTo48(len as u16, Arc::new(alloc, Padded::copy_of(bytes))?),
+            ..=64 => Place::UpTo64(len as u16, Arc::new(alloc, Padded::copy_of(bytes))?),
+            ..=80 => Place::UpTo80(len as u16, Arc::new(alloc, Padded::copy_of(bytes))?),
+            ..=96 => Place::UpTo96(len as u16, Arc::new(alloc, Padded::copy_of(bytes))?),
+            ..=112 => Place::UpTo112(len as u16, Arc::new(alloc, Padded::copy_of(bytes))?),
+            ..=128 => Place::UpTo128(len as u16, Arc::new(alloc, Padded::copy_of(bytes))?),
+            ..=144 => Place::UpTo144(len as u16, Arc::new(alloc, Padded::copy_of(bytes))?),
+            ..=160 => Place::UpTo160(len as u16, Arc::new(alloc, Padded::copy_of(bytes))?),
+            ..=192 => Place::UpTo192(len as u16, Arc::new(alloc, Padded::copy_of(bytes))?),
+            ..=224 => Place::UpTo224(len as u16, Arc::new(alloc, Padded::copy_of(bytes))?),
+            ..=256 => Place::UpTo256(len as u16, Arc::new(alloc, Padded::copy_of(bytes))?),
+            ..=320 => Place::UpTo320(len as u16, Arc::new(alloc, Padded::copy_of(bytes))?),
             _ => Place::Longer(Arc::new(alloc, bytes.to_vec(alloc)?)?),
         })
     }
 
     /// The bytes.
     fn bytes(&self) -> &[u8]
+        requires { IsPlace self.now }
         ensures { result.now ≡ bytes_at self.now }
     {
         match self {
             Place::Inline(short) => short.bytes(),
-            Place::UpTo32(block) => block.bytes(),
-            Place::UpTo40(block) => block.bytes(),
-            Place::UpTo48(block) => block.bytes(),
-            Place::UpTo64(block) => block.bytes(),
-            Place::UpTo80(block) => block.bytes(),
-            Place::UpTo96(block) => block.bytes(),
-            Place::UpTo112(block) => block.bytes(),
-            Place::UpTo128(block) => block.bytes(),
-            Place::UpTo144(block) => block.bytes(),
-            Place::UpTo160(block) => block.bytes(),
-            Place::UpTo192(block) => block.bytes(),
-            Place::UpTo224(block) => block.bytes(),
-            Place::UpTo256(block) => block.bytes(),
-            Place::UpTo320(block) => block.bytes(),
+            Place::UpTo32(len, block) => block.front(*len as usize),
+            Place::UpTo40(len, block) => block.front(*len as usize),
+            Place::UpTo48(len, block) => block.front(*len as usize),
+            Place::UpTo64(len, block) => block.front(*len as usize),
+            Place::UpTo80(len, block) => block.front(*len as usize),
+            Place::UpTo96(len, block) => block.front(*len as usize),
+            Place::UpTo112(len, block) => block.front(*len as usize),
+            Place::UpTo128(len, block) => block.front(*len as usize),
+            Place::UpTo144(len, block) => block.front(*len as usize),
+            Place::UpTo160(len, block) => block.front(*len as usize),
+            Place::UpTo192(len, block) => block.front(*len as usize),
+            Place::UpTo224(len, block) => block.front(*len as usize),
+            Place::UpTo256(len, block) => block.front(*len as usize),
+            Place::UpTo320(len, block) => block.front(*len as usize),
             Place::Longer(bytes) => bytes.as_slice(),
         }
     }
 
     /// The same bytes, where they are inline, or one more owner of them.
     fn again(&self) -> Result<Place, AllocError>
-        ensures { IfOk result (λ place. bytes_at place ≡ bytes_at self.now) }
+        requires { IsPlace self.now }
+        ensures bytes { IfOk result (λ place. bytes_at place ≡ bytes_at self.now) }
+        ensures lawful { IfOk result (λ place. IsPlace place) }
     {
         Ok(match self {
             Place::Inline(short) => Place::Inline(short.clone()?),
-            Place::UpTo32(block) => Place::UpTo32(block.again()?),
-            Place::UpTo40(block) => Place::UpTo40(block.again()?),
-            Place::UpTo48(block) => Place::UpTo48(block.again()?),
-            Place::UpTo64(block) => Place::UpTo64(block.again()?),
-            Place::UpTo80(block) => Place::UpTo80(block.again()?),
-            Place::UpTo96(block) => Place::UpTo96(block.again()?),
-            Place::UpTo112(block) => Place::UpTo112(block.again()?),
-            Place::UpTo128(block) => Place::UpTo128(block.again()?),
-            Place::UpTo144(block) => Place::UpTo144(block.again()?),
-            Place::UpTo160(block) => Place::UpTo160(block.again()?),
-            Place::UpTo192(block) => Place::UpTo192(block.again()?),
-            Place::UpTo224(block) => Place::UpTo224(block.again()?),
-            Place::UpTo256(block) => Place::UpTo256(block.again()?),
-            Place::UpTo320(block) => Place::UpTo320(block.again()?),
+            Place::UpTo32(len, block) => Place::UpTo32(*len, Arc::try_clone(block)?),
+            Place::UpTo40(len, block) => Place::UpTo40(*len, Arc::try_clone(block)?),
+            Place::UpTo48(len, block) => Place::UpTo48(*len, Arc::try_clone(block)?),
+            Place::UpTo64(len, block) => Place::UpTo64(*len, Arc::try_clone(block)?),
+            Place::UpTo80(len, block) => Place::UpTo80(*len, Arc::try_clone(block)?),
+            Place::UpTo96(len, block) => Place::UpTo96(*len, Arc::try_clone(block)?),
+            Place::UpTo112(len, block) => Place::UpTo112(*len, Arc::try_clone(block)?),
+            Place::UpTo128(len, block) => Place::UpTo128(*len, Arc::try_clone(block)?),
+            Place::UpTo144(len, block) => Place::UpTo144(*len, Arc::try_clone(block)?),
+            Place::UpTo160(len, block) => Place::UpTo160(*len, Arc::try_clone(block)?),
+            Place::UpTo192(len, block) => Place::UpTo192(*len, Arc::try_clone(block)?),
+            Place::UpTo224(len, block) => Place::UpTo224(*len, Arc::try_clone(block)?),
+            Place::UpTo256(len, block) => Place::UpTo256(*len, Arc::try_clone(block)?),
+            Place::UpTo320(len, block) => Place::UpTo320(*len, Arc::try_clone(block)?),
             Place::Longer(bytes) => Place::Longer(Arc::try_clone(bytes)?),
         })
     }

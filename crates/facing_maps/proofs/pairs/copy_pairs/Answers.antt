@@ -14,9 +14,9 @@ loop-pair-preserved g c =
     let (done, all, long, in_keys, in_values, in_room, used_is, keys_are, values_are, bytes_are, keys_stay, values_stay, bytes_stay)
     = c.loop-pair.invariant in
     let e = c.in-Some.pair.now in
-    let k = c.bytes.result.now in
+    let k = c.bytes-key.result.now in
     let v = c.laid-value.result.now in
-    let k_is : k ≡ e.0.bytes = c.bytes.ensures in
+    let k_is : k ≡ e.0.bytes = c.bytes-key.ensures in
     let v_is : v ≡ laid e.1 = c.laid-value.ensures in
     let n = c.loop-pair.count in
     let used = c.loop-pair.used in
@@ -63,9 +63,9 @@ returns-then-count-key_lens g c =
     let (done, all, long, in_keys, in_values, in_room, used_is, keys_are, values_are, bytes_are, keys_stay, values_stay, bytes_stay)
     = c.loop-pair.invariant in
     let e = c.in-Some.pair.now in
-    let k = c.bytes.result.now in
+    let k = c.bytes-key.result.now in
     let v = c.laid-value.result.now in
-    let k_is : k ≡ e.0.bytes = c.bytes.ensures in
+    let k_is : k ≡ e.0.bytes = c.bytes-key.ensures in
     let v_is : v ≡ laid e.1 = c.laid-value.ensures in
     let n = c.loop-pair.count in
     let whole : IsAll number laid c.args.pairs.now (c.loop-pair.key_lens, c.loop-pair.numbers, c.loop-pair.room) n
