@@ -91,8 +91,8 @@ fn short_bytes_have_as_many_as_their_type_says(rt: HostRuntime) {
 
 #[test]
 fn padded_bytes_have_zeros_behind_them(rt: HostRuntime) {
-    let padded = Padded::<5>::copy_of(counted(3));
-    assert_same(&rt, &padded.front(3), &counted(3));
+    let padded = Padded::<5>::copy_of(b"\x01\x02\x03".as_slice());
+    assert_same(&rt, &padded.front(3), &b"\x01\x02\x03".as_slice());
     assert_same(&rt, &padded.front(5), &b"\x01\x02\x03\0\0".as_slice());
 }
 
