@@ -79,15 +79,15 @@ pub(crate) fn put<'a>(
     call(rt, alloc, bin, Call::Put(key, value))
 }
 
-/// Asserts that a bin was made of two pairs, or where a request was refused that none was.
+/// Asserts that a bin was made of one pair, or where a request was refused that none was.
 fn assert_new(rt: &impl Abort, made: Result<NumberBin<'_>, AllocError>, refused: bool) {
     assert_same(rt, &made.is_err(), &refused);
     if let Ok(bin) = made {
-        assert_entries(rt, &bin, &[(b"q", 1), (b"a", 2)]);
+        assert_entries(rt, &bin, &[(b"q", 1)]);
     }
 }
 
-/// Makes a bin of two pairs with the request after so many refused, and answers whether there was
+/// Makes a bin of one pair with the request after so many refused, and answers whether there was
 /// one.
 fn refuse_new(
     rt: &impl Abort,
@@ -95,11 +95,9 @@ fn refuse_new(
     form: Form,
     granted: u64,
 ) -> Result<bool, AllocError> {
-    let pairs = [pair(rt, alloc, b"q", 1), pair(rt, alloc, b"a", 2)];
-    let base = Vec::from_array(alloc, pairs)?;
-    for (key, _) in base.iter() {
-        assert!(rt; Class::new(16, 1).covers(Salt(0).hash_of(key)));
-    }
+    let base = Vec::from_array(alloc, [pair(rt, alloc, b"q", 1)])?;
+    let (key, _) = &base[0];
+    assert!(rt; Class::new(16, 1).covers(Salt(0).hash_of(key)));
     alloc.refuse_after(granted);
     let made = Bin::new(&alloc, form, Salt(0), Class::new(16, 1), base);
     let refused = alloc.has_refused();
@@ -116,7 +114,7 @@ fn refuse_news(
     requests: u64,
 ) -> Result<(), AllocError> {
     let alloc = Refusing::new(memory);
-    for granted in 0..6 {
+    for granted in 0..5 {
         let refused = refuse_new(rt, &alloc, form, granted)?;
         assert_same(rt, &(granted, refused), &(granted, granted < requests));
     }
@@ -125,10 +123,10 @@ fn refuse_news(
 
 #[test]
 fn a_new_bin_takes_its_base(rt: HostRuntime) {
-    // Of a recorded bin a list, a copy of each value, and the bin itself. A lean one holds the first
-    // pair in it and makes a node of each other, and moves them.
-    refuse_news(&rt, rt.alloc(), Form::Recorded, 4).expect(&rt, "memory");
-    refuse_news(&rt, rt.alloc(), Form::Lean, 1).expect(&rt, "memory");
+    // Of a recorded bin a list, a copy of the value, and the bin itself. A lean one is moved the pair,
+    // which lies in it.
+    refuse_news(&rt, rt.alloc(), Form::Recorded, 3).expect(&rt, "memory");
+    refuse_news(&rt, rt.alloc(), Form::Lean, 0).expect(&rt, "memory");
 }
 
 /// A call of each kind on `a`.
