@@ -1,7 +1,6 @@
 /* The memory of the server and of the library, which is counted: small blocks without the header that malloc puts before
- * each, larger ones from malloc. A key and a value that are short lie in the
- * table, or in one small block of 64 bytes. The library calls the
- * three functions of facing_heap.h, which are defined at the end.
+ * each, larger ones from malloc. A key and a value that are short lie in the table, or in one small block of 64 bytes. The
+ * library calls the three functions of facing_heap.h, which are defined at the end.
  *
  * A slab has 64 KB of blocks of one size. A thread keeps free blocks of each size, and takes and gives them many at once. A
  * small block is used again for its size, and does not go back to the system. */
