@@ -1,13 +1,15 @@
-//! Calls that ask for no memory, and puts of new keys, which ask once.
+//! Calls that ask for no memory, and puts of new keys, which ask once beside another key of the bucket and never in an
+//! empty one.
 ghost use Rattle.std.specs.Prelude.{◌≡◌};
 
-use crate::maps::{KeyMap, KeyPass, assert_same, key, numbered, put_numbers, put_texts};
+use crate::maps::{KeyMap, KeyPass, assert_same, key, put_new, put_texts};
 use bin_history::{Form, Reply};
 use chm::Fault;
+use hashkeys::Key;
 use std::alloc::{Allocator, Global};
 use std::process::Abort;
 use std::sync::Wait;
-use test_maps::{Single, close_single, open_single};
+use test_maps::{Single, close_single, numbered_text, open_single};
 use test_support::{Plus, Refusing};
 
 /// Gets, puts and merges at a key that is there, in turn, three calls a time. Answers how many
@@ -34,9 +36,56 @@ fn call_often<R: Wait + Abort, A: Allocator + Clone>(
     right
 }
 
-/// Takes a thousand keys away and puts them again, one after the other, so many times. Answers how
-/// often the remove asked for no memory, a put was refused without memory, and one that was granted
-/// one request was made.
+/// A key of a number. With `Aa` and with `BB` before it the two have one hash, and so one bucket.
+fn twin(rt: &impl Abort, head: [u8; 2], number: u32) -> Key {
+    let text = numbered_text(number);
+    let bytes = [
+        head[0], head[1], text[0], text[1], text[2], text[3], text[4], text[5],
+    ];
+    key(rt, &bytes)
+}
+
+/// Puts both keys of each of so many numbers, with the number.
+fn put_twins<R: Wait + Abort, A: Allocator + Clone>(
+    rt: &R,
+    map: &KeyMap<A>,
+    pass: &mut KeyPass,
+    count: u32,
+)
+    requires { pass.old.ledger ≡ map.now.ledger.id }
+    ensures { pass.new.ledger ≡ map.now.ledger.id }
+{
+    for number in 0..count {
+        put_new(rt, map, pass, twin(rt, *b"Aa", number), u64::from(number));
+        put_new(rt, map, pass, twin(rt, *b"BB", number), u64::from(number));
+    }
+}
+
+/// Takes the only key of a map away and puts it into its empty bucket again, so many times. Answers how
+/// often both replied as they should.
+fn put_alone<R: Wait + Abort, A: Allocator + Clone>(
+    rt: &R,
+    map: &KeyMap<A>,
+    pass: &mut KeyPass,
+    times: u64,
+) -> u64
+    requires { pass.old.ledger ≡ map.now.ledger.id }
+    ensures { pass.new.ledger ≡ map.now.ledger.id }
+{
+    let mut right = 0u64;
+    for _time in 0..times {
+        let removed = map.remove(rt, pass, key(rt, b"a"));
+        let put = map.put(rt, pass, key(rt, b"a"), 0);
+        if removed == Ok(Reply::Value(Some(0))) && put == Ok(Reply::Value(None)) {
+            right = right.wrapping_add(1);
+        }
+    }
+    right
+}
+
+/// Takes a thousand keys away and puts them again beside another of their bucket, one after the other,
+/// so many times. Answers how often the remove asked for no memory, a put was refused without memory,
+/// and one that was granted one request was made.
 fn put_again<R: Wait + Abort, A: Allocator + Clone>(
     rt: &R,
     switch: &Refusing<Global>,
@@ -52,10 +101,10 @@ fn put_again<R: Wait + Abort, A: Allocator + Clone>(
         let number = time % 1000;
         let value = u64::from(number);
         switch.refuse_after(0);
-        let removed = map.remove(rt, pass, numbered(rt, number));
-        let refused = map.put(rt, pass, numbered(rt, number), value);
+        let removed = map.remove(rt, pass, twin(rt, *b"BB", number));
+        let refused = map.put(rt, pass, twin(rt, *b"BB", number), value);
         switch.refuse_after(1);
-        let put = map.put(rt, pass, numbered(rt, number), value);
+        let put = map.put(rt, pass, twin(rt, *b"BB", number), value);
         let once = !switch.has_refused();
         if removed == Ok(Reply::Value(Some(value)))
             && refused == Err(Fault::NoMemory)
@@ -69,34 +118,36 @@ fn put_again<R: Wait + Abort, A: Allocator + Clone>(
     right
 }
 
-/// Makes calls on keys of a lean map that are there, and then takes keys away and puts them again.
-/// Answers how many of each replied as they should, whether one of the first asked for memory, and
-/// how many keys there are.
+/// Takes the only key of a lean map away and puts it again, makes calls on it, and then takes keys away
+/// and puts them again beside others. Answers how many of each replied as they should, whether one of
+/// the first two kinds asked for memory, and how many keys there are.
 fn asked_for<R: Wait + Abort, A: Allocator + Clone>(
     rt: &R,
     switch: &Refusing<Global>,
     alloc: A,
-) -> ((u64, u64), bool, u64) {
+) -> ([u64; 3], bool, u64) {
     let Single {
         map,
         mut pass,
         place,
     } = open_single(alloc, Form::Lean, 4096).expect(rt, "a map");
     put_texts(rt, &map, &mut pass, &[(b"a", 0)]);
-    put_numbers(rt, &map, &mut pass, 0, 1000);
     switch.refuse_after(0);
+    let alone = put_alone(rt, &map, &mut pass, 10_000);
     let called = call_often(rt, &map, &mut pass, 100_000);
     let asked = switch.has_refused();
+    switch.refuse_after(u64::MAX);
+    put_twins(rt, &map, &mut pass, 1000);
     let again = put_again(rt, switch, &map, &mut pass, 10);
     let keys = close_single(map, pass, place)
         .expect(rt, "a closed map")
         .mapping_count();
-    ((called, again), asked, keys)
+    ([alone, called, again], asked, keys)
 }
 
 #[test]
 fn calls_on_a_lean_map_ask_for_memory_for_new_keys_alone(rt: HostRuntime) {
     let alloc = Refusing::new(rt.alloc());
     let told = asked_for(&rt, &alloc, &alloc);
-    assert_same(&rt, &told, &((100_000, 10_000), false, 1001));
+    assert_same(&rt, &told, &([10_000, 100_000, 10_000], false, 2001));
 }

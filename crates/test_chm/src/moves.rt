@@ -9,12 +9,13 @@ use test_support::Refusing;
 /// move, and how many there are in all.
 type Requests = (u64, u64, u64);
 
-/// The first put takes room for its entry, in a recorded map for the record too; and its move for the
-/// table of two places, and three times for the strides, or in a lean map four times. Then a recorded
-/// bin takes it for the entry and the record of the half that has the key, and for each half's bin;
-/// and a lean one four times, for the part of the table that the other half comes to. Without one of
-/// these the table has grown, and the bin is moved by the next call on it.
-const REQUESTS: [(Form, Requests); 2] = [(Form::Recorded, (2, 6, 10)), (Form::Lean, (1, 6, 10))];
+/// In a recorded map the first put takes room for its entry and for the record, and in a lean one for
+/// nothing, since a first entry lies in its bucket. Its move takes room for the table of two places, and
+/// three times for the strides, or in a lean map four times. Then a recorded bin takes it for the entry
+/// and the record of the half that has the key, and for each half's bin; and a lean one four times, for
+/// the part of the table that the other half comes to. Without one of these the table has grown, and
+/// the bin is moved by the next call on it.
+const REQUESTS: [(Form, Requests); 2] = [(Form::Recorded, (2, 6, 10)), (Form::Lean, (0, 5, 9))];
 
 /// What the first put finds where these are its requests and so many are granted, how many bins and
 /// entries there are then, and how many bins there are after the second put, which has a move of its own

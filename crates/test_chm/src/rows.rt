@@ -120,12 +120,13 @@ struct Told {
     left: (usize, u64),
 }
 
-/// Puts one key more into a full map, with the request after so many refused, and then the next one.
+/// Puts one key more, of this number, into a full map, with the request after so many refused, and then
+/// the next one.
 fn put_one_more<R: Wait + Abort, A: Allocator + Clone>(
     rt: &R,
     switch: &Refusing<Global>,
     alloc: A,
-    form: Form,
+    (form, next): (Form, u32),
     granted: u64,
 ) -> Told {
     let Single {
@@ -133,7 +134,6 @@ fn put_one_more<R: Wait + Abort, A: Allocator + Clone>(
         mut pass,
         place,
     } = full(rt, alloc, form);
-    let next = room(form);
     switch.refuse_after(granted);
     let reply = map.put(rt, &mut pass, numbered(rt, next), u64::from(next));
     let refused = switch.has_refused();
@@ -157,11 +157,11 @@ fn put_one_more<R: Wait + Abort, A: Allocator + Clone>(
 /// first ones: room for the entry, and in a recorded map for the record. Where one of them is
 /// refused the key is not there; where one of the move is, each key has its value, and later calls
 /// move what was not moved.
-fn refuse_each<R: Wait + Abort>(rt: &R, memory: Global, form: Form, own: u64) -> u64 {
+fn refuse_each<R: Wait + Abort>(rt: &R, memory: Global, put: (Form, u32), own: u64) -> u64 {
     for granted in 0..1000u64 {
         let alloc = Refusing::new(memory);
-        let told = put_one_more(rt, &alloc, &alloc, form, granted);
-        let before = u64::from(room(form)).saturating_add(3);
+        let told = put_one_more(rt, &alloc, &alloc, put, granted);
+        let before = u64::from(room(put.0)).saturating_add(3);
         let (reply, first) = if granted < own {
             (Err(Fault::NoMemory), before)
         } else {
@@ -181,12 +181,17 @@ fn refuse_each<R: Wait + Abort>(rt: &R, memory: Global, form: Form, own: u64) ->
 
 #[test]
 fn each_key_has_its_value_where_a_move_is_refused(rt: HostRuntime) {
-    // The put's own. The move of a recorded map asks for the wider table, three times for the
-    // strides, and at least for a room for each of 32 halves; that of a lean one for the slots of
-    // the wider table's parts, four times for the strides, and four times for the part.
-    let rows = [(Form::Recorded, 2, 38, 999), (Form::Lean, 1, 10, 10)];
-    for (form, own, least, most) in rows {
-        let requests = refuse_each(&rt, rt.alloc(), form, own);
+    // The put's own: in a lean map it asks for none where its bucket is empty, as that of key 0 is, and
+    // for one where it has an entry, as that of key 80. The move of a recorded map asks for the wider
+    // table, three times for the strides, and at least for a room for each of 32 halves; that of a lean
+    // one for the slots of the wider table's parts, four times for the strides, and four for the part.
+    let rows = [
+        ((Form::Recorded, 8), 2, 38, 999),
+        ((Form::Lean, 0), 0, 9, 9),
+        ((Form::Lean, 80), 1, 10, 10),
+    ];
+    for (put, own, least, most) in rows {
+        let requests = refuse_each(&rt, rt.alloc(), put, own);
         assert!(rt;
             least <= requests && requests <= most,
             "{requests} requests"
