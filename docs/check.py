@@ -50,11 +50,11 @@ COLUMNS_OF_BODIES = ["crate", "body", "function", "clauses", "test", "edit"]
 TESTS_OF_HEADERS = ("examples/c/tests", "examples/cpp", "examples/rust/tests", "examples/python", "examples", "packaging")
 LINK = r"\[((?:[^\[\]]|\[[^\]]*\])+)\]\(([^()\s]+)\)"
 EXAMPLES = {
-    "crates/clients/src/*.rt": "crates/test_library/src/*.rt",
+    "crates/clients/src/*.rt": "crates/test_[ls][ih][ba]*/src/*.rt",
     "crates/chm/src/*.rt": "crates/test_c[ho]*/src/*.rt",
     "crates/chm/src/*/*.rt": "crates/test_c[ho]*/src/*.rt",
     "crates/bulk_tasks/src/*.rt": "crates/test_pool/src/*.rt",
-    "crates/functions/src/*.rt": "crates/test_library/src/*.rt",
+    "crates/functions/src/*.rt": "crates/test_[ls][ih][ba]*/src/*.rt",
     "crates/live_maps/src/*.rt": "crates/test_live/src/*.rt",
 }
 

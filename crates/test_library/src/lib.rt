@@ -7,21 +7,11 @@ mod answers;
 #[cfg(test)]
 mod asserts;
 #[cfg(test)]
-mod both;
-#[cfg(test)]
 mod boxes;
 #[cfg(test)]
 mod closed;
 #[cfg(test)]
-mod crowds;
-#[cfg(test)]
 mod examples;
-#[cfg(test)]
-mod fallible;
-#[cfg(test)]
-mod full;
-#[cfg(test)]
-mod given_back;
 #[cfg(test)]
 mod in_place;
 #[cfg(test)]
@@ -37,24 +27,14 @@ mod live;
 #[cfg(test)]
 mod meeting;
 #[cfg(test)]
-mod modifying;
-#[cfg(test)]
 mod moments;
 #[cfg(test)]
-mod owners;
-#[cfg(test)]
-mod places;
-#[cfg(test)]
 mod refused;
-#[cfg(test)]
-mod shared;
 #[cfg(test)]
 mod shown;
 #[cfg(test)]
 mod slices;
 #[cfg(test)]
 mod teams;
-#[cfg(test)]
-mod trying;
 #[cfg(test)]
 mod updates;
