@@ -131,13 +131,12 @@ fn try_at<'a>(map: &WordMap<'a>, pass: &mut WordPass<'a>, word: &Word<'a>) -> Tr
     )
 }
 
-/// Tries the four at `one` while the first client looks at it, and once more when it does not. Returns the
-/// value then.
+/// Tries the four at `one`, whose value is 5, while the first client looks at it. Returns the value then.
 fn try_under_a_lock<'a, R: Wait + Abort>(
     rt: &R,
     alloc: Alloc<'a>,
     form: Form,
-) -> ([Tried; 2], Option<u64>) {
+) -> (Tried, Option<u64>) {
     let words = Words::new(rt, alloc);
     let Single {
         map,
@@ -160,19 +159,36 @@ fn try_under_a_lock<'a, R: Wait + Abort>(
             try_at(&map, &mut pass, &words.one)
         },
     );
+    let value = map.look_up(rt, first, &words.one).expect(rt, "a value");
+    pass.retire();
+    retire_all(place);
+    (busy, value)
+}
+
+/// Tries the four at `one`, whose value is 5, while nobody looks at it. Returns the value then.
+fn try_free<'a, R: Wait + Abort>(rt: &R, alloc: Alloc<'a>, form: Form) -> (Tried, Option<u64>) {
+    let words = Words::new(rt, alloc);
+    let Single {
+        map,
+        mut pass,
+        place,
+    } = open_single(alloc, form, 16).expect(rt, "a map");
+    let put = make_act(rt, &map, &mut pass, &words.one, Act::Put(5));
+    assert_same(rt, &put, &Ok(None));
     let free = try_at(&map, &mut pass, &words.one);
     let value = map.look_up(rt, &mut pass, &words.one).expect(rt, "a value");
     pass.retire();
     retire_all(place);
-    ([busy, free], value)
+    (free, value)
 }
 
 #[test]
 fn a_busy_try_is_lent_and_given_nothing(rt: HostRuntime) {
     for form in BOTH {
         let alloc = Refusing::new(rt.alloc());
-        let tried = try_under_a_lock(&rt, &alloc, form);
-        let wanted = [([false; 4], [false; 4]), ([true; 4], [true; 4])];
-        assert_same(&rt, &tried, &(wanted, Some(4)));
+        let busy = try_under_a_lock(&rt, &alloc, form);
+        assert_same(&rt, &busy, &(([false; 4], [false; 4]), Some(5)));
+        let free = try_free(&rt, &alloc, form);
+        assert_same(&rt, &free, &(([true; 4], [true; 4]), Some(4)));
     }
 }

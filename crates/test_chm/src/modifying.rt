@@ -277,6 +277,22 @@ const ROWS: [Row; 39] = [
     (2, Act::Own(None), Some(7)),
 ];
 
+/// Does what the rows say, each of which returns what it says.
+fn do_rows<'a, R: Wait + Abort>(
+    rt: &R,
+    map: &WordMap<'a>,
+    pass: &mut WordPass<'a>,
+    words: &Words<'a>,
+)
+    requires { pass.old.ledger ≡ map.now.ledger.id }
+    ensures { pass.new.ledger ≡ map.now.ledger.id }
+{
+    for (which, done, wanted) in ROWS {
+        let found = make_act(rt, map, pass, words.word(which), done);
+        assert_same(rt, &(which, done, found), &(which, done, Ok(wanted)));
+    }
+}
+
 #[test]
 fn functions_are_lent_and_given_what_calls_left(rt: HostRuntime) {
     for form in BOTH {
@@ -287,11 +303,7 @@ fn functions_are_lent_and_given_what_calls_left(rt: HostRuntime) {
             mut pass,
             place,
         } = open_single(&alloc, form, 16).expect(&rt, "a map");
-        for (which, done, wanted) in ROWS {
-            let word = words.word(which);
-            let found = make_act(&rt, &map, &mut pass, word, done);
-            assert_same(&rt, &(which, done, found), &(which, done, Ok(wanted)));
-        }
+        do_rows(&rt, &map, &mut pass, &words);
         // the calls left one key
         assert_same(&rt, &map.balance(&mut pass), &1);
         pass.retire();
@@ -331,6 +343,31 @@ const BARE_ROWS: [BareRow; 22] = [
     (1, Act::Modify(1), Ok(None), None),
 ];
 
+/// Does what the rows say while no request is granted: each returns and leaves what it says.
+fn do_bare_rows<'a, R: Wait + Abort>(
+    rt: &R,
+    alloc: Alloc<'a>,
+    map: &WordMap<'a>,
+    pass: &mut WordPass<'a>,
+    words: &Words<'a>,
+)
+    requires { pass.old.ledger ≡ map.now.ledger.id }
+    ensures { pass.new.ledger ≡ map.now.ledger.id }
+{
+    for (which, done, wanted, left) in BARE_ROWS {
+        let word = words.word(which);
+        alloc.refuse_after(0);
+        let found = make_act(rt, map, pass, word, done);
+        alloc.refuse_after(u64::MAX);
+        let value = map.look_up(rt, pass, word).expect(rt, "a value");
+        assert_same(
+            rt,
+            &(which, done, found, value),
+            &(which, done, wanted, left),
+        );
+    }
+}
+
 #[test]
 fn a_lean_map_asks_for_memory_where_a_key_has_no_entry(rt: HostRuntime) {
     let alloc = Refusing::new(rt.alloc());
@@ -342,18 +379,7 @@ fn a_lean_map_asks_for_memory_where_a_key_has_no_entry(rt: HostRuntime) {
     } = open_single(&alloc, Form::Lean, 16).expect(&rt, "a map");
     let first = make_act(&rt, &map, &mut pass, &words.one, Act::Put(5));
     assert_same(&rt, &first, &Ok(None));
-    for (which, done, wanted, left) in BARE_ROWS {
-        let word = words.word(which);
-        alloc.refuse_after(0);
-        let found = make_act(&rt, &map, &mut pass, word, done);
-        alloc.refuse_after(u64::MAX);
-        let value = map.look_up(&rt, &mut pass, word).expect(&rt, "a value");
-        assert_same(
-            &rt,
-            &(which, done, found, value),
-            &(which, done, wanted, left),
-        );
-    }
+    do_bare_rows(&rt, &alloc, &map, &mut pass, &words);
     pass.retire();
     retire_all(place);
 }

@@ -123,8 +123,9 @@ struct Notes {
 
 impl Exact for Notes {
     ghost use Rattle.std.proofs.Common.{rules};
+    ghost use Rattle.std.proofs.lemmas.List.Elements.{same_from_all_zip};
 
-    ghost copies_exactly = { Prim.search rules };
+    ghost copies_exactly = { Prim.search (rules, same_from_all_zip) };
 }
 
 /// A client of a map of boxed lists of texts.

@@ -1,9 +1,8 @@
 //! Lists as values: what they have, what they are equal to, and what becomes of them out of memory.
 use crate::asserts::assert_same;
-use clients::{Client, Exact, Fault, ListOf, Loan, NoFunction, OwnedClient, SharedMap, Team, Work};
+use clients::{Exact, Fault, ListOf, NoFunction, OwnedClient, SharedMap};
 use std::alloc::{AllocError, Allocator, Global};
 use std::sync::Wait;
-use std::thread::Threads;
 use test_support::Refusing;
 
 /// A list of these numbers.
@@ -95,11 +94,12 @@ fn an_item_that_finds_no_room_comes_back(rt: HostRuntime) {
     let mut list = ListOf::new(&alloc);
     assert_same(&rt, &alloc.requests(), &0);
     alloc.refuse_after(1);
-    let mut next = 0u64;
     let mut refused = None;
-    while next < 1000 && refused.is_none() {
+    for next in 0..1000u64 {
         refused = list.push(next).map_err(|refused| refused.value).err();
-        next += 1;
+        if refused.is_some() {
+            break;
+        }
     }
     alloc.refuse_after(u64::MAX);
     let len = list.len() as u64;
@@ -207,8 +207,9 @@ struct Refused<'a> {
 
 impl<'a> Exact for Refused<'a> {
     ghost use Rattle.std.proofs.Common.{rules};
+    ghost use Rattle.std.proofs.lemmas.List.Elements.{same_from_all_zip};
 
-    ghost copies_exactly = { Prim.search rules };
+    ghost copies_exactly = { Prim.search (rules, same_from_all_zip) };
 }
 
 /// Puts a list of 3 and 5, and gets it while a request for memory is refused. Returns what the get
@@ -246,46 +247,40 @@ struct Cart {
 
 impl Exact for Cart {
     ghost use Rattle.std.proofs.Common.{rules};
+    ghost use Rattle.std.proofs.lemmas.List.Elements.{same_from_all_zip};
 
-    ghost copies_exactly = { Prim.search rules };
+    ghost copies_exactly = { Prim.search (rules, same_from_all_zip) };
 }
 
-/// Four clients each put a cart at their number, and look at it.
-#[derive(Drop)]
-struct PutCarts {
-    alloc: Global,
-}
-
-impl Work<u64, Cart, NoFunction, Global> for PutCarts {
-    type Out = Result<u64, Fault>;
-
-    fn work<L: Loan, R: Wait>(
-        &self,
-        rt: &R,
-        client: &mut Client<'_, L, u64, Cart, NoFunction, Global>,
-    ) -> Result<u64, Fault> {
-        let number = client.number() as u64;
-        let items = list_of(self.alloc, &[number, 10])?;
-        client.put(rt, number, Cart { items, total: 1 })?;
-        let cart = client.get(rt, &number)?;
-        Ok(cart.map_or(0, |cart| sum_of(&cart.items).saturating_add(cart.total)))
-    }
-}
-
-/// What four clients find in their carts.
-fn fill_carts<R: Threads + Wait + Sync>(
+/// A client of its own puts a cart of a number and 10 at the number, and looks at it.
+fn put_cart<R: Wait>(
     rt: &R,
+    map: &SharedMap<u64, Cart, NoFunction, Global>,
     alloc: Global,
-) -> Result<Vec<Result<u64, Fault>>, Fault> {
-    let mut team = Team::new(alloc, 16, 4)?;
-    Ok(team.work(rt, &PutCarts { alloc })?)
+    number: u64,
+) -> Result<u64, Fault> {
+    let mut client = map.client()?;
+    let items = list_of(alloc, &[number, 10])?;
+    client.put(rt, number, Cart { items, total: 1 })?;
+    let cart = client.get(rt, &number)?;
+    Ok(cart.map_or(0, |cart| sum_of(&cart.items).saturating_add(cart.total)))
+}
+
+/// What four clients, one after the other, find in their carts.
+fn fill_carts<R: Wait>(rt: &R, alloc: Global) -> Result<[u64; 4], Fault> {
+    let map = SharedMap::new(alloc, 16)?;
+    Ok([
+        put_cart(rt, &map, alloc, 0)?,
+        put_cart(rt, &map, alloc, 1)?,
+        put_cart(rt, &map, alloc, 2)?,
+        put_cart(rt, &map, alloc, 3)?,
+    ])
 }
 
 #[test]
-fn four_clients_put_values_with_lists_in_them(rt: HostRuntime) {
-    let found = fill_carts(&rt, rt.alloc()).expect(&rt, "no fault");
-    let wanted = [Ok(11), Ok(12), Ok(13), Ok(14)];
-    assert_same(&rt, &found.as_slice(), &wanted.as_slice());
+fn clients_put_values_with_lists_in_them(rt: HostRuntime) {
+    let found = fill_carts(&rt, rt.alloc());
+    assert_same(&rt, &found, &Ok([11, 12, 13, 14]));
 }
 
 /// The length that the example at `ListOf` comes to.
