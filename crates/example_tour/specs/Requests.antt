@@ -1,11 +1,14 @@
--- What a request leaves of a user's second.
-use Rattle.std.specs.Prelude.{ℕ, ◌+◌, ◌==◌, if◌then◌else◌, min, Option, None, Some}
+-- What a limiter counts.
+use Rattle.std.specs.Prelude.{ℕ, ◌+◌, ◌==◌, nat_lt, if◌then◌else◌}
 use Rattle.example_tour.specs.declared.limiter.Used.{Used}
 
--- it is the next one of its second, or the first
-abbrev pub asked : ℕ → Option Used → Used
-asked second None = record { second = second; requests = 1 }
-asked second (Some used) = record {
+-- how many requests of a user were let through in this second
+abbrev pub requests_in : ℕ → Used → ℕ
+requests_in second used = if used.second == second then used.requests else 0
+
+-- a user's second after a request in this second, of which at most fifty are let through
+abbrev pub asked : ℕ → Used → Used
+asked second used = record {
   second = second;
-  requests = if used.second == second then min (used.requests + 1) 18446744073709551615 else 1;
+  requests = if nat_lt (requests_in second used) 50 then requests_in second used + 1 else requests_in second used;
 }
