@@ -2,8 +2,10 @@
 
 usage: python3 docs/api.py
 
-Of each `pub fn` of the crates and files in PARTS: its signature with a link to it, the first sentence of its comment, and
-the names of its clauses, which are its promise. Errors are the names in the section `# Errors` of its comment, else the
+Of each type, trait and constant that the library exports, as itself or in a module: a link to it, the first sentence of
+its comment, and its variants or public fields. Of each `pub fn` of the crates and files in PARTS: its signature with a
+link to it, the first sentence of its comment, and the names of its clauses, which are its promise. `faults` tells of
+what the library exports and no part lists. Errors are the names in the section `# Errors` of its comment, else the
 type of its error. What most calls of a file share stands once below its heading, and a call says where it differs."""
 import collections
 import os
@@ -28,21 +30,25 @@ allocates, and most calls have an example there. `rt` is the runtime handle.
   allocates; if that fails, the call still succeeds.
 """
 CLOSED = ("quiet.rt", "single.rt", "taken.rt", "reopen.rt")
-# What is listed: the crate, a heading, the files, and those that are left out; no files for all of the crate.
+# What is listed: the crate, a heading, the files, and those that are left out; no files for all of the crate. `FILE:TYPE` is what a file has of a type.
 PARTS = (
     ("clients", "The library", (), ()),
-    ("bulk_tasks", "Bulk operations (`facingberyl::bulk`)", ("operations.rt", "reducing.rt", "searching.rt", "acting.rt", "plan.rt"), ()),
+    ("bulk_tasks", "Bulk operations (`facingberyl::bulk`)", ("operations.rt", "reducing.rt", "searching.rt", "acting.rt", "plan.rt", "traits.rt", "batches.rt"), ()),
+    ("steal_pool", "What a bulk operation calls before each leaf (`facingberyl::bulk::Gate`)", ("gate.rt",), ()),
     ("live_maps", "Bulk operations on a live map (`facingberyl::live`)", (), ()),
+    ("live_bulk", "Clients of a bulk operation (`facingberyl::live::clients_for`)", ("clients.rt",), ()),
     ("chm", "The closed map (`facingberyl::Quiet`)", CLOSED, ()),
     ("chm", "The map and its passes apart (`facingberyl::Map`)", (), CLOSED + ("debug.rt", "fault.rt", "laws.rt")),
-    ("count_ledger", "Passes (`facingberyl::Pass`)", ("tokens.rt",), ()),
+    ("count_ledger", "Passes (`facingberyl::Pass`)", ("tokens.rt", "roster.rt:Roster"), ()),
     ("hashkeys", "Keys, and what they are looked up by (`facingberyl::HashKey`)", (), ()),
-    ("bin_history", "Calls as values (`facingberyl::Call`)", ("call.rt", "key_arg.rt"), ()),
+    ("bin_history", "Calls as values (`facingberyl::Call`)", ("call.rt", "lean_calls.rt:Op", "limits.rt"), ()),
+    ("bin_entries", "The key of a call (`facingberyl::KeyArg`)", ("key_arg.rt",), ()),
     ("functions", "Functions and values that are ready to use (`facingberyl::Add`)", (), ()),
     ("seeded_keys", "Keys under a secret seed (`seeded_keys`)", (), ()),
 )
-# The crate that a program names.
+# The crate that a program names, and its modules, by the crates that they are.
 LIBRARY = "facingberyl"
+MODULES = {"bulk": "bulk_tasks", "live": "live_maps"}
 
 
 def comment_before(lines, index):
@@ -182,8 +188,22 @@ def exports_of(crate):
     return found
 
 
+def variants_of(lines, index):
+    """Returns a sentence with the variants of an enum, or the public fields of a struct."""
+    if not re.match(r"pub (?:struct|enum)\b.*\{$", lines[index]):
+        return ""
+    names = []
+    for line in lines[index + 1 :]:
+        if line == "}":
+            break
+        if found := re.match(r"    (?:pub (\w+):|([A-Z]\w*)[(,{ ]|([A-Z]\w*)$)", line):
+            names.append(found[1] or found[2] or found[3])
+    what = "Variants" if "enum" in lines[index] else "Fields"
+    return f" {what}: {', '.join(f'`{it}`' for it in names)}." if names else ""
+
+
 def definition_of(crate, name):
-    """Returns where a type, a trait or a constant that a crate exports is defined, and the first sentence of its comment."""
+    """Returns where a type, a trait or a constant that a crate exports is defined, the first sentence of its comment, and its variants or public fields."""
     origin, there = exports_of(crate).get(name, ("", name))
     if origin in sources.crates():
         return definition_of(origin, there)
@@ -193,31 +213,64 @@ def definition_of(crate, name):
         for index, line in enumerate(lines):
             if re.match(rf"pub (?:struct|enum|trait|type|const) {there}\b", line):
                 said = sections(comment_before(lines, index))[""]
-                return path, index + 1, re.split(r"(?<=\.)\s", said, maxsplit=1)[0]
+                return path, index + 1, re.split(r"(?<=\.)\s", said, maxsplit=1)[0] + variants_of(lines, index)
     raise LookupError(f"{crate} exports {name}, and no file of it defines {there}")
 
 
-def export_lines():
-    """Returns a line for each type, trait and constant that the library exports."""
-    for name in (it for it in exports_of(LIBRARY) if not it.islower()):
-        path, number, first = definition_of(LIBRARY, name)
+def export_lines(crate):
+    """Returns a line for each type, trait and constant that a crate exports."""
+    for name in (it for it in exports_of(crate) if not it.islower()):
+        path, number, first = definition_of(crate, name)
         yield wrapped(f"- [`{name}`](../{path}#L{number}): {first}" if first else f"- [`{name}`](../{path}#L{number})", "  ")
 
 
+def export_parts():
+    """Returns the list of what the library exports, and of what each of its modules does."""
+    for name in (LIBRARY, *(f"{LIBRARY}::{it}" for it in MODULES)):
+        crate = MODULES.get(name.removeprefix(f"{LIBRARY}::"), LIBRARY)
+        yield from (f"## Types, traits and constants that `{name}` exports\n", *export_lines(crate), "")
+
+
+def calls_of(crate, files, without):
+    """Returns of each file of a part that has calls its path and its calls."""
+    wanted = dict(it.partition(":")[::2] for it in files)
+    for path in sources.sources_of(crate):
+        name = os.path.basename(path)
+        if files and name not in wanted or name in without:
+            continue
+        if calls := [it for it in calls_in(path) if not wanted.get(name) or it.owner == wanted[name]]:
+            yield path, calls
+
+
+def unlisted():
+    """Returns the functions that the library exports, and those of types and traits that it exports, which no part lists."""
+    listed = {(path, it.name) for crate, _, files, without in PARTS for path, calls in calls_of(crate, files, without) for it in calls}
+    names = {name for _, name in listed}
+    for exporter in (LIBRARY, *MODULES.values()):
+        for name in exports_of(exporter):
+            if name.islower() and name not in {*MODULES, *names}:
+                yield name
+            elif not name.islower() and not name.isupper():
+                crate = definition_of(exporter, name)[0].split("/")[1]
+                calls = [(path, it) for path in sources.sources_of(crate) for it in calls_in(path) if it.owner == name]
+                yield from (f"{name}::{it.name}" for path, it in calls if (path, it.name) not in listed)
+
+
+def faults():
+    yield from (f"docs/api.py: no part lists {it}, which the library exports" for it in dict.fromkeys(unlisted()))
+
+
 def page():
-    out = [HEAD, "## Types, traits and constants that `facingberyl` exports\n", *export_lines(), ""]
+    out = [HEAD, *export_parts()]
     for crate, title, files, without in PARTS:
         out.append(f"## {title}\n")
-        for path in sources.sources_of(crate):
-            if files and os.path.basename(path) not in files or os.path.basename(path) in without:
-                continue
-            if calls := calls_in(path):
-                shared = shared_by(calls)
-                out.append(f"### {sources.sentence(sources.module_comment(path))}\n")
-                if shared:
-                    out += [wrapped(f"Errors: {shared}."), ""]
-                out += [it.entry(shared) for it in calls]
-                out.append("")
+        for path, calls in calls_of(crate, files, without):
+            shared = shared_by(calls)
+            out.append(f"### {sources.sentence(sources.module_comment(path))}\n")
+            if shared:
+                out += [wrapped(f"Errors: {shared}."), ""]
+            out += [it.entry(shared) for it in calls]
+            out.append("")
     return "\n".join(out).rstrip() + "\n"
 
 

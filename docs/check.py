@@ -336,7 +336,7 @@ def old_pages():
     for path, draw in drawings.PICTURES.items():
         if not is_file(path) or text_of(path) != draw():
             yield f"{path}: docs/drawings.py draws something else; python3 docs/check.py --fix"
-    yield from times.faults()
+    yield from (*times.faults(), *api.faults())
     for of, data in ((figures, figures.DATA), (cache_figures, "bench/measured")):
         if text_of(of.PATH) != of.page():
             yield f"{of.PATH}: {data} has other figures; python3 docs/check.py --fix"
