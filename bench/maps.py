@@ -120,6 +120,28 @@ def own_bulk(binary):
     return [("facingberyl", words, True)]
 
 
+def own_users(binary):
+    """This repository's programs as users write them, by the given binary, or else built without proofs."""
+    program = binary
+    if not program:
+        program = f"{OUT}/user_bench"
+        build("user_bench", [f"{TOP}/tools/build_unproved", "user_bench", program])
+    if not os.access(program, os.X_OK):
+        raise Lacking(f"{program} is no program")
+    return [("facingberyl", lambda *them: [program, *them], True)]
+
+
+def users_of_jdk(_):
+    build("JdkUsers.java", ["javac", "-d", f"{OUT}/jdk", f"{PEERS}/JdkUsers.java"])
+    need("java")
+    return [("JDK", lambda *them: ["java", "-cp", f"{OUT}/jdk", "JdkUsers", *them], False)]
+
+
+def users_of_dashmap(_):
+    program = f"{of_rust('dashmap_users')}/dashmap_users"
+    return [("dashmap", lambda *them: [program, *them], False)]
+
+
 def jdk_memory(kind):
     """The JDK's map, whose heap is looked at."""
     need("java")
@@ -204,6 +226,8 @@ JDK_BUILD, PEER_BUILDS = ("the JDK's map", jdk), [("dashmap", dashmap), ("TBB", 
 # Of bulk operations: what builds gives a name, the command for numbers of entries, workers, writers and runs, and whether it is this
 # repository's.
 BULK_BUILDS = [(OWN_NAME, own_bulk), ("the JDK's map", bulk_of_jdk), (WITH_RAYON, bulk_of_dashmap)]
+# Of programs that users write: what builds gives a name, the command for a mode, clients, a size and runs, and whether it is this repository's.
+USER_BUILDS = [(OWN_NAME, own_users), ("the JDK's map", users_of_jdk), ("dashmap", users_of_dashmap)]
 
 
 def built(builds, given):

@@ -76,7 +76,7 @@ def told(workload):
     return f"{workload.mode}, {workload.choice}, {workload.keys:,} keys, {threads}"
 
 
-def heading(maps, given, what=None):
+def heading(maps, given, what=None, own="the proved program"):
     """Returns the lines that say on what and how a table is made, and of what the rounds are. (Asked before the runs, which are a load themselves.)"""
     lines = [f"- The machine: {machine()[0]}.", f"- When: {machine()[1]}."]
     words = sys.argv[1:]
@@ -85,7 +85,7 @@ def heading(maps, given, what=None):
     lines += [f"- {given.rounds} round{'s' * (given.rounds > 1)} of runs, {what or f'{given.calls:,} calls a thread'}."]
     lines += [f"- Built with: {'; '.join(versions(maps))}."]
     if any(it.is_own for it in maps):
-        whose = "a program that was given by `--binary`" if given.binary else "the proved program"
+        whose = "a program that was given by `--binary`" if given.binary else own
         lines.append(f"- This repository's map was measured by {whose}.")
     return wrapped(lines)
 
