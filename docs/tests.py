@@ -1,7 +1,8 @@
 """Writes docs/TESTS.md, which lists the things that tests assert, with links to the tests.
 
-usage: python3 docs/tests.py            writes the page: the things of THINGS, with the tests that assert them
+usage: python3 docs/tests.py            writes the page: the things of THINGS, with the tests that assert them, and NEEDS
        python3 docs/tests.py --all      prints all tests instead, by crate and file"""
+import os
 import sys
 
 import sources
@@ -68,6 +69,45 @@ THINGS = (
     ("the command line", "words_are_taken", "help_is_told_apart_from_faults"),
 )
 
+NEEDS_HEAD = """
+## What programs need, and what shows it
+
+A cache, a rate limiter and an index of words were written over the library. The table has what they needed, and the
+test, the example or the page that shows it.
+
+| What a program needs | What shows it |
+|---|---|"""
+# What is needed, and the test that shows it, or the source and a text in the line that does, or the page.
+NEEDS = (
+    ("a list at a key that grows where it lies, however long it is", "a_list_grows_where_it_lies"),
+    ("a function that is lent the value, or is given it", "each_example_of_a_value_that_a_client_lends_is_as_it_says"),
+    ("after a failed call: what was given is back, and the function uncalled", "what_is_refused_comes_back_uncalled"),
+    ("lists as values", "a_map_has_lists"),
+    ("lists in a value type of the program's own", "four_clients_put_values_with_lists_in_them"),
+    ("text in a value, and values of several kinds in one another", "values_of_several_kinds_lie_in_one_another"),
+    ("values of more than 64 bytes", "a_map_has_boxed_values"),
+    ("values with several owners", "a_page_with_several_owners_is_never_copied"),
+    ("numbers of each width as keys", "a_number_has_one_code_at_each_width"),
+    ("pairs of keys, looked up by pairs of what their parts are looked up by", "a_pair_is_looked_up_by_its_parts"),
+    ("text as a key, looked up by `&str`", "text_is_a_key"),
+    ("a key type of the program's own", "crates/example_tour/src/key.rt", "impl HashKey for UserDay {"),
+    ("keys from outside that cannot be made to collide", "keys_that_share_a_plain_code_differ_under_a_seed"),
+    ("calls by a slice or text, which make a key only if there is none", "each_example_of_what_makes_its_key_is_as_it_says"),
+    ("a counter by text that allocates nothing for a key that is there", "a_key_that_is_there_asks_for_no_memory"),
+    ("an inverted index, filled by several threads", "crates/example_tour/src/index.rt", "client.modify_or_insert("),
+    ("an error of the closure's own, by `?`", "an_error_of_the_function_leaves_the_value"),
+    ("a run before any proof, and logic that is proved by itself", "docs/USE.md", "### Before any proof"),
+    ("bulk operations on a live map, by the one import", "operations_on_a_shared_map_return_what_their_examples_say"),
+    ("the library in another repository: its lines, and how much is to be proved", "docs/commands_vendor.py", "def test_check("),
+    ("clients in threads of their own", "a_client_that_comes_back_from_its_thread_tells_another"),
+    ("threads by closures, which take clients as they need them", "each_thread_makes_its_clients"),
+    ("a rate limiter with 64 clients", "crates/example_tour/src/limiter.rt", "start(rt, Ask { second })"),
+    ("to remove the entries that a function names", "each_entry_that_goes_is_a_remove"),
+    ("a bounded cache, with deadlines, that evicts what was not used lately", "crates/example_tour/src/sessions.rt", "fn turn<"),
+    ("what a map shows of itself", "a_map_shows_its_form_and_its_numbers"),
+    ("long buckets: many keys of one hash", "a_million_entries_under_one_hash"),
+)
+
 
 def all_tests():
     """Returns of each crate with tests its files, with what these are about, and their tests."""
@@ -82,14 +122,38 @@ def link(name, path, line):
 
 
 def lost(tests):
-    """Returns the names in THINGS that no test has."""
+    """Returns the names in THINGS and NEEDS that no test has, and the texts that no line has."""
     there = {name for _, files in tests for _, _, found in files for name, _, _ in found}
-    return [name for _, *names in THINGS for name in names if name not in there]
+    asserted = [name for _, *names in THINGS for name in names]
+    shown = [where for _, where, *text in NEEDS if not text]
+    return [name for name in (*asserted, *shown) if name not in there] + [text[0] for _, where, *text in NEEDS if text and not line_with(text[0], where)]
+
+
+def line_with(text, path):
+    """Returns the number of the first line of a file with a text in it, or None."""
+    found = (number for number, line in enumerate(sources.text_of(path).splitlines(), 1) if text in line)
+    return next(found, None)
+
+
+def links_of(tests):
+    return {name: link(name, path, line) for _, files in tests for path, _, found in files for name, line, _ in found}
+
+
+def needs(tests):
+    """Returns the row of each need, with a link to what shows it."""
+    where = links_of(tests)
+    for need, name, *text in NEEDS:
+        shown = where.get(name, "")
+        if text and name.endswith(".md"):
+            shown = f"[{text[0].lstrip('# ')}]({os.path.basename(name)}#{text[0].lstrip('# ').lower().replace(' ', '-')})"
+        elif text:
+            shown = f"[{os.path.basename(name)}](../{name}#L{line_with(text[0], name)})"
+        yield f"| {need} | {shown} |"
 
 
 def index(tests):
     """Returns a line for each thing, with links to its tests."""
-    where = {name: link(name, path, line) for _, files in tests for path, _, found in files for name, line, _ in found}
+    where = links_of(tests)
     for thing, *names in THINGS:
         if links := [where[it] for it in names if it in where]:
             yield f"- {thing}:\n" + ",\n".join(f"  {it}" for it in links)
@@ -98,7 +162,7 @@ def index(tests):
 def page():
     tests = list(all_tests())
     count = sum(len(found) for _, files in tests for _, _, found in files)
-    return "\n".join([HEAD.format(count=count), *index(tests)]) + "\n"
+    return "\n".join([HEAD.format(count=count), *index(tests), NEEDS_HEAD, *needs(tests)]) + "\n"
 
 
 def whole_list():
