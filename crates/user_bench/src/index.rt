@@ -50,7 +50,8 @@ impl<'a> Work<Text<Global>, Places, NoFunction, Global> for Read<'a> {
         rt: &R,
         client: &mut Client<'_, L, Text<Global>, Places, NoFunction, Global>,
     ) -> Result<(), Fault> {
-        let first = (client.number() as u32).saturating_mul(self.places);
+        let own = (client.number() % 32) as u32;
+        let first = own.saturating_mul(self.places);
         for place in first..first.saturating_add(self.places) {
             if let Some(word) = self.words.get(word_at(place.into()) as usize) {
                 let none = ListOf::new(self.alloc);
