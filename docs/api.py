@@ -33,6 +33,8 @@ CLOSED = ("quiet.rt", "single.rt", "taken.rt", "reopen.rt")
 # What is listed: the crate, a heading, the files, and those that are left out; no files for all of the crate. `FILE:TYPE` is what a file has of a type.
 PARTS = (
     ("clients", "The library", (), ()),
+    ("sets", "Sets (`facingberyl::SharedSet`)", (), ()),
+    ("text_maps", "Maps for text from outside (`facingberyl::TextMap`)", (), ()),
     ("bulk_tasks", "Bulk operations (`facingberyl::bulk`)", ("operations.rt", "reducing.rt", "searching.rt", "acting.rt", "plan.rt", "traits.rt", "batches.rt"), ()),
     ("steal_pool", "What a bulk operation calls before each leaf (`facingberyl::bulk::Gate`)", ("gate.rt",), ()),
     ("live_maps", "Bulk operations on a live map (`facingberyl::live`)", (), ()),

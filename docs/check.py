@@ -56,6 +56,8 @@ EXAMPLES = {
     "crates/bulk_tasks/src/*.rt": "crates/test_pool/src/*.rt",
     "crates/functions/src/*.rt": "crates/test_[ls][ih][ba]*/src/*.rt",
     "crates/live_maps/src/*.rt": "crates/test_live/src/*.rt",
+    "crates/text_maps/src/*.rt": "crates/test_text/src/*.rt",
+    "crates/sets/src/*.rt": "crates/test_text/src/*.rt",
 }
 
 

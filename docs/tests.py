@@ -35,6 +35,8 @@ THINGS = (
     ("walks by a cursor, one bucket at a time", "a_client_calls_between_two_steps_of_its_walk", "a_walk_shows_each_key_once_whatever_was_divided", "a_walk_goes_in_the_order_of_the_table_of_its_beginning", "a_cursor_of_a_wider_table_meets_each_bucket_by_its_parts"),
     ("codes, hashes, salts", "known_codes_spreads_and_slots", "known_hashes_under_salts", "numbers_have_known_codes"),
     ("seeds: known codes, and keys that collide without one", "codes_under_a_seed_are_known", "keys_that_share_a_plain_code_differ_under_a_seed"),
+    ("a set", "a_key_is_inserted_and_removed_once"),
+    ("maps for text from outside: calls by queries, seeds, closing and opening again", "each_call_takes_the_query_of_a_text", "texts_that_differ_are_other_keys", "two_maps_draw_two_seeds", "a_map_has_the_seed_that_its_source_gives", "a_map_is_opened_again_with_its_texts_and_its_seed", "a_map_with_a_client_out_comes_back_with_its_seed"),
     ("keys of bytes, of which the short ones lie in themselves", "up_to_eighteen_bytes_lie_inline", "clones_of_long_keys_alone_take_memory", "keys_are_equal_to_those_of_the_same_bytes_alone"),
     ("the functions `Add`, `Greatest`, `Set`", "functions_merge"),
     ("how a bin folds its records and splits", "the_oldest_records_are_folded", "a_salted_bin_is_split_by_salted_hashes"),

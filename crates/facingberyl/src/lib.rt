@@ -15,3 +15,10 @@ pub use clients::{
 };
 /// Bulk operations on a map that others call meanwhile.
 pub use live_maps as live;
+/// A set that many threads call at once.
+pub use sets::{SetClient, SharedSet};
+/// The map for text from outside.
+pub use text_maps::{
+    ClosedSeeded, ClosedTexts, Hashed, Query, Seed, SeededMap, TextClient, TextFault, TextMap,
+    TextNotClosed,
+};
