@@ -85,7 +85,7 @@ NEEDS = (
     ("a function that is lent the value, or is given it", "each_example_of_a_value_that_a_client_lends_is_as_it_says"),
     ("after a failed call: what was given is back, and the function uncalled", "what_is_refused_comes_back_uncalled"),
     ("lists as values", "a_map_has_lists"),
-    ("lists in a value type of the program's own", "four_clients_put_values_with_lists_in_them"),
+    ("lists in a value type of the program's own", "clients_put_values_with_lists_in_them"),
     ("text in a value, and values of several kinds in one another", "values_of_several_kinds_lie_in_one_another"),
     ("values of more than 64 bytes", "a_map_has_boxed_values"),
     ("values with several owners", "a_page_with_several_owners_is_never_copied"),
