@@ -100,10 +100,15 @@ def jdk(_kind):
     return [Map("JDK, recorded", words("recorded")), Map("JDK", words("plain"), more_modes=IN_PLACE_MODES)]
 
 
-def bulk_of_jdk(_):
-    build("JdkBulk.java", ["javac", "-d", f"{OUT}/jdk", f"{PEERS}/JdkBulk.java"])
+def program_of_jdk(name):
+    """A program over the JDK's map, which takes its words as they are."""
+    build(f"{name}.java", ["javac", "-d", f"{OUT}/jdk", f"{PEERS}/{name}.java"])
     need("java")
-    return [("JDK", lambda *them: ["java", "-cp", f"{OUT}/jdk", "JdkBulk", *them], False)]
+    return [("JDK", lambda *them: ["java", "-cp", f"{OUT}/jdk", name, *them], False)]
+
+
+def bulk_of_jdk(_):
+    return program_of_jdk("JdkBulk")
 
 
 def bulk_of_dashmap(_):
@@ -132,9 +137,7 @@ def own_users(binary):
 
 
 def users_of_jdk(_):
-    build("JdkUsers.java", ["javac", "-d", f"{OUT}/jdk", f"{PEERS}/JdkUsers.java"])
-    need("java")
-    return [("JDK", lambda *them: ["java", "-cp", f"{OUT}/jdk", "JdkUsers", *them], False)]
+    return program_of_jdk("JdkUsers")
 
 
 def users_of_dashmap(_):
