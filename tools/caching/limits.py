@@ -66,7 +66,8 @@ def watched_keys_are_evicted(program):
     """A watched key that is evicted voids the transaction. One that is used stays, whatever else is evicted, and EXEC succeeds."""
     with Server(program, "--memory", 8 << 20, "--threads", 2) as server, Connection(server.port) as it, Connection(server.port) as other:
         for name, is_used, reply in (("cold", False, None), ("hot", True, [PONG])):
-            must(it.calls([["SET", name, "w" * 1000], ["WATCH", name]]) == [OK, OK], "no reply")
+            it.calls([["SET", name, "w" * 1000]] + [["GET", name]] * is_used)
+            must(it.call("WATCH", name) == OK, "no reply")
             for number in range(0, 20000, 500):
                 requests = [["SET", f"{name}:{number + at}", "c" * 1000] for at in range(500)]
                 must(other.calls(requests + [["GET", name]] * is_used)[:500] == [OK] * 500, "a key is refused")
