@@ -2,7 +2,6 @@
 import itertools
 import os
 import random
-import statistics
 import subprocess
 
 from .client import Connection, packed
@@ -60,14 +59,10 @@ def memory_of_keys(start, keys, size, is_redis):
         return resident(process) - before
 
 
-def times_at(rate_program, port, rate, pipeline, size, rounds, seconds, connections=50, threads=2):
-    """Sends requests at a rate. Returns for SET and GET the medians of the rate that was answered and of the percentiles 50, 99, 99.9."""
-    found = {}
-    for _ in range(rounds):
-        for line in ran([rate_program, port, rate, seconds, connections, pipeline, size, threads]).splitlines():
-            call, *figures = line.split()
-            found.setdefault(call, []).append([float(it) for it in figures])
-    return {call: [statistics.median(it) for it in zip(*rows)] for call, rows in found.items()}
+def times_at(rate_program, port, rate, pipeline, size, seconds, connections=50, threads=2):
+    """Sends requests at a rate. Returns for SET and GET the rate that was answered and the percentiles 50, 99, 99.9."""
+    lines = ran([rate_program, port, rate, seconds, connections, pipeline, size, threads]).splitlines()
+    return {call: [float(it) for it in figures] for call, *figures in map(str.split, lines)}
 
 
 # == Hits ==
