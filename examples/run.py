@@ -229,6 +229,7 @@ MANY, FEW = ((1, 100000), (16, 100000), (60000, 300000)), ((1, 5000), (16, 10000
 BY_TEXT, CPP_BY_TEXT = [*C, "-DCOUNTS"], [*CPP, "-DCOUNTS"]
 SEEDED = ["-Wl,--wrap=getrandom"]
 WORKS = [
+    ("exports and headers, what makes them", lambda it: counted(run([sys.executable, f"{TOP}/tools/test_exports.py"]))),
     ("C, the first program", lambda it: run(it.program(C, "c/first.c"))),
     ("C, the first program by pkg-config", lambda it: it.by_pkg_config()),
     ("C, the first program by CMake", lambda it: it.by_cmake()),
