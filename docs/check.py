@@ -17,6 +17,7 @@ It proves nothing. It checks that
   API.md, TESTS.md and crates/README.md are what api.py, tests.py and crates.py make of the sources, and refusals.csv what
     refusals.py finds; SPEED.md and CACHE.md have the figures of bench/measured; the pictures are what drawings.py draws,
     and how long proving takes is what the last gate from nothing measured;
+  the exports of crates/facing and the headers say of each call what tools/exports makes of it;
   VERSION has the version that mapcli prints, and bin/words.py the texts, names and ranges that the programs print;
   KIT names the toolchain of this machine, and the top README names it too.
 It prints a line for each fault, and ends with status 1 if there is one. With --fix it first writes the generated pages
@@ -25,8 +26,6 @@ import csv
 import os
 import posixpath
 import re
-import shutil
-import subprocess
 import sys
 
 import api
@@ -39,6 +38,9 @@ import sources
 import tests
 import times
 from sources import is_file, text_of
+
+sys.path.append(f"{sources.TOP}/tools")
+from exporting import places  # noqa: E402
 
 COLUMNS = 200
 # A stub has as many lines: it says where a page went.
@@ -352,17 +354,6 @@ def other_refusals():
         yield from refusals.faults()
 
 
-def other_kit():
-    """The kit that the file KIT names: the top README names it too, and its logic is that of the toolchain, where there is one to ask."""
-    kit = text_of("KIT").strip() if is_file("KIT") else ""
-    if not kit or kit not in text_of("README.md"):
-        yield f"README.md: the file KIT names {kit or 'no kit'}"
-    if shutil.which("rt"):
-        logic = re.search(r"\blogic \w+", subprocess.run(["rt", "version"], capture_output=True, text=True).stdout)
-        if logic and logic[0] not in kit:
-            yield f"KIT: the toolchain that is here has another: {logic[0]}"
-
-
 def fix(pages):
     fixed = {made.PATH: made.page() for made in (api, crates, tests)}
     fixed |= {it: times.right(it, mended(it)) for it in pages if it not in (*sources.GENERATED, figures.PATH)}
@@ -391,7 +382,7 @@ def main():
         for look in (wide_lines, wrong_quotes, wrong_examples, wrong_commands):
             faults += look(page, text)
         faults += wrong_links(page)
-    for look in (wrong_call_examples, lost_crates, wrong_bodies, old_pages, other_refusals, programs.faults, other_kit):
+    for look in (wrong_call_examples, lost_crates, wrong_bodies, old_pages, other_refusals, programs.faults, places.faults):
         faults += look()
     for fault in faults:
         print(fault)

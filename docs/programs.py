@@ -1,5 +1,7 @@
-"""Compares what the launchers and the file VERSION tell of the programs with the programs' sources."""
+"""Compares what the launchers and the file VERSION tell of the programs with the programs' sources, and the file KIT with the toolchain."""
 import re
+import shutil
+import subprocess
 import sys
 
 import sources
@@ -36,6 +38,18 @@ def word_faults():
         yield "bin/words.py: mapcli tells something else of words that are not UTF-8"
 
 
+def kit_faults():
+    """The kit that the file KIT names: the top README names it too, and its logic is that of the toolchain, where there is one to ask."""
+    kit = sources.text_of("KIT").strip() if sources.is_file("KIT") else ""
+    if not kit or kit not in sources.text_of("README.md"):
+        yield f"README.md: the file KIT names {kit or 'no kit'}"
+    if shutil.which("rt"):
+        logic = re.search(r"\blogic \w+", subprocess.run(["rt", "version"], capture_output=True, text=True).stdout)
+        if logic and logic[0] not in kit:
+            yield f"KIT: the toolchain that is here has another: {logic[0]}"
+
+
 def faults():
     yield from version_faults()
     yield from word_faults()
+    yield from kit_faults()
