@@ -16,6 +16,16 @@ from maps import OUT, TOP, Failed, versions
 MEASURED = f"{TOP}/bench/measured"
 
 
+def taken():
+    """Returns how long the processors of this machine have been taken by its host, and how long they have run or been idle, in ticks."""
+    with open("/proc/stat", encoding="utf-8") as it:
+        ticks = [int(part) for part in it.readline().split()[1:9]]
+    return ticks[7], sum(ticks)
+
+
+BEGAN = taken()
+
+
 def processors():
     return len(os.sched_getaffinity(0))
 
@@ -130,4 +140,6 @@ def keep(name, heading, columns, rows):
         table.writerow(columns)
         table.writerows(rows)
     print(f"bench: wrote {os.path.relpath(f'{MEASURED}/{name}.csv')}", file=sys.stderr)
-    write(f"{MEASURED}/{name}.txt", "\n".join(heading) + "\n")
+    lost, all_of_it = (now - before for now, before in zip(taken(), BEGAN))
+    told = wrapped([f"- Meanwhile the host of the machine took {100 * lost / max(all_of_it, 1):.1f} percent of the processors' time."])
+    write(f"{MEASURED}/{name}.txt", "\n".join([*heading, *told]) + "\n")

@@ -2,8 +2,8 @@
 
 usage: python3 docs/figures.py
 
-The first table is of four threads and of keys chosen uniformly, the second of bulk operations on a live map. What is printed are ratios, of each row of four threads: our calls by
-those of another map, the least and the greatest for each number of keys, and where they are."""
+The first table is of four threads and of keys chosen uniformly, the second of bulk operations on a live map. What is printed are ratios: our
+calls by those of another map, for each choice of keys, number of threads and mode, from the fewest keys to the most."""
 import csv
 import re
 from decimal import ROUND_HALF_UP, Decimal
@@ -23,16 +23,16 @@ HEAD = "| Map | " + " | ".join(f"{int(keys):,} keys: get | mix | merge" for keys
 
 
 def medians():
-    """Returns the medians of four threads by mode, choice, map and keys, in the order of the file."""
+    """Returns the medians by mode, choice, map, keys and threads, in the order of the file."""
     rows = csv.DictReader(sources.text_of(DATA).splitlines())
-    return {(it["mode"], it["choice"], it["map"], it["keys"]): Decimal(it["median"]) for it in rows if it["threads"] == THREADS}
+    return {(it["mode"], it["choice"], it["map"], it["keys"], it["threads"]): Decimal(it["median"]) for it in rows}
 
 
 def table():
     found = medians()
     lines = [HEAD]
-    for name in dict.fromkeys(it[2] for it in found):
-        cells = [shown(found, (mode, "uniform", name, keys)) for keys in KEYS for mode in MODES]
+    for name in dict.fromkeys(it[2] for it in found if it[4] == THREADS):
+        cells = [shown(found, (mode, "uniform", name, keys, THREADS)) for keys in KEYS for mode in MODES]
         lines.append(f"| {NAMES.get(name, name)} | {' | '.join(cells)} |")
     return "\n".join(lines) + "\n"
 
@@ -61,15 +61,17 @@ def page():
 
 
 def ratios():
+    """Returns a line for each other map, choice and number of threads: of each mode our calls by its, from the fewest keys to the most."""
     found = medians()
-    for other in dict.fromkeys(it[2] for it in found):
-        if other.startswith(OWN):
+    for name, choice, threads in dict.fromkeys((it[2], it[1], it[4]) for it in found):
+        if name.startswith(OWN):
             continue
-        for keys in [*dict.fromkeys(it[3] for it in found), ""]:
-            pairs = {it: found[it[0], it[1], OWN, it[3]] / them for it, them in found.items() if it[2] == other and keys in ("", it[3])}
-            low, high = (pick(pairs, key=pairs.get) for pick in (min, max))
-            where = f"{int(keys):>9,} keys" if keys else "     all keys"
-            yield f"{other}, {where}: {pairs[low]:.2f} ({low[0]}, {low[1]}) to {pairs[high]:.2f} ({high[0]}, {high[1]})"
+        cells = []
+        for mode in MODES:
+            its = {keys: them for (a, b, c, keys, d), them in found.items() if (a, b, c, d) == (mode, choice, name, threads)}
+            parts = [found[mode, choice, OWN, keys, threads] / its[keys] for keys in sorted(its, key=int) if (mode, choice, OWN, keys, threads) in found]
+            cells.append(f"{mode} " + " ".join(f"{it:.2f}" for it in parts))
+        yield f"{name}, {choice}, {threads} threads: {', '.join(cells)}"
 
 
 if __name__ == "__main__":
