@@ -23,3 +23,4 @@ pub mod Retaining
 pub mod Stepping
 pub mod PartVisits
 pub mod Giving
+pub mod AtKey

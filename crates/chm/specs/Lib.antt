@@ -19,3 +19,4 @@ pub mod Cursors
 pub mod Retained
 pub mod Numbered
 pub mod Given
+pub mod AtKey

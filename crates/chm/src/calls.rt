@@ -23,6 +23,7 @@ ghost use Rattle.count_ledger.specs.Limits.{most_calls};
 ghost use Rattle.chm.specs.Headline.{IsAnswered};
 ghost use Rattle.chm.specs.Sure.{IsMadeOrFull, IsSureOf};
 
+mod at_key;
 mod balance;
 mod by_query;
 mod give;
@@ -35,12 +36,13 @@ mod seek;
 pub(crate) mod update;
 mod view;
 
+use crate::calls::making::Calling;
 use crate::fault::Fault;
 use crate::map::Map;
 use bin_history::{Call, KeyArg, Op, Remap, Reply, Value};
 use count_ledger::Pass;
 use hashkeys::HashKey;
-use std::alloc::{AllocError, Allocator};
+use std::alloc::Allocator;
 use std::sync::Wait;
 
 impl<K: HashKey, V: Value, F: Remap<K, V>, A: Allocator + Clone> Map<K, V, F, A> {
@@ -101,12 +103,7 @@ impl<K: HashKey, V: Value, F: Remap<K, V>, A: Allocator + Clone> Map<K, V, F, A>
             (call_on (key_in key.entry) op) pass.old pass.new result }
         ensures sure { IsSureOf V.is_infallible self.now.ledger.form op result }
     {
-        if pass.made() >= self.ledger.most_calls() {
-            return Err(Fault::PassFull);
-        }
-        let (reply, effect) = self.make(rt, pass, key, op)?;
-        self.after_call(&effect);
-        Ok(reply)
+        self.call_at_key(rt, pass, Calling { key, op })
     }
 
     /// Makes a call as `call_on` does, unless the key's bin is locked just then: then it returns
@@ -129,16 +126,7 @@ impl<K: HashKey, V: Value, F: Remap<K, V>, A: Allocator + Clone> Map<K, V, F, A>
             IsSome result }
         ensures busy { IfNone result (pass.new ≡ pass.old) }
     {
-        if pass.made() >= self.ledger.most_calls() {
-            return Some(Err(Fault::PassFull));
-        }
-        match self.try_make(pass, key, op)? {
-            Ok((reply, effect)) => {
-                self.after_call(&effect);
-                Some(Ok(reply))
-            }
-            Err(AllocError) => Some(Err(Fault::NoMemory)),
-        }
+        self.try_call_at_key(pass, Calling { key, op })
     }
 
     /// Returns a clone of the value at the key.

@@ -1,32 +1,227 @@
 //! Changing the value at a key where it lies, by a function that is lent it and runs while the key's
 //! bucket is locked.
-ghost use Rattle.std.specs.Prelude.{◌≡◌, ◌≤◌, true, length, IfOk, IfSome, IfNone, IsOk, IsSome, IsSomeAnd, OnErr};
+ghost use Rattle.std.specs.Prelude.{◌≡◌, ◌≤◌, true, length, IfSome, IfNone, IsSome};
 ghost use Rattle.std.specs.Fn.{FnOnceReturnsAtMut};
 ghost use Rattle.hashkeys.specs.Classes.{covers};
 ghost use Rattle.bin_history.specs.Calls.{after};
 ghost use Rattle.bin_history.specs.Hashes.{hash_by};
 ghost use Rattle.bin_history.specs.declared.form.Form.TheVariants.{Lean};
 ghost use Rattle.count_ledger.specs.Limits.{most_calls};
-ghost use Rattle.lock_table.specs.Taken.{taken};
-ghost use Rattle.bin_store.specs.Places.{tag_of};
 ghost use Rattle.lean_bins.specs.BinSlot.{IsInSlot};
-ghost use Rattle.bin_layout.specs.Places.{AreAt};
 ghost use Rattle.bin_layout.specs.Views.{place_of};
 ghost use Rattle.chm.specs.Given.{IsModified, IsModify};
 ghost use Rattle.chm.specs.Updates.{IsWithin};
 ghost use Rattle.chm.specs.Views.{bins_of};
 
+use crate::calls::at_key::{AtKey, CallAtKey};
 use crate::calls::give::copies_for;
 use crate::fault::Fault;
 use crate::map::Map;
-use crate::resize::moving::CallEffect;
-use bin_history::{KeyArg, Op, Remap, Value, change_on, lawful_entries};
-use bin_store::{Held, StoreKind};
-use count_ledger::Pass;
-use hashkeys::{AsKey, Class, HashKey};
-use lean_bins::{BinGuard, BinSlot};
-use std::alloc::{AllocError, Allocator};
+use crate::resize::policy::Growth;
+use bin_history::{Bin, KeyArg, Op, Remap, Value, change_on, lawful_entries};
+use count_ledger::{BinRole, Pass};
+use hashkeys::{AsKey, Class, HashKey, Salt};
+use lean_bins::BinSlot;
+use std::alloc::Allocator;
 use std::sync::Wait;
+
+/// A function that is lent the value at a key.
+#[derive(Drop)]
+struct Modifying<'k, K, G> {
+    key: &'k K,
+    f: G,
+}
+
+/// A function that is lent the value at the key that a query stands for.
+#[derive(Drop)]
+struct ModifyingAs<Q, G> {
+    query: Q,
+    f: G,
+}
+
+impl<
+    K: HashKey,
+    V: Value,
+    F: Remap<K, V>,
+    A: Allocator + Clone,
+    T: Drop,
+    G: FnOnce(&mut V) -> T,
+> AtKey<K, V, F, A> for Modifying<'_, K, G>
+where
+    G: Drop,
+{
+    ghost use Rattle.std.specs.Prelude.{◌≡◌, ◌<◌, ◌≤◌, length};
+    ghost use Rattle.std.specs.Fn.{FnOnceReturnsAtMut};
+    ghost use Rattle.bin_history.specs.declared.form.Form.TheVariants.{Lean};
+    ghost use Rattle.chm.specs.Given.{IsModified};
+    ghost use Rattle.chm.specs.Updates.{IsWithin};
+    ghost use Rattle.chm.specs.declared.fault.Fault.TheVariants.{NoMemory};
+
+    type Answer = Option<T>;
+
+    type Failure = Fault;
+
+    ghost key = { λ w. w.key.now };
+
+    ghost may = { λ w ledger pass. IsWithin ledger pass × G.IsAlwaysCallable w.f };
+
+    ghost does = { λ w ledger old new answer. IsModified K.eq V.eq F.remapped F.merged
+        (FnOnceReturnsAtMut G.FnOnce w.f) ledger w.key.now old new answer };
+
+    ghost fails = { λ w ledger old fault. (fault ≡ NoMemory) × (ledger.form ≡ Lean → ⊥) };
+
+    #[inline(always)]
+    fn hash(&self, salt: Salt) -> u32 {
+        salt.hash_of_as::<K, &K>(self.key)
+    }
+
+    #[inline(always)]
+    fn in_place(
+        self,
+        map: &Map<K, V, F, A>,
+        pass: &mut Pass<K, V, F>,
+        bin_slot: &mut BinSlot<K, V, F, A>,
+        class: Class,
+        hash: u32,
+    ) -> Result<(Option<T>, Growth), Fault> {
+        let answer = map.modify_in_place(pass, bin_slot, class, hash, self.key, self.f);
+        Ok((answer, Growth::none()))
+    }
+
+    fn by_value(
+        self,
+        map: &Map<K, V, F, A>,
+        pass: &mut Pass<K, V, F>,
+        bin: &mut Bin<K, V, F, A>,
+        role: &mut BinRole<K, V, F>,
+        hash: u32,
+    ) -> Result<(Option<T>, Growth), Fault> {
+        let Modifying { key, f } = self;
+        let (own, found) = copies_for(bin, map.resizer.allocator(), hash, key)?;
+        let own = KeyArg::Owned(own);
+        match found {
+            None => {
+                let (reply, growth) = map.call_by_value(pass, bin, role, hash, own, Op::Contains)?;
+                drop(reply);
+                Ok((None, growth))
+            }
+            Some(value) => {
+                let mut value = value;
+                let answer = f(&mut value);
+                let put = Op::Put(value);
+                let (reply, growth) = map.call_by_value(pass, bin, role, hash, own, put)?;
+                drop(reply);
+                Ok((Some(answer), growth))
+            }
+        }
+    }
+}
+
+impl<
+    K: HashKey,
+    V: Value,
+    F: Remap<K, V>,
+    A: Allocator + Clone,
+    T: Drop,
+    G: FnOnce(&mut V) -> T,
+> CallAtKey<K, V, F, A> for Modifying<'_, K, G>
+where
+    G: Drop,
+{
+    ghost use Rattle.std.specs.Prelude.{◌≡◌};
+    ghost use Rattle.chm.specs.declared.fault.Fault.TheVariants.{PassFull};
+
+    ghost full = { λ w fault. fault ≡ PassFull };
+
+    fn refuse(self) -> Fault {
+        Fault::PassFull
+    }
+}
+
+impl<
+    K: HashKey,
+    V: Value,
+    F: Remap<K, V>,
+    A: Allocator + Clone,
+    Q: AsKey<K>,
+    T,
+    G: FnOnce(&mut V) -> T,
+> AtKey<K, V, F, A> for ModifyingAs<Q, G>
+where
+    G: Drop,
+{
+    ghost use Rattle.std.specs.Prelude.{◌≡◌, ◌<◌, ◌≤◌, length};
+    ghost use Rattle.std.specs.Fn.{FnOnceReturnsAtMut};
+    ghost use Rattle.bin_history.specs.declared.form.Form.TheVariants.{Lean};
+    ghost use Rattle.chm.specs.Given.{IsModified};
+    ghost use Rattle.chm.specs.Updates.{IsWithin};
+    ghost use Rattle.chm.specs.declared.fault.Fault.TheVariants.{NoMemory};
+
+    type Answer = Option<T>;
+
+    type Failure = Fault;
+
+    ghost key = { λ w. Q.stands_for w.query };
+
+    ghost may = { λ w ledger pass. IsWithin ledger pass × G.IsAlwaysCallable w.f × (ledger.form ≡ Lean) };
+
+    ghost does = { λ w ledger old new answer. IsModified K.eq V.eq F.remapped F.merged
+        (FnOnceReturnsAtMut G.FnOnce w.f) ledger (Q.stands_for w.query) old new answer };
+
+    ghost fails = { λ w ledger old fault. (fault ≡ NoMemory) × (ledger.form ≡ Lean → ⊥) };
+
+    #[inline(always)]
+    fn hash(&self, salt: Salt) -> u32 {
+        salt.hash_of_as::<K, Q>(self.query)
+    }
+
+    #[inline(always)]
+    fn in_place(
+        self,
+        map: &Map<K, V, F, A>,
+        pass: &mut Pass<K, V, F>,
+        bin_slot: &mut BinSlot<K, V, F, A>,
+        class: Class,
+        hash: u32,
+    ) -> Result<(Option<T>, Growth), Fault> {
+        let answer = map.modify_in_place(pass, bin_slot, class, hash, self.query, self.f);
+        Ok((answer, Growth::none()))
+    }
+
+    fn by_value(
+        self,
+        map: &Map<K, V, F, A>,
+        pass: &mut Pass<K, V, F>,
+        bin: &mut Bin<K, V, F, A>,
+        role: &mut BinRole<K, V, F>,
+        hash: u32,
+    ) -> Result<(Option<T>, Growth), Fault> {
+        let _ = (map, pass, bin, role, hash);
+        unreachable!()
+    }
+}
+
+impl<
+    K: HashKey,
+    V: Value,
+    F: Remap<K, V>,
+    A: Allocator + Clone,
+    Q: AsKey<K>,
+    T,
+    G: FnOnce(&mut V) -> T,
+> CallAtKey<K, V, F, A> for ModifyingAs<Q, G>
+where
+    G: Drop,
+{
+    ghost use Rattle.std.specs.Prelude.{◌≡◌};
+    ghost use Rattle.chm.specs.declared.fault.Fault.TheVariants.{PassFull};
+
+    ghost full = { λ w fault. fault ≡ PassFull };
+
+    fn refuse(self) -> Fault {
+        Fault::PassFull
+    }
+}
 
 impl<K: HashKey, V: Value, F: Remap<K, V>, A: Allocator + Clone> Map<K, V, F, A> {
     /// Lends the function the value at the key, where it lies, and returns what the function returns; or
@@ -64,12 +259,7 @@ impl<K: HashKey, V: Value, F: Remap<K, V>, A: Allocator + Clone> Map<K, V, F, A>
         ensures { IsModify K.eq V.eq F.remapped F.merged (FnOnceReturnsAtMut G.FnOnce f)
             self.now.ledger key.now pass.old pass.new result }
     {
-        if pass.made() >= self.ledger.most_calls() {
-            return Err(Fault::PassFull);
-        }
-        let (answer, effect) = self.make_modify(rt, pass, key, f)?;
-        self.after_call(&effect);
-        Ok(answer)
+        self.call_at_key(rt, pass, Modifying { key, f })
     }
 
     /// Tries to do what `modify` does, and waits for nobody. Returns none where the key's bucket is
@@ -98,16 +288,7 @@ impl<K: HashKey, V: Value, F: Remap<K, V>, A: Allocator + Clone> Map<K, V, F, A>
             IsSome result }
         ensures busy { IfNone result (pass.new ≡ pass.old) }
     {
-        if pass.made() >= self.ledger.most_calls() {
-            return Some(Err(Fault::PassFull));
-        }
-        match self.try_make_modify(pass, key, f)? {
-            Ok((answer, effect)) => {
-                self.after_call(&effect);
-                Some(Ok(answer))
-            }
-            Err(AllocError) => Some(Err(Fault::NoMemory)),
-        }
+        self.try_call_at_key(pass, Modifying { key, f })
     }
 
     /// Lends the function the value at the key that this stands for, as a slice stands for the key of its
@@ -135,171 +316,7 @@ impl<K: HashKey, V: Value, F: Remap<K, V>, A: Allocator + Clone> Map<K, V, F, A>
         ensures { IsModify K.eq V.eq F.remapped F.merged (FnOnceReturnsAtMut G.FnOnce f)
             self.now.ledger (Q.stands_for query) pass.old pass.new result }
     {
-        if pass.made() >= self.ledger.most_calls() {
-            return Err(Fault::PassFull);
-        }
-        match &self.bins.kind {
-            StoreKind::Recorded(_) => unreachable!(),
-            StoreKind::Lean(home) => {
-                let hash = home.salt().hash_of_as::<K, Q>(query);
-                let held = home.hold_in_place(rt, hash);
-                let (answer, effect) = self.modify_guarded(held, pass, hash, query, f);
-                self.after_call(&effect);
-                Ok(answer)
-            }
-        }
-    }
-
-    /// Modifies the value at the key, for whose bucket it waits.
-    #[inline(always)]
-    fn make_modify<R: Wait, T: Drop, G: FnOnce(&mut V) -> T>(
-        &self,
-        rt: &R,
-        pass: &mut Pass<K, V, F>,
-        key: &K,
-        f: G,
-    ) -> Result<(Option<T>, CallEffect), AllocError>
-    where
-        G: Drop,
-        requires callable { G.IsAlwaysCallable f }
-        requires pass { pass.old.ledger ≡ self.now.ledger.id }
-        requires room { IsWithin self.now.ledger pass.old }
-        ensures modified { IfOk result (λ r. IsModified K.eq V.eq F.remapped F.merged
-            (FnOnceReturnsAtMut G.FnOnce f) self.now.ledger key.now pass.old pass.new r.0) }
-        ensures refused { OnErr result (pass.new ≡ pass.old) }
-        ensures sure { self.now.ledger.form ≡ Lean → IsOk result }
-    {
-        let hash = self.salt().hash_of(key);
-        match &self.bins.kind {
-            StoreKind::Recorded(_) => {
-                let held = self.bins.hold(rt, hash);
-                self.modify_by_value(held, pass, hash, key, f)
-            }
-            StoreKind::Lean(home) => {
-                let held = home.hold_in_place(rt, hash);
-                Ok(self.modify_guarded(held, pass, hash, key, f))
-            }
-        }
-    }
-
-    /// Modifies the value at the key, unless its bucket is locked just then: then the function is
-    /// dropped.
-    #[inline(always)]
-    fn try_make_modify<T: Drop, G: FnOnce(&mut V) -> T>(
-        &self,
-        pass: &mut Pass<K, V, F>,
-        key: &K,
-        f: G,
-    ) -> Option<Result<(Option<T>, CallEffect), AllocError>>
-    where
-        G: Drop,
-        requires callable { G.IsAlwaysCallable f }
-        requires pass { pass.old.ledger ≡ self.now.ledger.id }
-        requires room { IsWithin self.now.ledger pass.old }
-        ensures modified { IfSome result (λ made. IfOk made (λ r. IsModified K.eq V.eq F.remapped
-            F.merged (FnOnceReturnsAtMut G.FnOnce f) self.now.ledger key.now pass.old pass.new
-            r.0)) }
-        ensures refused { IfSome result (λ made. OnErr made (pass.new ≡ pass.old)) }
-        ensures sure { self.now.ledger.form ≡ Lean → IfSome result IsOk }
-        ensures busy { IfNone result (pass.new ≡ pass.old) }
-    {
-        let hash = self.salt().hash_of(key);
-        match &self.bins.kind {
-            StoreKind::Recorded(_) => {
-                let held = self.bins.try_hold(hash)?;
-                Some(self.modify_by_value(held, pass, hash, key, f))
-            }
-            StoreKind::Lean(home) => {
-                let held = home.try_hold_in_place(hash)?;
-                Some(Ok(self.modify_guarded(held, pass, hash, key, f)))
-            }
-        }
-    }
-
-    /// Modifies a copy of the value at the key in a bucket that was taken out to lock it, puts the copy
-    /// there by a call, and puts the bucket back.
-    #[cold]
-    #[inline(never)]
-    fn modify_by_value<'a, T: Drop, G: FnOnce(&mut V) -> T>(
-        &'a self,
-        held: Held<'_, K, V, F, A>,
-        pass: &mut Pass<K, V, F>,
-        hash: u32,
-        key: &K,
-        f: G,
-    ) -> Result<(Option<T>, CallEffect), AllocError>
-    where
-        G: Drop,
-        requires callable { G.IsAlwaysCallable f }
-        requires pass { pass.old.ledger ≡ self.now.ledger.id }
-        requires room { IsWithin self.now.ledger pass.old }
-        requires hash { hash ≡ hash_by K.code self.now.ledger.salt key.now }
-        requires at { AreAt K.eq (after V.eq F.remapped F.merged) (tag_of held.place) held.bin
-            held.role }
-        requires ledger { held.role.ledger ≡ self.now.ledger.id }
-        requires form { held.bin.form ≡ self.now.ledger.form }
-        requires salt { held.bin.salt ≡ self.now.ledger.salt }
-        requires covers { covers held.bin.class hash ≡ true }
-        ensures modified { IfOk result (λ r. IsModified K.eq V.eq F.remapped F.merged
-            (FnOnceReturnsAtMut G.FnOnce f) self.now.ledger key.now pass.old pass.new r.0) }
-        ensures refused { OnErr result (pass.new ≡ pass.old) }
-    {
-        let Ok((own, found)) = copies_for(&held.bin, self.resizer.allocator(), hash, key) else {
-            held.release();
-            return Err(AllocError);
-        };
-        let own: KeyArg<'a, K> = KeyArg::Owned(own);
-        match found {
-            None => {
-                let (reply, effect) = self.make_by_value(held, pass, hash, own, Op::Contains)?;
-                drop(reply);
-                Ok((None, effect))
-            }
-            Some(value) => {
-                let mut value = value;
-                let answer = f(&mut value);
-                let (reply, effect) = self.make_by_value(held, pass, hash, own, Op::Put(value))?;
-                drop(reply);
-                Ok((Some(answer), effect))
-            }
-        }
-    }
-
-    /// Modifies the value at the key that this stands for in a lean bucket that is locked where it lies,
-    /// and unlocks the bucket.
-    #[inline(always)]
-    fn modify_guarded<Q: AsKey<K>, T, G: FnOnce(&mut V) -> T>(
-        &self,
-        mut held: BinGuard<'_, K, V, F, A>,
-        pass: &mut Pass<K, V, F>,
-        hash: u32,
-        query: Q,
-        f: G,
-    ) -> (Option<T>, CallEffect)
-    where
-        G: Drop,
-        requires callable { G.IsAlwaysCallable f }
-        requires pass { pass.old.ledger ≡ self.now.ledger.id }
-        requires room { IsWithin self.now.ledger pass.old }
-        requires hash { hash ≡ hash_by K.code self.now.ledger.salt (Q.stands_for query) }
-        requires lies { IsSomeAnd (taken held.inner.seat.me.1)
-            (IsInSlot K.eq (after V.eq F.remapped F.merged) (place_of held.home.now held.class)) }
-        requires home { held.home.now ≡ bins_of self.now }
-        requires covers { covers held.class hash ≡ true }
-        ensures modified { IsModified K.eq V.eq F.remapped F.merged (FnOnceReturnsAtMut G.FnOnce f)
-            self.now.ledger (Q.stands_for query) pass.old pass.new result.0 }
-    {
-        let class = held.class;
-        let answer = self.modify_in_place(pass, held.inner.value(), class, hash, query, f);
-        held.release();
-        let client = pass.client();
-        let effect = CallEffect {
-            class,
-            client,
-            grown: None,
-            crowded: false,
-        };
-        (answer, effect)
+        self.call_at_key(rt, pass, ModifyingAs { query, f })
     }
 
     /// Modifies the value at the key that this stands for in what lies at the place of a lean bucket of

@@ -1,63 +1,73 @@
 //! Calls on the key that something else stands for, as a slice stands for the key of its bytes: those
 //! that can add no entry and use no function. No key is made, so a lean map alone makes them: a
 //! recorded one keeps the key of each call.
-ghost use Rattle.std.specs.Prelude.{◌≡◌, ◌<◌, true, length, IfOk, IsOk, IsSomeAnd, OnErr};
-ghost use Rattle.hashkeys.specs.Classes.{covers};
-ghost use Rattle.bin_history.specs.Calls.{after};
-ghost use Rattle.bin_history.specs.Hashes.{hash_by};
+ghost use Rattle.std.specs.Prelude.{◌≡◌};
 ghost use Rattle.bin_history.specs.Ops.{call_on};
 ghost use Rattle.bin_history.specs.Seeks.{op_for};
 ghost use Rattle.bin_history.specs.Sure.{IsNeverRefused};
 ghost use Rattle.bin_history.specs.declared.call.Call.TheVariants.{Get, Contains, Remove};
 ghost use Rattle.bin_history.specs.declared.form.Form.TheVariants.{Lean};
-ghost use Rattle.lock_table.specs.Taken.{taken};
-ghost use Rattle.bin_history.specs.Limits.{most_calls};
-ghost use Rattle.lean_bins.specs.BinSlot.{IsInSlot};
-ghost use Rattle.bin_layout.specs.Views.{place_of};
-ghost use Rattle.chm.specs.Headline.{IsAnswered, IsCalled};
+ghost use Rattle.chm.specs.Headline.{IsAnswered};
 ghost use Rattle.chm.specs.Sure.{IsMadeOrFull};
-ghost use Rattle.chm.specs.Views.{bins_of};
 
-use crate::calls::making::Made;
+use crate::calls::at_key::{AtKey, CallAtKey};
 use crate::fault::Fault;
 use crate::map::Map;
-use crate::resize::moving::CallEffect;
-use bin_history::{Remap, Reply, Seek, Value, lawful_entries};
-use bin_store::StoreKind;
-use count_ledger::Pass;
-use hashkeys::{AsKey, Class, HashKey};
-use lean_bins::{BinGuard, BinSlot};
-use std::alloc::{AllocError, Allocator};
+use crate::resize::policy::Growth;
+use bin_history::{Bin, Remap, Reply, Seek, Value, lawful_entries};
+use count_ledger::{BinRole, Pass};
+use hashkeys::{AsKey, Class, HashKey, Salt};
+use lean_bins::BinSlot;
+use std::alloc::Allocator;
 use std::sync::Wait;
 
-impl<K: HashKey, V: Value, F: Remap<K, V>, A: Allocator + Clone> Map<K, V, F, A> {
-    /// Makes a call on what lies at the place of a lean bin of the class, on the key of this hash that
-    /// the query stands for, and posts it. The bin and its role stay there. Out of memory nothing is
-    /// changed or posted.
+/// A call that can add no entry and uses no function, and what stands for its key.
+#[derive(Drop)]
+struct Seeking<Q> {
+    query: Q,
+    seek: Seek,
+}
+
+impl<K: HashKey, V: Value, F: Remap<K, V>, A: Allocator + Clone, Q: AsKey<K>> AtKey<K, V, F, A>
+    for Seeking<Q> {
+    ghost use Rattle.std.specs.Prelude.{◌≡◌, ◌<◌, ◌≤◌, length};
+    ghost use Rattle.bin_history.specs.Ops.{call_on};
+    ghost use Rattle.bin_history.specs.Seeks.{op_for};
+    ghost use Rattle.bin_history.specs.Sure.{IsNeverRefused};
+    ghost use Rattle.bin_history.specs.declared.form.Form.TheVariants.{Lean};
+    ghost use Rattle.chm.specs.Headline.{IsCalled};
+    ghost use Rattle.chm.specs.Updates.{IsWithin};
+    ghost use Rattle.chm.specs.declared.fault.Fault.TheVariants.{NoMemory};
+
+    type Answer = Reply<V>;
+
+    type Failure = Fault;
+
+    ghost key = { λ w. Q.stands_for w.query };
+
+    ghost may = { λ w ledger pass. IsWithin ledger pass × (ledger.form ≡ Lean) };
+
+    ghost does = { λ w ledger old new reply. IsCalled K.eq V.eq F.remapped F.merged ledger
+        (call_on (Q.stands_for w.query) (op_for w.seek)) old new reply };
+
+    ghost fails = { λ w ledger old fault. (fault ≡ NoMemory)
+        × ((w.seek ≡ Seek.Get → IsNeverRefused V.is_infallible) → ⊥) };
+
     #[inline(always)]
-    fn seek_in_place<Q: AsKey<K>>(
-        &self,
+    fn hash(&self, salt: Salt) -> u32 {
+        salt.hash_of_as::<K, Q>(self.query)
+    }
+
+    #[inline(always)]
+    fn in_place(
+        self,
+        map: &Map<K, V, F, A>,
         pass: &mut Pass<K, V, F>,
         bin_slot: &mut BinSlot<K, V, F, A>,
         class: Class,
         hash: u32,
-        query: Q,
-        seek: Seek,
-    ) -> Result<Reply<V>, AllocError>
-        requires pass { pass.old.ledger ≡ self.now.ledger.id }
-        requires room { length pass.old.made < most_calls self.now.ledger.form self.now.ledger.clients }
-        requires lies { IsInSlot K.eq (after V.eq F.remapped F.merged)
-            (place_of (bins_of self.now) class) bin_slot.old }
-        requires hash { hash ≡ hash_by K.code self.now.ledger.salt (Q.stands_for query) }
-        requires covers { covers class hash ≡ true }
-        ensures called { IfOk result (IsCalled K.eq V.eq F.remapped F.merged self.now.ledger
-            (call_on (Q.stands_for query) (op_for seek)) pass.old pass.new) }
-        ensures sure { (seek ≡ Seek.Get → IsNeverRefused V.is_infallible) → IsOk result }
-        ensures refused { OnErr result (pass.new ≡ pass.old) }
-        ensures stayed { OnErr result (bin_slot.new ≡ bin_slot.old) }
-        ensures lies { IsInSlot K.eq (after V.eq F.remapped F.merged)
-            (place_of (bins_of self.now) class) bin_slot.new }
-    {
+    ) -> Result<(Reply<V>, Growth), Fault> {
+        let Seeking { query, seek } = self;
         lawful_entries::<K, V, F, A>(&bin_slot.entries);
         let (reply, trace) = seek.make_on(
             &mut bin_slot.entries,
@@ -67,51 +77,37 @@ impl<K: HashKey, V: Value, F: Remap<K, V>, A: Allocator + Clone> Map<K, V, F, A>
             pass.made(),
         )?;
         let mut role = bin_slot.take_role(class);
-        self.ledger.post_trace(pass, &mut role, &trace);
+        map.ledger.post_trace(pass, &mut role, &trace);
         bin_slot.put_role(role);
-        Ok(reply)
+        Ok((reply, Growth::none()))
     }
 
-    /// Makes a call on the key that the query stands for, in its lean bin, which is locked where it
-    /// lies, posts it, and unlocks the bin. Out of memory nothing is changed or posted.
-    #[inline(always)]
-    fn seek_guarded<Q: AsKey<K>>(
-        &self,
-        mut held: BinGuard<'_, K, V, F, A>,
+    fn by_value(
+        self,
+        map: &Map<K, V, F, A>,
         pass: &mut Pass<K, V, F>,
+        bin: &mut Bin<K, V, F, A>,
+        role: &mut BinRole<K, V, F>,
         hash: u32,
-        query: Q,
-        seek: Seek,
-    ) -> Made<V>
-        requires pass { pass.old.ledger ≡ self.now.ledger.id }
-        requires room { length pass.old.made < most_calls self.now.ledger.form self.now.ledger.clients }
-        requires hash { hash ≡ hash_by K.code self.now.ledger.salt (Q.stands_for query) }
-        requires lies { IsSomeAnd (taken held.inner.seat.me.1)
-            (IsInSlot K.eq (after V.eq F.remapped F.merged) (place_of held.home.now held.class)) }
-        requires home { held.home.now ≡ bins_of self.now }
-        requires covers { covers held.class hash ≡ true }
-        ensures called { IfOk result
-            (λ r. IsCalled K.eq V.eq F.remapped F.merged self.now.ledger
-            (call_on (Q.stands_for query) (op_for seek)) pass.old pass.new r.0) }
-        ensures sure { (seek ≡ Seek.Get → IsNeverRefused V.is_infallible) → IsOk result }
-        ensures refused { OnErr result (pass.new ≡ pass.old) }
-    {
-        let class = held.class;
-        let made = self.seek_in_place(pass, held.inner.value(), class, hash, query, seek);
-        held.release();
-        let reply = made?;
-        let client = pass.client();
-        Ok((
-            reply,
-            CallEffect {
-                class,
-                client,
-                grown: None,
-                crowded: false,
-            },
-        ))
+    ) -> Result<(Reply<V>, Growth), Fault> {
+        let _ = (map, pass, bin, role, hash);
+        unreachable!()
     }
+}
 
+impl<K: HashKey, V: Value, F: Remap<K, V>, A: Allocator + Clone, Q: AsKey<K>> CallAtKey<K, V, F, A>
+    for Seeking<Q> {
+    ghost use Rattle.std.specs.Prelude.{◌≡◌};
+    ghost use Rattle.chm.specs.declared.fault.Fault.TheVariants.{PassFull};
+
+    ghost full = { λ w fault. fault ≡ PassFull };
+
+    fn refuse(self) -> Fault {
+        Fault::PassFull
+    }
+}
+
+impl<K: HashKey, V: Value, F: Remap<K, V>, A: Allocator + Clone> Map<K, V, F, A> {
     /// Makes a call on the key that this stands for, and then does the call's part for the table.
     #[inline(always)]
     fn seek<R: Wait, Q: AsKey<K>>(
@@ -127,19 +123,7 @@ impl<K: HashKey, V: Value, F: Remap<K, V>, A: Allocator + Clone> Map<K, V, F, A>
             (call_on (Q.stands_for query) (op_for seek)) pass.old pass.new result }
         ensures sure { (seek ≡ Seek.Get → IsNeverRefused V.is_infallible) → IsMadeOrFull result }
     {
-        if pass.made() >= self.ledger.most_calls() {
-            return Err(Fault::PassFull);
-        }
-        match &self.bins.kind {
-            StoreKind::Recorded(_) => unreachable!(),
-            StoreKind::Lean(home) => {
-                let hash = home.salt().hash_of_as::<K, Q>(query);
-                let held = home.hold_in_place(rt, hash);
-                let (reply, effect) = self.seek_guarded(held, pass, hash, query, seek)?;
-                self.after_call(&effect);
-                Ok(reply)
-            }
-        }
+        self.call_at_key(rt, pass, Seeking { query, seek })
     }
 
     /// Returns the value at the key that this stands for, by a call of a lean map: a `get` of that key

@@ -1,30 +1,19 @@
 //! Changing the value at a key by a function of the client's own, which sees the value where it lies
 //! and runs while the key's bucket is locked.
-ghost use Rattle.std.specs.Prelude.{◌≡◌, ◌≤◌, length, true, IfOk, IfSome, IfNone, IsSome, IsSomeAnd, OnErr};
-ghost use Rattle.hashkeys.specs.Classes.{covers};
-ghost use Rattle.bin_history.specs.Calls.{after};
-ghost use Rattle.bin_history.specs.Hashes.{hash_by};
+ghost use Rattle.std.specs.Prelude.{◌≡◌, ◌≤◌, length, IfSome, IfNone, IsSome};
 ghost use Rattle.bin_history.specs.Ops.{call_on, key_in};
-ghost use Rattle.bin_history.specs.declared.form.Form.TheVariants.{Lean};
 ghost use Rattle.count_ledger.specs.Limits.{most_calls};
-ghost use Rattle.lock_table.specs.Taken.{taken};
-ghost use Rattle.bin_store.specs.Places.{tag_of};
-ghost use Rattle.lean_bins.specs.BinSlot.{IsInSlot};
-ghost use Rattle.bin_layout.specs.Places.{AreAt};
-ghost use Rattle.bin_layout.specs.Views.{place_of};
-ghost use Rattle.chm.specs.Updates.{AnswersAt, IsUpdate, IsUpdated, IsWithin, MayAdd, call_for, op_for};
-ghost use Rattle.chm.specs.Views.{bins_of};
+ghost use Rattle.chm.specs.Updates.{IsUpdate, IsWithin, call_for, op_for};
 
+use crate::calls::at_key::{AtKey, CallAtKey};
 use crate::fault::Fault;
 use crate::map::Map;
-use crate::resize::moving::CallEffect;
 use crate::resize::policy::Growth;
-use bin_history::{KeyArg, Op, Remap, Value};
-use bin_store::{Held, StoreKind};
-use count_ledger::Pass;
-use hashkeys::{Class, HashKey};
-use lean_bins::{BinGuard, BinSlot};
-use std::alloc::{AllocError, Allocator};
+use bin_history::{Bin, KeyArg, Op, Remap, Value};
+use count_ledger::{BinRole, Pass};
+use hashkeys::{Class, HashKey, Salt};
+use lean_bins::BinSlot;
+use std::alloc::Allocator;
 use std::sync::Wait;
 
 /// What a function does to the value at a key.
@@ -49,6 +38,103 @@ impl<V> Change<V> {
             Change::Set(value) => Op::Put(value),
             Change::Remove => Op::Remove,
         }
+    }
+}
+
+/// An update by a function, and its key.
+#[derive(Drop)]
+struct Updating<'k, K: HashKey, G> {
+    key: KeyArg<'k, K>,
+    f: G,
+}
+
+impl<
+    K: HashKey,
+    V: Value,
+    F: Remap<K, V>,
+    A: Allocator + Clone,
+    T: Drop,
+    G: FnOnce(Option<&V>) -> (Change<V>, T),
+> AtKey<K, V, F, A> for Updating<'_, K, G> {
+    ghost use Rattle.std.specs.Prelude.{◌≡◌, ◌<◌, ◌≤◌, length};
+    ghost use Rattle.bin_history.specs.Ops.{key_in};
+    ghost use Rattle.bin_history.specs.declared.form.Form.TheVariants.{Lean};
+    ghost use Rattle.chm.specs.Updates.{AnswersAt, IsUpdated, IsWithin, MayAdd};
+    ghost use Rattle.chm.specs.declared.fault.Fault.TheVariants.{NoMemory};
+
+    type Answer = T;
+
+    type Failure = Fault;
+
+    ghost key = { λ w. key_in w.key };
+
+    ghost may = { λ w ledger pass. IsWithin ledger pass × G.IsAlwaysCallable w.f };
+
+    ghost does = { λ w ledger old new answer. IsUpdated K.eq V.eq F.remapped F.merged
+        (λ before change. AnswersAt (G.post w.f) before (change, answer)) ledger (key_in w.key) old new };
+
+    ghost fails = { λ w ledger old fault. (fault ≡ NoMemory)
+        × (ledger.form ≡ Lean → MayAdd (G.post w.f)) };
+
+    #[inline(always)]
+    fn hash(&self, salt: Salt) -> u32 {
+        salt.hash_of(self.key.get())
+    }
+
+    #[inline(always)]
+    fn in_place(
+        self,
+        map: &Map<K, V, F, A>,
+        pass: &mut Pass<K, V, F>,
+        bin_slot: &mut BinSlot<K, V, F, A>,
+        class: Class,
+        hash: u32,
+    ) -> Result<(T, Growth), Fault> {
+        let Updating { key, f } = self;
+        let asked = key.get();
+        let (change, answer) = f(bin_slot.entries.get(hash, asked));
+        let op = change.into_op::<K, F>();
+        let (reply, growth) = map.call_in_place(pass, bin_slot, class, hash, key, op)?;
+        drop(reply);
+        Ok((answer, growth))
+    }
+
+    fn by_value(
+        self,
+        map: &Map<K, V, F, A>,
+        pass: &mut Pass<K, V, F>,
+        bin: &mut Bin<K, V, F, A>,
+        role: &mut BinRole<K, V, F>,
+        hash: u32,
+    ) -> Result<(T, Growth), Fault> {
+        let Updating { key, f } = self;
+        let asked = key.get();
+        let (change, answer) = f(bin.get(hash, asked));
+        let op = change.into_op::<K, F>();
+        let (reply, growth) = map.call_by_value(pass, bin, role, hash, key, op)?;
+        drop(reply);
+        Ok((answer, growth))
+    }
+}
+
+impl<
+    K: HashKey,
+    V: Value,
+    F: Remap<K, V>,
+    A: Allocator + Clone,
+    T: Drop,
+    G: FnOnce(Option<&V>) -> (Change<V>, T),
+> CallAtKey<K, V, F, A> for Updating<'_, K, G>
+where
+    G: Drop,
+{
+    ghost use Rattle.std.specs.Prelude.{◌≡◌};
+    ghost use Rattle.chm.specs.declared.fault.Fault.TheVariants.{PassFull};
+
+    ghost full = { λ w fault. fault ≡ PassFull };
+
+    fn refuse(self) -> Fault {
+        Fault::PassFull
     }
 }
 
@@ -139,12 +225,7 @@ impl<K: HashKey, V: Value, F: Remap<K, V>, A: Allocator + Clone> Map<K, V, F, A>
         ensures { IsUpdate K.eq V.eq F.remapped F.merged (G.post f) self.now.ledger
             (key_in key.entry) pass.old pass.new result }
     {
-        if pass.made() >= self.ledger.most_calls() {
-            return Err(Fault::PassFull);
-        }
-        let (answer, effect) = self.make_update(rt, pass, key, f)?;
-        self.after_call(&effect);
-        Ok(answer)
+        self.call_at_key(rt, pass, Updating { key, f })
     }
 
     /// Tries to do what `update` does, and waits for nobody. Returns none where the key's bucket is
@@ -173,184 +254,6 @@ impl<K: HashKey, V: Value, F: Remap<K, V>, A: Allocator + Clone> Map<K, V, F, A>
             IsSome result }
         ensures busy { IfNone result (pass.new ≡ pass.old) }
     {
-        if pass.made() >= self.ledger.most_calls() {
-            return Some(Err(Fault::PassFull));
-        }
-        match self.try_make_update(pass, key, f)? {
-            Ok((answer, effect)) => {
-                self.after_call(&effect);
-                Some(Ok(answer))
-            }
-            Err(AllocError) => Some(Err(Fault::NoMemory)),
-        }
-    }
-
-    /// Updates the value at the key, for whose bucket it waits.
-    #[inline(always)]
-    fn make_update<R: Wait, T: Drop, G: FnOnce(Option<&V>) -> (Change<V>, T)>(
-        &self,
-        rt: &R,
-        pass: &mut Pass<K, V, F>,
-        key: KeyArg<'_, K>,
-        f: G,
-    ) -> Result<(T, CallEffect), AllocError>
-        requires callable { G.IsAlwaysCallable f }
-        requires pass { pass.old.ledger ≡ self.now.ledger.id }
-        requires room { IsWithin self.now.ledger pass.old }
-        ensures updated { IfOk result (λ r. IsUpdated K.eq V.eq F.remapped F.merged
-            (λ before change. AnswersAt (G.post f) before (change, r.0)) self.now.ledger
-            (key_in key.entry) pass.old pass.new) }
-        ensures refused { OnErr result (pass.new ≡ pass.old) }
-        ensures sets { self.now.ledger.form ≡ Lean → OnErr result (MayAdd (G.post f)) }
-    {
-        let hash = self.salt().hash_of(key.get());
-        match &self.bins.kind {
-            StoreKind::Recorded(_) => {
-                let held = self.bins.hold(rt, hash);
-                self.update_by_value(held, pass, hash, key, f)
-            }
-            StoreKind::Lean(home) => {
-                let held = home.hold_in_place(rt, hash);
-                self.update_guarded(held, pass, hash, key, f)
-            }
-        }
-    }
-
-    /// Updates the value at the key, unless its bucket is locked just then: then the function is
-    /// dropped.
-    #[inline(always)]
-    fn try_make_update<T: Drop, G: FnOnce(Option<&V>) -> (Change<V>, T)>(
-        &self,
-        pass: &mut Pass<K, V, F>,
-        key: KeyArg<'_, K>,
-        f: G,
-    ) -> Option<Result<(T, CallEffect), AllocError>>
-    where
-        G: Drop,
-        requires callable { G.IsAlwaysCallable f }
-        requires pass { pass.old.ledger ≡ self.now.ledger.id }
-        requires room { IsWithin self.now.ledger pass.old }
-        ensures updated { IfSome result (λ made. IfOk made (λ r. IsUpdated K.eq V.eq F.remapped
-            F.merged (λ before change. AnswersAt (G.post f) before (change, r.0)) self.now.ledger
-            (key_in key.entry) pass.old pass.new)) }
-        ensures refused { IfSome result (λ made. OnErr made (pass.new ≡ pass.old)) }
-        ensures sets { self.now.ledger.form ≡ Lean →
-            IfSome result (λ made. OnErr made (MayAdd (G.post f))) }
-        ensures busy { IfNone result (pass.new ≡ pass.old) }
-    {
-        let hash = self.salt().hash_of(key.get());
-        match &self.bins.kind {
-            StoreKind::Recorded(_) => {
-                let held = self.bins.try_hold(hash)?;
-                Some(self.update_by_value(held, pass, hash, key, f))
-            }
-            StoreKind::Lean(home) => {
-                let held = home.try_hold_in_place(hash)?;
-                Some(self.update_guarded(held, pass, hash, key, f))
-            }
-        }
-    }
-
-    /// Updates the value at the key in a bucket that was taken out to lock it, and puts the bucket
-    /// back.
-    #[cold]
-    #[inline(never)]
-    fn update_by_value<T: Drop, G: FnOnce(Option<&V>) -> (Change<V>, T)>(
-        &self,
-        held: Held<'_, K, V, F, A>,
-        pass: &mut Pass<K, V, F>,
-        hash: u32,
-        key: KeyArg<'_, K>,
-        f: G,
-    ) -> Result<(T, CallEffect), AllocError>
-        requires callable { G.IsAlwaysCallable f }
-        requires pass { pass.old.ledger ≡ self.now.ledger.id }
-        requires room { IsWithin self.now.ledger pass.old }
-        requires hash { hash ≡ hash_by K.code self.now.ledger.salt (key_in key) }
-        requires at { AreAt K.eq (after V.eq F.remapped F.merged) (tag_of held.place) held.bin
-            held.role }
-        requires ledger { held.role.ledger ≡ self.now.ledger.id }
-        requires form { held.bin.form ≡ self.now.ledger.form }
-        requires salt { held.bin.salt ≡ self.now.ledger.salt }
-        requires covers { covers held.bin.class hash ≡ true }
-        ensures updated { IfOk result (λ r. IsUpdated K.eq V.eq F.remapped F.merged
-            (λ before change. AnswersAt (G.post f) before (change, r.0)) self.now.ledger
-            (key_in key.entry) pass.old pass.new) }
-        ensures refused { OnErr result (pass.new ≡ pass.old) }
-    {
-        let asked = key.get();
-        let (change, answer) = f(held.bin.get(hash, asked));
-        let op = change.into_op::<K, F>();
-        let (reply, effect) = self.make_by_value(held, pass, hash, key, op)?;
-        drop(reply);
-        Ok((answer, effect))
-    }
-
-    /// Updates the value at the key in a lean bucket that is locked where it lies, and unlocks the
-    /// bucket.
-    #[inline(always)]
-    fn update_guarded<T: Drop, G: FnOnce(Option<&V>) -> (Change<V>, T)>(
-        &self,
-        mut held: BinGuard<'_, K, V, F, A>,
-        pass: &mut Pass<K, V, F>,
-        hash: u32,
-        key: KeyArg<'_, K>,
-        f: G,
-    ) -> Result<(T, CallEffect), AllocError>
-        requires callable { G.IsAlwaysCallable f }
-        requires pass { pass.old.ledger ≡ self.now.ledger.id }
-        requires room { IsWithin self.now.ledger pass.old }
-        requires hash { hash ≡ hash_by K.code self.now.ledger.salt (key_in key) }
-        requires lies { IsSomeAnd (taken held.inner.seat.me.1)
-            (IsInSlot K.eq (after V.eq F.remapped F.merged) (place_of held.home.now held.class)) }
-        requires home { held.home.now ≡ bins_of self.now }
-        requires covers { covers held.class hash ≡ true }
-        ensures updated { IfOk result (λ r. IsUpdated K.eq V.eq F.remapped F.merged
-            (λ before change. AnswersAt (G.post f) before (change, r.0)) self.now.ledger
-            (key_in key.entry) pass.old pass.new) }
-        ensures refused { OnErr result (pass.new ≡ pass.old) }
-        ensures sets { OnErr result (MayAdd (G.post f)) }
-    {
-        let class = held.class;
-        let made = self.update_in_place(pass, held.inner.value(), class, hash, key, f);
-        held.release();
-        let (answer, growth) = made?;
-        let effect = self.landed_on(class, pass, growth);
-        Ok((answer, effect))
-    }
-
-    /// Updates the value at the key in what lies at the place of a lean bucket of the class. Returns
-    /// the rest of what the function returns, and what the call did to the number of keys there.
-    #[inline(always)]
-    fn update_in_place<T: Drop, G: FnOnce(Option<&V>) -> (Change<V>, T)>(
-        &self,
-        pass: &mut Pass<K, V, F>,
-        bin_slot: &mut BinSlot<K, V, F, A>,
-        class: Class,
-        hash: u32,
-        key: KeyArg<'_, K>,
-        f: G,
-    ) -> Result<(T, Growth), AllocError>
-        requires callable { G.IsAlwaysCallable f }
-        requires pass { pass.old.ledger ≡ self.now.ledger.id }
-        requires room { IsWithin self.now.ledger pass.old }
-        requires lies { IsInSlot K.eq (after V.eq F.remapped F.merged)
-            (place_of (bins_of self.now) class) bin_slot.old }
-        requires hash { hash ≡ hash_by K.code self.now.ledger.salt (key_in key) }
-        requires covers { covers class hash ≡ true }
-        ensures updated { IfOk result (λ r. IsUpdated K.eq V.eq F.remapped F.merged
-            (λ before change. AnswersAt (G.post f) before (change, r.0)) self.now.ledger
-            (key_in key.entry) pass.old pass.new) }
-        ensures refused { OnErr result (pass.new ≡ pass.old) }
-        ensures sets { OnErr result (MayAdd (G.post f)) }
-        ensures lies { IsInSlot K.eq (after V.eq F.remapped F.merged)
-            (place_of (bins_of self.now) class) bin_slot.new }
-    {
-        let asked = key.get();
-        let (change, answer) = f(bin_slot.entries.get(hash, asked));
-        let op = change.into_op::<K, F>();
-        let (reply, growth) = self.call_in_place(pass, bin_slot, class, hash, key, op)?;
-        drop(reply);
-        Ok((answer, growth))
+        self.try_call_at_key(pass, Updating { key, f })
     }
 }

@@ -1,31 +1,99 @@
 //! Reading the value at a key: where it lies, by a function, or as a copy. None of these is a call:
 //! nothing is posted, and a full pass may read as well.
-ghost use Rattle.std.specs.Prelude.{◌≡◌, true, IfNone, IfOk, IfErr, IfSome, IsOk, IsSomeAnd, option_copied};
-ghost use Rattle.hashkeys.specs.Classes.{covers};
+ghost use Rattle.std.specs.Prelude.{◌≡◌, IfNone, IfOk, IfErr, IfSome, IsOk, option_copied};
 ghost use Rattle.bin_history.specs.Calls.{after};
 ghost use Rattle.bin_history.specs.Entries.{lookup};
-ghost use Rattle.bin_history.specs.Hashes.{hash_by};
 ghost use Rattle.bin_history.specs.Plain.{run};
 ghost use Rattle.bin_history.specs.Sure.{IsNeverRefused};
-ghost use Rattle.lock_table.specs.Taken.{taken};
 ghost use Rattle.count_ledger.specs.Fronts.{HasSeen};
-ghost use Rattle.bin_store.specs.Places.{tag_of};
-ghost use Rattle.lean_bins.specs.BinSlot.{IsInSlot};
-ghost use Rattle.bin_layout.specs.Places.{AreAt};
-ghost use Rattle.bin_layout.specs.Views.{place_of};
 ghost use Rattle.chm.specs.Updates.{AnswersAt};
-ghost use Rattle.chm.specs.Views.{bins_of};
 ghost use Rattle.chm.specs.Visits.{IsShown};
 
+use crate::calls::at_key::AtKey;
 use crate::fault::Fault;
 use crate::map::Map;
-use bin_history::{Exact, Remap, Value};
-use bin_store::{Held, StoreKind};
-use count_ledger::Pass;
-use hashkeys::{AsKey, Class, HashKey};
-use lean_bins::{BinGuard, BinSlot};
+use crate::resize::policy::Growth;
+use bin_history::{Bin, Exact, Remap, Value};
+use count_ledger::{BinRole, Pass};
+use hashkeys::{AsKey, Class, HashKey, Salt};
+use lean_bins::BinSlot;
 use std::alloc::{AllocError, Allocator};
 use std::sync::Wait;
+
+/// How what cannot fail fails.
+#[derive(Drop)]
+enum Never {}
+
+/// A function that is shown the value at the key that a query stands for.
+#[derive(Drop)]
+struct Viewing<Q, G> {
+    query: Q,
+    f: G,
+}
+
+impl<
+    K: HashKey,
+    V: Value,
+    F: Remap<K, V>,
+    A: Allocator + Clone,
+    Q: AsKey<K>,
+    T,
+    G: FnOnce(Option<&V>) -> T,
+> AtKey<K, V, F, A> for Viewing<Q, G> {
+    ghost use Rattle.bin_history.specs.Calls.{after};
+    ghost use Rattle.bin_history.specs.Entries.{lookup};
+    ghost use Rattle.bin_history.specs.Plain.{run};
+    ghost use Rattle.count_ledger.specs.Fronts.{HasSeen};
+    ghost use Rattle.chm.specs.Updates.{AnswersAt};
+
+    type Answer = T;
+
+    type Failure = Never;
+
+    ghost key = { λ w. Q.stands_for w.query };
+
+    ghost may = { λ w ledger pass. G.IsAlwaysCallable w.f };
+
+    ghost does = { λ w ledger old new answer. HasSeen K.eq (after V.eq F.remapped F.merged) ledger old new
+        × AnswersAt (G.post w.f)
+        (run K.eq (lookup K.eq ledger.opening) new.seen (Q.stands_for w.query)) answer };
+
+    ghost fails = { λ w ledger old never. ⊥ };
+
+    #[inline(always)]
+    fn hash(&self, salt: Salt) -> u32 {
+        salt.hash_of_as::<K, Q>(self.query)
+    }
+
+    #[inline(always)]
+    fn in_place(
+        self,
+        map: &Map<K, V, F, A>,
+        pass: &mut Pass<K, V, F>,
+        bin_slot: &mut BinSlot<K, V, F, A>,
+        class: Class,
+        hash: u32,
+    ) -> Result<(T, Growth), Never> {
+        let Viewing { query, f } = self;
+        let answer = f(bin_slot.entries.get_as(hash, query));
+        map.meet_in_place(pass, bin_slot, class);
+        Ok((answer, Growth::none()))
+    }
+
+    fn by_value(
+        self,
+        map: &Map<K, V, F, A>,
+        pass: &mut Pass<K, V, F>,
+        bin: &mut Bin<K, V, F, A>,
+        role: &mut BinRole<K, V, F>,
+        hash: u32,
+    ) -> Result<(T, Growth), Never> {
+        let Viewing { query, f } = self;
+        let answer = f(bin.get_as(hash, query));
+        map.meet_under(pass, bin, role);
+        Ok((answer, Growth::none()))
+    }
+}
 
 impl<K: HashKey, V: Value, F: Remap<K, V>, A: Allocator + Clone> Map<K, V, F, A> {
     /// Gives the function the value at the key, where it lies, and returns what the function
@@ -77,16 +145,9 @@ impl<K: HashKey, V: Value, F: Remap<K, V>, A: Allocator + Clone> Map<K, V, F, A>
             (run K.eq (lookup K.eq self.now.ledger.opening) pass.new.seen (Q.stands_for query))
             result }
     {
-        let hash = self.salt().hash_of_as::<K, Q>(query);
-        match &self.bins.kind {
-            StoreKind::Recorded(_) => {
-                let held = self.bins.hold(rt, hash);
-                self.view_by_value(held, pass, hash, query, f)
-            }
-            StoreKind::Lean(home) => {
-                let held = home.hold_in_place(rt, hash);
-                self.view_guarded(held, pass, hash, query, f)
-            }
+        match self.at_key(rt, pass, Viewing { query, f }) {
+            Ok((answer, _)) => answer,
+            Err(never) => match never {},
         }
     }
 
@@ -135,112 +196,10 @@ impl<K: HashKey, V: Value, F: Remap<K, V>, A: Allocator + Clone> Map<K, V, F, A>
             (run K.eq (lookup K.eq self.now.ledger.opening) pass.new.seen (Q.stands_for query))) }
         ensures busy { IfNone result (pass.new ≡ pass.old) }
     {
-        let hash = self.salt().hash_of_as::<K, Q>(query);
-        match &self.bins.kind {
-            StoreKind::Recorded(_) => {
-                let held = self.bins.try_hold(hash)?;
-                Some(self.view_by_value(held, pass, hash, query, f))
-            }
-            StoreKind::Lean(home) => {
-                let held = home.try_hold_in_place(hash)?;
-                Some(self.view_guarded(held, pass, hash, query, f))
-            }
+        match self.try_at_key(pass, Viewing { query, f })? {
+            Ok((answer, _)) => Some(answer),
+            Err(never) => match never {},
         }
-    }
-
-    /// Gives the function the value at the key in a bucket that was taken out to lock it, and puts
-    /// the bucket back.
-    #[cold]
-    #[inline(never)]
-    fn view_by_value<Q: AsKey<K>, T, G: FnOnce(Option<&V>) -> T>(
-        &self,
-        mut held: Held<'_, K, V, F, A>,
-        pass: &mut Pass<K, V, F>,
-        hash: u32,
-        query: Q,
-        f: G,
-    ) -> T
-        requires callable { G.IsAlwaysCallable f }
-        requires pass { pass.old.ledger ≡ self.now.ledger.id }
-        requires hash { hash ≡ hash_by K.code self.now.ledger.salt (Q.stands_for query) }
-        requires at { AreAt K.eq (after V.eq F.remapped F.merged) (tag_of held.place) held.bin
-            held.role }
-        requires ledger { held.role.ledger ≡ self.now.ledger.id }
-        requires salt { held.bin.salt ≡ self.now.ledger.salt }
-        requires covers { covers held.bin.class hash ≡ true }
-        ensures seen { HasSeen K.eq (after V.eq F.remapped F.merged) self.now.ledger pass.old
-            pass.new }
-        ensures shown { AnswersAt (G.post f)
-            (run K.eq (lookup K.eq self.now.ledger.opening) pass.new.seen (Q.stands_for query))
-            result }
-    {
-        let lent = &mut held;
-        let bin = &lent.bin;
-        let answer = f(bin.get_as(hash, query));
-        self.meet_under(pass, bin, &mut lent.role);
-        held.release();
-        answer
-    }
-
-    /// Gives the function the value at the key in a lean bucket that is locked where it lies, and
-    /// unlocks the bucket.
-    #[inline(always)]
-    fn view_guarded<Q: AsKey<K>, T, G: FnOnce(Option<&V>) -> T>(
-        &self,
-        mut held: BinGuard<'_, K, V, F, A>,
-        pass: &mut Pass<K, V, F>,
-        hash: u32,
-        query: Q,
-        f: G,
-    ) -> T
-        requires callable { G.IsAlwaysCallable f }
-        requires pass { pass.old.ledger ≡ self.now.ledger.id }
-        requires hash { hash ≡ hash_by K.code self.now.ledger.salt (Q.stands_for query) }
-        requires lies { IsSomeAnd (taken held.inner.seat.me.1)
-            (IsInSlot K.eq (after V.eq F.remapped F.merged) (place_of held.home.now held.class)) }
-        requires home { held.home.now ≡ bins_of self.now }
-        requires covers { covers held.class hash ≡ true }
-        ensures seen { HasSeen K.eq (after V.eq F.remapped F.merged) self.now.ledger pass.old
-            pass.new }
-        ensures shown { AnswersAt (G.post f)
-            (run K.eq (lookup K.eq self.now.ledger.opening) pass.new.seen (Q.stands_for query))
-            result }
-    {
-        let class = held.class;
-        let answer = self.view_in_place(pass, held.inner.value(), class, hash, query, f);
-        held.release();
-        answer
-    }
-
-    /// Gives the function the value at the key in what lies at the place of a lean bucket of the
-    /// class.
-    #[inline(always)]
-    fn view_in_place<Q: AsKey<K>, T, G: FnOnce(Option<&V>) -> T>(
-        &self,
-        pass: &mut Pass<K, V, F>,
-        bin_slot: &mut BinSlot<K, V, F, A>,
-        class: Class,
-        hash: u32,
-        query: Q,
-        f: G,
-    ) -> T
-        requires callable { G.IsAlwaysCallable f }
-        requires pass { pass.old.ledger ≡ self.now.ledger.id }
-        requires lies { IsInSlot K.eq (after V.eq F.remapped F.merged)
-            (place_of (bins_of self.now) class) bin_slot.old }
-        requires hash { hash ≡ hash_by K.code self.now.ledger.salt (Q.stands_for query) }
-        requires covers { covers class hash ≡ true }
-        ensures seen { HasSeen K.eq (after V.eq F.remapped F.merged) self.now.ledger pass.old
-            pass.new }
-        ensures shown { AnswersAt (G.post f)
-            (run K.eq (lookup K.eq self.now.ledger.opening) pass.new.seen (Q.stands_for query))
-            result }
-        ensures lies { IsInSlot K.eq (after V.eq F.remapped F.merged)
-            (place_of (bins_of self.now) class) bin_slot.new }
-    {
-        let answer = f(bin_slot.entries.get_as(hash, query));
-        self.meet_in_place(pass, bin_slot, class);
-        answer
     }
 
     /// Returns a copy of the value at a key, which is the one that all calls before had left there.

@@ -28,6 +28,29 @@ pub(crate) struct CallEffect {
     pub(crate) crowded: bool,
 }
 
+impl CallEffect {
+    /// What a call met on the bin of this class, whose it was, and its client's balance where it made its
+    /// key present; and whether the bin is crowded since.
+    #[inline(always)]
+    pub(crate) fn of<K, V, F>(class: Class, pass: &Pass<K, V, F>, growth: Growth) -> CallEffect
+        ensures balance { result.grown
+            ≡ cond growth.grew (Some (word_of (sum_of_deltas pass.now.made))) None }
+        ensures crowded { result.crowded ≡ growth.crowded }
+    {
+        let grown = if growth.grew {
+            Some(pass.balance())
+        } else {
+            None
+        };
+        CallEffect {
+            class,
+            client: pass.client(),
+            grown,
+            crowded: growth.crowded,
+        }
+    }
+}
+
 impl<K: HashKey, V: Value, F: Remap<K, V>, A: Allocator + Clone> Map<K, V, F, A> {
     /// Does a call's part for the table: it moves a bin that the table has outgrown, helps a move that
     /// is ready with one stride, and opens a move where the table is full. Most calls have nothing to
@@ -65,41 +88,6 @@ impl<K: HashKey, V: Value, F: Remap<K, V>, A: Allocator + Clone> Map<K, V, F, A>
     {
         if is_due(self.form(), table.n(), balance, crowded) {
             self.grow_if_full(table, client);
-        }
-    }
-
-    /// The balance of the client of a call that made its key present.
-    #[inline(always)]
-    fn count_if(&self, grew: bool, pass: &mut Pass<K, V, F>) -> Option<u64>
-        requires pass { pass.old.ledger ≡ self.now.ledger.id }
-        ensures same { pass.new ≡ pass.old }
-        ensures balance { result ≡ cond grew (Some (word_of (sum_of_deltas pass.old.made))) None }
-    {
-        if grew { Some(self.balance(pass)) } else { None }
-    }
-
-    /// What a call met on the bin of this class, whose it was, and its client's balance where it
-    /// made its key present; and whether the bin is crowded since.
-    #[inline(always)]
-    pub(crate) fn landed_on(
-        &self,
-        class: Class,
-        pass: &mut Pass<K, V, F>,
-        growth: Growth,
-    ) -> CallEffect
-        requires pass { pass.old.ledger ≡ self.now.ledger.id }
-        ensures same { pass.new ≡ pass.old }
-        ensures balance { result.grown
-            ≡ cond growth.grew (Some (word_of (sum_of_deltas pass.old.made))) None }
-        ensures crowded { result.crowded ≡ growth.crowded }
-    {
-        let grown = self.count_if(growth.grew, pass);
-        let client = pass.client();
-        CallEffect {
-            class,
-            client,
-            grown,
-            crowded: growth.crowded,
         }
     }
 

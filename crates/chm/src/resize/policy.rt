@@ -116,6 +116,18 @@ pub(crate) struct Growth {
 }
 
 impl Growth {
+    /// What a call that added no key did.
+    #[inline(always)]
+    pub(crate) fn none() -> Growth
+        ensures grew { result.grew ≡ false }
+        ensures crowded { result.crowded ≡ false }
+    {
+        Growth {
+            grew: false,
+            crowded: false,
+        }
+    }
+
     /// What a call that changed the number of keys by this did to a bin of a recorded map, of whose keys
     /// nobody asks how many there are.
     pub(crate) fn recorded(delta: i64) -> Growth
