@@ -137,9 +137,9 @@ where
         Ok((answer, Growth::lean(trace.delta(), bin_slot)))
     }
 
-    fn by_value(
+    fn by_value<'m>(
         self,
-        map: &Map<K, V, F, A>,
+        map: &'m Map<K, V, F, A>,
         pass: &mut Pass<K, V, F>,
         bin: &mut Bin<K, V, F, A>,
         role: &mut BinRole<K, V, F>,
@@ -154,8 +154,8 @@ where
         };
         let (left, answer) = f(given, before);
         let op = op_leaving::<K, V, F>(left);
-        let Ok((reply, growth)) = map.call_by_value(pass, bin, role, hash, KeyArg::Owned(own), op)
-        else {
+        let own: KeyArg<'m, K> = KeyArg::Owned(own);
+        let Ok((reply, growth)) = map.call_by_value(pass, bin, role, hash, own, op) else {
             return Err(NotMade {
                 fault: Fault::NoMemory,
                 given: None,

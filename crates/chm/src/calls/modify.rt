@@ -88,9 +88,9 @@ where
         Ok((answer, Growth::none()))
     }
 
-    fn by_value(
+    fn by_value<'m>(
         self,
-        map: &Map<K, V, F, A>,
+        map: &'m Map<K, V, F, A>,
         pass: &mut Pass<K, V, F>,
         bin: &mut Bin<K, V, F, A>,
         role: &mut BinRole<K, V, F>,
@@ -98,7 +98,7 @@ where
     ) -> Result<(Option<T>, Growth), Fault> {
         let Modifying { key, f } = self;
         let (own, found) = copies_for(bin, map.resizer.allocator(), hash, key)?;
-        let own = KeyArg::Owned(own);
+        let own: KeyArg<'m, K> = KeyArg::Owned(own);
         match found {
             None => {
                 let (reply, growth) = map.call_by_value(pass, bin, role, hash, own, Op::Contains)?;
