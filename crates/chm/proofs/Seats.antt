@@ -1,56 +1,11 @@
 -- Clients in their seats, their passes and what they answered.
-use Rattle.std.proofs.Common.{◌≡◌, ℕ, ◌+◌, ◌<◌, List, [], ◌∷◌, ◌++◌, Option, Some, None, IsSome, IsSomeAnd, All, length, map}
-use Rattle.std.proofs.Common.{take, reverse, slice_index_or, refl, sym, ap, subst, ◌∙◌, arith, append_assoc}
-use Rattle.std.proofs.Math.Seq.{get_or-append_seam, take-append_seam}
-use Rattle.std.proofs.lemmas.List.{get_or-map, get_or_append_left, length-append, length-map, map-append, reverse-append}
+use Rattle.std.proofs.Common.{◌≡◌, ℕ, ◌<◌, List, ◌++◌, Option, Some, None, IsSome, IsSomeAnd, All, length, map}
+use Rattle.std.proofs.Common.{take, slice_index_or, sym, ap, subst, ◌∙◌, arith}
+use Rattle.std.proofs.Math.Seq.{take-append_seam}
+use Rattle.std.proofs.lemmas.List.{get_or-map, length-map}
 use Rattle.count_ledger.specs.Views.{LedgerId, PassView}
 use Rattle.chm.specs.Shares.{AreSameClients, HasEnded, HaveWorked}
-use Rattle.chm.specs.declared.share.Seat.{Seat}
-
--- the images of a list that was turned round
-pub map-reverse : {X Y : Type 0} (f : X → Y) (xs : List X) → map f (reverse xs) ≡ reverse (map f xs)
-map-reverse f [] = refl
-map-reverse {X} {Y} f (x ∷ xs) =
-    ap (map f) (reverse-append (x ∷ []) xs)
-    ∙ map-append f (reverse xs) (x ∷ [])
-    ∙ ap (λ (ys : List Y). ys ++ f x ∷ []) (map-reverse f xs)
-    ∙ sym (reverse-append (f x ∷ []) (map f xs))
-
--- the last of some goes behind those that left them before, which are read backward
-pub moved : {Y : Type 0} (left got all : List Y) (y : Y) → (left ++ y ∷ []) ++ reverse got ≡ all →
-    left ++ reverse (got ++ y ∷ []) ≡ all
-moved {Y} left got all y is =
-    ap (λ (ys : List Y). left ++ ys) (reverse-append got (y ∷ []))
-    ∙ sym (append_assoc left (y ∷ []) (reverse got))
-    ∙ is
-
--- the same of the images of some, the last of which leaves them
-pub popped : {X Y : Type 0} (f : X → Y) (all left : List X) (x : X) (got more whole : List Y) (y : Y) →
-    all ≡ left ++ x ∷ [] → more ≡ got ++ y ∷ [] → y ≡ f x → map f all ++ reverse got ≡ whole →
-    map f left ++ reverse more ≡ whole
-popped {X} {Y} f all left x got more whole y split pushed is was =
-    ap (λ (ys : List Y). map f left ++ reverse ys) (pushed ∙ ap (λ (z : Y). got ++ z ∷ []) is)
-    ∙ moved (map f left) got whole (f x)
-    (ap (λ (ys : List Y). ys ++ reverse got) (sym (map-append f left (x ∷ [])) ∙ ap (map f) (sym split)) ∙ was)
-
--- what is so of all is so of those before the last, and of the last
-pub all-front : {X : Type 0} (P : X → Type 0) (all left : List X) (x : X) → all ≡ left ++ x ∷ [] → All P all → All P left
-all-front {X} P all left x split so = λ i d low.
-    subst P (ap (λ (xs : List X). slice_index_or xs i d) split ∙ get_or_append_left left (x ∷ []) d i low)
-    (so i d (let n : length all ≡ length left + 1 = ap length split ∙ length-append left (x ∷ []) in omega arith))
-
-pub all-last : {X : Type 0} (P : X → Type 0) (all left : List X) (x : X) → all ≡ left ++ x ∷ [] → All P all → P x
-all-last {X} P all left x split so =
-    subst P (ap (λ (xs : List X). slice_index_or xs (length left) x) split ∙ get_or-append_seam left x [] x)
-    (so (length left) x (let n : length all ≡ length left + 1 = ap length split ∙ length-append left (x ∷ []) in omega arith))
-
-pub none-left : {X : Type 0} (xs : List X) → length xs ≡ 0 → xs ≡ []
-none-left [] is = refl
-none-left (x ∷ xs) is = absurd (omega arith)
-
-pub never-none : {T : Type 0} (o : Option T) → IsSome o → o ≡ None → ⊥
-never-none None some is = absurd cc
-never-none (Some x) some is = absurd cc
+use Rattle.part_walks.specs.declared.seats.Seat.{Seat}
 
 is-some : {T : Type 0} (P : T → Type 0) (o : Option T) → IsSomeAnd o P → IsSome o
 is-some P None none = absurd none
@@ -67,10 +22,10 @@ module _ {K V F T : Type 0} (does : PassView K V F → PassView K V F → T → 
   pass_of s = s.pass
 
   abbrev answer_of : Seat K V F T → Option T
-  answer_of s = s.answer
+  answer_of s = s.part
 
   abbrev seat_of : PassView K V F → Seat K V F T
-  seat_of p = record { pass = p; answer = None }
+  seat_of p = record { pass = p; part = None }
 
   as_many : length before ≡ length old
   as_many = sym (length-map before pass_of) ∙ ap length seated
@@ -91,10 +46,10 @@ module _ {K V F T : Type 0} (does : PassView K V F → PassView K V F → T → 
         slice_index_or (map pass_of after) i p ≡ (slice_index_or after i (seat_of p)).pass
     after-at i p lt = get_or-map pass_of after i (seat_of p) p (let n = as_many in omega arith)
 
-    pub all-answered : All (λ s. IsSome s.answer) after
+    pub all-answered : All (λ s. IsSome s.part) after
     all-answered = λ i s lt.
         is-some (does (slice_index_or before i s).pass (slice_index_or after i s).pass)
-        (slice_index_or after i s).answer (ended i s (omega arith)).done
+        (slice_index_or after i s).part (ended i s (omega arith)).done
 
     pub length-after : length (map pass_of after) ≡ length old
     length-after = length-map after pass_of ∙ long ∙ as_many
@@ -127,7 +82,7 @@ module _ {K V F T : Type 0} (does : PassView K V F → PassView K V F → T → 
               let less : i < length before = let n = as_many in omega arith in
               let later : PassView K V F = (slice_index_or after i s).pass in
               let own : T = slice_index_or answers i a in
-              let is : (slice_index_or after i s).answer ≡ Some own =
+              let is : (slice_index_or after i s).part ≡ Some own =
               sym (get_or-map answer_of after i s None (omega arith))
               ∙ ap (λ (os : List (Option T)). slice_index_or os i None) (sym told)
               ∙ get_or-map Some answers i a None (omega arith) in

@@ -1,7 +1,7 @@
 -- What clients that share a map did.
 use Rattle.std.specs.Prelude.{◌≡◌, ℕ, ◌<◌, List, length, slice_index_or, IsSomeAnd}
 use Rattle.count_ledger.specs.Views.{PassView}
-use Rattle.chm.specs.declared.share.Seat.{Seat}
+use Rattle.part_walks.specs.declared.seats.Seat.{Seat}
 
 -- at each place is a pass of the client whose pass was there
 abbrev pub AreSameClients : {K V F : Type 0} → List (PassView K V F) → List (PassView K V F) → Type 0
@@ -19,4 +19,4 @@ module _ {K V F T : Type 0} (does : PassView K V F → PassView K V F → T → 
   pub record HasEnded (before after : Seat K V F T) : Type 0 where
     pub ledger : after.pass.ledger ≡ before.pass.ledger
     pub client : after.pass.client ≡ before.pass.client
-    pub done : IsSomeAnd after.answer (does before.pass after.pass)
+    pub done : IsSomeAnd after.part (does before.pass after.pass)

@@ -1,12 +1,12 @@
 //! Threads that share a map.
-ghost use Rattle.std.specs.Prelude.{◌≡◌, ◌<◌, ◌≤◌, ℕ, [], length, map, All, IfOk, OnErr, Some};
-ghost use Rattle.std.specs.Prelude.{IsSome, vec_len, vec_capacity, slice_index_or};
+ghost use Rattle.std.specs.Prelude.{◌≡◌, ◌<◌, ℕ, length, All, IfOk, OnErr, slice_index_or};
 ghost use Rattle.chm.specs.Shares.{AreSameClients, HasEnded, HaveWorked};
 
 use crate::map::Map;
 use bin_history::{MOST_CLIENTS, Remap, Value};
 use count_ledger::Pass;
 use hashkeys::HashKey;
+use part_walks::{Seat, room_for, seat_all, unseat_all};
 use std::alloc::{AllocError, Allocator};
 use std::sync::Wait;
 use std::thread;
@@ -36,47 +36,6 @@ pub trait Sharing<K: HashKey, V: Value, F: Remap<K, V>, A: Allocator> {
         ensures done { does self.now pass.old pass.new result };
 }
 
-/// A client's pass while it works, and then its answer.
-struct Seat<K, V, F, T> {
-    pass: Pass<K, V, F>,
-    answer: Option<T>,
-}
-
-/// Seats for the passes, and their answers.
-type Room<K, V, F, T, A> = (Vec<Seat<K, V, F, T>, A>, Vec<T, A>);
-
-/// Room for so many clients and their answers.
-fn room_for<K, V, F, T: Drop, A: Allocator + Clone>(
-    alloc: &A,
-    clients: usize,
-) -> Result<Room<K, V, F, T, A>, AllocError>
-    ensures seats { IfOk result
-        (λ room. (room.0.items ≡ []) × (vec_capacity room.0 ≡ clients)) }
-    ensures answers { IfOk result
-        (λ room. (room.1.items ≡ []) × (vec_capacity room.1 ≡ clients)) }
-{
-    let answers = Vec::with_capacity(alloc.clone()?, clients)?;
-    let seats = Vec::with_capacity(alloc.clone()?, clients)?;
-    Ok((seats, answers))
-}
-
-/// Gives each pass a seat.
-fn seat_all<K, V, F, T, A: Allocator>(
-    passes: &mut Vec<Pass<K, V, F>, A>,
-    seats: &mut Vec<Seat<K, V, F, T>, A>,
-)
-    requires none { seats.old.items ≡ [] }
-    requires room { vec_len passes.old ≤ vec_capacity seats.old }
-    ensures seated { map (λ s. s.pass) seats.new.items ≡ passes.old.items }
-    ensures spent { passes.new.items ≡ [] }
-    ensures capacity { vec_capacity passes.new ≡ vec_capacity passes.old }
-{
-    while let Some(pass) = passes.pop() {
-        seats.push_reserved(Seat { pass, answer: None });
-    }
-    seats.reverse();
-}
-
 /// All clients work at the same time.
 fn work_all<
     K: HashKey + Send + Sync,
@@ -98,33 +57,8 @@ where
         requires own { seat.now.pass.ledger ≡ map.now.ledger.id }
         requires fits { W.fits work.now map.now.ledger }
         ensures { HasEnded (W.does work.entry.now) seat.entry.now seat.exit.now }
-    { seat.answer = Some(work.work(rt, map, &mut seat.pass)) };
+    { seat.part = Some(work.work(rt, map, &mut seat.pass)) };
     thread::for_each_mut(rt, seats, MOST_CLIENTS as usize, &lend);
-}
-
-/// Takes the passes back, and the answers.
-fn gather<K, V, F, T, A: Allocator>(
-    mut seats: Vec<Seat<K, V, F, T>, A>,
-    passes: &mut Vec<Pass<K, V, F>, A>,
-    answers: &mut Vec<T, A>,
-)
-    requires ended { All (λ s. IsSome s.answer) seats.items }
-    requires none { (passes.old.items ≡ []) × (answers.old.items ≡ []) }
-    requires room { (vec_len seats ≤ vec_capacity passes.old)
-        × (vec_len seats ≤ vec_capacity answers.old) }
-    ensures passes { passes.new.items ≡ map (λ s. s.pass) seats.items }
-    ensures answers { map Some answers.new.items ≡ map (λ s. s.answer) seats.items }
-{
-    while let Some(Seat { pass, answer }) = seats.pop() {
-        passes.push_reserved(pass);
-        match answer {
-            Some(answer) => answers.push_reserved(answer),
-            None => unreachable!(),
-        }
-    }
-    passes.reverse();
-    answers.reverse();
-    seats.destroy_empty();
 }
 
 impl<K: HashKey, V: Value, F: Remap<K, V>, A: Allocator + Clone> Map<K, V, F, A> {
@@ -168,7 +102,7 @@ impl<K: HashKey, V: Value, F: Remap<K, V>, A: Allocator + Clone> Map<K, V, F, A>
         let (mut seats, mut answers) = room_for(self.resizer.allocator(), passes.len())?;
         seat_all(passes, &mut seats);
         work_all(rt, self, work, &mut seats);
-        gather(seats, passes, &mut answers);
+        unseat_all(seats, passes, &mut answers);
         Ok(answers)
     }
 }
