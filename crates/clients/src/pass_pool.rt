@@ -188,6 +188,7 @@ impl<K: HashKey, V: Value, F: Remap<K, V>, A: Allocator> PassPool<K, V, F, A> {
         };
         let pass_slot = row.pass_slot(client, &made);
         pass_slot.bring(pass);
+        // A full pass is never taken again, so it stays out of the stack.
         if !is_full {
             self.set_free(pass_slot, client);
         } else if pass_slot.fill() {

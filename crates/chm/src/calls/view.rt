@@ -287,6 +287,7 @@ impl<K: HashKey, V: Value, F: Remap<K, V>, A: Allocator + Clone> Map<K, V, F, A>
         ensures faults { IfErr result (λ fault. fault ≡ Fault.NoMemory) }
     {
         let hash = self.salt().hash_of_as::<K, Q>(query);
+        // without the pass, so which moment it shows is not known
         Ok(self.bins.glance_as(rt, hash, query)?)
     }
 }

@@ -20,6 +20,7 @@ use transfer::{Finish, Mover, Range};
 
 /// What a call met, whose it was, and its client's balance where it made its key present; and whether
 /// its bin is crowded since.
+// One struct for one function: when each kind of call did this work itself, it was not inlined.
 #[derive(Drop)]
 pub(crate) struct CallEffect {
     pub(crate) class: Class,
@@ -139,6 +140,7 @@ impl<K: HashKey, V: Value, F: Remap<K, V>, A: Allocator + Clone> Map<K, V, F, A>
         let Some(mut mover) = move_strides.enter(client) else {
             return;
         };
+        // one stride, so that no call does much of the work of others
         if let Some(range) = move_strides.claim(&mut mover) {
             self.move_range(resize, &mut mover, range);
         }
@@ -165,9 +167,11 @@ impl<K: HashKey, V: Value, F: Remap<K, V>, A: Allocator + Clone> Map<K, V, F, A>
         requires few { 2 ^ table.exponent < most_bins_of self.now.ledger.form }
     {
         let slot = self.resizer.slot(table);
+        // Whoever has `opening` has to say that the move is ready, or shut it: then a later call opens it.
         let Some(opening) = self.resizer.open(table) else {
             return;
         };
+        // before the move opens, so that no bucket has to wait for its place
         if self.widen(table.n()).is_err() {
             self.resizer.shut(opening);
             return;

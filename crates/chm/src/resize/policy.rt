@@ -54,6 +54,7 @@ pub(crate) fn threshold(form: Form, n: u32) -> u32
 {
     match form {
         Form::Recorded => n - n / 4,
+        // threads that share a bucket keep one another waiting, so a small table is kept sparse
         Form::Lean if n < NARROW => n.div_ceil(4),
         Form::Lean => n + n / 2,
     }
@@ -87,6 +88,7 @@ pub(crate) fn is_due(form: Form, n: u32, balance: u64, crowded: bool) -> bool
 {
     match form {
         Form::Recorded => true,
+        // a count reads the words of all lanes, so in a wide table it is not made at each new key
         Form::Lean => n < WIDE || crowded || balance % 16 == 0,
     }
 }
