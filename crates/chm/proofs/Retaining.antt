@@ -1,9 +1,16 @@
--- What a retain takes away and what it keeps.
-use Rattle.std.proofs.Common.{◌≡◌, ◌≢◌, ℕ, ◌<◌, Bool, true, false, Decides, cond, filter, Option, Some, None, List, []}
-use Rattle.std.proofs.Common.{◌∷◌, ◌++◌, length, IsSomeAnd, All, Result, Ok, Err, OnOk, OnErr, refl, sym, ap, subst, ◌∙◌}
-use Rattle.std.proofs.Common.{arith}
+-- What a retain asks, what it removes, and what it keeps.
+use Rattle.std.proofs.Common.{◌≡◌, ◌≢◌, ℕ, suc, ◌+◌, ◌<◌, ◌≤◌, Bool, true, false, Decides, cond, filter, Option, Some, None, List, []}
+use Rattle.std.proofs.Common.{◌∷◌, ◌++◌, length, drop, IsSomeAnd, All, Result, Ok, Err, OnOk, OnErr, refl, sym, ap, subst, ◌∙◌}
+use Rattle.std.proofs.Common.{arith, append_assoc, length-append}
+use Rattle.std.specs.Prelude.{IfErr, IfOk}
+use Rattle.std.specs.Borrow.{Bor}
+use Rattle.std.specs.List.{AllZip, FoldsTo}
+use Rattle.std.specs.Result.{IsErrAnd}
+use Rattle.std.proofs.lemmas.Bool.{false≢true}
+use Rattle.std.proofs.lemmas.Fn.{FoldsTo-push}
+use Rattle.std.proofs.lemmas.List.{append-nil, drop_at}
 use Rattle.std.proofs.lemmas.Option.{none-some}
-use Rattle.std.proofs.lemmas.List.Elements.{All-nil, All-cons, All-head, All-tail, All-append, All-weaker, filter-append}
+use Rattle.std.proofs.lemmas.List.Elements.{All-nil, All-cons, All-head, All-tail, All-append, filter-append}
 use Rattle.hashkeys.specs.Classes.{ClassView, is_of}
 use Rattle.hashkeys.specs.declared.hashing.Salt.{Salt}
 use Rattle.bin_history.specs.Calls.{key_of}
@@ -15,14 +22,18 @@ use Rattle.bin_history.specs.declared.call.Call.TheVariants.{Remove}
 use Rattle.bin_history.specs.declared.call.Reply.{Reply}
 use Rattle.bin_history.specs.Records.{RecordView}
 use Rattle.count_ledger.specs.Fronts.{BeginsWith, HasSeenMore, IsFront}
+use Rattle.count_ledger.specs.Limits.{most_calls}
 use Rattle.count_ledger.specs.Views.{LedgerView, PassView}
 use Rattle.count_ledger.proofs.Fronts.{BeginsWith-push}
-use Rattle.part_walks.proofs.Taking.{filter-kept, filter-left}
+use Rattle.part_walks.specs.Parts.{HasComeTo, IsFirstOf}
 use Rattle.chm.specs.Cleared.{AreCleared, HasLeft, HasMade, HasRemoved, HasRemovedIn, IsEmptyIn, IsRemoval}
 use Rattle.chm.specs.Headline.{IsMade}
-use Rattle.chm.specs.Retained.{AreKept, HasDropLeft, HasDropped, HasDroppedIn, HasEntry, HasStoppedAt, IsDrop}
-use Rattle.chm.specs.Retained.{IsKeptIn}
+use Rattle.chm.specs.Retained.{AreRetained, HasAsked, HasEntry, HasKept, HasKeptAll, HasStopped, HasStoppedAt, IsAsked}
+use Rattle.chm.specs.Retained.{IsFoundBehind, IsRemovalOf, IsRetainedBy, IsRetainedIn, IsSettled, IsStoppedBy, IsStoppedIn, SaysAt}
+use Rattle.chm.specs.Retained.{kept_of, removed_of}
 use Rattle.chm.specs.Visits.{VisitView, IsVisit}
+use Rattle.chm.specs.declared.fault.Fault.{Fault}
+use Rattle.chm.specs.declared.fault.Fault.TheVariants.{NoMemory, BadCapacity, BadClients, PassFull, NoClient, PassMissing, BinMissing}
 use Rattle.chm.proofs.Clearing.{found_here, made_more, made_none, made_seen}
 
 module _ {K V F : Type 0} (same : K → K → Bool) (tells : (x y : K) → Decides (same x y) (x ≡ y)) (code : K → ℕ)
@@ -40,63 +51,53 @@ module _ {K V F : Type 0} (same : K → K → Bool) (tells : (x y : K) → Decid
         absurd (none-some e.1 (sym distinct.0 ∙ ap (lookup same (ds ++ e ∷ rest)) its ∙ there))
     go there false is = ap (λ b. cond b (Some d.1) (lookup same (ds ++ e ∷ rest) e.0)) is ∙ there
 
-  -- a remove of a key that is there leaves fewer entries
-  fewer : (es : List (K × V)) (k : K) (v : V) → lookup same es k ≡ Some v → length (remove same es k) < length es
-  fewer [] k v found = absurd (none-some v found)
-  fewer (d ∷ ds) k v found = go (λ there. fewer ds k v there) (same d.0 k) refl where
-    go : (lookup same ds k ≡ Some v → length (remove same ds k) < length ds) → (b : Bool) → same d.0 k ≡ b →
-        length (remove same (d ∷ ds) k) < length (d ∷ ds)
-    go less true is =
-        let its : length (remove same (d ∷ ds) k) ≡ length ds =
-        ap (λ b. length (cond b ds (d ∷ remove same ds k))) is in omega (arith, its)
-    go less false is =
-        let there : lookup same ds k ≡ Some v =
-        sym (ap (λ b. cond b (Some d.1) (lookup same ds k)) is) ∙ found in
-        let fewer_there = less there in
-        let its : length (remove same (d ∷ ds) k) ≡ length (d ∷ remove same ds k) =
-        ap (λ b. length (cond b ds (d ∷ remove same ds k))) is in omega (arith, its, fewer_there)
+  -- a remove of its key leaves the others
+  removed_there : (front rest : List (K × V)) (e : K × V) → HasDistinctKeys same (front ++ e ∷ rest) →
+      remove same (front ++ e ∷ rest) e.0 ≡ front ++ rest
+  removed_there [] rest e distinct =
+      ap (λ (b : Bool). cond b rest (e ∷ remove same rest e.0)) ((tells e.0 e.0).1 refl)
+  removed_there (d ∷ ds) rest e distinct = go (same d.0 e.0) refl where
+    go : (b : Bool) → same d.0 e.0 ≡ b → remove same (d ∷ ds ++ e ∷ rest) e.0 ≡ d ∷ ds ++ rest
+    go true is =
+        let its : d.0 ≡ e.0 = (tells d.0 e.0).0 is in
+        absurd (none-some e.1 (sym distinct.0 ∙ ap (lookup same (ds ++ e ∷ rest)) its
+        ∙ found_there ds rest e distinct.1))
+    go false is =
+        ap (λ (b : Bool). cond b (ds ++ e ∷ rest) (d ∷ remove same (ds ++ e ∷ rest) e.0)) is
+        ∙ ap (λ (l : List (K × V)). d ∷ l) (removed_there ds rest e distinct.1)
 
-  -- a remove of an entry to which the function returned false
-  pub dropped_one : (says : K × V → Bool → Type 0) (entries others : List (K × V)) (e : K × V) (key : K) (salt : Salt)
-      (class : ClassView) (old new : PassView K V F) (answer : Reply V) (front : List (RecordView K V F))
-      (r : RecordView K V F)
-      → HasDistinctKeys same entries → HasEntry entries e → says e false → key ≡ e.0 → is_of code salt class key ≡ true
-      → BeginsWith front old.seen → IsMade same_value remapped merged (Remove key) old new answer front r
+  -- a remove of an entry of a bin
+  pub removed_one : (entries others front rest : List (K × V)) (e : K × V) (key : K) (old new : PassView K V F)
+      (answer : Reply V) (calls : List (RecordView K V F)) (r : RecordView K V F)
+      → HasDistinctKeys same entries → entries ≡ front ++ e ∷ rest → key ≡ e.0 → BeginsWith calls old.seen
+      → IsMade same_value remapped merged (Remove key) old new answer calls r
       → r.before ≡ lookup same entries key → others ≡ store same entries key r.after
-      → HasDroppedIn says code salt class old new × (length others < length entries)
-  dropped_one says entries others e key salt class old new answer front r distinct (fore, rest, parts) said is of begins
-      made before stored =
+      → IsRemovalOf e r × HasMade (r ∷ []) old new × (others ≡ front ++ rest)
+  removed_one entries others front rest e key old new answer calls r distinct parts is begins made before stored =
+      let apart : HasDistinctKeys same (front ++ e ∷ rest) =
+      subst (λ (es : List (K × V)). HasDistinctKeys same es) parts distinct in
       let there : lookup same entries e.0 ≡ Some e.1 =
-      subst (λ (es : List (K × V)). lookup same es e.0 ≡ Some e.1) (sym parts)
-      (found_there fore rest e (subst (λ (es : List (K × V)). HasDistinctKeys same es) parts distinct)) in
-      let here : lookup same entries key ≡ Some e.1 = ap (lookup same entries) is ∙ there in
-      let found : r.before ≡ Some e.1 = before ∙ here in
+      subst (λ (es : List (K × V)). lookup same es e.0 ≡ Some e.1) (sym parts) (found_there front rest e apart) in
+      let found : r.before ≡ Some e.1 = before ∙ ap (lookup same entries) is ∙ there in
       let none : r.after ≡ None = made.left in
-      let its_key : key_of r.call ≡ key = ap key_of made.call_is in
-      let removal : IsRemoval r = record {
-        call_is = made.call_is ∙ ap (λ (k : K). Remove k) (sym its_key);
-        took = λ i. change_of_count (found i) (none i);
-      } in
-      let drop : IsDrop says r = record {
-        removal = removal;
-        value = e.1;
-        before = found;
-        dropped = subst (λ (k : K). says (k, e.1) false) (sym (its_key ∙ is)) said;
-      } in
-      let its_class : is_of code salt class (key_of r.call) ≡ true = ap (is_of code salt class) its_key ∙ of in
-      let C : RecordView K V F → Type 0 = λ x. is_of code salt class (key_of x.call) ≡ true in
-      let left : length others ≡ length (remove same entries key) =
-      ap (λ (l : List (K × V)). length l) (stored ∙ (λ i. store same entries key (none i))) in
-      let less = fewer entries key e.1 here in
-      let has : HasMade (r ∷ []) old new = record {
-        seen = subst (λ (p : PassView K V F). BeginsWith p.seen old.seen) (sym made.pass)
-            (BeginsWith-push front old.seen r begins);
-        pass = made.pass
-            ∙ ap (λ (s : List (RecordView K V F)). record old { made = old.made ++ r ∷ []; seen = s })
-            (sym (ap (λ (p : PassView K V F). p.seen) made.pass));
-      } in (
-        (r ∷ [], All-cons (IsDrop says) r [] drop (All-nil (IsDrop says)), All-cons C r [] its_class (All-nil C), has),
-        omega (arith, left, less),
+      let its_key : key_of r.call ≡ key = ap key_of made.call_is in (
+        record {
+          removal = record {
+            call_is = made.call_is ∙ ap (λ (k : K). Remove k) (sym its_key);
+            took = λ i. change_of_count (found i) (none i);
+          };
+          key = its_key ∙ is;
+          before = found;
+        },
+        record {
+          seen = subst (λ (p : PassView K V F). BeginsWith p.seen old.seen) (sym made.pass)
+              (BeginsWith-push calls old.seen r begins);
+          pass = made.pass
+              ∙ ap (λ (s : List (RecordView K V F)). record old { made = old.made ++ r ∷ []; seen = s })
+              (sym (ap (λ (p : PassView K V F). p.seen) made.pass));
+        },
+        stored ∙ (λ i. store same entries key (none i)) ∙ ap (remove same entries) is
+            ∙ ap (λ (es : List (K × V)). remove same es e.0) parts ∙ removed_there front rest e apart,
       )
 
 -- of a result, what follows where it is one or the other
@@ -122,112 +123,398 @@ entry_of {E} P es e (fore, rest, parts) each = go fore (subst (λ (xs : List E).
   go [] all = All-head P e rest all
   go (f ∷ fs) all = go fs (All-tail P f (fs ++ e ∷ rest) all)
 
--- one entry more, of which this holds where a test passes it
-pub All-of-class : {E : Type 0} (p : E → Bool) (P : E → Type 0) (es : List E) (e : E) → All P (filter p es) →
-    (p e ≡ true → P e) → All P (filter p (es ++ e ∷ []))
-All-of-class {E} p P es e each its = go (p e) refl where
-  go : (b : Bool) → p e ≡ b → All P (filter p (es ++ e ∷ []))
-  go true is = subst (λ (xs : List E). All P xs) (sym (filter-kept p es e is))
-      (All-append P (filter p es) (e ∷ []) each (All-cons P e [] (its is) (All-nil P)))
-  go false is = subst (λ (xs : List E). All P xs) (sym (filter-left p es e is)) each
+-- what a result was that is passed on
+pub IfErr-of : {T E : Type 0} (P : E → Type 0) (r : Result T E) (e : E) → IsErrAnd r (λ y. y ≡ e) → P e → IfErr r P
+IfErr-of P (Ok _) e is p = tt
+IfErr-of P (Err f) e is p = subst P (sym is) p
 
--- an entry that passes a test is one of those that pass it
-pub entry_of_class : {E : Type 0} (p : E → Bool) (es : List E) (e : E) → HasEntry es e → p e ≡ true →
-    HasEntry (filter p es) e
-entry_of_class {E} p es e (fore, rest, parts) is = (
-  filter p fore,
-  filter p rest,
-  ap (λ (xs : List E). filter p xs) parts ∙ filter-append p fore (e ∷ rest)
-      ∙ ap (λ (b : Bool). filter p fore ++ cond b (e ∷ filter p rest) (filter p rest)) is,
-)
+pub IfOk-not : {T E : Type 0} (P : T → Type 0) (r : Result T E) (e : E) → IsErrAnd r (λ y. y ≡ e) → IfOk r P
+IfOk-not P (Ok _) e is = absurd is
+IfOk-not P (Err f) e is = tt
 
-module _ {K V F : Type 0} (says : K × V → Bool → Type 0) where
-  pub none_dropped : (old new : PassView K V F) → new ≡ old → HasDropped says old new
-  none_dropped old new is = ([], All-nil (IsDrop says), made_none old new is)
+is_full : Fault → Bool
+is_full PassFull = true
+is_full NoMemory = false
+is_full BadCapacity = false
+is_full BadClients = false
+is_full NoClient = false
+is_full PassMissing = false
+is_full BinMissing = false
 
-  pub dropped-more : (old mid new : PassView K V F) → HasDropped says old mid → HasDropped says mid new →
-      HasDropped says old new
-  dropped-more old mid new (rs, each, is) (ss, each', is') =
-      (rs ++ ss, All-append (IsDrop says) rs ss each each', made_more rs ss old mid new is is')
+full≢memory : PassFull ≡ NoMemory → ⊥
+full≢memory is = false≢true (sym (ap is_full is))
 
-  -- what went was taken away
-  pub removed_of : (old new : PassView K V F) → HasDropped says old new → HasRemoved old new
-  removed_of old new (rs, each, is) =
-      (rs, All-weaker (IsDrop says) IsRemoval (λ r drop. drop.removal) rs each, is)
+memory≢full : NoMemory ≡ PassFull → ⊥
+memory≢full is = false≢true (ap is_full is)
 
-  module _ (code : K → ℕ) (salt : Salt) (class : ClassView) where
-    pub none_dropped_in : (old new : PassView K V F) → new ≡ old → HasDroppedIn says code salt class old new
-    none_dropped_in old new is = (
-      [],
-      All-nil (IsDrop says),
-      All-nil (λ (r : RecordView K V F). is_of code salt class (key_of r.call) ≡ true),
-      made_none old new is,
-    )
+FoldsTo-append : {P A : Type 0} (R : P → A → P → Type 0) (p : P) (xs : List A) (q : P) (ys : List A) (s : P) →
+    FoldsTo R p xs q → FoldsTo R q ys s → FoldsTo R p (xs ++ ys) s
+FoldsTo-append R p [] q ys s a b = subst (λ x. FoldsTo R x ys s) (sym a) b
+FoldsTo-append R p (x ∷ xs) q ys s (j, r, rest) b = (j, r, FoldsTo-append R j xs q ys s rest b)
 
-    pub dropped_in-more : (old mid new : PassView K V F) → HasDroppedIn says code salt class old mid →
-        HasDroppedIn says code salt class mid new → HasDroppedIn says code salt class old new
-    dropped_in-more old mid new (rs, each, of, is) (ss, each', of', is') = (
-      rs ++ ss,
-      All-append (IsDrop says) rs ss each each',
-      All-append (λ (r : RecordView K V F). is_of code salt class (key_of r.call) ≡ true) rs ss of of',
-      made_more rs ss old mid new is is',
-    )
+AllZip-append : {A B : Type 0} (R : A → B → Type 0) (xs : List A) (ys : List B) (x : A) (y : B) → AllZip R xs ys →
+    R x y → AllZip R (xs ++ x ∷ []) (ys ++ y ∷ [])
+AllZip-append R [] [] x y a b = (b, tt)
+AllZip-append R [] (z ∷ ys) x y a b = absurd a
+AllZip-append R (z ∷ xs) [] x y a b = absurd a
+AllZip-append R (z ∷ xs) (w ∷ ys) x y a b = (a.0, AllZip-append R xs ys x y a.1 b)
 
-    pub dropped_in-seen : (old mid new : PassView K V F) → HasDroppedIn says code salt class old mid →
-        HasSeenMore mid new → HasDroppedIn says code salt class old new
-    dropped_in-seen old mid new (rs, each, of, is) seen = (rs, each, of, made_seen rs old mid new is seen)
+AllZip-each : {A B : Type 0} (R : A → B → Type 0) (Q : B → Type 0) (each : (x : A) (y : B) → R x y → Q y) (xs : List A)
+    (ys : List B) → AllZip R xs ys → All Q ys
+AllZip-each R Q each [] [] a = All-nil Q
+AllZip-each R Q each [] (y ∷ ys) a = absurd a
+AllZip-each R Q each (x ∷ xs) [] a = absurd a
+AllZip-each R Q each (x ∷ xs) (y ∷ ys) a = All-cons Q y ys (each x y a.0) (AllZip-each R Q each xs ys a.1)
 
-    pub dropped_in : (old new : PassView K V F) → HasDroppedIn says code salt class old new → HasDropped says old new
-    dropped_in old new (rs, each, of, is) = (rs, each, is)
+with_one : {X : Type 0} (b : Bool) (x : X) (xs ys zs : List X) → zs ≡ xs ++ ys →
+    cond b (x ∷ zs) zs ≡ cond b (x ∷ xs) xs ++ ys
+with_one true x xs ys zs is = ap (λ (l : List _). x ∷ l) is
+with_one false x xs ys zs is = is
 
-    removed_in_of : (old new : PassView K V F) → HasDroppedIn says code salt class old new →
-        HasRemovedIn code salt class old new
-    removed_in_of old new (rs, each, of, is) =
-        (rs, All-weaker (IsDrop says) IsRemoval (λ r drop. drop.removal) rs each, of, is)
+without_one : {X : Type 0} (b : Bool) (x : X) (xs ys zs : List X) → zs ≡ xs ++ ys →
+    cond b zs (x ∷ zs) ≡ cond b xs (x ∷ xs) ++ ys
+without_one true x xs ys zs is = is
+without_one false x xs ys zs is = ap (λ (l : List _). x ∷ l) is
 
-  module _ (same : K → K → Bool) (code : K → ℕ) (after : Call K V F → Option V → Option V) (ledger : LedgerView K V)
-    where
-      -- one bin more
-      pub AreKept-push : (old mid new : PassView K V F) (cs : List ClassView) (c : ClassView) →
-          AreKept same code after says ledger old cs mid → HasDroppedIn says code ledger.salt c mid new →
-          IsKeptIn same code after says ledger new c → AreKept same code after says ledger old (cs ++ c ∷ []) new
-      AreKept-push old mid new [] c are dropped kept =
-          (new, subst (λ (p : PassView K V F). HasDroppedIn says code ledger.salt c p new) are dropped, kept, refl)
-      AreKept-push old mid new (d ∷ ds) c (m, r, e, rest) dropped kept =
-          (m, r, e, AreKept-push m mid new ds c rest dropped kept)
+module _ {K V : Type 0} where
+  kept-append : (ts us : List ((K × V) × Bool)) → kept_of (ts ++ us) ≡ kept_of ts ++ kept_of us
+  kept-append [] us = refl
+  kept-append (t ∷ ts) us = with_one t.1 t.0 (kept_of ts) (kept_of us) (kept_of (ts ++ us)) (kept-append ts us)
 
-      -- where the function returns true to nothing, nothing is kept
-      module _ (never : (e : K × V) → says e true → ⊥) where
-        none_kept : (es : List (K × V)) → All (λ e. says e true) es → es ≡ []
-        none_kept [] each = refl
-        none_kept (e ∷ es) each = absurd (never e (All-head (λ (x : K × V). says x true) e es each))
+  removed-append : (ts us : List ((K × V) × Bool)) → removed_of (ts ++ us) ≡ removed_of ts ++ removed_of us
+  removed-append [] us = refl
+  removed-append (t ∷ ts) us =
+      without_one t.1 t.0 (removed_of ts) (removed_of us) (removed_of (ts ++ us)) (removed-append ts us)
 
-        pub cleared_of : (old new : PassView K V F) (cs : List ClassView) →
-            AreKept same code after says ledger old cs new → AreCleared same code after ledger old cs new
-        cleared_of old new [] are = are
-        cleared_of old new (c ∷ cs) (m, dropped, kept, rest) = (
-          m,
-          removed_in_of code ledger.salt c old m dropped,
+  -- the function returned true for each of these
+  stays : List (K × V) → List ((K × V) × Bool)
+  stays [] = []
+  stays (e ∷ es) = (e, true) ∷ stays es
+
+  kept-stays : (es : List (K × V)) → kept_of (stays es) ≡ es
+  kept-stays [] = refl
+  kept-stays (e ∷ es) = ap (λ (l : List (K × V)). e ∷ l) (kept-stays es)
+
+  removed-stays : (es : List (K × V)) → removed_of (stays es) ≡ []
+  removed-stays [] = refl
+  removed-stays (e ∷ es) = removed-stays es
+
+module _ {G K V : Type 0} (step : G → Bor K → Bor V → Bool → G → Type 0) where
+  asked-stays : (most n : ℕ) → n < most → (p q : G) (es : List (K × V)) → HasKeptAll step p es q →
+      FoldsTo (IsAsked step most) (p, n) (stays es) (q, n)
+  asked-stays most n less p q [] is = λ i. (is i, n)
+  asked-stays most n less p q (e ∷ es) (j, said, rest) =
+      ((j, n), (less, said, refl), asked-stays most n less j q es rest)
+
+  module _ {F : Type 0} (code : K → ℕ) (ledger : LedgerView K V) (class : ClassView) where
+    pub settled_none : (p : G) (old : PassView K V F) (entries : List (K × V)) →
+        IsSettled step code ledger class p old p old 0 entries
+    settled_none p old entries = record {
+      turns = [];
+      asked = record {
+        asked = refl;
+        removals = [];
+        removed = tt;
+        of_class = All-nil (λ (r : RecordView K V F). is_of code ledger.salt class (key_of r.call) ≡ true);
+        made = made_none old old refl;
+      };
+      front = [];
+      rest = entries;
+      parts = refl;
+      place = refl;
+      kept = refl;
+    }
+
+    -- some more that stay
+    asked_kept : (turns : List ((K × V) × Bool)) (p : G) (old : PassView K V F) (q s : G) (new : PassView K V F)
+        (es : List (K × V)) → HasAsked step code ledger class turns p old q new →
+        length new.made < most_calls ledger.form ledger.clients → HasKeptAll step q es s →
+        HasAsked step code ledger class (turns ++ stays es) p old s new
+    asked_kept turns p old q s new es a less kept =
+        let most = most_calls ledger.form ledger.clients in
+        let n = length new.made in
+        let same : removed_of (turns ++ stays es) ≡ removed_of turns =
+        removed-append turns (stays es) ∙ ap (λ (l : List (K × V)). removed_of turns ++ l) (removed-stays es)
+        ∙ append-nil (removed_of turns) in
+        record {
+          asked = FoldsTo-append (IsAsked step most) (p, length old.made) turns (q, n) (stays es) (s, n) a.asked
+              (asked-stays most n less q s es kept);
+          removals = a.removals;
+          removed = subst (λ (l : List (K × V)). AllZip IsRemovalOf l a.removals) (sym same) a.removed;
+          of_class = a.of_class;
+          made = a.made;
+        }
+
+    one_more : (mid new : PassView K V F) (r : RecordView K V F) → HasMade (r ∷ []) mid new →
+        length new.made ≡ suc (length mid.made)
+    one_more mid new r made =
+        let its : length new.made ≡ length (mid.made ++ r ∷ []) =
+        ap (λ (p : PassView K V F). length p.made) made.pass in
+        let sum = length-append mid.made (r ∷ []) in omega (arith, its, sum)
+
+    -- one that goes
+    asked_removed : (turns : List ((K × V) × Bool)) (p : G) (old : PassView K V F) (q s : G) (mid new : PassView K V F)
+        (e : K × V) (r : RecordView K V F) → HasAsked step code ledger class turns p old q mid →
+        length mid.made < most_calls ledger.form ledger.clients → SaysAt step q e false s → IsRemovalOf e r →
+        is_of code ledger.salt class (key_of r.call) ≡ true → HasMade (r ∷ []) mid new →
+        HasAsked step code ledger class (turns ++ (e, false) ∷ []) p old s new
+    asked_removed turns p old q s mid new e r a less said its in_class made =
+        let In : RecordView K V F → Type 0 = λ x. is_of code ledger.salt class (key_of x.call) ≡ true in
+        record {
+          asked = FoldsTo-push (IsAsked step (most_calls ledger.form ledger.clients)) (p, length old.made) turns
+              (q, length mid.made) (e, false) (s, length new.made) a.asked (less, said, one_more mid new r made);
+          removals = a.removals ++ r ∷ [];
+          removed = subst (λ (l : List (K × V)). AllZip IsRemovalOf l (a.removals ++ r ∷ []))
+              (sym (removed-append turns ((e, false) ∷ [])))
+              (AllZip-append IsRemovalOf (removed_of turns) a.removals e r a.removed its);
+          of_class = All-append In a.removals (r ∷ []) a.of_class (All-cons In r [] in_class (All-nil In));
+          made = made_more a.removals (r ∷ []) old mid new a.made made;
+        }
+
+    asked-seen : (turns : List ((K × V) × Bool)) (p : G) (old : PassView K V F) (q : G) (mid new : PassView K V F) →
+        HasAsked step code ledger class turns p old q mid → HasSeenMore mid new →
+        HasAsked step code ledger class turns p old q new
+    asked-seen turns p old q mid new a seen =
+        let same : mid.made ≡ new.made = sym (ap (λ (x : PassView K V F). x.made) seen.pass) in
+        record {
+          asked = subst (λ (l : List (RecordView K V F)). FoldsTo
+              (IsAsked step (most_calls ledger.form ledger.clients)) (p, length old.made) turns (q, length l))
+              same a.asked;
+          removals = a.removals;
+          removed = a.removed;
+          of_class = a.of_class;
+          made = made_seen a.removals old mid new a.made seen;
+        }
+
+    -- what is behind the place of settled entries
+    behind : (past : ℕ) (entries front rest : List (K × V)) → entries ≡ front ++ rest → length front ≡ past →
+        drop past entries ≡ rest
+    behind past entries front rest parts place =
+        ap (drop past) parts ∙ drop_at front rest past place
+
+    parted : (turns : List ((K × V) × Bool)) (past : ℕ) (entries front rest : List (K × V)) → entries ≡ front ++ rest →
+        length front ≡ past → part_of_entries (is_of code ledger.salt class) front ≡ kept_of turns →
+        part_of_entries (is_of code ledger.salt class) entries
+        ≡ kept_of turns ++ part_of_entries (is_of code ledger.salt class) (drop past entries)
+    parted turns past entries front rest parts place kept =
+        let p : K × V → Bool = λ e. is_of code ledger.salt class e.0 in
+        ap (λ (es : List (K × V)). filter p es) parts ∙ filter-append p front rest
+        ∙ ap (λ (es : List (K × V)). es ++ filter p rest) kept
+        ∙ ap (λ (es : List (K × V)). kept_of turns ++ filter p es) (sym (behind past entries front rest parts place))
+
+    -- the rest stays
+    pub kept_rest : (p : G) (old : PassView K V F) (q s : G) (new : PassView K V F) (past : ℕ) (entries : List (K × V)) →
+        IsSettled step code ledger class p old q new past entries →
+        length new.made < most_calls ledger.form ledger.clients →
+        HasKeptAll step q (part_of_entries (is_of code ledger.salt class) (drop past entries)) s →
+        HasKept step code ledger class p old s new entries
+    kept_rest p old q s new past entries x less kept =
+        let es = part_of_entries (is_of code ledger.salt class) (drop past entries) in
+        record {
+          turns = x.turns ++ stays es;
+          asked = asked_kept x.turns p old q s new es x.asked less kept;
+          kept = parted x.turns past entries x.front x.rest x.parts x.place x.kept
+              ∙ ap (λ (l : List (K × V)). kept_of x.turns ++ l) (sym (kept-stays es))
+              ∙ sym (kept-append x.turns (stays es));
+        }
+
+    -- there is none of the class behind the place
+    pub kept_none : (p : G) (old : PassView K V F) (q : G) (new : PassView K V F) (past : ℕ) (entries : List (K × V)) →
+        IsSettled step code ledger class p old q new past entries →
+        part_of_entries (is_of code ledger.salt class) (drop past entries) ≡ [] →
+        HasKept step code ledger class p old q new entries
+    kept_none p old q new past entries x none = record {
+      turns = x.turns;
+      asked = x.asked;
+      kept = parted x.turns past entries x.front x.rest x.parts x.place x.kept
+          ∙ ap (λ (l : List (K × V)). kept_of x.turns ++ l) none ∙ append-nil (kept_of x.turns);
+    }
+
+    -- the pass is full before the next
+    pub stopped_full : (p : G) (old : PassView K V F) (q : G) (new : PassView K V F) (past : ℕ) (entries : List (K × V))
+        (e : K × V) (rest : List (K × V)) → IsSettled step code ledger class p old q new past entries →
+        most_calls ledger.form ledger.clients ≤ length new.made →
+        part_of_entries (is_of code ledger.salt class) (drop past entries) ≡ e ∷ rest →
+        HasStopped step code ledger class PassFull p old q new entries
+    stopped_full p old q new past entries e rest x full some = record {
+      turns = x.turns;
+      last = q;
+      asked = x.asked;
+      next = e;
+      rest = rest;
+      left = parted x.turns past entries x.front x.rest x.parts x.place x.kept
+          ∙ ap (λ (l : List (K × V)). kept_of x.turns ++ l) some;
+      full = λ _. (refl, full);
+      memory = λ is. absurd (full≢memory is);
+    }
+
+    -- what was gone over up to an entry for which the function returned false
+    module _ (p : G) (old : PassView K V F) (q s : G) (new : PassView K V F) (past place : ℕ) (entries : List (K × V))
+        (e : K × V) (x : IsSettled step code ledger class p old q new past entries)
+        (less : length new.made < most_calls ledger.form ledger.clients)
+        (found : IsFoundBehind step (is_of code ledger.salt class) q s past place (drop past entries) e) where
+      over : List ((K × V) × Bool)
+      over = x.turns ++ stays (part_of_entries (is_of code ledger.salt class) found.mid)
+
+      over_asked : HasAsked step code ledger class over p old found.asked_at new
+      over_asked = asked_kept x.turns p old q found.asked_at new
+          (part_of_entries (is_of code ledger.salt class) found.mid) x.asked less found.kept
+
+      over_parts : entries ≡ (x.front ++ found.mid) ++ e ∷ found.rest
+      over_parts = x.parts
+          ∙ ap (λ (l : List (K × V)). x.front ++ l)
+          (sym (behind past entries x.front x.rest x.parts x.place) ∙ found.parts)
+          ∙ sym (append_assoc x.front found.mid (e ∷ found.rest))
+
+      over_kept : part_of_entries (is_of code ledger.salt class) (x.front ++ found.mid) ≡ kept_of over
+      over_kept =
+          let t : K × V → Bool = λ d. is_of code ledger.salt class d.0 in
+          filter-append t x.front found.mid
+          ∙ ap (λ (l : List (K × V)). l ++ filter t found.mid) x.kept
+          ∙ ap (λ (l : List (K × V)). kept_of x.turns ++ l) (sym (kept-stays (filter t found.mid)))
+          ∙ sym (kept-append x.turns (stays (filter t found.mid)))
+
+      -- there was no memory for the remove
+      pub stopped_memory : HasStopped step code ledger class NoMemory p old s new entries
+      stopped_memory =
+          let t : K × V → Bool = λ d. is_of code ledger.salt class d.0 in
           record {
-            front = kept.front;
-            empty = none_kept
-                (part_of_entries (is_of code ledger.salt c) (replay same ledger.opening m.seen)) kept.kept;
-          },
-          cleared_of m new cs rest,
-        )
+            turns = over;
+            last = found.asked_at;
+            asked = over_asked;
+            next = e;
+            rest = filter t found.rest;
+            left = ap (λ (l : List (K × V)). filter t l) over_parts
+                ∙ filter-append t (x.front ++ found.mid) (e ∷ found.rest)
+                ∙ ap (λ (l : List (K × V)). l ++ filter t (e ∷ found.rest)) over_kept
+                ∙ ap (λ (b : Bool). kept_of over ++ cond b (e ∷ filter t found.rest) (filter t found.rest)) found.of;
+            full = λ is. absurd (memory≢full is);
+            memory = λ _. (less, found.said);
+          }
 
-module _ {K V F : Type 0} (same : K → K → Bool) (code : K → ℕ) (after : Call K V F → Option V → Option V)
-    (ledger : LedgerView K V) where
-  -- a bin that was met has an entry left of which this holds
-  pub left_of : (is_left : K × V → Type 0) (pass : PassView K V F) → ((v : VisitView K V)
-      × IsFront same after ledger pass pass.seen × IsVisit same code ledger pass.seen v
-      × (e : K × V) × HasEntry v.entries e × is_left e) → HasLeft same code after ledger pass
-  left_of is_left pass (v, front, visit, e, (fore, rest, parts), left) =
-      (v, front, visit, λ none. not_nil fore rest e (sym parts ∙ none))
+      -- it was removed
+      pub settled_more : (after : PassView K V F) (r : RecordView K V F) (others : List (K × V)) → IsRemovalOf e r →
+          HasMade (r ∷ []) new after → others ≡ (x.front ++ found.mid) ++ found.rest →
+          IsSettled step code ledger class p old s after place others
+      settled_more after r others its made left =
+          let in_class : is_of code ledger.salt class (key_of r.call) ≡ true =
+          ap (is_of code ledger.salt class) its.key ∙ found.of in
+          let sum = length-append x.front found.mid in
+          let here = x.place in
+          let there = found.place_is in
+          record {
+            turns = over ++ (e, false) ∷ [];
+            asked = asked_removed over p old found.asked_at s new after e r over_asked less found.said its in_class made;
+            front = x.front ++ found.mid;
+            rest = found.rest;
+            parts = left;
+            place = omega (arith, sum, here, there);
+            kept = over_kept
+                ∙ sym (kept-append over ((e, false) ∷ []) ∙ append-nil (kept_of over));
+          }
 
-  -- so has one at which a walk stopped
-  pub left_at : (says : K × V → Bool → Type 0) (next : Option ClassView) (old new : PassView K V F) → IsSomeAnd next
-      (λ (k : ClassView). HasStoppedAt same code after says ledger k old new) →
-      HasDropLeft same code after says ledger new
-  left_at says None old new is = absurd is
-  left_at says (Some k) old new (v, first, dropped, front, visit, e, entry, left) = (v, front, visit, e, entry, left)
+    -- there are fewer entries then
+    pub fewer : (entries others front rest : List (K × V)) (e : K × V) → entries ≡ front ++ e ∷ rest →
+        others ≡ front ++ rest → length others < length entries
+    fewer entries others front rest e all left =
+        let one = ap (λ (l : List (K × V)). length l) all in
+        let two = ap (λ (l : List (K × V)). length l) left in
+        let three = length-append front (e ∷ rest) in
+        let four = length-append front rest in omega (arith, one, two, three, four)
+
+    -- the pass has then seen more, and the entries of the class are those of others
+    pub kept-seen : (p : G) (old : PassView K V F) (q : G) (mid new : PassView K V F) (entries others : List (K × V)) →
+        HasKept step code ledger class p old q mid entries → HasSeenMore mid new →
+        part_of_entries (is_of code ledger.salt class) entries ≡ part_of_entries (is_of code ledger.salt class) others →
+        HasKept step code ledger class p old q new others
+    kept-seen p old q mid new entries others x seen same = record {
+      turns = x.turns;
+      asked = asked-seen x.turns p old q mid new x.asked seen;
+      kept = sym same ∙ x.kept;
+    }
+
+    pub stopped-seen : (fault : Fault) (p : G) (old : PassView K V F) (q : G) (mid new : PassView K V F)
+        (entries others : List (K × V)) → HasStopped step code ledger class fault p old q mid entries →
+        HasSeenMore mid new →
+        part_of_entries (is_of code ledger.salt class) entries ≡ part_of_entries (is_of code ledger.salt class) others →
+        HasStopped step code ledger class fault p old q new others
+    stopped-seen fault p old q mid new entries others x seen same =
+        let made : mid.made ≡ new.made = sym (ap (λ (y : PassView K V F). y.made) seen.pass) in
+        let most = most_calls ledger.form ledger.clients in
+        record {
+          turns = x.turns;
+          last = x.last;
+          asked = asked-seen x.turns p old x.last mid new x.asked seen;
+          next = x.next;
+          rest = x.rest;
+          left = sym same ∙ x.left;
+          full = λ is. ((x.full is).0, subst (λ (l : List (RecordView K V F)). most ≤ length l) made (x.full is).1);
+          memory = λ is. (subst (λ (l : List (RecordView K V F)). length l < most) made (x.memory is).0, (x.memory is).1);
+        }
+
+    -- what was asked removed what went
+    pub removed_in_of : (turns : List ((K × V) × Bool)) (p : G) (old : PassView K V F) (q : G) (new : PassView K V F) →
+        HasAsked step code ledger class turns p old q new → HasRemovedIn code ledger.salt class old new
+    removed_in_of turns p old q new a = (
+      a.removals,
+      AllZip-each IsRemovalOf IsRemoval (λ e r its. its.removal) (removed_of turns) a.removals a.removed,
+      a.of_class,
+      a.made,
+    )
+
+  module _ {F : Type 0} (same : K → K → Bool) (code : K → ℕ) (after : Call K V F → Option V → Option V)
+      (ledger : LedgerView K V) where
+    -- one bin more
+    pub AreRetained-push : (p : G) (old : PassView K V F) (cs : List ClassView) (q : G) (mid : PassView K V F)
+        (c : ClassView) (s : G) (new : PassView K V F) → AreRetained step same code after ledger p old cs q mid →
+        IsRetainedIn step same code after ledger c q mid s new →
+        AreRetained step same code after ledger p old (cs ++ c ∷ []) s new
+    AreRetained-push p old [] q mid c s new are here = (
+      s,
+      new,
+      subst (λ (j : G). IsRetainedIn step same code after ledger c j old s new) are.0
+          (subst (λ (x : PassView K V F). IsRetainedIn step same code after ledger c q x s new) are.1 here),
+      refl,
+      refl,
+    )
+    AreRetained-push p old (d ∷ ds) q mid c s new (j, m, first, rest) here =
+        (j, m, first, AreRetained-push j m ds q mid c s new rest here)
+
+    -- a bin that was met has an entry left
+    pub left_of : (n : ℕ) (fault : Fault) (p : G) (old : PassView K V F) (q : G) (new : PassView K V F) →
+        IsStoppedBy step same code after ledger n fault p old q new → HasLeft same code after ledger new
+    left_of n fault p old q new (cs, next, come, j, mid, are, class, first, stopped) = (
+      record {
+        class = class;
+        entries = part_of_entries (is_of code ledger.salt class) (replay same ledger.opening new.seen);
+      },
+      stopped.front,
+      stopped.visit,
+      λ none. not_nil (kept_of stopped.stopped.turns) stopped.stopped.rest stopped.stopped.next
+          (sym stopped.stopped.left ∙ none),
+    )
+
+    -- where the function returns true for no entry, nothing is kept
+    module _ (never : (p : G) (e : K × V) (q : G) → SaysAt step p e true q → ⊥) where
+      none_kept : (most : ℕ) (turns : List ((K × V) × Bool)) (p q : G × ℕ) → FoldsTo (IsAsked step most) p turns q →
+          kept_of turns ≡ []
+      none_kept most [] p q asked = refl
+      none_kept most (t ∷ ts) p q (j, here, rest) = go t.1 refl where
+        go : (b : Bool) → t.1 ≡ b → kept_of (t ∷ ts) ≡ []
+        go true is = absurd (never p.0 t.0 j.0 (subst (λ (b : Bool). SaysAt step p.0 t.0 b j.0) is here.1))
+        go false is = ap (λ (b : Bool). cond b (t.0 ∷ kept_of ts) (kept_of ts)) is ∙ none_kept most ts j q rest
+
+      pub cleared_of : (p : G) (old : PassView K V F) (q : G) (new : PassView K V F) (cs : List ClassView) →
+          AreRetained step same code after ledger p old cs q new → AreCleared same code after ledger old cs new
+      cleared_of p old q new [] are = are.1
+      cleared_of p old q new (c ∷ cs) (j, m, first, rest) = (
+        m,
+        removed_in_of code ledger c first.kept.turns p old j m first.kept.asked,
+        record {
+          front = first.front;
+          empty = first.kept.kept
+              ∙ none_kept (most_calls ledger.form ledger.clients) first.kept.turns (p, length old.made)
+              (j, length m.made) first.kept.asked.asked;
+        },
+        cleared_of j m q new cs rest,
+      )

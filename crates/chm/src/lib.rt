@@ -67,5 +67,6 @@ pub use part_walks::{PartWalk, Taker};
 pub use resize::policy::MOST_RECORDED_BINS;
 pub use share::Sharing;
 pub use walks::cursor::Cursor;
+pub use walks::not_retained::NotRetained;
 pub use walks::numbered::{END_OF_WALK, Step};
 pub use walks::visit::Visit;

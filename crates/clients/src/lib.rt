@@ -38,7 +38,7 @@ mod work;
 pub use chm::{
     AsKey, ByteString, Bytes, Call, Change, Class, Cursor, Entries, Exact, Fault, Form, HashKey,
     Key, KeyArg, MOST_BINS, MOST_CALLS, MOST_CLIENTS, MOST_LEAN_CALLS, MOST_LEAN_CLIENTS, MakesKey,
-    Map, Moment, NotClosed, NotClosedWith, NotMade, Op, Opened, Pass, Quiet, Remap, Reply, Roster,
+    Map, Moment, NotClosed, NotClosedWith, NotMade, NotRetained, Op, Opened, Pass, Quiet, Remap, Reply, Roster,
     Salt, Sharing, Started, Text, Value, Visit, retire_all,
 };
 pub use client::ClientOf;

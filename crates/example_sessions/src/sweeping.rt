@@ -12,8 +12,10 @@ use std::time::Clock;
 fn drop_ended<L: Loan, R: Wait>(rt: &R, client: &mut Caller<'_, L>, now: u64) -> Result<(), Fault> {
     let mut cursor = client.cursor();
     for _ in rt.forever() {
-        let lasts = |_number: &u64, session: &Session| now < session.deadline;
-        if !client.retain_next(rt, &mut cursor, &lasts)? {
+        let mut lasts = |_number: &u64, session: &Session| now < session.deadline;
+        if client
+            .retain_next(rt, &mut cursor, &mut lasts)?
+            .is_none() {
             break;
         }
     }

@@ -109,7 +109,7 @@ fn sweep<L: Loan, R: Wait>(
             Ok(Told::Done)
         }
         Kind::Retain => {
-            client.retain(rt, &|_key: &u64, value: &u64| *value % divisor == rest)?;
+            client.retain(rt, |_key: &u64, value: &u64| *value % divisor == rest)?;
             Ok(Told::Done)
         }
         Kind::ShowEach => Ok(Told::Shown(show_each(rt, client))),

@@ -58,7 +58,7 @@ impl Round {
 /// Drops the entries of every fourth key, and returns by how many keys the map has changed.
 fn drop_some<L: Loan, R: Wait>(rt: &R, client: &mut Caller<'_, L>) -> Result<u64, Fault> {
     let before = client.balance();
-    client.retain(rt, &|key: &u64, _value: &u64| *key % 4 != 0)?;
+    client.retain(rt, |key: &u64, _value: &u64| *key % 4 != 0)?;
     Ok(client.balance().wrapping_sub(before))
 }
 

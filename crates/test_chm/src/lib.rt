@@ -47,6 +47,8 @@ mod refused;
 #[cfg(test)]
 mod retaining;
 #[cfg(test)]
+mod retains;
+#[cfg(test)]
 mod rosters;
 #[cfg(test)]
 mod rows;

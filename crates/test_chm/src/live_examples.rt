@@ -104,13 +104,13 @@ fn retain<R: Wait>(rt: &R, map: &Numbers, pass: &mut NumberPass) -> Result<bool,
     requires { pass.old.ledger ≡ map.now.ledger.id }
     ensures { pass.new.ledger ≡ map.now.ledger.id }
 {
-    map.retain(rt, pass, &|_key: &u64, value: &u64| *value > 5)?;
+    let removed = map.retain(rt, pass, &mut |_key: &u64, value: &u64| *value > 5)? == 1;
     let gone = map.get(rt, pass, 1)? == Reply::Value(None);
     map.put(rt, pass, 1, 6)?;
     let mut cursor = map.cursor();
-    let some = map.retain_next(rt, pass, &mut cursor, &|_key: &u64, value: &u64| *value > 5)?;
+    let some = map.retain_next(rt, pass, &mut cursor, &mut |_key: &u64, value: &u64| *value > 5)?;
     let kept = map.get(rt, pass, 1)? == Reply::Value(Some(6));
-    Ok(gone && some && kept)
+    Ok(removed && gone && some == Some(0) && kept)
 }
 
 /// Runs the example of this number on a map without entries; all but the first begin with a put of 5

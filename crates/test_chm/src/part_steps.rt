@@ -100,10 +100,10 @@ fn take_part<R: Wait + Abort, A: Allocator + Clone>(
     ensures { pass.new.ledger ≡ map.now.ledger.id }
 {
     let before = map.mapping_count();
-    let none = |_key: &Key, _value: &u64| false;
-    let some = map.retain_next(rt, pass, cursor, &none);
+    let mut none = |_key: &Key, _value: &u64| false;
+    let some = map.retain_next(rt, pass, cursor, &mut none);
     let gone = before.saturating_sub(map.mapping_count());
-    assert!(rt; some == Ok(true));
+    assert!(rt; some == Ok(Some(gone)));
     assert_same(rt, &(class, gone), &(class, pairs.len() as u64));
 }
 

@@ -46,13 +46,13 @@ fn drop_rest<R: Wait, A: Allocator + Clone>(
     requires { pass.old.ledger ≡ map.now.ledger.id }
     ensures { pass.new.ledger ≡ map.now.ledger.id }
 {
-    let none = |_key: &Key, _value: &u64| false;
+    let mut none = |_key: &Key, _value: &u64| false;
     let mut steps = 0u32;
     for _ in rt.forever() {
-        match map.retain_next(rt, pass, cursor, &none) {
-            Ok(true) => steps = steps.saturating_add(1),
-            Ok(false) => return (steps, None),
-            Err(fault) => return (steps, Some(fault)),
+        match map.retain_next(rt, pass, cursor, &mut none) {
+            Ok(Some(_removed)) => steps = steps.saturating_add(1),
+            Ok(None) => return (steps, None),
+            Err(e) => return (steps, Some(e.fault)),
         }
     }
     unreachable!()

@@ -251,7 +251,7 @@ fn go_through<R: Wait + Abort, A: Allocator + Clone>(
             Ok(Found::Done)
         }
         Act::KeepAboveOne => {
-            map.retain(rt, pass, &|_key: &Key, value: &u64| *value > 1)?;
+            map.retain(rt, pass, &mut |_key: &Key, value: &u64| *value > 1)?;
             Ok(Found::Done)
         }
         Act::Glance(text) => Ok(Found::Value(map.glance(rt, &key(rt, text))?)),

@@ -28,7 +28,10 @@ fn lent_step<L: Loan, R: Wait>(rt: &R, client: &mut Lent<'_, L>, way: u64) -> Re
             &mut cursor,
             &mut |_key: &u64, value: &u64| most = most.max(*value),
         )),
-        10 => Ok(client.retain_next(rt, &mut cursor, &|_key: &u64, value: &u64| *value > 5)?),
+        10 => {
+            let mut keeps = |_key: &u64, value: &u64| *value > 5;
+            Ok(client.retain_next(rt, &mut cursor, &mut keeps)?.is_some())
+        }
         _ => {
             client.show_each(rt, |_key: &u64, value: &u64| most = most.max(*value));
             Ok(most == 5)
@@ -60,7 +63,7 @@ fn lent_value<L: Loan, R: Wait>(rt: &R, client: &mut Lent<'_, L>, way: u64) -> R
                 == Some(Ok(Some(5))),
         ),
         5 | 6 => {
-            client.retain(rt, &|_key: &u64, value: &u64| *value > 5)?;
+            client.retain(rt, |_key: &u64, value: &u64| *value > 5)?;
             let left = if way == 6 { Some(6) } else { None };
             Ok(client.get(rt, &1)? == left)
         }
@@ -104,7 +107,7 @@ fn own_values<R: Wait>(rt: &R, client: &mut Owned) -> Result<[bool; 6], Fault> {
         == Some(Ok(Some(6)));
     let removed = client.update_lent(rt, &1, |value| (Change::Remove, value.copied()))? == Some(6);
     client.put(rt, 1, 5)?;
-    client.retain(rt, &|_key: &u64, value: &u64| *value > 5)?;
+    client.retain(rt, |_key: &u64, value: &u64| *value > 5)?;
     Ok([
         viewed,
         tried,
@@ -129,7 +132,10 @@ fn own_walks<R: Wait>(rt: &R, client: &mut Owned) -> Result<[bool; 6], Fault> {
         &mut |_key: &u64, value: &u64| most = most.max(*value),
     );
     let mut cursor = client.cursor();
-    let went = client.retain_next(rt, &mut cursor, &|_key: &u64, value: &u64| *value > 5)?;
+    let mut keeps = |_key: &u64, value: &u64| *value > 5;
+    let went = client
+        .retain_next(rt, &mut cursor, &mut keeps)?
+        .is_some();
     client.put(rt, 1, 5)?;
     let mut most = 0;
     client.show_each(rt, |_key: &u64, value: &u64| most = most.max(*value));

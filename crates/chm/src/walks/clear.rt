@@ -43,10 +43,10 @@ impl<K: HashKey, V: Value, F: Remap<K, V>, A: Allocator + Clone> Map<K, V, F, A>
             IsNeverRefused V.is_infallible → IsMadeOrFull result }
         ensures faults { IfErr result IsOfCall }
     {
-        let none = |_key: &K, _value: &V|
+        let mut none = |_key: &K, _value: &V|
             ensures { result ≡ false }
         { false };
-        self.retain_from(rt, pass, self.opening_cursor(), &none)?;
+        self.retain_from(rt, pass, self.opening_cursor(), &mut none)?;
         Ok(())
     }
 }

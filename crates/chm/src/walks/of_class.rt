@@ -1,11 +1,10 @@
 //! What a walk does with those entries of a locked bucket that are of a class. The class is that of
 //! the bucket, or of a part of it.
-ghost use Rattle.std.specs.Prelude.{◌≡◌, ◌++◌, List, All, IfNone, IfOk, IfSome, true, false};
+ghost use Rattle.std.specs.Prelude.{◌≡◌, ◌++◌, List, All, IfOk, true};
 ghost use Rattle.std.specs.List.{FoldsTo};
 ghost use Rattle.hashkeys.specs.Classes.{is_of};
 ghost use Rattle.bin_history.specs.Part.{part_of_entries};
 ghost use Rattle.chm.specs.Cursors.{IsUsedAt};
-ghost use Rattle.chm.specs.Retained.{HasEntry, SaysAt};
 
 use bin_history::{Bin, LeanEntries, Remap, Value, Walk};
 use hashkeys::{Class, HashKey, Salt};
@@ -157,92 +156,4 @@ pub(crate) fn add_of_bin<
 {
     bin.lawful();
     show_entries(taker, part, bin.walk(), bin.salt(), bin.class(), class)
-}
-
-/// Whether an entry is to be taken away: its key is of the class, and the function returns false.
-/// The key's hash is not looked at where all are of the class.
-fn is_dropped<K: HashKey, V, G: Fn(&K, &V) -> bool>(
-    entry: &(K, V),
-    salt: Salt,
-    class: Class,
-    whole: bool,
-    keeps: &G,
-) -> bool
-    requires { G.IsAlwaysCallable keeps.now }
-    ensures of { result ≡ true → whole ≡ false → is_of K.code salt class entry.now.0 ≡ true }
-    ensures dropped { result ≡ true → SaysAt (G.post keeps.now) entry.now false }
-    ensures kept { result ≡ false → is_of K.code salt class entry.now.0 ≡ true →
-        SaysAt (G.post keeps.now) entry.now true }
-{
-    if !whole && !class.covers(salt.hash_of(&entry.0)) {
-        return false;
-    }
-    !keeps(&entry.0, &entry.1)
-}
-
-/// The first of these entries, which are of a bucket of its own class, whose key is of another one and
-/// to which the function returns false.
-fn first_of_walk<'a, K: HashKey, V, A: Allocator, G: Fn(&K, &V) -> bool>(
-    walk: Walk<'a, K, V, A>,
-    salt: Salt,
-    own: Class,
-    class: Class,
-    keeps: &G,
-) -> Option<&'a (K, V)>
-    requires own { All (λ e. is_of K.code salt own e.0 ≡ true) walk }
-    requires callable { G.IsAlwaysCallable keeps.now }
-    ensures found { IfSome result (λ e. HasEntry walk.entry e.now) }
-    ensures of { IfSome result (λ e. is_of K.code salt class e.now.0 ≡ true) }
-    ensures dropped { IfSome result (λ e. SaysAt (G.post keeps.now) e.now false) }
-    ensures none { IfNone result (All (λ e. SaysAt (G.post keeps.now) e true)
-        (part_of_entries (is_of K.code salt class) walk.entry)) }
-{
-    let whole = is_same(class, own);
-    let mut left = walk;
-    while let Some(entry) = left.next() {
-        if is_dropped(entry, salt, class, whole, keeps) {
-            return Some(entry);
-        }
-    }
-    None
-}
-
-/// The first entry of a bucket whose key is of the class and to which the function returns false.
-pub(crate) fn first_dropped<
-    'a,
-    K: HashKey,
-    V: Value,
-    F: Remap<K, V>,
-    A: Allocator + Clone,
-    G: Fn(&K, &V) -> bool,
->(bin: &'a Bin<K, V, F, A>, class: Class, keeps: &G) -> Option<&'a (K, V)>
-    requires { G.IsAlwaysCallable keeps.now }
-    ensures found { IfSome result (λ e. HasEntry bin.now.entries e.now) }
-    ensures of { IfSome result (λ e. is_of K.code bin.now.salt class e.now.0 ≡ true) }
-    ensures dropped { IfSome result (λ e. SaysAt (G.post keeps.now) e.now false) }
-    ensures none { IfNone result (All (λ e. SaysAt (G.post keeps.now) e true)
-        (part_of_entries (is_of K.code bin.now.salt class) bin.now.entries)) }
-{
-    bin.lawful();
-    first_of_walk(bin.walk(), bin.salt(), bin.class(), class, keeps)
-}
-
-/// The first entry of a lean bucket of its own class whose key is of another one and to which the
-/// function returns false.
-pub(crate) fn first_of_entries<'a, K: HashKey, V: Value, A: Allocator, G: Fn(&K, &V) -> bool>(
-    entries: &'a LeanEntries<K, V, A>,
-    salt: Salt,
-    own: Class,
-    class: Class,
-    keeps: &G,
-) -> Option<&'a (K, V)>
-    requires own { All (λ e. is_of K.code salt own e.0 ≡ true) entries.now.entries }
-    requires callable { G.IsAlwaysCallable keeps.now }
-    ensures found { IfSome result (λ e. HasEntry entries.now.entries e.now) }
-    ensures of { IfSome result (λ e. is_of K.code salt class e.now.0 ≡ true) }
-    ensures dropped { IfSome result (λ e. SaysAt (G.post keeps.now) e.now false) }
-    ensures none { IfNone result (All (λ e. SaysAt (G.post keeps.now) e true)
-        (part_of_entries (is_of K.code salt class) entries.now.entries)) }
-{
-    first_of_walk(entries.walk(), salt, own, class, keeps)
 }
