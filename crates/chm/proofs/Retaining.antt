@@ -1,6 +1,6 @@
 -- What a retain asks, what it removes, and what it keeps.
 use Rattle.std.proofs.Common.{◌≡◌, ◌≢◌, ℕ, suc, ◌+◌, ◌<◌, ◌≤◌, Bool, true, false, Decides, cond, filter, Option, Some, None, List, []}
-use Rattle.std.proofs.Common.{◌∷◌, ◌++◌, length, drop, IsSomeAnd, All, Result, Ok, Err, OnOk, OnErr, refl, sym, ap, subst, ◌∙◌}
+use Rattle.std.proofs.Common.{◌∷◌, ◌++◌, length, drop, take, IsSomeAnd, All, Result, Ok, Err, OnOk, OnErr, refl, sym, ap, subst, ◌∙◌}
 use Rattle.std.proofs.Common.{arith, append_assoc, length-append}
 use Rattle.std.specs.Prelude.{IfErr, IfOk}
 use Rattle.std.specs.Borrow.{Bor}
@@ -8,7 +8,7 @@ use Rattle.std.specs.List.{AllZip, FoldsTo}
 use Rattle.std.specs.Result.{IsErrAnd}
 use Rattle.std.proofs.lemmas.Bool.{false≢true}
 use Rattle.std.proofs.lemmas.Fn.{FoldsTo-push}
-use Rattle.std.proofs.lemmas.List.{append-nil, drop_at}
+use Rattle.std.proofs.lemmas.List.{append-nil, drop_at, take-append-drop, take_at}
 use Rattle.std.proofs.lemmas.Option.{none-some}
 use Rattle.std.proofs.lemmas.List.Elements.{All-nil, All-cons, All-head, All-tail, All-append, filter-append}
 use Rattle.hashkeys.specs.Classes.{ClassView, is_of}
@@ -56,15 +56,16 @@ module _ {K V F : Type 0} (same : K → K → Bool) (tells : (x y : K) → Decid
       remove same (front ++ e ∷ rest) e.0 ≡ front ++ rest
   removed_there [] rest e distinct =
       ap (λ (b : Bool). cond b rest (e ∷ remove same rest e.0)) ((tells e.0 e.0).1 refl)
-  removed_there (d ∷ ds) rest e distinct = go (same d.0 e.0) refl where
-    go : (b : Bool) → same d.0 e.0 ≡ b → remove same (d ∷ ds ++ e ∷ rest) e.0 ≡ d ∷ ds ++ rest
-    go true is =
+  removed_there (d ∷ ds) rest e distinct =
+      go (found_there ds rest e distinct.1) (removed_there ds rest e distinct.1) (same d.0 e.0) refl where
+    go : lookup same (ds ++ e ∷ rest) e.0 ≡ Some e.1 → remove same (ds ++ e ∷ rest) e.0 ≡ ds ++ rest → (b : Bool) →
+        same d.0 e.0 ≡ b → remove same (d ∷ ds ++ e ∷ rest) e.0 ≡ d ∷ ds ++ rest
+    go there gone true is =
         let its : d.0 ≡ e.0 = (tells d.0 e.0).0 is in
-        absurd (none-some e.1 (sym distinct.0 ∙ ap (lookup same (ds ++ e ∷ rest)) its
-        ∙ found_there ds rest e distinct.1))
-    go false is =
+        absurd (none-some e.1 (sym distinct.0 ∙ ap (lookup same (ds ++ e ∷ rest)) its ∙ there))
+    go there gone false is =
         ap (λ (b : Bool). cond b (ds ++ e ∷ rest) (d ∷ remove same (ds ++ e ∷ rest) e.0)) is
-        ∙ ap (λ (l : List (K × V)). d ∷ l) (removed_there ds rest e distinct.1)
+        ∙ ap (λ (l : List (K × V)). d ∷ l) gone
 
   -- a remove of an entry of a bin
   pub removed_one : (entries others front rest : List (K × V)) (e : K × V) (key : K) (old new : PassView K V F)
@@ -100,6 +101,29 @@ module _ {K V F : Type 0} (same : K → K → Bool) (tells : (x y : K) → Decid
             ∙ ap (λ (es : List (K × V)). remove same es e.0) parts ∙ removed_there front rest e apart,
       )
 
+  -- the entry that was found behind a place was removed
+  pub gone : {G : Type 0} (step : G → Bor K → Bor V → Bool → G → Type 0) (test : K → Bool) (p q : G) (past place : ℕ)
+      (entries others : List (K × V)) (e : K × V) (key : K) (old new : PassView K V F) (answer : Reply V)
+      (calls : List (RecordView K V F)) (r : RecordView K V F)
+      (found : IsFoundBehind step test p q past place (drop past entries) e)
+      → HasDistinctKeys same entries → key ≡ e.0 → BeginsWith calls old.seen
+      → IsMade same_value remapped merged (Remove key) old new answer calls r
+      → r.before ≡ lookup same entries key → others ≡ store same entries key r.after
+      → IsRemovalOf e r × HasMade (r ∷ []) old new × (others ≡ (take past entries ++ found.mid) ++ found.rest)
+      × (length others < length entries)
+  gone step test p q past place entries others e key old new answer calls r found distinct is begins made before stored =
+      let front = take past entries ++ found.mid in
+      let parts : entries ≡ front ++ e ∷ found.rest =
+      sym (take-append-drop past entries) ∙ ap (λ (l : List (K × V)). take past entries ++ l) found.parts
+      ∙ sym (append_assoc (take past entries) found.mid (e ∷ found.rest)) in
+      let (its, has, left) = removed_one entries others front found.rest e key old new answer calls r distinct parts is
+      begins made before stored in
+      let one = ap (λ (l : List (K × V)). length l) parts in
+      let two = ap (λ (l : List (K × V)). length l) left in
+      let three = length-append front (e ∷ found.rest) in
+      let four = length-append front found.rest in
+      (its, has, left, omega (arith, one, two, three, four))
+
 -- of a result, what follows where it is one or the other
 pub on_ok : {T E P Q : Type 0} (r : Result T E) → (P → Q) → OnOk r P → OnOk r Q
 on_ok (Ok _) f is = f is
@@ -132,7 +156,7 @@ pub IfOk-not : {T E : Type 0} (P : T → Type 0) (r : Result T E) (e : E) → Is
 IfOk-not P (Ok _) e is = absurd is
 IfOk-not P (Err f) e is = tt
 
-is_full : Fault → Bool
+abbrev is_full : Fault → Bool
 is_full PassFull = true
 is_full NoMemory = false
 is_full BadCapacity = false
@@ -147,7 +171,7 @@ full≢memory is = false≢true (sym (ap is_full is))
 memory≢full : NoMemory ≡ PassFull → ⊥
 memory≢full is = false≢true (ap is_full is)
 
-FoldsTo-append : {P A : Type 0} (R : P → A → P → Type 0) (p : P) (xs : List A) (q : P) (ys : List A) (s : P) →
+pub FoldsTo-append : {P A : Type 0} (R : P → A → P → Type 0) (p : P) (xs : List A) (q : P) (ys : List A) (s : P) →
     FoldsTo R p xs q → FoldsTo R q ys s → FoldsTo R p (xs ++ ys) s
 FoldsTo-append R p [] q ys s a b = subst (λ x. FoldsTo R x ys s) (sym a) b
 FoldsTo-append R p (x ∷ xs) q ys s (j, r, rest) b = (j, r, FoldsTo-append R j xs q ys s rest b)
@@ -187,7 +211,7 @@ module _ {K V : Type 0} where
       without_one t.1 t.0 (removed_of ts) (removed_of us) (removed_of (ts ++ us)) (removed-append ts us)
 
   -- the function returned true for each of these
-  stays : List (K × V) → List ((K × V) × Bool)
+  abbrev stays : List (K × V) → List ((K × V) × Bool)
   stays [] = []
   stays (e ∷ es) = (e, true) ∷ stays es
 
@@ -198,6 +222,23 @@ module _ {K V : Type 0} where
   removed-stays : (es : List (K × V)) → removed_of (stays es) ≡ []
   removed-stays [] = refl
   removed-stays (e ∷ es) = removed-stays es
+
+module _ {K V : Type 0} (code : K → ℕ) (ledger : LedgerView K V) (class : ClassView) where
+  -- what is behind the place of settled entries
+  behind : (past : ℕ) (entries front rest : List (K × V)) → entries ≡ front ++ rest → length front ≡ past →
+      drop past entries ≡ rest
+  behind past entries front rest parts place =
+      ap (drop past) parts ∙ drop_at front rest past place
+
+  parted : (turns : List ((K × V) × Bool)) (past : ℕ) (entries front rest : List (K × V)) → entries ≡ front ++ rest →
+      length front ≡ past → part_of_entries (is_of code ledger.salt class) front ≡ kept_of turns →
+      part_of_entries (is_of code ledger.salt class) entries
+      ≡ kept_of turns ++ part_of_entries (is_of code ledger.salt class) (drop past entries)
+  parted turns past entries front rest parts place kept =
+      let p : K × V → Bool = λ e. is_of code ledger.salt class e.0 in
+      ap (λ (es : List (K × V)). filter p es) parts ∙ filter-append p front rest
+      ∙ ap (λ (es : List (K × V)). es ++ filter p rest) kept
+      ∙ ap (λ (es : List (K × V)). kept_of turns ++ filter p es) (sym (behind past entries front rest parts place))
 
 module _ {G K V : Type 0} (step : G → Bor K → Bor V → Bool → G → Type 0) where
   asked-stays : (most n : ℕ) → n < most → (p q : G) (es : List (K × V)) → HasKeptAll step p es q →
@@ -286,22 +327,6 @@ module _ {G K V : Type 0} (step : G → Bor K → Bor V → Bool → G → Type 
           made = made_seen a.removals old mid new a.made seen;
         }
 
-    -- what is behind the place of settled entries
-    behind : (past : ℕ) (entries front rest : List (K × V)) → entries ≡ front ++ rest → length front ≡ past →
-        drop past entries ≡ rest
-    behind past entries front rest parts place =
-        ap (drop past) parts ∙ drop_at front rest past place
-
-    parted : (turns : List ((K × V) × Bool)) (past : ℕ) (entries front rest : List (K × V)) → entries ≡ front ++ rest →
-        length front ≡ past → part_of_entries (is_of code ledger.salt class) front ≡ kept_of turns →
-        part_of_entries (is_of code ledger.salt class) entries
-        ≡ kept_of turns ++ part_of_entries (is_of code ledger.salt class) (drop past entries)
-    parted turns past entries front rest parts place kept =
-        let p : K × V → Bool = λ e. is_of code ledger.salt class e.0 in
-        ap (λ (es : List (K × V)). filter p es) parts ∙ filter-append p front rest
-        ∙ ap (λ (es : List (K × V)). es ++ filter p rest) kept
-        ∙ ap (λ (es : List (K × V)). kept_of turns ++ filter p es) (sym (behind past entries front rest parts place))
-
     -- the rest stays
     pub kept_rest : (p : G) (old : PassView K V F) (q s : G) (new : PassView K V F) (past : ℕ) (entries : List (K × V)) →
         IsSettled step code ledger class p old q new past entries →
@@ -313,7 +338,7 @@ module _ {G K V : Type 0} (step : G → Bor K → Bor V → Bool → G → Type 
         record {
           turns = x.turns ++ stays es;
           asked = asked_kept x.turns p old q s new es x.asked less kept;
-          kept = parted x.turns past entries x.front x.rest x.parts x.place x.kept
+          kept = parted code ledger class x.turns past entries x.front x.rest x.parts x.place x.kept
               ∙ ap (λ (l : List (K × V)). kept_of x.turns ++ l) (sym (kept-stays es))
               ∙ sym (kept-append x.turns (stays es));
         }
@@ -326,7 +351,7 @@ module _ {G K V : Type 0} (step : G → Bor K → Bor V → Bool → G → Type 
     kept_none p old q new past entries x none = record {
       turns = x.turns;
       asked = x.asked;
-      kept = parted x.turns past entries x.front x.rest x.parts x.place x.kept
+      kept = parted code ledger class x.turns past entries x.front x.rest x.parts x.place x.kept
           ∙ ap (λ (l : List (K × V)). kept_of x.turns ++ l) none ∙ append-nil (kept_of x.turns);
     }
 
@@ -342,7 +367,7 @@ module _ {G K V : Type 0} (step : G → Bor K → Bor V → Bool → G → Type 
       asked = x.asked;
       next = e;
       rest = rest;
-      left = parted x.turns past entries x.front x.rest x.parts x.place x.kept
+      left = parted code ledger class x.turns past entries x.front x.rest x.parts x.place x.kept
           ∙ ap (λ (l : List (K × V)). kept_of x.turns ++ l) some;
       full = λ _. (refl, full);
       memory = λ is. absurd (full≢memory is);
@@ -353,7 +378,7 @@ module _ {G K V : Type 0} (step : G → Bor K → Bor V → Bool → G → Type 
         (e : K × V) (x : IsSettled step code ledger class p old q new past entries)
         (less : length new.made < most_calls ledger.form ledger.clients)
         (found : IsFoundBehind step (is_of code ledger.salt class) q s past place (drop past entries) e) where
-      over : List ((K × V) × Bool)
+      abbrev over : List ((K × V) × Bool)
       over = x.turns ++ stays (part_of_entries (is_of code ledger.salt class) found.mid)
 
       over_asked : HasAsked step code ledger class over p old found.asked_at new
@@ -363,7 +388,7 @@ module _ {G K V : Type 0} (step : G → Bor K → Bor V → Bool → G → Type 
       over_parts : entries ≡ (x.front ++ found.mid) ++ e ∷ found.rest
       over_parts = x.parts
           ∙ ap (λ (l : List (K × V)). x.front ++ l)
-          (sym (behind past entries x.front x.rest x.parts x.place) ∙ found.parts)
+          (sym (behind code ledger class past entries x.front x.rest x.parts x.place) ∙ found.parts)
           ∙ sym (append_assoc x.front found.mid (e ∷ found.rest))
 
       over_kept : part_of_entries (is_of code ledger.salt class) (x.front ++ found.mid) ≡ kept_of over
@@ -394,11 +419,13 @@ module _ {G K V : Type 0} (step : G → Bor K → Bor V → Bool → G → Type 
 
       -- it was removed
       pub settled_more : (after : PassView K V F) (r : RecordView K V F) (others : List (K × V)) → IsRemovalOf e r →
-          HasMade (r ∷ []) new after → others ≡ (x.front ++ found.mid) ++ found.rest →
+          HasMade (r ∷ []) new after → others ≡ (take past entries ++ found.mid) ++ found.rest →
           IsSettled step code ledger class p old s after place others
       settled_more after r others its made left =
           let in_class : is_of code ledger.salt class (key_of r.call) ≡ true =
           ap (is_of code ledger.salt class) its.key ∙ found.of in
+          let first : take past entries ≡ x.front =
+          ap (λ (l : List (K × V)). take past l) x.parts ∙ take_at x.front x.rest past x.place in
           let sum = length-append x.front found.mid in
           let here = x.place in
           let there = found.place_is in
@@ -407,20 +434,11 @@ module _ {G K V : Type 0} (step : G → Bor K → Bor V → Bool → G → Type 
             asked = asked_removed over p old found.asked_at s new after e r over_asked less found.said its in_class made;
             front = x.front ++ found.mid;
             rest = found.rest;
-            parts = left;
+            parts = left ∙ ap (λ (l : List (K × V)). (l ++ found.mid) ++ found.rest) first;
             place = omega (arith, sum, here, there);
             kept = over_kept
                 ∙ sym (kept-append over ((e, false) ∷ []) ∙ append-nil (kept_of over));
           }
-
-    -- there are fewer entries then
-    pub fewer : (entries others front rest : List (K × V)) (e : K × V) → entries ≡ front ++ e ∷ rest →
-        others ≡ front ++ rest → length others < length entries
-    fewer entries others front rest e all left =
-        let one = ap (λ (l : List (K × V)). length l) all in
-        let two = ap (λ (l : List (K × V)). length l) left in
-        let three = length-append front (e ∷ rest) in
-        let four = length-append front rest in omega (arith, one, two, three, four)
 
     -- the pass has then seen more, and the entries of the class are those of others
     pub kept-seen : (p : G) (old : PassView K V F) (q : G) (mid new : PassView K V F) (entries others : List (K × V)) →
@@ -474,8 +492,7 @@ module _ {G K V : Type 0} (step : G → Bor K → Bor V → Bool → G → Type 
       new,
       subst (λ (j : G). IsRetainedIn step same code after ledger c j old s new) are.0
           (subst (λ (x : PassView K V F). IsRetainedIn step same code after ledger c q x s new) are.1 here),
-      refl,
-      refl,
+      (refl, refl),
     )
     AreRetained-push p old (d ∷ ds) q mid c s new (j, m, first, rest) here =
         (j, m, first, AreRetained-push j m ds q mid c s new rest here)
@@ -483,7 +500,7 @@ module _ {G K V : Type 0} (step : G → Bor K → Bor V → Bool → G → Type 
     -- a bin that was met has an entry left
     pub left_of : (n : ℕ) (fault : Fault) (p : G) (old : PassView K V F) (q : G) (new : PassView K V F) →
         IsStoppedBy step same code after ledger n fault p old q new → HasLeft same code after ledger new
-    left_of n fault p old q new (cs, next, come, j, mid, are, class, first, stopped) = (
+    left_of n fault p old q new (cs, next, come, j, mid, are, (class, first, stopped)) = (
       record {
         class = class;
         entries = part_of_entries (is_of code ledger.salt class) (replay same ledger.opening new.seen);
@@ -499,10 +516,10 @@ module _ {G K V : Type 0} (step : G → Bor K → Bor V → Bool → G → Type 
       none_kept : (most : ℕ) (turns : List ((K × V) × Bool)) (p q : G × ℕ) → FoldsTo (IsAsked step most) p turns q →
           kept_of turns ≡ []
       none_kept most [] p q asked = refl
-      none_kept most (t ∷ ts) p q (j, here, rest) = go t.1 refl where
-        go : (b : Bool) → t.1 ≡ b → kept_of (t ∷ ts) ≡ []
-        go true is = absurd (never p.0 t.0 j.0 (subst (λ (b : Bool). SaysAt step p.0 t.0 b j.0) is here.1))
-        go false is = ap (λ (b : Bool). cond b (t.0 ∷ kept_of ts) (kept_of ts)) is ∙ none_kept most ts j q rest
+      none_kept most (t ∷ ts) p q (j, here, rest) = go (none_kept most ts j q rest) t.1 refl where
+        go : kept_of ts ≡ [] → (b : Bool) → t.1 ≡ b → kept_of (t ∷ ts) ≡ []
+        go none true is = absurd (never p.0 t.0 j.0 (subst (λ (b : Bool). SaysAt step p.0 t.0 b j.0) is here.1))
+        go none false is = ap (λ (b : Bool). cond b (t.0 ∷ kept_of ts) (kept_of ts)) is ∙ none
 
       pub cleared_of : (p : G) (old : PassView K V F) (q : G) (new : PassView K V F) (cs : List ClassView) →
           AreRetained step same code after ledger p old cs q new → AreCleared same code after ledger old cs new

@@ -3,5 +3,6 @@
 pub(crate) mod close;
 pub(crate) mod quiet;
 mod reopen;
+pub(crate) mod shown;
 mod single;
 mod taken;

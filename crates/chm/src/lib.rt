@@ -54,6 +54,7 @@ pub use calls::not_made::NotMade;
 pub use calls::update::Change;
 pub use closed::close::{NotClosed, NotClosedWith};
 pub use closed::quiet::{Entries, Quiet};
+pub use closed::shown::ShownQuiet;
 pub use count_ledger::{
     MOST_CALLS, MOST_CLIENTS, MOST_LEAN_CALLS, MOST_LEAN_CLIENTS, Moment, Pass, Roster, retire_all,
 };

@@ -1,5 +1,5 @@
 //! A closed map.
-ghost use Rattle.std.specs.Prelude.{◌≡◌, All, List, length};
+ghost use Rattle.std.specs.Prelude.{◌≡◌, ◌<◌, [], All, List, length, true, false};
 ghost use Rattle.bin_history.specs.Calls.{after};
 ghost use Rattle.bin_history.specs.Entries.{HasDistinctKeys};
 ghost use Rattle.bin_history.specs.Records.{RecordView};
@@ -108,6 +108,25 @@ impl<K: HashKey, V: Value, F: Remap<K, V>, A: Allocator> Quiet<K, V, F, A> {
         ensures { result ≡ length (entries_of self.now.bins) }
     {
         self.count
+    }
+
+    /// Returns the number of keys.
+    ///
+    ///     quiet.len() == 1
+    pub fn len(&self) -> usize
+        ensures { result ≡ length (entries_of self.now.bins) }
+    {
+        self.count as usize
+    }
+
+    /// Returns whether there is no key.
+    ///
+    ///     !quiet.is_empty()
+    pub fn is_empty(&self) -> bool
+        ensures none { result ≡ true → entries_of self.now.bins ≡ [] }
+        ensures some { result ≡ false → 0 < length (entries_of self.now.bins) }
+    {
+        self.count == 0
     }
 
     /// Returns the salt of the hashes of keys.
