@@ -21,12 +21,14 @@ mod owned;
 mod parked;
 mod pass_pool;
 mod pass_slot;
+mod printing;
 mod reading;
 mod retaining;
 mod seeking;
 mod shared;
 mod shown;
 mod slot;
+mod starting;
 mod team;
 mod unshared;
 mod update;
@@ -39,7 +41,7 @@ pub use chm::{
     AsKey, ByteString, Bytes, Call, Change, Class, Cursor, Entries, Exact, Fault, Form, HashKey,
     Key, KeyArg, MOST_BINS, MOST_CALLS, MOST_CLIENTS, MOST_LEAN_CALLS, MOST_LEAN_CLIENTS, MakesKey,
     Map, Moment, NotClosed, NotClosedWith, NotMade, NotRetained, Op, Opened, Pass, Quiet, Remap, Reply, Roster,
-    Salt, Sharing, Started, Text, Value, Visit, retire_all,
+    Salt, Sharing, ShownQuiet, Started, Text, Value, Visit, retire_all,
 };
 pub use client::ClientOf;
 pub use client_fault::ClientFault;
@@ -50,7 +52,9 @@ pub use lent::{Client, Lent, Loan};
 pub use letter::{About, Letter};
 pub use owned::{Owned, OwnedClient, OwnedPass};
 pub use parked::{Worked, Working};
+pub use printing::ShownEntries;
 pub use shared::SharedMap;
+pub use starting::{SameMap, Saying, Says, Silent, StartedClient};
 pub use team::{Team, TeamNotClosed};
 pub use unshared::{SharedNotClosed, Unshared};
 pub use update::{ByValue, Update};

@@ -29,11 +29,15 @@ mod meeting;
 #[cfg(test)]
 mod moments;
 #[cfg(test)]
+mod printing;
+#[cfg(test)]
 mod refused;
 #[cfg(test)]
 mod shown;
 #[cfg(test)]
 mod slices;
+#[cfg(test)]
+mod starting;
 #[cfg(test)]
 mod teams;
 #[cfg(test)]
