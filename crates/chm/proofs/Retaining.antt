@@ -58,14 +58,14 @@ module _ {K V F : Type 0} (same : K → K → Bool) (tells : (x y : K) → Decid
       ap (λ (b : Bool). cond b rest (e ∷ remove same rest e.0)) ((tells e.0 e.0).1 refl)
   removed_there (d ∷ ds) rest e distinct =
       go (found_there ds rest e distinct.1) (removed_there ds rest e distinct.1) (same d.0 e.0) refl where
-    go : lookup same (ds ++ e ∷ rest) e.0 ≡ Some e.1 → remove same (ds ++ e ∷ rest) e.0 ≡ ds ++ rest → (b : Bool) →
-        same d.0 e.0 ≡ b → remove same (d ∷ ds ++ e ∷ rest) e.0 ≡ d ∷ ds ++ rest
-    go there gone true is =
-        let its : d.0 ≡ e.0 = (tells d.0 e.0).0 is in
-        absurd (none-some e.1 (sym distinct.0 ∙ ap (lookup same (ds ++ e ∷ rest)) its ∙ there))
-    go there gone false is =
-        ap (λ (b : Bool). cond b (ds ++ e ∷ rest) (d ∷ remove same (ds ++ e ∷ rest) e.0)) is
-        ∙ ap (λ (l : List (K × V)). d ∷ l) gone
+        go : lookup same (ds ++ e ∷ rest) e.0 ≡ Some e.1 → remove same (ds ++ e ∷ rest) e.0 ≡ ds ++ rest → (b : Bool) →
+            same d.0 e.0 ≡ b → remove same (d ∷ ds ++ e ∷ rest) e.0 ≡ d ∷ ds ++ rest
+        go there gone true is =
+            let its : d.0 ≡ e.0 = (tells d.0 e.0).0 is in
+            absurd (none-some e.1 (sym distinct.0 ∙ ap (lookup same (ds ++ e ∷ rest)) its ∙ there))
+        go there gone false is =
+            ap (λ (b : Bool). cond b (ds ++ e ∷ rest) (d ∷ remove same (ds ++ e ∷ rest) e.0)) is
+            ∙ ap (λ (l : List (K × V)). d ∷ l) gone
 
   -- a remove of an entry of a bin
   pub removed_one : (entries others front rest : List (K × V)) (e : K × V) (key : K) (old new : PassView K V F)

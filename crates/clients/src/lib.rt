@@ -40,8 +40,8 @@ mod work;
 pub use chm::{
     AsKey, ByteString, Bytes, Call, Change, Class, Cursor, Entries, Exact, Fault, Form, HashKey,
     Key, KeyArg, MOST_BINS, MOST_CALLS, MOST_CLIENTS, MOST_LEAN_CALLS, MOST_LEAN_CLIENTS, MakesKey,
-    Map, Moment, NotClosed, NotClosedWith, NotMade, NotRetained, Op, Opened, Pass, Quiet, Remap, Reply, Roster,
-    Salt, Sharing, ShownQuiet, Started, Text, Value, Visit, retire_all,
+    Map, Moment, NotClosed, NotClosedWith, NotMade, NotRetained, Op, Opened, Pass, Quiet, Remap,
+    Reply, Roster, Salt, Sharing, ShownQuiet, Started, Text, Value, Visit, retire_all,
 };
 pub use client::ClientOf;
 pub use client_fault::ClientFault;

@@ -45,8 +45,8 @@ impl<H: Holder<K, V, F, A>, K: HashKey, V: Value, F: Remap<K, V>, A: Allocator +
     /// time linear in the buckets and the entries, and allocates the copies.
     ///
     ///     client.put(rt, 1, 5)?;
-    ///     let text = format!(in alloc; "{:?}", client.shown(rt)?)?;
-    ///     assert_eq!(text.as_str(), "{1: 5}");
+    ///     let after = format!(in alloc; "{:?}", client.shown(rt)?)?;
+    ///     assert_eq!(after.as_str(), "{1: 5}");
     ///
     /// # Errors
     ///

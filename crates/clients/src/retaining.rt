@@ -79,8 +79,11 @@ impl<H: Holder<K, V, F, A>, K: HashKey, V: Value, F: Remap<K, V>, A: Allocator +
     ///     let mut cursor = client.cursor();
     ///     let mut keeps = |_key: &u64, value: &u64| *value > 5;
     ///     let mut removed = 0;
-    ///     while let Some(some) = client.retain_next(rt, &mut cursor, &mut keeps)? {
-    ///         removed += some;
+    ///     for _ in rt.forever() {
+    ///         let Some(some) = client.retain_next(rt, &mut cursor, &mut keeps)? else {
+    ///             break;
+    ///         };
+    ///         removed = some.saturating_add(removed);
     ///     }
     ///     assert_eq!(removed, 1);
     ///

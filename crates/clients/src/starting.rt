@@ -108,9 +108,9 @@ impl<
     /// for nobody. The function has a handle of its own, with which it makes its calls.
     ///
     ///     let own = *rt;
-    ///     let thread = client.start_with(rt, move |client| client.put(&own, 1, 5).is_ok())?;
-    ///     let Worked { client, answer } = thread.join(rt);
-    ///     assert!(answer);
+    ///     let thread = map.client()?.start_with(rt, move |client| client.put(&own, 1, 5))?;
+    ///     let Worked { mut client, answer } = thread.join(rt);
+    ///     assert_eq!(answer?, None);
     ///
     /// # Errors
     ///
@@ -133,12 +133,11 @@ impl<
     /// the function keeps it.
     ///
     ///     let own = *rt;
-    ///     let count = move |client: &mut OwnedClient<u64, u64, Add, Global>| -> u64
+    ///     let work = move |client: &mut OwnedClient<u64, u64, Add, Global>| -> bool
     ///         ensures { client.new.map ≡ client.old.map }
-    ///     {
-    ///         client.put(&own, 1, 5).is_ok().into()
-    ///     };
-    ///     let Worked { client, answer } = client.start_saying(rt, SameMap, count)?.join(rt);
+    ///     { client.put(&own, 1, 5).is_ok() };
+    ///     let Worked { mut client, answer } = first.start_saying(rt, SameMap, work)?.join(rt);
+    ///     second.learn(&mut client.moment());
     ///
     /// # Errors
     ///

@@ -41,6 +41,8 @@ mod opening;
 #[cfg(test)]
 mod part_steps;
 #[cfg(test)]
+mod printed;
+#[cfg(test)]
 mod reading;
 #[cfg(test)]
 mod refused;

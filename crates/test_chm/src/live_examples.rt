@@ -108,7 +108,12 @@ fn retain<R: Wait>(rt: &R, map: &Numbers, pass: &mut NumberPass) -> Result<bool,
     let gone = map.get(rt, pass, 1)? == Reply::Value(None);
     map.put(rt, pass, 1, 6)?;
     let mut cursor = map.cursor();
-    let some = map.retain_next(rt, pass, &mut cursor, &mut |_key: &u64, value: &u64| *value > 5)?;
+    let some = map.retain_next(
+        rt,
+        pass,
+        &mut cursor,
+        &mut |_key: &u64, value: &u64| *value > 5,
+    )?;
     let kept = map.get(rt, pass, 1)? == Reply::Value(Some(6));
     Ok(removed && gone && some == Some(0) && kept)
 }

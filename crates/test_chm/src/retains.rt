@@ -43,11 +43,7 @@ fn put_of_one_hash<R: Wait + Abort, A: Allocator + Clone>(
 type Told = (Result<u64, NotRetained>, u64, bool);
 
 /// Removes every second entry for which the function is called, the first among them.
-fn every_second<R: Wait, A: Allocator + Clone>(
-    rt: &R,
-    map: &KeyMap<A>,
-    pass: &mut KeyPass,
-) -> Told
+fn every_second<R: Wait, A: Allocator + Clone>(rt: &R, map: &KeyMap<A>, pass: &mut KeyPass) -> Told
     requires { pass.old.ledger ≡ map.now.ledger.id }
     ensures { pass.new.ledger ≡ map.now.ledger.id }
 {

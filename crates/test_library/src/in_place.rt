@@ -133,9 +133,7 @@ fn own_walks<R: Wait>(rt: &R, client: &mut Owned) -> Result<[bool; 6], Fault> {
     );
     let mut cursor = client.cursor();
     let mut keeps = |_key: &u64, value: &u64| *value > 5;
-    let went = client
-        .retain_next(rt, &mut cursor, &mut keeps)?
-        .is_some();
+    let went = client.retain_next(rt, &mut cursor, &mut keeps)?.is_some();
     client.put(rt, 1, 5)?;
     let mut most = 0;
     client.show_each(rt, |_key: &u64, value: &u64| most = most.max(*value));

@@ -33,6 +33,8 @@ mod printing;
 #[cfg(test)]
 mod refused;
 #[cfg(test)]
+mod retains;
+#[cfg(test)]
 mod shown;
 #[cfg(test)]
 mod slices;
