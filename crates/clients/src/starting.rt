@@ -110,7 +110,6 @@ impl<
     ///     let own = *rt;
     ///     let thread = map.client()?.start_with(rt, move |client| client.put(&own, 1, 5))?;
     ///     let Worked { mut client, answer } = thread.join(rt);
-    ///     assert_eq!(answer?, None);
     ///
     /// # Errors
     ///
