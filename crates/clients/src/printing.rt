@@ -1,5 +1,5 @@
 //! What a client sees of a map, to be printed.
-ghost use Rattle.std.specs.Prelude.{◌≡◌, IfOk, IfErr};
+ghost use Rattle.std.specs.Prelude.{◌≡◌, ◌<◌, ◌^◌, IfOk, IfErr};
 ghost use Rattle.bin_history.specs.Calls.{after};
 ghost use Rattle.bin_history.specs.Entries.{HasDistinctKeys};
 ghost use Rattle.count_ledger.specs.Fronts.{HasSeenMore};
@@ -70,7 +70,9 @@ impl<H: Holder<K, V, F, A>, K: HashKey, V: Value, F: Remap<K, V>, A: Allocator +
     ///
     ///     client.put(rt, 1, 5)?;
     ///     assert_eq!(client.len(), 1);
-    pub fn len(&self) -> usize {
+    pub fn len(&self) -> usize
+        ensures { result < 2 ^ 63 }
+    {
         self.mapping_count() as usize
     }
 

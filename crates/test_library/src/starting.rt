@@ -59,6 +59,14 @@ fn what_is_promised_of_a_function_is_known_of_its_client(rt: HostRuntime) {
     assert_same(&rt, &closed, &Some(1));
 }
 
+/// Counts at one key, so often.
+fn count_often<R: Wait>(rt: &R, client: &mut Owned, times: u64) -> Result<(), Fault> {
+    for _time in 0..times {
+        client.merge(rt, 1, 1, Add)?;
+    }
+    Ok(())
+}
+
 /// Two threads count by their clients at one key, so often each.
 fn count_together<R: Threads + Wait + Copy + Send + 'static>(
     rt: &R,
@@ -66,14 +74,12 @@ fn count_together<R: Threads + Wait + Copy + Send + 'static>(
     times: u64,
 ) -> Result<Option<u64>, Fault> {
     let own = *rt;
-    let count = move |client: &mut Owned| {
-        for _time in 0..times {
-            client.merge(&own, 1, 1, Add)?;
-        }
-        Ok::<(), Fault>(())
-    };
-    let one = map.client()?.start_with(rt, count)?;
-    let other = map.client()?.start_with(rt, count)?;
+    let one = map
+        .client()?
+        .start_with(rt, move |client| count_often(&own, client, times))?;
+    let other = map
+        .client()?
+        .start_with(rt, move |client| count_often(&own, client, times))?;
     one.join(rt).answer?;
     other.join(rt).answer?;
     map.client()?.get(rt, &1)

@@ -10,7 +10,7 @@ use std::fmt::{self, Debug, Formatter};
 /// The entries of a closed map, to be printed with `{:?}` where its keys and values are.
 #[derive(Drop)]
 pub struct ShownQuiet<'a, K: HashKey, V: Value, F: Remap<K, V>, A: Allocator> {
-    pub(crate) quiet: &'a Quiet<K, V, F, A>,
+    pub quiet: &'a Quiet<K, V, F, A>,
 }
 
 impl<K: HashKey, V: Value, F: Remap<K, V>, A: Allocator> Quiet<K, V, F, A> {
