@@ -1,0 +1,47 @@
+-- The names of the goals are not checked yet; `rt check --start` prints them.
+use Rattle.std.proofs.Common.{refl, sym, subst}
+use Rattle.std.specs.Option.{IsSomeAnd}
+use Rattle.bin_history.specs.Calls.{after}
+use Rattle.lean_bins.specs.BinSlot.{IsInSlot}
+use Rattle.bin_layout.specs.Views.{HomeView, place_of}
+use Rattle.part_walks.specs.Parts.{IsFirstOf}
+use Rattle.chm.proofs.Retaining.{IfErr-of}
+use Rattle.chm.proofs.Sure.{IsMadeOrFull-of}
+use Rattle.chm.proofs.map.Map.retain_guarded.Goals as goal
+
+pub retain_in_place-done-requires-clause-lies : goal.retain_in_place-done-requires-clause-lies
+retain_in_place-done-requires-clause-lies g c =
+    let after_is = after g.V.PartialEq.eq g.F.Remap.remapped g.F.Remap.merged in
+    let lies = subst
+    (λ o. IsSomeAnd o (IsInSlot g.K.PartialEq.eq after_is (place_of c.args.held.home.now c.args.held.class)))
+    c.value.ensures.value c.requires.lies in
+    subst
+    (λ (h : HomeView). IsInSlot g.K.PartialEq.eq after_is (place_of h c.args.held.class) c.value.result.now)
+    c.requires.home lies
+
+pub release-requires : goal.release-requires
+release-requires g c =
+    subst
+    (λ (h : HomeView). IsInSlot g.K.PartialEq.eq (after g.V.PartialEq.eq g.F.Remap.remapped g.F.Remap.merged)
+    (place_of h c.args.held.class) c.retain_in_place-done.new.bin_slot)
+    (sym c.requires.home) c.retain_in_place-done.ensures.lies
+
+pub go_past-requires : goal.go_past-requires
+go_past-requires g c =
+    record {
+      first = subst (λ o. IsSomeAnd o (λ k. IsFirstOf k c.narrower-class.result)) (sym c.requires.next)
+          c.narrower-class.ensures.first;
+    }
+
+pub returns-clause-kept : goal.returns-clause-kept
+returns-clause-kept g c = (c.narrower-class.result, c.in_ok-done.ensures.kept, c.go_past.ensures.passed)
+
+pub returns-in_err-done-clause-stopped : goal.returns-in_err-done-clause-stopped
+returns-in_err-done-clause-stopped g c =
+    IfErr-of _ c.from_residual.result _ c.from_residual.ensures.1
+    ((c.narrower-class.result, c.narrower-class.ensures.first, c.in_err-done.ensures.stopped), refl)
+
+pub returns-in_err-done-clause-sure : goal.returns-in_err-done-clause-sure
+returns-in_err-done-clause-sure g c = λ keys.
+    IsMadeOrFull-of c.from_residual.result _ c.from_residual.ensures.1
+    (c.in_err-done.ensures.sure keys)
