@@ -19,6 +19,8 @@ pub mod Passes
 pub mod Limits
 pub mod Updating
 pub mod Cursors
+pub mod Asking
+pub mod Removing
 pub mod Retaining
 pub mod Stepping
 pub mod PartVisits

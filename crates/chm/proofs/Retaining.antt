@@ -1,128 +1,32 @@
 -- What a retain asks, what it removes, and what it keeps.
-use Rattle.std.proofs.Common.{◌≡◌, ◌≢◌, ℕ, suc, ◌+◌, ◌<◌, ◌≤◌, Bool, true, false, Decides, cond, filter, Option, Some, None, List, []}
-use Rattle.std.proofs.Common.{◌∷◌, ◌++◌, length, drop, take, IsSomeAnd, All, Result, Ok, Err, OnOk, OnErr, refl, sym, ap, subst, ◌∙◌}
+use Rattle.std.proofs.Common.{◌≡◌, ◌≢◌, ℕ, suc, ◌+◌, ◌<◌, ◌≤◌, Bool, true, false, cond, filter, Option, List, []}
+use Rattle.std.proofs.Common.{◌∷◌, ◌++◌, length, drop, take, Result, Ok, Err, OnOk, OnErr, refl, sym, ap, subst, ◌∙◌}
 use Rattle.std.proofs.Common.{arith, append_assoc, length-append}
-use Rattle.std.specs.Prelude.{IfErr, IfOk}
+use Rattle.std.specs.Prelude.{IfOk}
 use Rattle.std.specs.Borrow.{Bor}
 use Rattle.std.specs.List.{AllZip, FoldsTo}
 use Rattle.std.specs.Result.{IsErrAnd}
 use Rattle.std.proofs.lemmas.Bool.{false≢true}
 use Rattle.std.proofs.lemmas.Fn.{FoldsTo-push}
-use Rattle.std.proofs.lemmas.List.{append-nil, drop_at, take-append-drop, take_at}
-use Rattle.std.proofs.lemmas.Option.{none-some}
-use Rattle.std.proofs.lemmas.List.Elements.{All-nil, All-cons, All-head, All-tail, All-append, filter-append}
+use Rattle.std.proofs.lemmas.List.{append-nil, take_at}
+use Rattle.std.proofs.lemmas.List.Elements.{All-nil, All-cons, All-append, filter-append}
 use Rattle.hashkeys.specs.Classes.{ClassView, is_of}
-use Rattle.hashkeys.specs.declared.hashing.Salt.{Salt}
 use Rattle.bin_history.specs.Calls.{key_of}
-use Rattle.bin_history.specs.Deltas.{change_of_count}
-use Rattle.bin_history.specs.Entries.{HasDistinctKeys, lookup, remove, replay, store}
+use Rattle.bin_history.specs.Entries.{replay}
 use Rattle.bin_history.specs.Part.{part_of_entries}
 use Rattle.bin_history.specs.declared.call.Call.{Call}
-use Rattle.bin_history.specs.declared.call.Call.TheVariants.{Remove}
-use Rattle.bin_history.specs.declared.call.Reply.{Reply}
 use Rattle.bin_history.specs.Records.{RecordView}
-use Rattle.count_ledger.specs.Fronts.{BeginsWith, HasSeenMore, IsFront}
+use Rattle.count_ledger.specs.Fronts.{HasSeenMore}
 use Rattle.count_ledger.specs.Limits.{most_calls}
 use Rattle.count_ledger.specs.Views.{LedgerView, PassView}
-use Rattle.count_ledger.proofs.Fronts.{BeginsWith-push}
-use Rattle.part_walks.specs.Parts.{HasComeTo, IsFirstOf}
-use Rattle.chm.specs.Cleared.{AreCleared, HasLeft, HasMade, HasRemoved, HasRemovedIn, IsEmptyIn, IsRemoval}
-use Rattle.chm.specs.Headline.{IsMade}
-use Rattle.chm.specs.Retained.{AreRetained, HasAsked, HasEntry, HasKept, HasKeptAll, HasStopped, HasStoppedAt, IsAsked}
-use Rattle.chm.specs.Retained.{IsFoundBehind, IsRemovalOf, IsRetainedBy, IsRetainedIn, IsSettled, IsStoppedBy, IsStoppedIn, SaysAt}
+use Rattle.chm.specs.Cleared.{AreCleared, HasLeft, HasMade, HasRemovedIn, IsRemoval}
+use Rattle.chm.specs.Retained.{AreRetained, HasAsked, HasKept, HasKeptAll, HasStopped, IsAsked}
+use Rattle.chm.specs.Retained.{IsFoundBehind, IsRemovalOf, IsRetainedIn, IsSettled, IsStoppedBy, SaysAt}
 use Rattle.chm.specs.Retained.{kept_of, removed_of}
-use Rattle.chm.specs.Visits.{VisitView, IsVisit}
 use Rattle.chm.specs.declared.fault.Fault.{Fault}
 use Rattle.chm.specs.declared.fault.Fault.TheVariants.{NoMemory, BadCapacity, BadClients, PassFull, NoClient, PassMissing, BinMissing}
-use Rattle.chm.proofs.Clearing.{found_here, made_more, made_none, made_seen}
-
-module _ {K V F : Type 0} (same : K → K → Bool) (tells : (x y : K) → Decides (same x y) (x ≡ y)) (code : K → ℕ)
-    (same_value : V → V → Bool)
-    (remapped : F → K → Option V → Option V) (merged : F → V → V → Option V) where
-  -- the value of an entry among others of distinct keys
-  found_there : (front rest : List (K × V)) (e : K × V) → HasDistinctKeys same (front ++ e ∷ rest) →
-      lookup same (front ++ e ∷ rest) e.0 ≡ Some e.1
-  found_there [] rest e distinct = found_here same tells code same_value remapped merged e rest
-  found_there (d ∷ ds) rest e distinct = go (found_there ds rest e distinct.1) (same d.0 e.0) refl where
-    go : lookup same (ds ++ e ∷ rest) e.0 ≡ Some e.1 → (b : Bool) → same d.0 e.0 ≡ b →
-        lookup same (d ∷ ds ++ e ∷ rest) e.0 ≡ Some e.1
-    go there true is =
-        let its : d.0 ≡ e.0 = (tells d.0 e.0).0 is in
-        absurd (none-some e.1 (sym distinct.0 ∙ ap (lookup same (ds ++ e ∷ rest)) its ∙ there))
-    go there false is = ap (λ b. cond b (Some d.1) (lookup same (ds ++ e ∷ rest) e.0)) is ∙ there
-
-  -- a remove of its key leaves the others
-  removed_there : (front rest : List (K × V)) (e : K × V) → HasDistinctKeys same (front ++ e ∷ rest) →
-      remove same (front ++ e ∷ rest) e.0 ≡ front ++ rest
-  removed_there [] rest e distinct =
-      ap (λ (b : Bool). cond b rest (e ∷ remove same rest e.0)) ((tells e.0 e.0).1 refl)
-  removed_there (d ∷ ds) rest e distinct =
-      go (found_there ds rest e distinct.1) (removed_there ds rest e distinct.1) (same d.0 e.0) refl where
-        go : lookup same (ds ++ e ∷ rest) e.0 ≡ Some e.1 → remove same (ds ++ e ∷ rest) e.0 ≡ ds ++ rest → (b : Bool) →
-            same d.0 e.0 ≡ b → remove same (d ∷ ds ++ e ∷ rest) e.0 ≡ d ∷ ds ++ rest
-        go there gone true is =
-            let its : d.0 ≡ e.0 = (tells d.0 e.0).0 is in
-            absurd (none-some e.1 (sym distinct.0 ∙ ap (lookup same (ds ++ e ∷ rest)) its ∙ there))
-        go there gone false is =
-            ap (λ (b : Bool). cond b (ds ++ e ∷ rest) (d ∷ remove same (ds ++ e ∷ rest) e.0)) is
-            ∙ ap (λ (l : List (K × V)). d ∷ l) gone
-
-  -- a remove of an entry of a bin
-  pub removed_one : (entries others front rest : List (K × V)) (e : K × V) (key : K) (old new : PassView K V F)
-      (answer : Reply V) (calls : List (RecordView K V F)) (r : RecordView K V F)
-      → HasDistinctKeys same entries → entries ≡ front ++ e ∷ rest → key ≡ e.0 → BeginsWith calls old.seen
-      → IsMade same_value remapped merged (Remove key) old new answer calls r
-      → r.before ≡ lookup same entries key → others ≡ store same entries key r.after
-      → IsRemovalOf e r × HasMade (r ∷ []) old new × (others ≡ front ++ rest)
-  removed_one entries others front rest e key old new answer calls r distinct parts is begins made before stored =
-      let apart : HasDistinctKeys same (front ++ e ∷ rest) =
-      subst (λ (es : List (K × V)). HasDistinctKeys same es) parts distinct in
-      let there : lookup same entries e.0 ≡ Some e.1 =
-      subst (λ (es : List (K × V)). lookup same es e.0 ≡ Some e.1) (sym parts) (found_there front rest e apart) in
-      let found : r.before ≡ Some e.1 = before ∙ ap (lookup same entries) is ∙ there in
-      let none : r.after ≡ None = made.left in
-      let its_key : key_of r.call ≡ key = ap key_of made.call_is in (
-        record {
-          removal = record {
-            call_is = made.call_is ∙ ap (λ (k : K). Remove k) (sym its_key);
-            took = λ i. change_of_count (found i) (none i);
-          };
-          key = its_key ∙ is;
-          before = found;
-        },
-        record {
-          seen = subst (λ (p : PassView K V F). BeginsWith p.seen old.seen) (sym made.pass)
-              (BeginsWith-push calls old.seen r begins);
-          pass = made.pass
-              ∙ ap (λ (s : List (RecordView K V F)). record old { made = old.made ++ r ∷ []; seen = s })
-              (sym (ap (λ (p : PassView K V F). p.seen) made.pass));
-        },
-        stored ∙ (λ i. store same entries key (none i)) ∙ ap (remove same entries) is
-            ∙ ap (λ (es : List (K × V)). remove same es e.0) parts ∙ removed_there front rest e apart,
-      )
-
-  -- the entry that was found behind a place was removed
-  pub gone : {G : Type 0} (step : G → Bor K → Bor V → Bool → G → Type 0) (test : K → Bool) (p q : G) (past place : ℕ)
-      (entries others : List (K × V)) (e : K × V) (key : K) (old new : PassView K V F) (answer : Reply V)
-      (calls : List (RecordView K V F)) (r : RecordView K V F)
-      (found : IsFoundBehind step test p q past place (drop past entries) e)
-      → HasDistinctKeys same entries → key ≡ e.0 → BeginsWith calls old.seen
-      → IsMade same_value remapped merged (Remove key) old new answer calls r
-      → r.before ≡ lookup same entries key → others ≡ store same entries key r.after
-      → IsRemovalOf e r × HasMade (r ∷ []) old new × (others ≡ (take past entries ++ found.mid) ++ found.rest)
-      × (length others < length entries)
-  gone step test p q past place entries others e key old new answer calls r found distinct is begins made before stored =
-      let front = take past entries ++ found.mid in
-      let parts : entries ≡ front ++ e ∷ found.rest =
-      sym (take-append-drop past entries) ∙ ap (λ (l : List (K × V)). take past entries ++ l) found.parts
-      ∙ sym (append_assoc (take past entries) found.mid (e ∷ found.rest)) in
-      let (its, has, left) = removed_one entries others front found.rest e key old new answer calls r distinct parts is
-      begins made before stored in
-      let one = ap (λ (l : List (K × V)). length l) parts in
-      let two = ap (λ (l : List (K × V)). length l) left in
-      let three = length-append front (e ∷ found.rest) in
-      let four = length-append front found.rest in
-      (its, has, left, omega (arith, one, two, three, four))
+use Rattle.chm.proofs.Clearing.{made_more, made_none, made_seen}
+use Rattle.chm.proofs.Asking.{AllZip-append, AllZip-each, FoldsTo-append, behind, kept-append, kept-stays, parted, removed-append, removed-stays, stays}
 
 -- of a result, what follows where it is one or the other
 pub on_ok : {T E P Q : Type 0} (r : Result T E) → (P → Q) → OnOk r P → OnOk r Q
@@ -140,18 +44,7 @@ not_nil {X} (f ∷ fs) rest e is =
     let none : ◌≡◌ {A = ℕ} (length (f ∷ (fs ++ e ∷ rest))) 0 = ap (λ (xs : List X). length xs) is in
     absurd (omega arith)
 
--- what holds of all entries holds of one of them
-pub entry_of : {E : Type 0} (P : E → Type 0) (es : List E) (e : E) → HasEntry es e → All P es → P e
-entry_of {E} P es e (fore, rest, parts) each = go fore (subst (λ (xs : List E). All P xs) parts each) where
-  go : (fs : List E) → All P (fs ++ e ∷ rest) → P e
-  go [] all = All-head P e rest all
-  go (f ∷ fs) all = go fs (All-tail P f (fs ++ e ∷ rest) all)
-
 -- what a result was that is passed on
-pub IfErr-of : {T E : Type 0} (P : E → Type 0) (r : Result T E) (e : E) → IsErrAnd r (λ y. y ≡ e) → P e → IfErr r P
-IfErr-of P (Ok _) e is p = tt
-IfErr-of P (Err f) e is p = subst P (sym is) p
-
 pub IfOk-not : {T E : Type 0} (P : T → Type 0) (r : Result T E) (e : E) → IsErrAnd r (λ y. y ≡ e) → IfOk r P
 IfOk-not P (Ok _) e is = absurd is
 IfOk-not P (Err f) e is = tt
@@ -170,75 +63,6 @@ full≢memory is = false≢true (sym (ap is_full is))
 
 memory≢full : NoMemory ≡ PassFull → ⊥
 memory≢full is = false≢true (ap is_full is)
-
-pub FoldsTo-append : {P A : Type 0} (R : P → A → P → Type 0) (p : P) (xs : List A) (q : P) (ys : List A) (s : P) →
-    FoldsTo R p xs q → FoldsTo R q ys s → FoldsTo R p (xs ++ ys) s
-FoldsTo-append R p [] q ys s a b = subst (λ x. FoldsTo R x ys s) (sym a) b
-FoldsTo-append R p (x ∷ xs) q ys s (j, r, rest) b = (j, r, FoldsTo-append R j xs q ys s rest b)
-
-AllZip-append : {A B : Type 0} (R : A → B → Type 0) (xs : List A) (ys : List B) (x : A) (y : B) → AllZip R xs ys →
-    R x y → AllZip R (xs ++ x ∷ []) (ys ++ y ∷ [])
-AllZip-append R [] [] x y a b = (b, tt)
-AllZip-append R [] (z ∷ ys) x y a b = absurd a
-AllZip-append R (z ∷ xs) [] x y a b = absurd a
-AllZip-append R (z ∷ xs) (w ∷ ys) x y a b = (a.0, AllZip-append R xs ys x y a.1 b)
-
-AllZip-each : {A B : Type 0} (R : A → B → Type 0) (Q : B → Type 0) (each : (x : A) (y : B) → R x y → Q y) (xs : List A)
-    (ys : List B) → AllZip R xs ys → All Q ys
-AllZip-each R Q each [] [] a = All-nil Q
-AllZip-each R Q each [] (y ∷ ys) a = absurd a
-AllZip-each R Q each (x ∷ xs) [] a = absurd a
-AllZip-each R Q each (x ∷ xs) (y ∷ ys) a = All-cons Q y ys (each x y a.0) (AllZip-each R Q each xs ys a.1)
-
-with_one : {X : Type 0} (b : Bool) (x : X) (xs ys zs : List X) → zs ≡ xs ++ ys →
-    cond b (x ∷ zs) zs ≡ cond b (x ∷ xs) xs ++ ys
-with_one true x xs ys zs is = ap (λ (l : List _). x ∷ l) is
-with_one false x xs ys zs is = is
-
-without_one : {X : Type 0} (b : Bool) (x : X) (xs ys zs : List X) → zs ≡ xs ++ ys →
-    cond b zs (x ∷ zs) ≡ cond b xs (x ∷ xs) ++ ys
-without_one true x xs ys zs is = is
-without_one false x xs ys zs is = ap (λ (l : List _). x ∷ l) is
-
-module _ {K V : Type 0} where
-  kept-append : (ts us : List ((K × V) × Bool)) → kept_of (ts ++ us) ≡ kept_of ts ++ kept_of us
-  kept-append [] us = refl
-  kept-append (t ∷ ts) us = with_one t.1 t.0 (kept_of ts) (kept_of us) (kept_of (ts ++ us)) (kept-append ts us)
-
-  removed-append : (ts us : List ((K × V) × Bool)) → removed_of (ts ++ us) ≡ removed_of ts ++ removed_of us
-  removed-append [] us = refl
-  removed-append (t ∷ ts) us =
-      without_one t.1 t.0 (removed_of ts) (removed_of us) (removed_of (ts ++ us)) (removed-append ts us)
-
-  -- the function returned true for each of these
-  abbrev stays : List (K × V) → List ((K × V) × Bool)
-  stays [] = []
-  stays (e ∷ es) = (e, true) ∷ stays es
-
-  kept-stays : (es : List (K × V)) → kept_of (stays es) ≡ es
-  kept-stays [] = refl
-  kept-stays (e ∷ es) = ap (λ (l : List (K × V)). e ∷ l) (kept-stays es)
-
-  removed-stays : (es : List (K × V)) → removed_of (stays es) ≡ []
-  removed-stays [] = refl
-  removed-stays (e ∷ es) = removed-stays es
-
-module _ {K V : Type 0} (code : K → ℕ) (ledger : LedgerView K V) (class : ClassView) where
-  -- what is behind the place of settled entries
-  behind : (past : ℕ) (entries front rest : List (K × V)) → entries ≡ front ++ rest → length front ≡ past →
-      drop past entries ≡ rest
-  behind past entries front rest parts place =
-      ap (drop past) parts ∙ drop_at front rest past place
-
-  parted : (turns : List ((K × V) × Bool)) (past : ℕ) (entries front rest : List (K × V)) → entries ≡ front ++ rest →
-      length front ≡ past → part_of_entries (is_of code ledger.salt class) front ≡ kept_of turns →
-      part_of_entries (is_of code ledger.salt class) entries
-      ≡ kept_of turns ++ part_of_entries (is_of code ledger.salt class) (drop past entries)
-  parted turns past entries front rest parts place kept =
-      let p : K × V → Bool = λ e. is_of code ledger.salt class e.0 in
-      ap (λ (es : List (K × V)). filter p es) parts ∙ filter-append p front rest
-      ∙ ap (λ (es : List (K × V)). es ++ filter p rest) kept
-      ∙ ap (λ (es : List (K × V)). kept_of turns ++ filter p es) (sym (behind past entries front rest parts place))
 
 module _ {G K V : Type 0} (step : G → Bor K → Bor V → Bool → G → Type 0) where
   asked-stays : (most n : ℕ) → n < most → (p q : G) (es : List (K × V)) → HasKeptAll step p es q →

@@ -1,5 +1,5 @@
 -- Calls that a lean bin makes in the memory that it has.
-use Rattle.std.proofs.Common.{◌≡◌, Bool, List, Result, Ok, Err, refl, ◌∙◌}
+use Rattle.std.proofs.Common.{◌≡◌, Bool, List, Result, Ok, Err, IfErr, refl, sym, subst, ◌∙◌}
 use Rattle.std.proofs.lemmas.Bool.{false≢true}
 use Rattle.std.specs.Result.{IsErrAnd}
 use Rattle.bin_history.specs.Sure.{IsSpared}
@@ -8,6 +8,11 @@ use Rattle.bin_history.specs.declared.op.Op.TheVariants as op
 use Rattle.chm.specs.Sure.{IsMadeOrFull, NeedsNoMemory}
 use Rattle.chm.specs.declared.fault.Fault.{Fault}
 use Rattle.chm.specs.declared.fault.Fault.TheVariants.{PassFull}
+
+-- what is so of an error that is passed on
+pub IfErr-of : {T E : Type 0} (P : E → Type 0) (r : Result T E) (e : E) → IsErrAnd r (λ y. y ≡ e) → P e → IfErr r P
+IfErr-of P (Ok _) e is p = tt
+IfErr-of P (Err f) e is p = subst P (sym is) p
 
 -- what is passed on is that the pass is full
 pub IsMadeOrFull-of : {T : Type 0} (r : Result T Fault) (e : Fault) → IsErrAnd r (λ y. y ≡ e) → e ≡ PassFull →

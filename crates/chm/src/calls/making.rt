@@ -57,7 +57,8 @@ impl<K: HashKey, V: Value, F: Remap<K, V>, A: Allocator + Clone> AtKey<K, V, F, 
         hash: u32,
     ) -> Result<(Reply<V>, Growth), Fault> {
         let Calling { key, op } = self;
-        Ok(map.call_in_place(pass, bin_slot, class, hash, key, op)?)
+        let (reply, growth) = map.call_in_place(pass, bin_slot, class, hash, key, op)?;
+        Ok((reply, growth))
     }
 
     fn by_value(
@@ -69,7 +70,8 @@ impl<K: HashKey, V: Value, F: Remap<K, V>, A: Allocator + Clone> AtKey<K, V, F, 
         hash: u32,
     ) -> Result<(Reply<V>, Growth), Fault> {
         let Calling { key, op } = self;
-        Ok(map.call_by_value(pass, bin, role, hash, key, op)?)
+        let (reply, growth) = map.call_by_value(pass, bin, role, hash, key, op)?;
+        Ok((reply, growth))
     }
 }
 

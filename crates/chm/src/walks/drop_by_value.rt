@@ -77,15 +77,16 @@ impl<K: HashKey, V: Value, F: Remap<K, V>, A: Allocator + Clone> Map<K, V, F, A>
         ensures faults { IfErr result IsOfCall }
     {
         bin.lawful();
-        let (own, salt) = (bin.class(), bin.salt());
+        let own = bin.class();
+        let salt = bin.salt();
+        let walk = bin.walk();
         if pass.made() >= self.ledger.most_calls() {
-            if is_left_behind(bin.walk(), salt, own, class, past) {
+            if is_left_behind(walk, salt, own, class, past) {
                 return Err(Fault::PassFull);
             }
             return Ok(None);
         }
-        let Some((place, entry)) = first_refused(rt, bin.walk(), salt, own, class, past, keeps)
-        else {
+        let Some((place, entry)) = first_refused(rt, walk, salt, own, class, past, keeps) else {
             return Ok(None);
         };
         let key = entry.0.clone()?;

@@ -1,8 +1,8 @@
 use Rattle.std.proofs.Common.{refl}
 use Rattle.std.proofs.lemmas.Result.{on_ok_weaker}
 use Rattle.chm.proofs.Clearing.{removed-more, unchanged}
-use Rattle.chm.proofs.Retaining.{IfErr-of, settled_none}
-use Rattle.chm.proofs.Sure.{IsMadeOrFull-of}
+use Rattle.chm.proofs.Retaining.{settled_none}
+use Rattle.chm.proofs.Sure.{IfErr-of, IsMadeOrFull-of}
 use Rattle.chm.proofs.map.Map.drop_all_in_place.Goals as goal
 
 pub loop-place-init : goal.loop-place-init

@@ -5,8 +5,7 @@ use Rattle.bin_history.specs.Calls.{after}
 use Rattle.lean_bins.specs.BinSlot.{IsInSlot}
 use Rattle.bin_layout.specs.Views.{HomeView, place_of}
 use Rattle.part_walks.specs.Parts.{IsFirstOf}
-use Rattle.chm.proofs.Retaining.{IfErr-of}
-use Rattle.chm.proofs.Sure.{IsMadeOrFull-of}
+use Rattle.chm.proofs.Sure.{IfErr-of, IsMadeOrFull-of}
 use Rattle.chm.proofs.map.Map.retain_guarded.Goals as goal
 
 pub retain_in_place-done-requires-clause-lies : goal.retain_in_place-done-requires-clause-lies

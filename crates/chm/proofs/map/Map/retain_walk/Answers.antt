@@ -6,8 +6,8 @@ use Rattle.bin_layout.specs.Walks.{IsWalk}
 use Rattle.count_ledger.specs.Views.{PassView}
 use Rattle.chm.specs.Cursors.{HasComeTo}
 use Rattle.chm.proofs.Clearing.{removed-more, unchanged}
-use Rattle.chm.proofs.Retaining.{AreRetained-push, IfErr-of}
-use Rattle.chm.proofs.Sure.{IsMadeOrFull-of}
+use Rattle.chm.proofs.Retaining.{AreRetained-push}
+use Rattle.chm.proofs.Sure.{IfErr-of, IsMadeOrFull-of}
 use Rattle.chm.proofs.map.Map.retain_walk.Goals as goal
 
 pub loop-init : goal.loop-init

@@ -5,7 +5,8 @@ use Rattle.std.proofs.lemmas.List.Elements.{All-drop, filter-append}
 use Rattle.hashkeys.specs.Classes.{is_of}
 use Rattle.bin_history.specs.Part.{part_of_entries}
 use Rattle.chm.specs.Retained.{HasKeptAll, SaysAt}
-use Rattle.chm.proofs.Retaining.{FoldsTo-append, entry_of}
+use Rattle.chm.proofs.Asking.{FoldsTo-append}
+use Rattle.chm.proofs.Removing.{entry_of}
 use Rattle.chm.proofs.walks.asking.first_refused.Goals as goal
 
 pub loop-entry-init : goal.loop-entry-init

@@ -4,7 +4,7 @@ use Rattle.std.proofs.lemmas.List.{append-nil}
 use Rattle.std.proofs.lemmas.List.Elements.{All-drop, filter-append}
 use Rattle.hashkeys.specs.Classes.{is_of}
 use Rattle.chm.specs.Retained.{HasEntry}
-use Rattle.chm.proofs.Retaining.{entry_of}
+use Rattle.chm.proofs.Removing.{entry_of}
 use Rattle.chm.proofs.walks.asking.is_left_behind.Goals as goal
 
 pub loop-entry-init : goal.loop-entry-init
