@@ -1,5 +1,5 @@
 -- An entry that a retain removes.
-use Rattle.std.proofs.Common.{◌≡◌, ℕ, ◌+◌, ◌<◌, Bool, true, false, Decides, cond, Option, Some, None, List, []}
+use Rattle.std.proofs.Common.{◌≡◌, ℕ, ◌+◌, ◌<◌, ◌≤◌, Bool, true, false, Decides, cond, Option, Some, None, List, []}
 use Rattle.std.proofs.Common.{◌∷◌, ◌++◌, length, drop, take, All, refl, sym, ap, subst, ◌∙◌}
 use Rattle.std.proofs.Common.{arith, append_assoc, length-append}
 use Rattle.std.specs.Borrow.{Bor}
@@ -133,6 +133,12 @@ module _ {K V F : Type 0} (same : K → K → Bool) (tells : (x y : K) → Decid
 pub removed_by : {K V F : Type 0} (e : K × V) (r : RecordView K V F) (old new : PassView K V F) → IsRemovalOf e r →
     HasMade (r ∷ []) old new → HasRemoved old new
 removed_by e r old new its has = (r ∷ [], All-cons IsRemoval r [] its.removal (All-nil IsRemoval), has)
+
+-- the pass has made no fewer calls
+pub HasRemoved-grows : {K V F : Type 0} (old new : PassView K V F) → HasRemoved old new → length old.made ≤ length new.made
+HasRemoved-grows old new (rs, each, is) =
+    let its : length new.made ≡ length (old.made ++ rs) = ap (λ (p : PassView _ _ _). length p.made) is.pass in
+    let sum = length-append old.made rs in omega (arith, its, sum)
 
 module _ {G K V : Type 0} (step : G → Bor K → Bor V → Bool → G → Type 0) where
   -- the entry that was found is one of all

@@ -45,9 +45,9 @@ impl<K: HashKey, V: Value, F: Remap<K, V>, A: Allocator + Clone> Map<K, V, F, A>
             keeps.old pass.old keeps.new pass.new
             × ((classes : List ClassView) → HasPassed cursor.old classes →
             HasPassed cursor.new (classes ++ class ∷ []))) }
-        ensures stopped { IfErr result (λ fault. HasStoppedAt G.step K.eq K.code
-            (after V.eq F.remapped F.merged) self.now.ledger fault next keeps.old pass.old keeps.new
-            pass.new × (cursor.new ≡ cursor.old)) }
+        ensures stopped { IfErr result (λ fault. IsSomeAnd cursor.old.next (λ at.
+            HasStoppedAt G.step K.eq K.code (after V.eq F.remapped F.merged) self.now.ledger fault at
+            keeps.old pass.old keeps.new pass.new) × (cursor.new ≡ cursor.old)) }
         ensures removed { HasRemoved pass.old pass.new }
         ensures callable { G.IsAlwaysCallable keeps.new }
         ensures n { cursor.new.n ≡ cursor.old.n }

@@ -1,10 +1,11 @@
--- The names of the goals are not checked yet; `rt check --start` prints them.
-use Rattle.std.proofs.Common.{refl, sym, subst}
-use Rattle.std.specs.Option.{IsSomeAnd}
+use Rattle.std.proofs.Common.{◌≡◌, Option, IsSomeAnd, refl, sym, subst}
+use Rattle.hashkeys.specs.Classes.{ClassView}
 use Rattle.bin_history.specs.Calls.{after}
 use Rattle.lean_bins.specs.BinSlot.{IsInSlot}
 use Rattle.bin_layout.specs.Views.{HomeView, place_of}
 use Rattle.part_walks.specs.Parts.{IsFirstOf}
+use Rattle.chm.specs.Retained.{HasStoppedAt, IsStoppedIn}
+use Rattle.chm.specs.declared.fault.Fault.{Fault}
 use Rattle.chm.proofs.Sure.{IfErr-of, IsMadeOrFull-of}
 use Rattle.chm.proofs.map.Map.retain_guarded.Goals as goal
 
@@ -37,8 +38,24 @@ returns-clause-kept g c = (c.narrower-class.result, c.in_ok-done.ensures.kept, c
 
 pub returns-in_err-done-clause-stopped : goal.returns-in_err-done-clause-stopped
 returns-in_err-done-clause-stopped g c =
-    IfErr-of _ c.from_residual.result _ c.from_residual.ensures.1
-    ((c.narrower-class.result, c.narrower-class.ensures.first, c.in_err-done.ensures.stopped), refl)
+    let same = g.K.PartialEq.eq in
+    let code = g.K.HashKey.code in
+    let its_after = after g.V.PartialEq.eq g.F.Remap.remapped g.F.Remap.merged in
+    let ledger = c.args.self.now.ledger in
+    let class = c.narrower-class.result in
+    let p = c.args.keeps.now in
+    let old = c.args.pass.now in
+    let q = c.retain_in_place-done.new.keeps in
+    let end = c.retain_in_place-done.new.pass in
+    let P : Fault → Type 0 = λ fault. IsSomeAnd c.args.cursor.now.next (λ (k : ClassView). HasStoppedAt (goal.G-step g) same
+    code its_after ledger fault k p old q end) × (c.args.cursor.now ≡ c.args.cursor.now) in
+    let at : (fault : Fault) → IsStoppedIn (goal.G-step g) same code its_after ledger fault class p old q end → P fault =
+    λ fault stopped. (
+      subst (λ (o : Option ClassView). IsSomeAnd o (λ (k : ClassView). HasStoppedAt (goal.G-step g) same code its_after
+          ledger fault k p old q end)) (sym c.requires.next) (class, c.narrower-class.ensures.first, stopped),
+      refl,
+    ) in
+    IfErr-of P c.from_residual.result _ c.from_residual.ensures.1 (at _ c.in_err-done.ensures.stopped)
 
 pub returns-in_err-done-clause-sure : goal.returns-in_err-done-clause-sure
 returns-in_err-done-clause-sure g c = λ keys.

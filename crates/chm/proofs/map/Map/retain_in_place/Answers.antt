@@ -1,4 +1,3 @@
--- The names of the goals are not checked yet; `rt check --start` prints them.
 use Rattle.std.proofs.Common.{◌≡◌, ℕ, true, List, Result, Ok, Err, sym, subst}
 use Rattle.std.specs.Prelude.{OnOk, IfErr}
 use Rattle.hashkeys.specs.Classes.{ClassView, covers, is_of}
@@ -11,7 +10,7 @@ use Rattle.bin_layout.specs.Views.{place_of}
 use Rattle.chm.specs.Views.{bins_of}
 use Rattle.chm.specs.Visits.{IsVisit}
 use Rattle.chm.specs.declared.fault.Fault.{Fault}
-use Rattle.chm.proofs.Clearing.{IsFront-seen}
+use Rattle.chm.proofs.Clearing.{IsFront-seen, made_seen}
 use Rattle.chm.proofs.InPlace.{class_at}
 use Rattle.chm.proofs.PartVisits.{IsVisit-met, part-of-part}
 use Rattle.chm.proofs.Retaining.{kept-seen, on_ok, stopped-seen}
@@ -22,6 +21,16 @@ use Rattle.chm.proofs.map.Map.retain_in_place.Goals as goal
 on_fault : {T : Type 0} {P Q : Fault → Type 0} (r : Result T Fault) → ((e : Fault) → P e → Q e) → IfErr r P → IfErr r Q
 on_fault (Ok _) f is = tt
 on_fault (Err e) f is = f e is
+
+pub returns-clause-removed : goal.returns-clause-removed
+returns-clause-removed g c =
+    let (rs, each, is) = c.drop_all_in_place-done.ensures.removed in (
+      rs,
+      each,
+      made_seen rs c.args.pass.now c.drop_all_in_place-done.new.pass c.meet_in_place.new.pass is
+          (HasSeenMore-seen g.K.PartialEq.eq (after g.V.PartialEq.eq g.F.Remap.remapped g.F.Remap.merged)
+          c.args.self.now.ledger c.drop_all_in_place-done.new.pass c.meet_in_place.new.pass c.meet_in_place.ensures.seen),
+    )
 
 pub returns-clause-kept : goal.returns-clause-kept
 returns-clause-kept g c =

@@ -1,10 +1,13 @@
 use Rattle.std.proofs.Common.{◌≡◌, [], ◌∷◌, refl, sym, ap, subst, ◌∙◌}
+use Rattle.std.proofs.lemmas.Bool.{false≢true}
 use Rattle.hashkeys.specs.Classes.{covers}
 use Rattle.hashkeys.specs.Hashing.{hash_of}
 use Rattle.bin_history.specs.Calls.{after, key_of}
 use Rattle.bin_history.specs.Leans.{as_bin}
 use Rattle.bin_history.specs.Ops.{call_on}
 use Rattle.bin_history.specs.Seeks.{op_for}
+use Rattle.bin_history.specs.Sure.{IsNeverRefused}
+use Rattle.bin_history.specs.declared.seek.Seek.TheVariants.{Get}
 use Rattle.bin_history.proofs.Changes.{key-call_on}
 use Rattle.bin_history.proofs.Keys.{key_tells}
 use Rattle.count_ledger.specs.Views.{LedgerView, RoleView}
@@ -12,8 +15,11 @@ use Rattle.count_ledger.proofs.Agreements.{BinAgrees-gone_on, IsLegalStep-made}
 use Rattle.bin_layout.specs.Views.{place_of}
 use Rattle.chm.specs.Headline.{IsCalled}
 use Rattle.chm.specs.Views.{MapView, bins_of}
+use Rattle.chm.specs.declared.fault.Fault.{Fault}
+use Rattle.chm.specs.declared.fault.Fault.TheVariants.{NoMemory}
 use Rattle.chm.proofs.InPlace.{at_role, role_at, same_at, class_at, salt_at, role_class}
 use Rattle.chm.proofs.Meeting.{IsCalledOn-agreed, IsCalled-met}
+use Rattle.chm.proofs.Sure.{IfErr-of}
 use Rattle.chm.proofs.calls.seek.SeekingAtKey.in_place.Goals as goal
 
 pub make_on-requires-clause-hash : goal.make_on-requires-clause-hash
@@ -122,3 +128,10 @@ returns-in_err-reply-clause-lies g c =
     same_at g.K.PartialEq.eq (after g.V.PartialEq.eq g.F.Remap.remapped g.F.Remap.merged)
     (place_of (bins_of c.args.map.now) c.args.class) c.make_on.new.entries c.args.bin_slot.now.entries
     c.args.bin_slot.now.role c.in_err-reply.ensures.refused c.requires.lies
+
+pub returns-in_err-reply-clause-fails : goal.returns-in_err-reply-clause-fails
+returns-in_err-reply-clause-fails g c =
+    let P : Fault → Type 0 = λ fault. (fault ≡ NoMemory)
+    × ((c.args.self.seek ≡ Get → IsNeverRefused g.V.Clone.is_infallible) → ⊥) in
+    IfErr-of P c.from_residual.result NoMemory c.from_residual.ensures.1
+    (refl, λ never. false≢true (c.in_err-reply.ensures.spared never))

@@ -1,13 +1,18 @@
-use Rattle.std.proofs.Common.{◌≡◌, ap, sym, ◌∙◌}
+use Rattle.std.proofs.Common.{◌≡◌, ap, refl, sym, ◌∙◌}
 use Rattle.std.proofs.lemmas.Bool.{false≢true}
 use Rattle.hashkeys.specs.Classes.{covers}
 use Rattle.hashkeys.specs.Hashing.{hash_of}
 use Rattle.bin_history.specs.Calls.{after}
 use Rattle.bin_history.specs.Leans.{as_bin}
 use Rattle.bin_history.specs.Ops.{key_in}
+use Rattle.bin_history.specs.declared.form.Form.TheVariants.{Lean}
 use Rattle.bin_layout.specs.Views.{place_of}
+use Rattle.chm.specs.Updates.{MayAdd}
 use Rattle.chm.specs.Views.{bins_of}
-use Rattle.chm.proofs.InPlace.{class_at, OnErr-of, salt_at}
+use Rattle.chm.specs.declared.fault.Fault.{Fault}
+use Rattle.chm.specs.declared.fault.Fault.TheVariants.{NoMemory}
+use Rattle.chm.proofs.InPlace.{class_at, salt_at}
+use Rattle.chm.proofs.Sure.{IfErr-of}
 use Rattle.chm.proofs.Updating.{IsUpdated-called, MayAdd-refused}
 use Rattle.chm.proofs.calls.update.UpdatingAtKey.in_place.Goals as goal
 
@@ -38,7 +43,13 @@ returns-clause-done g c =
 pub returns-in_err-reply-clause-fails : goal.returns-in_err-reply-clause-fails
 returns-in_err-reply-clause-fails g c =
     let key = key_in c.args.self.key in
-    OnErr-of c.from_residual.result (MayAdd-refused g.K.PartialEq.eq g.V.Clone.is_infallible
-    c.args.bin_slot.now.entries.entries key c.into_op-op.result c.f-change.result.0 c.f-change.result.1 c.get.result
-    (goal.G-post g c.args.self.f) c.into_op-op.ensures.op (λ spared. false≢true (c.in_err-reply.ensures.spared spared))
-    (rw c.get-asked.ensures at c.get.ensures) c.f-change.ensures)
+    let P : Fault → Type 0 = λ fault. (fault ≡ NoMemory)
+    × (c.args.map.now.ledger.form ≡ Lean → MayAdd (goal.G-post g c.args.self.f)) in
+    IfErr-of P c.from_residual.result NoMemory c.from_residual.ensures.1 (
+      refl,
+      λ lean. MayAdd-refused g.K.PartialEq.eq g.V.Clone.is_infallible
+          c.args.bin_slot.now.entries.entries key c.into_op-op.result c.f-change.result.0 c.f-change.result.1 c.get.result
+          (goal.G-post g c.args.self.f) c.into_op-op.ensures.op
+          (λ spared. false≢true (c.in_err-reply.ensures.spared spared))
+          (rw c.get-asked.ensures at c.get.ensures) c.f-change.ensures,
+    )
