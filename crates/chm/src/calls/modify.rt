@@ -196,7 +196,6 @@ where
         role: &mut BinRole<K, V, F>,
         hash: u32,
     ) -> Result<(Option<T>, Growth), Fault> {
-        let _ = (map, pass, bin, role, hash);
         unreachable!()
     }
 }

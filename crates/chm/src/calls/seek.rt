@@ -90,7 +90,6 @@ impl<K: HashKey, V: Value, F: Remap<K, V>, A: Allocator + Clone, Q: AsKey<K>> At
         role: &mut BinRole<K, V, F>,
         hash: u32,
     ) -> Result<(Reply<V>, Growth), Fault> {
-        let _ = (map, pass, bin, role, hash);
         unreachable!()
     }
 }
