@@ -1,6 +1,5 @@
 //! A client that works in a thread of its own.
 ghost use Rattle.std.specs.Prelude.{◌≡◌, IfOk};
-ghost use Rattle.std.specs.Fn.{FnOnceReturnsAtMut};
 
 use crate::client::ClientOf;
 use crate::owned::{Owned, OwnedClient, OwnedPass};
@@ -65,21 +64,6 @@ impl<K: HashKey, V: Value, F: Remap<K, V>, A: Allocator> Drop for Parked<K, V, F
     }
 }
 
-/// Lets a function work with the client.
-fn work_with<
-    K: HashKey,
-    V: Value,
-    F: Remap<K, V>,
-    A: Allocator,
-    T,
-    G: FnOnce(&mut OwnedClient<K, V, F, A>) -> T,
->(client: &mut OwnedClient<K, V, F, A>, f: G) -> T
-    requires { G.IsAlwaysCallable f }
-    ensures { FnOnceReturnsAtMut G.FnOnce f client.old result client.new }
-{
-    f(client)
-}
-
 impl<K: HashKey, V: Value, F: Remap<K, V>, A: Allocator> Parked<K, V, F, A> {
     /// The client.
     fn wake(self) -> OwnedClient<K, V, F, A>
@@ -97,19 +81,6 @@ impl<K: HashKey, V: Value, F: Remap<K, V>, A: Allocator> Parked<K, V, F, A> {
     {
         let mut client = self.wake();
         let answer = client.work(rt, work);
-        Worked { client, answer }
-    }
-
-    /// Lets the function work with the client, and returns the client with what the function returned.
-    pub(crate) fn run_with<T, G: FnOnce(&mut OwnedClient<K, V, F, A>) -> T>(
-        self,
-        f: G,
-    ) -> Worked<K, V, F, A, T>
-        requires { G.IsAlwaysCallable f }
-        ensures { FnOnceReturnsAtMut G.FnOnce f self result.answer result.client }
-    {
-        let mut client = self.wake();
-        let answer = work_with(&mut client, f);
         Worked { client, answer }
     }
 }
@@ -184,16 +155,7 @@ impl<
             client: Snapshot::of(&self),
             work: Snapshot::of(&work),
         };
-        start_parked(self.park(), working, rt, work)
-    }
-}
-
-impl<K: HashKey, V: Value, F: Remap<K, V>, A: Allocator> ClientOf<Owned<K, V, F, A>, K, V, F, A> {
-    /// The client on its way into a thread.
-    pub(crate) fn park(self) -> Parked<K, V, F, A>
-        ensures { result ≡ self }
-    {
         let (holder, seat) = self.into_parts();
-        Parked { holder, seat }
+        start_parked(Parked { holder, seat }, working, rt, work)
     }
 }

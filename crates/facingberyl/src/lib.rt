@@ -8,10 +8,11 @@ pub use clients::{
     About, Add, AsKey, Boxed, ByValue, ByteString, Bytes, Call, Change, Class, Client, ClientFault,
     ClientOf, Computed, Cursor, Entries, Exact, Fault, Form, Greatest, HashKey, Holder, Key,
     KeyArg, Lent, Letter, ListOf, Loan, MOST_BINS, MOST_CALLS, MOST_CLIENTS, MOST_LEAN_CALLS,
-    MOST_LEAN_CLIENTS, MakesKey, Map, Moment, NoFunction, NotClosed, NotClosedWith, NotMade, Op,
-    Opened, Owned, OwnedClient, OwnedPass, Pass, Quiet, Remap, Reply, Roster, Salt, Seat, Set,
-    Shared, SharedMap, SharedNotClosed, Sharing, Started, Team, TeamNotClosed, Text, Unshared,
-    Update, Value, Visit, Work, Worked, Working, retire_all,
+    MOST_LEAN_CLIENTS, MakesKey, Map, Moment, NoFunction, NotClosed, NotClosedWith, NotMade,
+    NotRetained, Op, Opened, Owned, OwnedClient, OwnedPass, Pass, Quiet, Remap, Reply, Roster,
+    Salt, Seat, Set, Shared, SharedMap, SharedNotClosed, Sharing, ShownEntries, ShownQuiet,
+    Started, Team, TeamNotClosed, Text, Unshared, Update, Value, Visit, Work, Worked, Working,
+    retire_all,
 };
 /// Bulk operations on a map that others call meanwhile.
 pub use live_maps as live;

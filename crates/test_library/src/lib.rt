@@ -39,8 +39,6 @@ mod shown;
 #[cfg(test)]
 mod slices;
 #[cfg(test)]
-mod starting;
-#[cfg(test)]
 mod teams;
 #[cfg(test)]
 mod updates;
