@@ -34,6 +34,7 @@ impl<K: HashKey, V: Value, F: Remap<K, V>, A: Allocator + Clone, Q: AsKey<K>> At
     ghost use Rattle.bin_history.specs.Ops.{call_on};
     ghost use Rattle.bin_history.specs.Seeks.{op_for};
     ghost use Rattle.bin_history.specs.Sure.{IsNeverRefused};
+    ghost use Rattle.bin_history.specs.declared.seek.Seek.TheVariants.{Get};
     ghost use Rattle.bin_history.specs.declared.form.Form.TheVariants.{Lean};
     ghost use Rattle.chm.specs.Headline.{IsCalled};
     ghost use Rattle.chm.specs.Updates.{IsWithin};
@@ -51,7 +52,7 @@ impl<K: HashKey, V: Value, F: Remap<K, V>, A: Allocator + Clone, Q: AsKey<K>> At
         (call_on (Q.stands_for w.query) (op_for w.seek)) old new reply };
 
     ghost fails = { λ w ledger old fault. (fault ≡ NoMemory)
-        × ((w.seek ≡ Seek.Get → IsNeverRefused V.is_infallible) → ⊥) };
+        × ((w.seek ≡ Get → IsNeverRefused V.is_infallible) → ⊥) };
 
     #[inline(always)]
     fn hash(&self, salt: Salt) -> u32 {

@@ -1,5 +1,7 @@
-use Rattle.std.proofs.Common.{refl}
-use Rattle.std.proofs.lemmas.Result.{on_ok_weaker}
+use Rattle.std.proofs.Common.{◌≡◌, ◌<◌, Option, Some, None, IfSome, IfNone, length, refl, sym, ap, subst, ◌∙◌}
+use Rattle.count_ledger.specs.Views.{PassView}
+use Rattle.chm.specs.Retained.{HasKept, HasStopped, IsSettled}
+use Rattle.chm.specs.declared.fault.Fault.{Fault}
 use Rattle.chm.proofs.Clearing.{removed-more, unchanged}
 use Rattle.chm.proofs.Retaining.{settled_none}
 use Rattle.chm.proofs.Sure.{IfErr-of, IsMadeOrFull-of}
@@ -15,3 +17,45 @@ loop-place-init g c =
       ledger = c.requires.pass;
       lies = c.requires.lies;
     }
+
+pub loop-place-preserved : goal.loop-place-preserved
+loop-place-preserved g c =
+    let inv = c.loop-place.invariant in
+    let settled = c.in_ok-place.ensures.settled c.args.keeps.now c.args.pass.now inv.settled in
+    record {
+      callable = c.drop_next_in_place.ensures.callable;
+      settled = ?settled;
+      removed = removed-more c.args.pass.now c.loop-place.pass c.drop_next_in_place.new.pass inv.removed c.drop_next_in_place.ensures.removed;
+      ledger = ap (λ (p : PassView _ _ _). p.ledger) c.drop_next_in_place.ensures.removed.2.pass ∙ inv.ledger;
+      lies = c.drop_next_in_place.ensures.lies;
+    }
+
+pub loop-place-smaller : goal.loop-place-smaller
+loop-place-smaller g c = ?smaller
+
+pub returns-clause-kept : goal.returns-clause-kept
+returns-clause-kept g c =
+    let inv = c.loop-place.invariant in
+    let kept = c.in_ok-place.ensures.kept c.args.keeps.now c.args.pass.now inv.settled in ?kept
+
+pub returns-clause-removed : goal.returns-clause-removed
+returns-clause-removed g c =
+    removed-more c.args.pass.now c.loop-place.pass c.drop_next_in_place.new.pass c.loop-place.invariant.removed
+    c.drop_next_in_place.ensures.removed
+
+pub returns-in_err-place-clause-removed : goal.returns-in_err-place-clause-removed
+returns-in_err-place-clause-removed g c =
+    removed-more c.args.pass.now c.loop-place.pass c.drop_next_in_place.new.pass c.loop-place.invariant.removed
+    c.drop_next_in_place.ensures.removed
+
+pub returns-in_err-place-clause-stopped : goal.returns-in_err-place-clause-stopped
+returns-in_err-place-clause-stopped g c =
+    IfErr-of (λ fault. HasStopped (goal.G-step g) g.K.HashKey.code c.args.self.now.ledger c.args.class fault
+    c.args.keeps.now c.args.pass.now c.drop_next_in_place.new.keeps c.drop_next_in_place.new.pass c.drop_next_in_place.new.bin_slot.entries.entries)
+    c.from_residual.result _ c.from_residual.ensures.1
+    (c.in_err-place.ensures.stopped c.args.keeps.now c.args.pass.now c.loop-place.invariant.settled)
+
+pub returns-in_err-place-clause-sure : goal.returns-in_err-place-clause-sure
+returns-in_err-place-clause-sure g c = λ keys.
+    IsMadeOrFull-of c.from_residual.result _ c.from_residual.ensures.1
+    (c.in_err-place.ensures.sure keys)

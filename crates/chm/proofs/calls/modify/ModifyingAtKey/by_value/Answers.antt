@@ -2,8 +2,13 @@ use Rattle.std.proofs.Common.{◌≡◌, ap, refl, sym, subst, ◌∙◌}
 use Rattle.std.specs.Fn.{FnOnceReturnsAtMut}
 use Rattle.hashkeys.specs.Classes.{covers}
 use Rattle.bin_history.specs.declared.call.Call.TheVariants.{Contains, Put}
+use Rattle.bin_history.specs.declared.form.Form.TheVariants.{Lean}
+use Rattle.bin_history.proofs.Lawful.{recorded_is_not_lean}
 use Rattle.chm.specs.Histories.{IsCalledOn}
+use Rattle.chm.specs.declared.fault.Fault.{Fault}
+use Rattle.chm.specs.declared.fault.Fault.TheVariants.{NoMemory}
 use Rattle.chm.proofs.Giving.{modified_none, modified_some}
+use Rattle.chm.proofs.Sure.{IfErr-of}
 use Rattle.chm.proofs.calls.modify.ModifyingAtKey.by_value.Goals as goal
 
 pub returns-in_ok-reply-in-None-clause-done : goal.returns-in_ok-reply-in-None-clause-done
@@ -35,3 +40,21 @@ returns-in_ok-reply-in-Some-clause-done g c =
     (subst
     (λ (k : _). IsCalledOn g.K.PartialEq.eq g.K.HashKey.code g.V.PartialEq.eq g.F.Remap.remapped g.F.Remap.merged
     c.args.map.now.ledger bin left_bin (Put k put) c.args.pass.now new reply) c.in_ok-own.ensures.key c.in_ok-reply-in-Some.ensures.called)
+
+pub returns-in_err-own-clause-fails : goal.returns-in_err-own-clause-fails
+returns-in_err-own-clause-fails g c =
+    let P : Fault → Type 0 = λ fault. (fault ≡ NoMemory) × (c.args.map.now.ledger.form ≡ Lean → ⊥) in
+    IfErr-of P c.from_residual.result NoMemory c.from_residual.ensures.1
+    (refl, λ lean. recorded_is_not_lean (sym c.requires.recorded ∙ lean))
+
+pub returns-in_err-reply-in-None-clause-fails : goal.returns-in_err-reply-in-None-clause-fails
+returns-in_err-reply-in-None-clause-fails g c =
+    let P : Fault → Type 0 = λ fault. (fault ≡ NoMemory) × (c.args.map.now.ledger.form ≡ Lean → ⊥) in
+    IfErr-of P c.from_residual-in_err-reply-in-None.result NoMemory c.from_residual-in_err-reply-in-None.ensures.1
+    (refl, λ lean. recorded_is_not_lean (sym c.requires.recorded ∙ lean))
+
+pub returns-in_err-reply-in-Some-clause-fails : goal.returns-in_err-reply-in-Some-clause-fails
+returns-in_err-reply-in-Some-clause-fails g c =
+    let P : Fault → Type 0 = λ fault. (fault ≡ NoMemory) × (c.args.map.now.ledger.form ≡ Lean → ⊥) in
+    IfErr-of P c.from_residual-in_err-reply-in-Some.result NoMemory c.from_residual-in_err-reply-in-Some.ensures.1
+    (refl, λ lean. recorded_is_not_lean (sym c.requires.recorded ∙ lean))
