@@ -1,7 +1,6 @@
-use Rattle.std.proofs.Common.{◌≡◌, ◌<◌, Option, Some, None, IfSome, IfNone, length, refl, sym, ap, subst, ◌∙◌}
+use Rattle.std.proofs.Common.{refl, ap, ◌∙◌}
 use Rattle.count_ledger.specs.Views.{PassView}
-use Rattle.chm.specs.Retained.{HasKept, HasStopped, IsSettled}
-use Rattle.chm.specs.declared.fault.Fault.{Fault}
+use Rattle.chm.specs.Retained.{HasStopped}
 use Rattle.chm.proofs.Clearing.{removed-more, unchanged}
 use Rattle.chm.proofs.Retaining.{settled_none}
 use Rattle.chm.proofs.Sure.{IfErr-of, IsMadeOrFull-of}
@@ -21,22 +20,21 @@ loop-place-init g c =
 pub loop-place-preserved : goal.loop-place-preserved
 loop-place-preserved g c =
     let inv = c.loop-place.invariant in
-    let settled = c.in_ok-place.ensures.settled c.args.keeps.now c.args.pass.now inv.settled in
     record {
       callable = c.drop_next_in_place.ensures.callable;
-      settled = ?settled;
+      settled = rw c.in-Some.is at (c.in_ok-place.ensures.settled c.args.keeps.now c.args.pass.now inv.settled);
       removed = removed-more c.args.pass.now c.loop-place.pass c.drop_next_in_place.new.pass inv.removed c.drop_next_in_place.ensures.removed;
       ledger = ap (λ (p : PassView _ _ _). p.ledger) c.drop_next_in_place.ensures.removed.2.pass ∙ inv.ledger;
       lies = c.drop_next_in_place.ensures.lies;
     }
 
 pub loop-place-smaller : goal.loop-place-smaller
-loop-place-smaller g c = ?smaller
+loop-place-smaller g c = rw c.in-Some.is at c.in_ok-place.ensures.fewer
 
 pub returns-clause-kept : goal.returns-clause-kept
 returns-clause-kept g c =
     let inv = c.loop-place.invariant in
-    let kept = c.in_ok-place.ensures.kept c.args.keeps.now c.args.pass.now inv.settled in ?kept
+    rw c.in_default.is at (c.in_ok-place.ensures.kept c.args.keeps.now c.args.pass.now inv.settled)
 
 pub returns-clause-removed : goal.returns-clause-removed
 returns-clause-removed g c =

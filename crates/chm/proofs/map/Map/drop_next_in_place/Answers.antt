@@ -13,7 +13,7 @@ use Rattle.chm.proofs.Clearing.{unchanged}
 use Rattle.chm.proofs.InPlace.{class_at, salt_at}
 use Rattle.chm.proofs.PartVisits.{all_of}
 use Rattle.chm.proofs.Removing.{entry_behind, entry_of, found_as, gone_by, kept_as, part_as, removed_by}
-use Rattle.chm.proofs.Retaining.{kept_none, kept_rest, settled_more, stopped_full, stopped_memory}
+use Rattle.chm.proofs.Retaining.{IfOk-not, kept_none, kept_rest, settled_more, stopped_full, stopped_memory}
 use Rattle.chm.proofs.Sure.{IfErr-of}
 use Rattle.chm.proofs.map.Map.drop_next_in_place.Goals as goal
 
@@ -214,3 +214,39 @@ returns-clause-removed g c =
     c.in_ok-key.key c.args.pass.now c.call_in_place.new.pass _ found c.lawful_entries.ensures.distinct key
     c.in_ok-call_in_place.ensures.met in
     removed_by entry r c.args.pass.now c.call_in_place.new.pass its has
+
+pub returns-then-is_left_behind-clause-settled : goal.returns-then-is_left_behind-clause-settled
+returns-then-is_left_behind-clause-settled g c = λ p start x. tt
+
+pub returns-then-is_left_behind-clause-kept : goal.returns-then-is_left_behind-clause-kept
+returns-then-is_left_behind-clause-kept g c = λ p start x. tt
+
+pub returns-then-made-most_calls-clause-settled : goal.returns-then-made-most_calls-clause-settled
+returns-then-made-most_calls-clause-settled g c = λ p start x. tt
+
+pub returns-then-made-most_calls-clause-stopped : goal.returns-then-made-most_calls-clause-stopped
+returns-then-made-most_calls-clause-stopped g c = λ p start x. tt
+
+pub returns-in_default-clause-settled : goal.returns-in_default-clause-settled
+returns-in_default-clause-settled g c = λ p start x. tt
+
+pub returns-in_default-clause-stopped : goal.returns-in_default-clause-stopped
+returns-in_default-clause-stopped g c = λ p start x. tt
+
+pub returns-clause-kept : goal.returns-clause-kept
+returns-clause-kept g c = λ p start x. tt
+
+pub returns-clause-stopped : goal.returns-clause-stopped
+returns-clause-stopped g c = λ p start x. tt
+
+pub returns-in_err-key-clause-settled : goal.returns-in_err-key-clause-settled
+returns-in_err-key-clause-settled g c = λ p start x. IfOk-not _ c.from_residual.result NoMemory c.from_residual.ensures.1
+
+pub returns-in_err-key-clause-kept : goal.returns-in_err-key-clause-kept
+returns-in_err-key-clause-kept g c = λ p start x. IfOk-not _ c.from_residual.result NoMemory c.from_residual.ensures.1
+
+pub returns-in_err-call_in_place-clause-settled : goal.returns-in_err-call_in_place-clause-settled
+returns-in_err-call_in_place-clause-settled g c = λ p start x. IfOk-not _ c.from_residual-in_err-call_in_place.result NoMemory c.from_residual-in_err-call_in_place.ensures.1
+
+pub returns-in_err-call_in_place-clause-kept : goal.returns-in_err-call_in_place-clause-kept
+returns-in_err-call_in_place-clause-kept g c = λ p start x. IfOk-not _ c.from_residual-in_err-call_in_place.result NoMemory c.from_residual-in_err-call_in_place.ensures.1
