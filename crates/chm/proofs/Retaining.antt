@@ -1,11 +1,9 @@
 -- What a retain asks, what it removes, and what it keeps.
 use Rattle.std.proofs.Common.{◌≡◌, ◌≢◌, ℕ, suc, ◌+◌, ◌<◌, ◌≤◌, Bool, true, false, cond, filter, Option, List, []}
-use Rattle.std.proofs.Common.{◌∷◌, ◌++◌, length, drop, take, Result, Ok, Err, OnOk, OnErr, refl, sym, ap, subst, ◌∙◌}
+use Rattle.std.proofs.Common.{◌∷◌, ◌++◌, length, drop, take, refl, sym, ap, subst, ◌∙◌}
 use Rattle.std.proofs.Common.{arith, append_assoc, length-append}
-use Rattle.std.specs.Prelude.{IfOk}
 use Rattle.std.specs.Borrow.{Bor}
 use Rattle.std.specs.List.{AllZip, FoldsTo}
-use Rattle.std.specs.Result.{IsErrAnd}
 use Rattle.std.proofs.lemmas.Bool.{false≢true}
 use Rattle.std.proofs.lemmas.Fn.{FoldsTo-push}
 use Rattle.std.proofs.lemmas.List.{append-nil, take_at}
@@ -28,26 +26,12 @@ use Rattle.chm.specs.declared.fault.Fault.TheVariants.{NoMemory, BadCapacity, Ba
 use Rattle.chm.proofs.Clearing.{made_more, made_none, made_seen}
 use Rattle.chm.proofs.Asking.{AllZip-append, AllZip-each, FoldsTo-append, behind, kept-append, kept-stays, parted, removed-append, removed-stays, stays}
 
--- of a result, what follows where it is one or the other
-pub on_ok : {T E P Q : Type 0} (r : Result T E) → (P → Q) → OnOk r P → OnOk r Q
-on_ok (Ok _) f is = f is
-on_ok (Err _) f is = tt
-
-pub on_err : {T E P Q : Type 0} (r : Result T E) → (P → Q) → OnErr r P → OnErr r Q
-on_err (Ok _) f is = tt
-on_err (Err _) f is = f is
-
 not_nil : {X : Type 0} (fore rest : List X) (e : X) → fore ++ e ∷ rest ≢ []
 not_nil {X} [] rest e is =
     let none : ◌≡◌ {A = ℕ} (length (e ∷ rest)) 0 = ap (λ (xs : List X). length xs) is in absurd (omega arith)
 not_nil {X} (f ∷ fs) rest e is =
     let none : ◌≡◌ {A = ℕ} (length (f ∷ (fs ++ e ∷ rest))) 0 = ap (λ (xs : List X). length xs) is in
     absurd (omega arith)
-
--- what a result was that is passed on
-pub IfOk-not : {T E : Type 0} (P : T → Type 0) (r : Result T E) (e : E) → IsErrAnd r (λ y. y ≡ e) → IfOk r P
-IfOk-not P (Ok _) e is = absurd is
-IfOk-not P (Err f) e is = tt
 
 abbrev is_full : Fault → Bool
 is_full PassFull = true
@@ -359,3 +343,9 @@ module _ {G K V : Type 0} (step : G → Bor K → Bor V → Bool → G → Type 
         },
         cleared_of j m q new cs rest,
       )
+
+    -- the same, where the function is known by what it was called for
+    pub cleared_by : (p : G) (old : PassView K V F) (q : G) (new : PassView K V F) (cs : List ClassView) →
+        AreRetained step same code after ledger p old cs q new →
+        ((i : G) (e : K × V) (j : G) → SaysAt step i e true j → ⊥) → AreCleared same code after ledger old cs new
+    cleared_by p old q new cs are never = cleared_of never p old q new cs are

@@ -1,5 +1,4 @@
--- The names of the goals are not checked yet; `rt check --start` prints them.
-use Rattle.std.proofs.Common.{◌≡◌, ℕ, [], refl, subst, arith}
+use Rattle.std.proofs.Common.{◌≡◌, ℕ, [], refl, sym, subst, arith}
 use Rattle.std.proofs.lemmas.Bool.{true≢false}
 use Rattle.std.proofs.lemmas.Result.{on_err_weaker}
 use Rattle.bin_history.specs.Calls.{after}
@@ -7,7 +6,7 @@ use Rattle.bin_layout.specs.Walks.{IsWalk}
 use Rattle.bin_history.proofs.Keys.{key_tells}
 use Rattle.chm.proofs.Clearing.{emptied, own_left}
 use Rattle.chm.proofs.InPlace.{OnErr-of}
-use Rattle.chm.proofs.Retaining.{cleared_of, left_of}
+use Rattle.chm.proofs.Retaining.{cleared_by, left_of}
 use Rattle.chm.proofs.Sure.{IsMadeOrFull-of}
 use Rattle.chm.proofs.map.Map.clear.Goals as goal
 
@@ -16,8 +15,9 @@ returns-clause-cleared g c =
     let (classes, walk, are) = c.in_ok-retain_from.ensures.retained in (
       classes,
       subst (λ (n : ℕ). IsWalk n classes) c.opening_cursor.ensures.n walk,
-      cleared_of _ g.K.PartialEq.eq g.K.HashKey.code (after g.V.PartialEq.eq g.F.Remap.remapped g.F.Remap.merged)
-          c.args.self.now.ledger (λ p e q said. true≢false said.4) _ c.args.pass.now _ c.retain_from.new.pass classes are,
+      cleared_by _ g.K.PartialEq.eq g.K.HashKey.code (after g.V.PartialEq.eq g.F.Remap.remapped g.F.Remap.merged)
+          c.args.self.now.ledger _ c.args.pass.now _ c.retain_from.new.pass classes are
+          (λ i e j said. true≢false said.4.met.0),
     )
 
 pub returns-clause-emptied : goal.returns-clause-emptied
@@ -48,6 +48,11 @@ returns-in_err-retain_from-clause-own_left g c = λ one.
     (own_left g.K.PartialEq.eq (after g.V.PartialEq.eq g.F.Remap.remapped g.F.Remap.merged)
     c.args.self.now.ledger g.K.HashKey.code (key_tells g.met.K.Eq.laws g.met.K.HashKey.equal_is_same)
     c.retain_from.new.pass one) (returns-in_err-retain_from-clause-left g c)
+
+pub returns-in_err-retain_from-clause-full : goal.returns-in_err-retain_from-clause-full
+returns-in_err-retain_from-clause-full g c = λ is.
+    let (classes, next, come, j, mid, are, (class, first, stopped)) = c.in_err-retain_from.ensures.stopped in
+    let fault = rw is at c.from_residual.ensures.1 in (stopped.stopped.full (sym fault)).1
 
 pub returns-in_err-retain_from-clause-sure : goal.returns-in_err-retain_from-clause-sure
 returns-in_err-retain_from-clause-sure g c = λ lean keys values.

@@ -1,5 +1,6 @@
 use Rattle.std.proofs.Common.{◌≡◌, ◌<◌, ◌≤◌, true, List, length, refl, sym, ap, subst, ◌∙◌, arith}
 use Rattle.std.proofs.lemmas.Bool.{false≢true}
+use Rattle.std.proofs.lemmas.Result.{IfOk-from_err}
 use Rattle.hashkeys.specs.Classes.{is_of}
 use Rattle.bin_history.proofs.Keys.{key_tells}
 use Rattle.bin_history.proofs.Lawful.{recorded_is_not_lean}
@@ -11,7 +12,7 @@ use Rattle.chm.specs.declared.fault.Fault.TheVariants.{NoMemory}
 use Rattle.chm.proofs.Clearing.{unchanged}
 use Rattle.chm.proofs.PartVisits.{all_of}
 use Rattle.chm.proofs.Removing.{entry_behind, entry_of, found_as, gone_by, kept_as, part_as, removed_by}
-use Rattle.chm.proofs.Retaining.{IfOk-not, kept_none, kept_rest, settled_more, stopped_full, stopped_memory}
+use Rattle.chm.proofs.Retaining.{kept_none, kept_rest, settled_more, stopped_full, stopped_memory}
 use Rattle.chm.proofs.Sure.{IfErr-of}
 use Rattle.chm.proofs.map.Map.drop_next.Goals as goal
 
@@ -245,13 +246,13 @@ pub returns-clause-stopped : goal.returns-clause-stopped
 returns-clause-stopped g c = λ p start x. tt
 
 pub returns-in_err-key-clause-settled : goal.returns-in_err-key-clause-settled
-returns-in_err-key-clause-settled g c = λ p start x. IfOk-not _ c.from_residual.result NoMemory c.from_residual.ensures.1
+returns-in_err-key-clause-settled g c = λ p start x. IfOk-from_err c.from_residual.result _ c.from_residual.ensures.0
 
 pub returns-in_err-key-clause-kept : goal.returns-in_err-key-clause-kept
-returns-in_err-key-clause-kept g c = λ p start x. IfOk-not _ c.from_residual.result NoMemory c.from_residual.ensures.1
+returns-in_err-key-clause-kept g c = λ p start x. IfOk-from_err c.from_residual.result _ c.from_residual.ensures.0
 
 pub returns-in_err-call_by_value-clause-settled : goal.returns-in_err-call_by_value-clause-settled
-returns-in_err-call_by_value-clause-settled g c = λ p start x. IfOk-not _ c.from_residual-in_err-call_by_value.result NoMemory c.from_residual-in_err-call_by_value.ensures.1
+returns-in_err-call_by_value-clause-settled g c = λ p start x. IfOk-from_err c.from_residual-in_err-call_by_value.result _ c.from_residual-in_err-call_by_value.ensures.0
 
 pub returns-in_err-call_by_value-clause-kept : goal.returns-in_err-call_by_value-clause-kept
-returns-in_err-call_by_value-clause-kept g c = λ p start x. IfOk-not _ c.from_residual-in_err-call_by_value.result NoMemory c.from_residual-in_err-call_by_value.ensures.1
+returns-in_err-call_by_value-clause-kept g c = λ p start x. IfOk-from_err c.from_residual-in_err-call_by_value.result _ c.from_residual-in_err-call_by_value.ensures.0

@@ -1,5 +1,6 @@
 use Rattle.std.proofs.Common.{◌≡◌, ◌<◌, ◌≤◌, true, length, refl, sym, ap, ◌∙◌, arith}
 use Rattle.std.proofs.lemmas.Bool.{false≢true}
+use Rattle.std.proofs.lemmas.Result.{IfOk-from_err}
 use Rattle.hashkeys.specs.Classes.{covers, is_of}
 use Rattle.bin_history.specs.Calls.{after}
 use Rattle.bin_history.specs.Leans.{as_bin}
@@ -13,7 +14,7 @@ use Rattle.chm.proofs.Clearing.{unchanged}
 use Rattle.chm.proofs.InPlace.{class_at, salt_at}
 use Rattle.chm.proofs.PartVisits.{all_of}
 use Rattle.chm.proofs.Removing.{entry_behind, entry_of, found_as, gone_by, kept_as, part_as, removed_by}
-use Rattle.chm.proofs.Retaining.{IfOk-not, kept_none, kept_rest, settled_more, stopped_full, stopped_memory}
+use Rattle.chm.proofs.Retaining.{kept_none, kept_rest, settled_more, stopped_full, stopped_memory}
 use Rattle.chm.proofs.Sure.{IfErr-of}
 use Rattle.chm.proofs.map.Map.drop_next_in_place.Goals as goal
 
@@ -240,13 +241,13 @@ pub returns-clause-stopped : goal.returns-clause-stopped
 returns-clause-stopped g c = λ p start x. tt
 
 pub returns-in_err-key-clause-settled : goal.returns-in_err-key-clause-settled
-returns-in_err-key-clause-settled g c = λ p start x. IfOk-not _ c.from_residual.result NoMemory c.from_residual.ensures.1
+returns-in_err-key-clause-settled g c = λ p start x. IfOk-from_err c.from_residual.result _ c.from_residual.ensures.0
 
 pub returns-in_err-key-clause-kept : goal.returns-in_err-key-clause-kept
-returns-in_err-key-clause-kept g c = λ p start x. IfOk-not _ c.from_residual.result NoMemory c.from_residual.ensures.1
+returns-in_err-key-clause-kept g c = λ p start x. IfOk-from_err c.from_residual.result _ c.from_residual.ensures.0
 
 pub returns-in_err-call_in_place-clause-settled : goal.returns-in_err-call_in_place-clause-settled
-returns-in_err-call_in_place-clause-settled g c = λ p start x. IfOk-not _ c.from_residual-in_err-call_in_place.result NoMemory c.from_residual-in_err-call_in_place.ensures.1
+returns-in_err-call_in_place-clause-settled g c = λ p start x. IfOk-from_err c.from_residual-in_err-call_in_place.result _ c.from_residual-in_err-call_in_place.ensures.0
 
 pub returns-in_err-call_in_place-clause-kept : goal.returns-in_err-call_in_place-clause-kept
-returns-in_err-call_in_place-clause-kept g c = λ p start x. IfOk-not _ c.from_residual-in_err-call_in_place.result NoMemory c.from_residual-in_err-call_in_place.ensures.1
+returns-in_err-call_in_place-clause-kept g c = λ p start x. IfOk-from_err c.from_residual-in_err-call_in_place.result _ c.from_residual-in_err-call_in_place.ensures.0

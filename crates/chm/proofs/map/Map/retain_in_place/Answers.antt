@@ -1,5 +1,5 @@
-use Rattle.std.proofs.Common.{◌≡◌, ℕ, true, List, Result, Ok, Err, sym, subst}
-use Rattle.std.specs.Prelude.{OnOk, IfErr}
+use Rattle.std.proofs.Common.{◌≡◌, ℕ, true, List, sym, subst}
+use Rattle.std.proofs.lemmas.Result.{IfErr-weaker, on_ok_weaker}
 use Rattle.hashkeys.specs.Classes.{ClassView, covers, is_of}
 use Rattle.bin_history.specs.Calls.{after}
 use Rattle.bin_history.specs.Entries.{replay}
@@ -9,18 +9,12 @@ use Rattle.bin_history.proofs.Keys.{key_tells}
 use Rattle.bin_layout.specs.Views.{place_of}
 use Rattle.chm.specs.Views.{bins_of}
 use Rattle.chm.specs.Visits.{IsVisit}
-use Rattle.chm.specs.declared.fault.Fault.{Fault}
 use Rattle.chm.proofs.Clearing.{IsFront-seen, made_seen}
 use Rattle.chm.proofs.InPlace.{class_at}
 use Rattle.chm.proofs.PartVisits.{IsVisit-met, part-of-part}
-use Rattle.chm.proofs.Retaining.{kept-seen, on_ok, stopped-seen}
+use Rattle.chm.proofs.Retaining.{kept-seen, stopped-seen}
 use Rattle.chm.proofs.Visiting.{HasSeenMore-seen}
 use Rattle.chm.proofs.map.Map.retain_in_place.Goals as goal
-
--- what follows of the fault, if there is one
-on_fault : {T : Type 0} {P Q : Fault → Type 0} (r : Result T Fault) → ((e : Fault) → P e → Q e) → IfErr r P → IfErr r Q
-on_fault (Ok _) f is = tt
-on_fault (Err e) f is = f e is
 
 pub returns-clause-removed : goal.returns-clause-removed
 returns-clause-removed g c =
@@ -48,12 +42,8 @@ returns-clause-kept g c =
     c.requires.within in
     let part = part-of-part code ledger x.entries.class c.args.class x.entries.entries all
     c.meet_in_place.ensures.met.entries narrow in
-    let visit = IsVisit-met same (key_tells g.met.K.Eq.laws g.met.K.HashKey.equal_is_same) code ledger end.seen c.args.own
-    c.args.class (as_bin x.entries) own c.lawful_entries.ensures.distinct c.meet_in_place.ensures.met c.requires.within in
-    on_ok c.drop_all_in_place-done.result (λ kept. record {
+    on_ok_weaker c.drop_all_in_place-done.result (λ kept. record {
       front = IsFront-seen same its_after ledger mid end c.meet_in_place.ensures.seen;
-      visit = subst (λ (es : List (_ × _)). IsVisit same code ledger end.seen (record { class = c.args.class; entries = es }))
-          part visit;
       kept = kept-seen (goal.G-step g) code ledger c.args.class c.args.keeps.now c.args.pass.now
           c.drop_all_in_place-done.new.keeps mid end x.entries.entries all kept
           (HasSeenMore-seen same its_after ledger mid end c.meet_in_place.ensures.seen) part;
@@ -77,7 +67,7 @@ returns-clause-stopped g c =
     c.meet_in_place.ensures.met.entries narrow in
     let visit = IsVisit-met same (key_tells g.met.K.Eq.laws g.met.K.HashKey.equal_is_same) code ledger end.seen c.args.own
     c.args.class (as_bin x.entries) own c.lawful_entries.ensures.distinct c.meet_in_place.ensures.met c.requires.within in
-    on_fault c.drop_all_in_place-done.result (λ fault stopped. record {
+    IfErr-weaker c.drop_all_in_place-done.result _ _ (λ fault stopped. record {
       front = IsFront-seen same its_after ledger mid end c.meet_in_place.ensures.seen;
       visit = subst (λ (es : List (_ × _)). IsVisit same code ledger end.seen (record { class = c.args.class; entries = es }))
           part visit;
