@@ -1,5 +1,5 @@
 //! A closed map.
-ghost use Rattle.std.specs.Prelude.{◌≡◌, ◌<◌, [], All, List, length, true, false};
+ghost use Rattle.std.specs.Prelude.{◌≡◌, ◌==◌, All, List, length};
 ghost use Rattle.bin_history.specs.Calls.{after};
 ghost use Rattle.bin_history.specs.Entries.{HasDistinctKeys};
 ghost use Rattle.bin_history.specs.Records.{RecordView};
@@ -123,8 +123,7 @@ impl<K: HashKey, V: Value, F: Remap<K, V>, A: Allocator> Quiet<K, V, F, A> {
     ///
     ///     !quiet.is_empty()
     pub fn is_empty(&self) -> bool
-        ensures none { result ≡ true → entries_of self.now.bins ≡ [] }
-        ensures some { result ≡ false → 0 < length (entries_of self.now.bins) }
+        ensures { result ≡ (length (entries_of self.now.bins) == 0) }
     {
         self.count == 0
     }

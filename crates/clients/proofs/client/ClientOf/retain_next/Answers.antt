@@ -1,4 +1,3 @@
--- The names of the goals are not checked yet; `rt check --start` prints them.
 use Rattle.std.proofs.Common.{◌≡◌, rules}
 use Rattle.clients.proofs.client.ClientOf.retain_next.Goals as goal
 
