@@ -123,11 +123,10 @@ module _ {K V F : Type 0} (same : K → K → Bool) (tells : (x y : K) → Decid
       → (r : RecordView K V F) × IsRemovalOf e r × HasMade (r ∷ []) old new
       × (c.entries ≡ (take past b.entries ++ found.mid) ++ found.rest) × (length c.entries < length b.entries)
   gone_by step test p q past place ledger b c e key old new answer found distinct is
-      (front, r, is_front, made, met, before, stored) = (
-        r,
-        gone step test p q past place b.entries c.entries e key old new answer front r found distinct is is_front.seen made
-            before stored,
-      )
+      (front, r, is_front, made, met, before, stored) =
+      let (its, has, left, less) = gone step test p q past place b.entries c.entries e key old new answer front r found
+      distinct is is_front.seen made before stored in
+      (r, its, has, left, less)
 
 -- one call that removed an entry
 pub removed_by : {K V F : Type 0} (e : K × V) (r : RecordView K V F) (old new : PassView K V F) → IsRemovalOf e r →

@@ -1,4 +1,4 @@
-use Rattle.std.proofs.Common.{◌≡◌, ◌≤◌, arith}
+use Rattle.std.proofs.Common.{arith}
 use Rattle.chm.proofs.Removing.{HasRemoved-grows}
 use Rattle.chm.proofs.map.Map.retain_from.Goals as goal
 

@@ -1,4 +1,5 @@
-use Rattle.std.proofs.Common.{◌≡◌, ◌≤◌, arith}
+use Rattle.std.proofs.Common.{refl, arith}
+use Rattle.chm.proofs.Clearing.{unchanged}
 use Rattle.chm.proofs.Removing.{HasRemoved-grows}
 use Rattle.chm.proofs.map.Map.retain_next.Goals as goal
 
@@ -13,3 +14,6 @@ returns-in-Ok-clause-count g c =
 pub returns-in-Err-clause-stopped_count : goal.returns-in-Err-clause-stopped_count
 returns-in-Err-clause-stopped_count g c =
     let grew = HasRemoved-grows c.args.pass.now c.retain_class-done.new.pass c.retain_class-done.ensures.removed in omega arith
+
+pub returns-in_default-clause-removed : goal.returns-in_default-clause-removed
+returns-in_default-clause-removed g c = unchanged c.args.pass.now c.args.pass.now refl

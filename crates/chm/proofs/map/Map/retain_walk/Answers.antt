@@ -3,7 +3,7 @@ use Rattle.hashkeys.specs.Classes.{ClassView}
 use Rattle.bin_history.specs.Calls.{after}
 use Rattle.bin_layout.specs.Walks.{IsWalk}
 use Rattle.count_ledger.specs.Views.{PassView}
-use Rattle.chm.specs.Cursors.{HasComeTo}
+use Rattle.chm.specs.Cursors.{CursorView, HasComeTo}
 use Rattle.chm.specs.Retained.{HasStoppedAt, IsStoppedBy}
 use Rattle.chm.specs.declared.fault.Fault.{Fault}
 use Rattle.chm.proofs.Clearing.{removed-more, unchanged}
@@ -42,10 +42,11 @@ loop-preserved g c =
 
 pub returns-in_default-clause-retained : goal.returns-in_default-clause-retained
 returns-in_default-clause-retained g c =
-    let (classes, passed, are) = c.loop.invariant.kept in (
+    let (classes, passed, are) = c.loop.invariant.kept in
+    let at_end = sym (ap (λ (k : CursorView). k.next) c.cursor.view_is) ∙ c.in_default.is in (
       classes,
       subst (λ (n : ℕ). IsWalk n classes) c.loop.invariant.n
-          (subst (λ (next : Option ClassView). HasComeTo c.loop.cursor.n next classes) c.in_default.is passed),
+          (subst (λ (next : Option ClassView). HasComeTo c.loop.cursor.n next classes) at_end passed),
       are,
     )
 
@@ -65,7 +66,8 @@ returns-in_err-retain_class-clause-stopped g c =
     let q = c.retain_class.new.keeps in
     let end = c.retain_class.new.pass in
     let (classes, passed, are) = c.loop.invariant.kept in
-    let next = c.in-Some.next in
+    let next = c.in-Some.field-0 in
+    let next_is = sym (ap (λ (k : CursorView). k.next) c.cursor.view_is) ∙ c.in-Some.is in
     let P : Fault → Type 0 = λ fault. IsStoppedBy (goal.G-step g) same code its_after ledger c.args.start.n fault p old q end in
     let Stopped : Fault → ClassView → Type 0 = λ fault k. HasStoppedAt (goal.G-step g) same code its_after ledger fault k
     c.loop.keeps c.loop.pass q end in
@@ -74,11 +76,11 @@ returns-in_err-retain_class-clause-stopped g c =
       classes,
       next,
       subst (λ (n : ℕ). HasComeTo n (Some next) classes) c.loop.invariant.n
-          (subst (λ (o : Option ClassView). HasComeTo c.loop.cursor.n o classes) c.in-Some.is passed),
+          (subst (λ (o : Option ClassView). HasComeTo c.loop.cursor.n o classes) next_is passed),
       c.loop.keeps,
       c.loop.pass,
       are,
-      subst (λ (o : Option ClassView). IsSomeAnd o (λ (k : ClassView). Stopped fault k)) c.in-Some.is stopped,
+      subst (λ (o : Option ClassView). IsSomeAnd o (λ (k : ClassView). Stopped fault k)) next_is stopped,
     ) in
     IfErr-of P c.from_residual.result _ c.from_residual.ensures.1 (at _ c.in_err-retain_class.ensures.stopped.0)
 
