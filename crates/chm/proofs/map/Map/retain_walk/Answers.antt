@@ -66,8 +66,8 @@ returns-in_err-retain_class-clause-stopped g c =
     let q = c.retain_class.new.keeps in
     let end = c.retain_class.new.pass in
     let (classes, passed, are) = c.loop.invariant.kept in
-    let next = c.in-Some.field-0 in
-    let next_is = sym (ap (λ (k : CursorView). k.next) c.cursor.view_is) ∙ c.in-Some.is in
+    let next = c.in-Some-next.next in
+    let next_is = sym (ap (λ (k : CursorView). k.next) c.cursor.view_is) ∙ c.in-Some-next.is in
     let P : Fault → Type 0 = λ fault. IsStoppedBy (goal.G-step g) same code its_after ledger c.args.start.n fault p old q end in
     let Stopped : Fault → ClassView → Type 0 = λ fault k. HasStoppedAt (goal.G-step g) same code its_after ledger fault k
     c.loop.keeps c.loop.pass q end in
