@@ -1,6 +1,6 @@
 -- Clients in their seats, their passes and what they answered.
 use Rattle.std.proofs.Common.{◌≡◌, ℕ, ◌<◌, List, ◌++◌, Option, Some, None, IsSome, IsSomeAnd, All, length, map}
-use Rattle.std.proofs.Common.{take, slice_index_or, sym, ap, subst, ◌∙◌, arith}
+use Rattle.std.proofs.Common.{take, slice_index_or, refl, sym, ap, subst, ◌∙◌, arith}
 use Rattle.std.proofs.Math.Seq.{take-append_seam}
 use Rattle.std.proofs.lemmas.List.{get_or-map, length-map}
 use Rattle.count_ledger.specs.Views.{LedgerId, PassView}
