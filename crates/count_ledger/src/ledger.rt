@@ -10,7 +10,7 @@ ghost use Rattle.bin_history.specs.Plain.{run, IsLegalStep};
 ghost use Rattle.bin_history.specs.Records.{RecordView};
 ghost use Rattle.count_ledger.specs.Agreement.{part_of_role};
 ghost use Rattle.count_ledger.specs.Books.{BooksAgree, IsPassOf, IsRoleOf};
-ghost use Rattle.count_ledger.specs.Fronts.{BeginsWith, HasSeen, IsPosted};
+ghost use Rattle.count_ledger.specs.Fronts.{BeginsWith, HasSeen, IsFront, IsPosted};
 ghost use Rattle.count_ledger.specs.Limits.{most_calls, most_clients};
 ghost use Rattle.count_ledger.specs.Words.{lane_of, word_of};
 
@@ -180,6 +180,26 @@ impl<K: HashKey, V: Eq, F: Remap<K, V>, A: Allocator> Ledger<K, V, F, A> {
         ensures seen { HasSeen K.eq (after V.eq F.remapped F.merged) self.now pass.old pass.new }
         ensures kept { role.old.kept ≡ part_of_records (is_of K.code role.old.salt role.old.class)
             pass.new.seen }
+        ensures same_role { role.new ≡ role.old }
+    {
+        let shared = &self.table.shared;
+        join(shared, &mut pass.seat, &mut role.badge);
+        look::<K, V, F, A, Brand>(shared, &mut pass.seat, 0);
+        part(shared, &mut pass.seat, &mut role.badge);
+    }
+
+    /// Tells of a front of the one order that the pass's client could see now: of its calls the role has
+    /// kept, in order, just those on keys of its class. The pass and the role stay as they are.
+    #[cold]
+    #[inline(never)]
+    pub fn peek(&self, pass: &mut Pass<K, V, F>, role: &mut BinRole<K, V, F>)
+        requires pass { pass.old.ledger ≡ self.now.id }
+        requires role { role.old.ledger ≡ self.now.id }
+        ensures of_role { IsRoleOf K.code self.now role.old }
+        ensures front { (front : List (RecordView K V F))
+            × IsFront K.eq (after V.eq F.remapped F.merged) self.now pass.old front
+            × (role.old.kept ≡ part_of_records (is_of K.code role.old.salt role.old.class) front) }
+        ensures same_pass { pass.new ≡ pass.old }
         ensures same_role { role.new ≡ role.old }
     {
         let shared = &self.table.shared;
