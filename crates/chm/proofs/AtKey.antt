@@ -10,7 +10,7 @@ use Rattle.bin_history.specs.declared.form.Form.TheVariants.{Lean}
 use Rattle.count_ledger.specs.Limits.{most_calls}
 use Rattle.count_ledger.specs.Views.{LedgerView, PassView}
 use Rattle.chm.specs.AtKey.{IsCallAtKey}
-use Rattle.chm.specs.Given.{IsGive, IsGiven, IsModified, IsModify}
+use Rattle.chm.specs.Given.{IsGive, IsGiven, IsModified, IsModify, MayBeAbsent}
 use Rattle.chm.specs.Headline.{IsAnsweredAs, IsCalled}
 use Rattle.chm.specs.Refusals.{IsOfCall}
 use Rattle.chm.specs.Sure.{IsMadeOrFull}
@@ -140,7 +140,8 @@ module _ {K V F : Type 0} (same : K → K → Bool) (same_value : V → V → Bo
   module _ {T D : Type 0} (post : Option V → Option V × T → Type 0) (key : K) (given : D) where
     abbrev pub IsGivenCall : Result T (NotMade D) → Type 0
     IsGivenCall result = IsCallAtKey (λ l o n answer. IsGiven same same_value remapped merged post l key o n answer)
-        (λ l o e. (e.fault ≡ NoMemory) × (l.form ≡ Lean → e.given ≡ Some given))
+        (λ l o e. (e.fault ≡ NoMemory) × (l.form ≡ Lean → (e.given ≡ Some given)
+        × MayBeAbsent same same_value remapped merged l key o))
         (λ e. (e.fault ≡ PassFull) × (e.given ≡ Some given)) ledger old new result
 
     pub give_of : (result : Result T (NotMade D)) → IsGivenCall result
@@ -154,10 +155,12 @@ module _ {K V F : Type 0} (same : K → K → Bool) (same_value : V → V → Bo
       );
       faults = tt;
       back = tt;
+      sure = λ lean none. absurd none;
       full_back = tt;
     }
     give_of (Err e) is = go is.failed where
-      go : (IsWithin ledger old × ((e.fault ≡ NoMemory) × (ledger.form ≡ Lean → e.given ≡ Some given)))
+      go : (IsWithin ledger old × ((e.fault ≡ NoMemory) × (ledger.form ≡ Lean → (e.given ≡ Some given)
+          × MayBeAbsent same same_value remapped merged ledger key old)))
           ⊎ ((most_calls ledger.form ledger.clients ≤ length old.made) × ((e.fault ≡ PassFull) × (e.given ≡ Some given)))
           → IsGive same same_value remapped merged post ledger key given old new (Err e)
       go (inl (within, (out, back))) = record {
@@ -168,7 +171,8 @@ module _ {K V F : Type 0} (same : K → K → Bool) (same_value : V → V → Bo
           λ full. absurd (not_both (length old.made) (most_calls ledger.form ledger.clients) within full),
         );
         faults = inl out;
-        back = back;
+        back = λ lean. (back lean).0;
+        sure = λ lean _. (back lean).1;
         full_back = λ full. absurd (are_two (sym out ∙ full));
       }
       go (inr (most, (full, back))) = record {
@@ -177,5 +181,6 @@ module _ {K V F : Type 0} (same : K → K → Bool) (same_value : V → V → Bo
         full = (λ _. most, λ _. full);
         faults = inr full;
         back = λ lean. back;
+        sure = λ lean out. absurd (are_two (sym out ∙ full));
         full_back = λ _. back;
       }

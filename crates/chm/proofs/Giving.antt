@@ -2,7 +2,7 @@
 use Rattle.std.proofs.Common.{◌≡◌, ℕ, Bool, true, false, Option, Some, None, MatchOption, is_some, IfSome, Result, Ok, Err}
 use Rattle.std.proofs.Common.{OnErr, List, refl, sym, ap, subst, ◌∙◌}
 use Rattle.hashkeys.specs.Classes.{is_of}
-use Rattle.bin_history.specs.Calls.{key_of, reply}
+use Rattle.bin_history.specs.Calls.{after, key_of, reply}
 use Rattle.bin_history.specs.Entries.{lookup}
 use Rattle.bin_history.specs.InPlace.{IsChangeMade}
 use Rattle.bin_history.specs.Lawful.{BinView}
@@ -14,10 +14,11 @@ use Rattle.bin_history.specs.declared.call.Call.{Call}
 use Rattle.bin_history.specs.declared.call.Call.TheVariants.{Contains, Put}
 use Rattle.bin_history.specs.declared.call.Reply.{Reply}
 use Rattle.bin_history.specs.declared.call.Reply.TheVariants.{Truth, Value}
+use Rattle.count_ledger.specs.Fronts.{IsFront}
 use Rattle.count_ledger.specs.Views.{LedgerView, PassView}
-use Rattle.chm.specs.Given.{IsGive, IsGiven, IsModified}
+use Rattle.chm.specs.Given.{IsGive, IsGiven, IsModified, MayBeAbsent}
 use Rattle.chm.specs.Headline.{IsCalled}
-use Rattle.chm.specs.Histories.{IsCalledOn}
+use Rattle.chm.specs.Histories.{IsCalledOn, IsMet}
 use Rattle.chm.specs.declared.calls.not_made.NotMade.{NotMade}
 use Rattle.chm.proofs.Meeting.{IsCalled-met}
 
@@ -35,6 +36,22 @@ pub reply_to : {K V : Type 0} (F : Type 0) (same_value : V → V → Bool) (k : 
     → reply same_value (call_to {F = F} k left) before after ≡ Value before
 reply_to F same_value k None before after = refl
 reply_to F same_value k (Some v) before after = refl
+
+-- there is no value
+pub none_of : {V : Type 0} (o : Option V) → (is_some o ≡ true → ⊥) → o ≡ None
+none_of None never = refl
+none_of (Some v) never = absurd (never refl)
+
+module _ {K V F : Type 0} (same : K → K → Bool) (code : K → ℕ) (same_value : V → V → Bool) (remapped : F → K →
+    Option V → Option V)
+    (merged : F → V → V → Option V) where
+  -- a bin that the pass could meet had no value at the key
+  pub may_be_absent : (ledger : LedgerView K V) (key : K) (old : PassView K V F) (b : BinView K V F)
+      (front : List (RecordView K V F)) → is_of code ledger.salt b.class key ≡ true
+      → IsFront same (after same_value remapped merged) ledger old front → IsMet same code ledger front b
+      → (is_some (lookup same b.entries key) ≡ true → ⊥) → MayBeAbsent same same_value remapped merged ledger key old
+  may_be_absent ledger key old b front on is_front met never =
+      (front, is_front, sym (met.same_map key on) ∙ none_of (lookup same b.entries key) never)
 
 module _ {K V F T : Type 0} (same : K → K → Bool) (same_value : V → V → Bool) (remapped : F → K → Option V → Option V)
     (merged : F → V → V → Option V) (left : V → T → V → Type 0) (key : K) where
@@ -128,6 +145,7 @@ module _ {K V F T D : Type 0} (same : K → K → Bool) (same_value : V → V �
         full = give.full;
         faults = tt;
         back = tt;
+        sure = λ lean none. absurd none;
         full_back = tt;
       }
   give_map (Err e) give = record {
@@ -136,6 +154,7 @@ module _ {K V F T D : Type 0} (same : K → K → Bool) (same_value : V → V �
     full = give.full;
     faults = give.faults;
     back = give.back;
+    sure = give.sure;
     full_back = give.full_back;
   }
 

@@ -1,13 +1,18 @@
 -- Values that a function is lent or given where they lie, by calls.
-use Rattle.std.specs.Prelude.{◌≡◌, ◌≤◌, ◌↔◌, Bool, true, false, Option, Some, None, MatchOption, length}
+use Rattle.std.specs.Prelude.{◌≡◌, ◌≤◌, ◌↔◌, Bool, true, false, Option, Some, None, MatchOption, List, length}
 use Rattle.std.specs.Prelude.{Result, IfOk, IfErr, IsErrAnd, IsErrOf, OnErr}
 use Rattle.std.specs.Borrow.{Bor}
+use Rattle.bin_history.specs.Calls.{after}
+use Rattle.bin_history.specs.Entries.{lookup}
+use Rattle.bin_history.specs.Plain.{run}
 use Rattle.bin_history.specs.Readiness.{call_to}
+use Rattle.bin_history.specs.Records.{RecordView}
 use Rattle.bin_history.specs.declared.call.Call.{Call}
 use Rattle.bin_history.specs.declared.call.Call.TheVariants.{Contains, Put}
 use Rattle.bin_history.specs.declared.call.Reply.{Reply}
 use Rattle.bin_history.specs.declared.call.Reply.TheVariants.{Truth, Value}
 use Rattle.bin_history.specs.declared.form.Form.TheVariants.{Lean}
+use Rattle.count_ledger.specs.Fronts.{IsFront}
 use Rattle.count_ledger.specs.Limits.{most_calls}
 use Rattle.count_ledger.specs.Views.{LedgerView, PassView}
 use Rattle.chm.specs.Headline.{IsCalled}
@@ -18,7 +23,7 @@ use Rattle.chm.specs.declared.calls.not_made.NotMade.{NotMade}
 use Rattle.chm.specs.declared.calls.update.Change.{Change}
 use Rattle.chm.specs.declared.calls.update.Change.TheVariants as change
 use Rattle.chm.specs.declared.fault.Fault.{Fault}
-use Rattle.chm.specs.declared.fault.Fault.TheVariants.{PassFull}
+use Rattle.chm.specs.declared.fault.Fault.TheVariants.{NoMemory, PassFull}
 
 -- what a change leaves of this value, or of none
 abbrev pub left_by : {V : Type 0} → Change V → Option V → Option V
@@ -65,6 +70,12 @@ module _ {K V F : Type 0} (same_key : K → K → Bool) (same_value : V → V �
       (before : Option V) × (left : Option V) × post before (left, answer)
       × IsCalled same_key same_value remapped merged ledger (call_to key left) old new (Value before)
 
+  -- behind all that the client had seen there is a front after which the key has no value
+  abbrev pub MayBeAbsent : LedgerView K V → K → PassView K V F → Type 0
+  MayBeAbsent ledger key pass = (front : List (RecordView K V F))
+      × IsFront same_key (after same_value remapped merged) ledger pass front
+      × (run same_key (lookup same_key ledger.opening) front key ≡ None)
+
   -- the value at a key was modified, or the call was refused, and the pass is as it was; a lean map refuses it only where
   -- the pass is full
   pub record IsModify {T : Type 0} (left : V → T → V → Type 0) (ledger : LedgerView K V) (key : K)
@@ -76,7 +87,7 @@ module _ {K V F : Type 0} (same_key : K → K → Bool) (same_value : V → V �
     pub sure : ledger.form ≡ Lean → IsMadeOrFull result
 
   -- the value at a key was given to a function, or the call was refused, and the pass is as it was; what was given with the
-  -- key comes back, but where a recorded map was out of memory
+  -- key comes back, but where a recorded map was out of memory. A lean map is out of memory only where the key has no value
   pub record IsGive {T D : Type 0} (post : Option V → Option V × T → Type 0) (ledger : LedgerView K V) (key : K) (given : D)
       (old new : PassView K V F) (result : Result T (NotMade D)) : Type 0 where
     pub made : IfOk result (IsGiven post ledger key old new)
@@ -84,4 +95,5 @@ module _ {K V F : Type 0} (same_key : K → K → Bool) (same_value : V → V �
     pub full : IsErrAnd result (λ e. e.fault ≡ PassFull) ↔ (most_calls ledger.form ledger.clients ≤ length old.made)
     pub faults : IfErr result (λ e. IsOfCall e.fault)
     pub back : IfErr result (λ e. ledger.form ≡ Lean → e.given ≡ Some given)
+    pub sure : ledger.form ≡ Lean → IsErrAnd result (λ e. e.fault ≡ NoMemory) → MayBeAbsent ledger key old
     pub full_back : IfErr result (λ e. e.fault ≡ PassFull → e.given ≡ Some given)

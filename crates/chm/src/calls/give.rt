@@ -1,14 +1,22 @@
 //! Giving the value at a key, or none, to a function that runs while the key's bucket is locked, and
 //! which says what the key has then. What else is given to the function comes back where it is not
 //! called.
-ghost use Rattle.std.specs.Prelude.{◌≡◌, ◌≤◌, Option, length, IfOk, IfSome, IfNone, IsSome};
+ghost use Rattle.std.specs.Prelude.{◌≡◌, ◌≤◌, List, Option, length, IfOk, IfSome, IfNone, IsSome};
+ghost use Rattle.bin_history.specs.Calls.{after};
 ghost use Rattle.bin_history.specs.Entries.{lookup};
 ghost use Rattle.bin_history.specs.Hashes.{hash_by};
+ghost use Rattle.bin_history.specs.Leans.{as_bin};
 ghost use Rattle.bin_history.specs.Ops.{call_on};
 ghost use Rattle.bin_history.specs.Readiness.{call_to};
+ghost use Rattle.bin_history.specs.Records.{RecordView};
+ghost use Rattle.count_ledger.specs.Fronts.{IsFront};
 ghost use Rattle.count_ledger.specs.Limits.{most_calls};
+ghost use Rattle.lean_bins.specs.BinSlot.{IsInSlot};
+ghost use Rattle.bin_layout.specs.Views.{place_of};
 ghost use Rattle.chm.specs.Given.{IsGive};
+ghost use Rattle.chm.specs.Histories.{IsMet};
 ghost use Rattle.chm.specs.Updates.{IsWithin};
+ghost use Rattle.chm.specs.Views.{bins_of};
 
 use crate::calls::at_key::{AtKey, CallAtKey};
 use crate::calls::not_made::NotMade;
@@ -77,7 +85,7 @@ where
 {
     ghost use Rattle.std.specs.Prelude.{◌≡◌, ◌<◌, ◌≤◌, Option, Some, length};
     ghost use Rattle.bin_history.specs.declared.form.Form.TheVariants.{Lean};
-    ghost use Rattle.chm.specs.Given.{IsGiven};
+    ghost use Rattle.chm.specs.Given.{IsGiven, MayBeAbsent};
     ghost use Rattle.chm.specs.Updates.{IsWithin};
     ghost use Rattle.chm.specs.declared.fault.Fault.TheVariants.{NoMemory};
 
@@ -94,7 +102,8 @@ where
         (G.post w.f w.given) ledger (Q.stands_for w.query) old new answer };
 
     ghost fails = { λ w ledger old e. (e.fault ≡ NoMemory)
-        × (ledger.form ≡ Lean → e.given ≡ Some w.given) };
+        × (ledger.form ≡ Lean → (e.given ≡ Some w.given)
+        × MayBeAbsent K.eq V.eq F.remapped F.merged ledger (Q.stands_for w.query) old) };
 
     #[inline(always)]
     fn hash(&self, salt: Salt) -> u32 {
@@ -114,6 +123,7 @@ where
         lawful_entries::<K, V, F, A>(&bin_slot.entries);
         let alloc = map.resizer.allocator();
         let Ok(prepared) = prepare_as(&bin_slot.entries, alloc, hash, query) else {
+            map.peek_in_place(pass, bin_slot, class);
             return Err(NotMade {
                 fault: Fault::NoMemory,
                 given: Some(given),
@@ -193,6 +203,32 @@ where
 }
 
 impl<K: HashKey, V: Value, F: Remap<K, V>, A: Allocator + Clone> Map<K, V, F, A> {
+    /// Tells that what lies at the place of a lean bucket of the class is what the calls of some front
+    /// left in its class. The pass has seen no more than before.
+    #[cold]
+    #[inline(never)]
+    fn peek_in_place(
+        &self,
+        pass: &mut Pass<K, V, F>,
+        bin_slot: &mut BinSlot<K, V, F, A>,
+        class: Class,
+    )
+        requires pass { pass.old.ledger ≡ self.now.ledger.id }
+        requires lies { IsInSlot K.eq (after V.eq F.remapped F.merged)
+            (place_of (bins_of self.now) class) bin_slot.old }
+        ensures front { (front : List (RecordView K V F))
+            × IsFront K.eq (after V.eq F.remapped F.merged) self.now.ledger pass.old front
+            × IsMet K.eq K.code self.now.ledger front (as_bin bin_slot.old.entries) }
+        ensures same { pass.new ≡ pass.old }
+        ensures lies { IsInSlot K.eq (after V.eq F.remapped F.merged)
+            (place_of (bins_of self.now) class) bin_slot.new }
+    {
+        lawful_entries::<K, V, F, A>(&bin_slot.entries);
+        let mut role = bin_slot.take_role(class);
+        self.ledger.peek(pass, &mut role);
+        bin_slot.put_role(role);
+    }
+
     /// Gives the function the value at the key that this stands for, or none, with what else is given,
     /// and the key has what the function returns. It waits for the key's bucket.
     #[inline(always)]
