@@ -97,6 +97,7 @@ impl<K: HashKey, V: Drop, F: Drop, A: Allocator> Log<K, V, F, A> {
         ensures room { 0 < self.new.record_room }
         ensures fewer { length self.new.records < most_records }
     {
+        // half of them at once, so that one call in 512 pays for it
         if self.records.len() == MOST_RECORDS {
             fold_front(&mut self.base, &mut self.records);
         }

@@ -230,6 +230,7 @@ impl<K: HashKey, V: Value, F: Remap<K, V>, A: Allocator + Clone> RecordedBin<K, 
         ensures class { self.new.class ≡ self.old.class }
         ensures salt { self.new.salt ≡ self.old.salt }
     {
+        // All memory is asked for here, so that a call that fails has changed nothing.
         let found = find(&self.entries, key.get());
         make_room_for(&mut self.entries, found, &op)?;
         self.log.reserve()?;

@@ -42,6 +42,9 @@ fn holds<V: Eq, F>(op: &Op<V, F>, before: Option<&V>) -> bool
     }
 }
 
+// What a call does is one table and what it answers another: the toolchain drops `inline(always)` from a
+// function that would be much larger.
+
 /// What a call on the key does, by the value before it and by what `holds` answers. The call's
 /// function is asked once at most.
 #[inline(always)]

@@ -161,6 +161,7 @@ impl<K: HashKey, V: Eq, F: Remap<K, V>, A: Allocator> Ledger<K, V, F, A> {
     {
         let shared = &self.table.shared;
         join(shared, &mut pass.seat, &mut role.badge);
+        // the line of the client's lane alone, so clients of two lanes never write one cache line
         let word = word_at(pass.client);
         let delta = add_delta::<K, V, F, A, Brand>(shared, &mut pass.seat, word, entry);
         part(shared, &mut pass.seat, &mut role.badge);

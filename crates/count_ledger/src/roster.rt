@@ -65,6 +65,7 @@ impl<K: HashKey, V: Eq, F: Remap<K, V>, A: Allocator> Ledger<K, V, F, A> {
         if roster.next >= roster.clients {
             return None;
         }
+        // A pass that was taken never comes back here: it is passed on to another client.
         let client = roster.next;
         let seat = take_first(&self.table.shared, &mut roster.all);
         roster.next += 1;
