@@ -1,7 +1,8 @@
-use Rattle.std.proofs.Common.{◌≡◌, ap, sym, subst, ◌∙◌}
+use Rattle.std.proofs.Common.{◌≡◌, ap, refl, sym, subst, ◌∙◌}
 use Rattle.hashkeys.specs.Classes.{covers}
 use Rattle.bin_history.specs.Ops.{call_on}
 use Rattle.bin_history.specs.Readiness.{call_to}
+use Rattle.bin_history.proofs.Lawful.{recorded_is_not_lean}
 use Rattle.chm.proofs.Giving.{given_by_call}
 use Rattle.chm.proofs.calls.give.GivingAtKey.by_value.Goals as goal
 
@@ -17,3 +18,6 @@ returns-clause-done g c =
     left answer (call_on c.in-Ok.own c.op_leaving-op.result) c.in-Ok-call_by_value.reply
     (c.op_leaving-op.ensures c.in-Ok.own ∙ ap (λ (k : _). call_to k left) c.in-Ok.ensures.key)
     (subst (λ b. goal.G-post g c.args.self.f c.args.self.given b (left, answer)) c.in-Ok.ensures.value c.f-left.ensures) c.in-Ok-call_by_value.ensures.called
+
+pub returns-in_default-clause-fails : goal.returns-in_default-clause-fails
+returns-in_default-clause-fails g c = (refl, λ lean. absurd (recorded_is_not_lean (sym c.requires.recorded ∙ lean)))

@@ -1,4 +1,5 @@
 use Rattle.std.proofs.Common.{◌≡◌, [], ◌∷◌, refl, sym, ap, subst, ◌∙◌}
+use Rattle.std.proofs.lemmas.Bool.{false≢true}
 use Rattle.hashkeys.specs.Classes.{covers}
 use Rattle.hashkeys.specs.Hashing.{hash_of}
 use Rattle.bin_history.specs.Calls.{after, key_of}
@@ -14,7 +15,7 @@ use Rattle.bin_layout.specs.Views.{place_of}
 use Rattle.chm.specs.Given.{IsGiven}
 use Rattle.chm.specs.Headline.{IsCalled}
 use Rattle.chm.specs.Views.{MapView, bins_of}
-use Rattle.chm.proofs.Giving.{key-call_to}
+use Rattle.chm.proofs.Giving.{key-call_to, may_be_absent}
 use Rattle.chm.proofs.InPlace.{at_role, role_at, same_at, class_at, salt_at, role_class}
 use Rattle.chm.proofs.Meeting.{IsCalledOn-agreed, IsCalled-met}
 use Rattle.chm.proofs.calls.give.GivingAtKey.in_place.Goals as goal
@@ -162,3 +163,22 @@ returns-clause-lies g c =
           c.post_trace.new.role (c.update_on-answer.result.1 ∷ []) at.agree c.update_on-answer.ensures.class c.update_on-answer.ensures.salt
           made.history c.post_trace.ensures.role;
     }))
+
+pub returns-in_default-clause-fails : goal.returns-in_default-clause-fails
+returns-in_default-clause-fails g c =
+    let key = g.Q.AsKey.stands_for c.args.self.query in
+    let class = class_at g.K.PartialEq.eq (after g.V.PartialEq.eq g.F.Remap.remapped g.F.Remap.merged)
+    (place_of (bins_of c.args.map.now) c.args.class) c.args.bin_slot.now.entries c.args.bin_slot.now.role
+    c.requires.lies in
+    let on = (λ i. covers (class i) (hash_of c.args.map.now.ledger.salt (g.K.HashKey.code key)))
+    ∙ ap (covers c.args.class) (sym c.requires.hash)
+    ∙ c.requires.covers in
+    let (front, is_front, met) = c.peek_in_place.ensures.front in (
+      refl,
+      λ lean. (
+        refl,
+        may_be_absent g.K.PartialEq.eq g.K.HashKey.code g.V.PartialEq.eq g.F.Remap.remapped g.F.Remap.merged
+            c.args.map.now.ledger key c.args.pass.now (as_bin c.args.bin_slot.now.entries) front on is_front met
+            (λ some. false≢true (c.in_default.ensures.succeeds some)),
+      ),
+    )
