@@ -34,7 +34,7 @@ pub fn lawful_entries<K: HashKey, V: Eq, F: Remap<K, V>, A: Allocator>(
 
 /// What a call on a key of this hash does, and what the books see of it.
 #[inline(always)]
-fn plan<K: HashKey, V: Value, F: Remap<K, V>, A: Allocator>(
+fn evaluate<K: HashKey, V: Value, F: Remap<K, V>, A: Allocator>(
     entries: &LeanEntries<K, V, A>,
     hash: u32,
     key: &K,
@@ -119,7 +119,7 @@ impl<V: Value, F: Drop> Op<V, F> {
         ensures class { entries.new.class ≡ entries.old.class }
         ensures salt { entries.new.salt ≡ entries.old.salt }
     {
-        let (work, seen) = plan(entries, hash, key.get(), &self)?;
+        let (work, seen) = evaluate(entries, hash, key.get(), &self)?;
         let there = seen.before.is_some();
         let Work { effect, answer } = work;
         let taken = carry_out(entries, alloc, hash, key, self, effect, there)?;

@@ -72,7 +72,7 @@ impl<K: HashKey, V: Value, F: Remap<K, V>, A: Allocator> Holder<K, V, F, A> for 
     fn end(self, seat: OwnedPass<K, V, F>) {
         let Owned { pass_pool } = self;
         let OwnedPass { pass } = seat;
-        pass_pool.bring(pass);
+        pass_pool.put_back(pass);
     }
 }
 

@@ -60,7 +60,7 @@ impl<K: HashKey, V: Value, F: Remap<K, V>, A: Allocator> Drop for Parked<K, V, F
         let Parked { holder, seat } = self;
         let Owned { pass_pool } = holder;
         let OwnedPass { pass } = seat;
-        pass_pool.bring(pass);
+        pass_pool.put_back(pass);
     }
 }
 

@@ -175,7 +175,7 @@ impl<K: HashKey, V: Value, F: Remap<K, V>, A: Allocator> PassPool<K, V, F, A> {
 
     /// Brings a pass back to its client's pass slot. One that has made all the calls that it may is not
     /// taken again, and is counted once. It takes no memory and waits for nobody.
-    pub(crate) fn bring(&self, pass: Pass<K, V, F>)
+    pub(crate) fn put_back(&self, pass: Pass<K, V, F>)
         requires { pass.ledger ≡ self.now.ledger.id }
     {
         let client = pass.client();
@@ -187,7 +187,7 @@ impl<K: HashKey, V: Value, F: Remap<K, V>, A: Allocator> PassPool<K, V, F, A> {
             return;
         };
         let pass_slot = row.pass_slot(client, &made);
-        pass_slot.bring(pass);
+        pass_slot.put_back(pass);
         // A full pass is never taken again, so it stays out of the stack.
         if !is_full {
             self.set_free(pass_slot, client);
@@ -251,7 +251,7 @@ impl<K: HashKey, V: Value, F: Remap<K, V>, A: Allocator + Clone> PassPool<K, V, 
         let tag = Tag::of::<Map<K, V, F, A>, OfMap>(&map);
         let rows = new_rows(alloc, &tag)?;
         let place = Slot::new(&with_number(map.clients(), &tag));
-        place.bring(roster);
+        place.put_back(roster);
         Ok(PassPool {
             map,
             roster: place,
@@ -286,7 +286,7 @@ impl<K: HashKey, V: Value, F: Remap<K, V>, A: Allocator + Clone> PassPool<K, V, 
         } else {
             Err(Fault::NoClient)
         };
-        self.roster.bring(roster);
+        self.roster.put_back(roster);
         joined
     }
 
@@ -342,7 +342,7 @@ impl<K: HashKey, V: Value, F: Remap<K, V>, A: Allocator + Clone> PassPool<K, V, 
                 Err(Fault::PassMissing)
             }
             Err(error) => {
-                self.roster.bring(roster);
+                self.roster.put_back(roster);
                 Err(error.into())
             }
         }
@@ -362,9 +362,9 @@ impl<K: HashKey, V: Value, F: Remap<K, V>, A: Allocator + Clone> PassPool<K, V, 
         requires clients { roster.clients ≡ self.now.ledger.clients }
     {
         while let Some(pass) = passes.pop() {
-            self.bring(pass);
+            self.put_back(pass);
         }
         passes.destroy_empty();
-        self.roster.bring(roster);
+        self.roster.put_back(roster);
     }
 }

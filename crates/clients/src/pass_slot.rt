@@ -82,10 +82,10 @@ impl<K, V, F> PassSlot<K, V, F> {
     }
 
     /// Brings the pass back. It waits for nobody.
-    pub(crate) fn bring(&self, pass: Pass<K, V, F>)
+    pub(crate) fn put_back(&self, pass: Pass<K, V, F>)
         requires { pass.client ∷ numbers_of pass.ledger ≡ self.now }
     {
-        self.slot.bring(pass);
+        self.slot.put_back(pass);
     }
 
     /// Whether the pass slot was not in the stack. It counts as in it from now on, so that one thread alone

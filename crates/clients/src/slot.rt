@@ -103,7 +103,7 @@ impl<X: Waits> Slot<X> {
     }
 
     /// Brings the thing back. It waits for nobody; were there one already, this one would end.
-    pub(crate) fn bring(&self, thing: X)
+    pub(crate) fn put_back(&self, thing: X)
         requires { X.numbers thing ≡ self.now }
     {
         let waiting = Waiting { thing: Some(thing) };

@@ -9,7 +9,7 @@ ghost use Rattle.bin_history.specs.Deltas.{delta};
 ghost use Rattle.bin_history.specs.Records.{RecordView};
 
 use crate::books::{Books, View};
-use crate::steps::{KeepFirst, KeepSeen, Tells, Together, Told};
+use crate::steps::{KeepFirst, KeepSeen, StepTerms, Tells, Together};
 use atomic_table::{Badge, Seat};
 use bin_history::{Posting, Remap};
 use hashkeys::HashKey;
@@ -19,7 +19,7 @@ use std::mem;
 /// Reads a word, and tells what the rule says of the seat's books. They may change with it, by the
 /// calls so far.
 #[inline(always)]
-pub(crate) fn look<K: HashKey, V: Eq, F: Remap<K, V>, A: Allocator, T: Told<K, V, F>>(
+pub(crate) fn look<K: HashKey, V: Eq, F: Remap<K, V>, A: Allocator, T: StepTerms<K, V, F>>(
     shared: &Books<K, V, F, A>,
     seat: &mut Seat<(), View<K, V, F>>,
     word: usize,
@@ -43,7 +43,7 @@ pub(crate) fn look<K: HashKey, V: Eq, F: Remap<K, V>, A: Allocator, T: Told<K, V
 /// get its record, and tells what the rule said of them before. It returns the delta, as a 64-bit
 /// two's complement number.
 #[inline(always)]
-pub(crate) fn add_delta<K: HashKey, V: Eq, F: Remap<K, V>, A: Allocator, T: Told<K, V, F>>(
+pub(crate) fn add_delta<K: HashKey, V: Eq, F: Remap<K, V>, A: Allocator, T: StepTerms<K, V, F>>(
     shared: &Books<K, V, F, A>,
     seat: &mut Seat<(), View<K, V, F>>,
     word: usize,

@@ -8,7 +8,7 @@ use std::marker::{Brand, PhantomData};
 /// What a step is told in contracts alone, since a `Play` reads neither the terms of the table nor
 /// the record of a call: the terms, and how the seat's books change by the calls so far. A call at
 /// `Brand` picks them.
-pub(crate) trait Told<K, V, F> {
+pub(crate) trait StepTerms<K, V, F> {
     ghost use Rattle.std.specs.Prelude.{Option, List};
     ghost use Rattle.bin_history.specs.Records.{RecordView};
     ghost use Rattle.count_ledger.specs.declared.books.Book.{Book};
@@ -19,7 +19,7 @@ pub(crate) trait Told<K, V, F> {
     ghost change: { List (RecordView K V F) → List (Book K V F) → List (Book K V F) };
 }
 
-impl<K, V, F> Told<K, V, F> for Brand {
+impl<K, V, F> StepTerms<K, V, F> for Brand {
     ghost use Rattle.std.specs.Prelude.{None};
 
     ghost terms = { None };
@@ -32,7 +32,8 @@ pub(crate) struct Tells<T> {
     marker: PhantomData<T>,
 }
 
-impl<K: HashKey, V: Eq, F: Remap<K, V>, T: Told<K, V, F>> Play<(), View<K, V, F>> for Tells<T> {
+impl<K: HashKey, V: Eq, F: Remap<K, V>, T: StepTerms<K, V, F>> Play<(), View<K, V, F>>
+    for Tells<T> {
     ghost use Rattle.bin_history.specs.Calls.{after};
     ghost use Rattle.count_ledger.specs.Steps.{Tells};
 

@@ -20,10 +20,10 @@ abbrev pub IsCopyStatus : ℕ → ℕ → ℕ → Type 0
 IsCopyStatus n all status = ((status ≡ facing_done) × (n ≡ all)) ⊎ ((status ≡ facing_no_room) × (n < all))
 
 -- the number that a walk goes on at, two rooms, and the answer
-abbrev pub Told : Type 0
-Told = ℕ × List ℕ × List ℕ × FacingAnswer
+abbrev pub ChangeReply : Type 0
+ChangeReply = ℕ × List ℕ × List ℕ × FacingAnswer
 
-abbrev pub AreNumbersTold : (ℕ → ℕ) → Seen ℕ ℕ → (before after : Told) → ℕ → Type 0
+abbrev pub AreNumbersTold : (ℕ → ℕ) → Seen ℕ ℕ → (before after : ChangeReply) → ℕ → Type 0
 AreNumbersTold key (Ok (Some pairs, next)) before after status = (after.0 ≡ next)
     × (after.3 ≡ record { found = 1; value = length pairs })
     × (n : ℕ) × AreNumbers key pairs (before.1, before.2) (after.1, after.2) n × IsCopyStatus n (length pairs) status
@@ -46,7 +46,7 @@ ArePairsTold number laid (Err other) before after status = (status ≡ other) ×
 
 -- of a closed map of the kind, or of a client of one, they are the pairs at this place; anything else is as it was, and a
 -- wrong handle
-abbrev pub AreNumbersOf : Target → ℕ → (before after : Told) → Target → ℕ → Type 0
+abbrev pub AreNumbersOf : Target → ℕ → (before after : ChangeReply) → Target → ℕ → Type 0
 AreNumbersOf (target.Numbers seed s) at before after then status = (t : Stage ℕ ℕ Merging) × (then ≡ target.Numbers seed t)
     × (seen : Seen ℕ ℕ) × IsSeen nat_eq number_code (calls.after nat_eq remapped merged) s at t seen
     × AreNumbersTold (unmixed seed) seen before after status

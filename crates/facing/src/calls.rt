@@ -7,13 +7,13 @@ ghost use Rattle.facing.specs.Calls.{IsBytesCalled, IsBytesLooked, IsBytesAsked,
 use crate::target::Target;
 use bin_history::{KeyArg, Op};
 use facing_maps::{
-    Merging, SharedBytes, Tried, WRONG_HANDLE, try_bytes, try_has, try_look, try_on,
+    CallOutcome, Merging, SharedBytes, WRONG_HANDLE, try_bytes, try_has, try_look, try_on,
 };
 use functions::NoFunction;
 use hashkeys::Bytes;
 
 /// Tries a call of the client of a map of whole numbers that this is. It waits for nobody.
-pub(crate) fn try_number(target: &mut Target, key: u64, op: Op<u64, Merging>) -> Tried<u64>
+pub(crate) fn try_number(target: &mut Target, key: u64, op: Op<u64, Merging>) -> CallOutcome<u64>
     ensures { IsNumberCalled target.old (λ k. call_on k op) key target.new result }
 {
     match target {
@@ -26,7 +26,7 @@ pub(crate) fn try_number(target: &mut Target, key: u64, op: Op<u64, Merging>) ->
 
 /// Tries a call of the client of a map from byte strings to whole numbers that this is. It waits for
 /// nobody.
-pub(crate) fn try_count(target: &mut Target, key: &[u8], op: Op<u64, Merging>) -> Tried<u64>
+pub(crate) fn try_count(target: &mut Target, key: &[u8], op: Op<u64, Merging>) -> CallOutcome<u64>
     ensures { IsCountCalled target.old (λ k. call_on k op) key.now target.new result }
 {
     match target {
@@ -38,7 +38,7 @@ pub(crate) fn try_count(target: &mut Target, key: &[u8], op: Op<u64, Merging>) -
 }
 
 /// Tries to look at the number at a key, by the client that this is. It waits for nobody.
-pub(crate) fn try_look_count(target: &mut Target, key: &[u8]) -> Tried<u64>
+pub(crate) fn try_look_count(target: &mut Target, key: &[u8]) -> CallOutcome<u64>
     ensures { IsCountLooked target.old key.now target.new result }
 {
     match target {
@@ -50,7 +50,7 @@ pub(crate) fn try_look_count(target: &mut Target, key: &[u8]) -> Tried<u64>
 }
 
 /// Tries to look whether a key has a number, by the client that this is. It waits for nobody.
-pub(crate) fn try_has_count(target: &mut Target, key: &[u8]) -> Tried<u64>
+pub(crate) fn try_has_count(target: &mut Target, key: &[u8]) -> CallOutcome<u64>
     ensures { IsCountAsked target.old key.now target.new result }
 {
     match target {
@@ -66,7 +66,7 @@ pub(crate) fn try_byte(
     target: &mut Target,
     key: &[u8],
     op: Op<Bytes<'_>, NoFunction>,
-) -> Tried<SharedBytes>
+) -> CallOutcome<SharedBytes>
     ensures { IsBytesCalled target.old op.entry key.now target.new result }
 {
     match target {
@@ -79,7 +79,7 @@ pub(crate) fn try_byte(
 
 /// Tries to look at the value at a key, by the client that this is: at most 22 bytes are copied, and a
 /// longer value has an owner more. It waits for nobody.
-pub(crate) fn try_look_bytes(target: &mut Target, key: &[u8]) -> Tried<SharedBytes>
+pub(crate) fn try_look_bytes(target: &mut Target, key: &[u8]) -> CallOutcome<SharedBytes>
     ensures { IsBytesLooked target.old key.now target.new result }
 {
     match target {
@@ -91,7 +91,7 @@ pub(crate) fn try_look_bytes(target: &mut Target, key: &[u8]) -> Tried<SharedByt
 }
 
 /// Tries to look whether a key has a value, by the client that this is. It waits for nobody.
-pub(crate) fn try_has_bytes(target: &mut Target, key: &[u8]) -> Tried<SharedBytes>
+pub(crate) fn try_has_bytes(target: &mut Target, key: &[u8]) -> CallOutcome<SharedBytes>
     ensures { IsBytesAsked target.old key.now target.new result }
 {
     match target {

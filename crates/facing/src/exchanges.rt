@@ -11,7 +11,7 @@ use crate::handle::{FacingHandle, FacingOut};
 use crate::target::Target;
 use bin_history::KeyArg;
 use facing_maps::{
-    AddUpTo, Changing, Exchange, FacingAnswer, FacingExchanged, SharedBytes, TriedChange,
+    AddUpTo, ChangeOutcome, Changing, Exchange, FacingAnswer, FacingExchanged, SharedBytes,
     WRONG_HANDLE, tell_added, tell_exchanged, tell_exchanged_bytes, try_change_on,
     try_exchange_bytes,
 };
@@ -33,7 +33,7 @@ fn exchange_of(has_expected: u32, expected: u64, has_value: u32, value: u64) -> 
 }
 
 /// Tries a change by the client of a map of whole numbers that this is. It waits for nobody.
-fn try_number<C: Changing<u64>>(target: &mut Target, key: u64, changing: C) -> TriedChange<u64>
+fn try_number<C: Changing<u64>>(target: &mut Target, key: u64, changing: C) -> ChangeOutcome<u64>
     ensures { IsNumberChanged target.old (C.changes changing) key target.new result }
 {
     match target {
@@ -46,7 +46,7 @@ fn try_number<C: Changing<u64>>(target: &mut Target, key: u64, changing: C) -> T
 
 /// Tries a change by the client of a map from byte strings to whole numbers that this is. It waits for
 /// nobody.
-fn try_count<C: Changing<u64>>(target: &mut Target, key: &[u8], changing: C) -> TriedChange<u64>
+fn try_count<C: Changing<u64>>(target: &mut Target, key: &[u8], changing: C) -> ChangeOutcome<u64>
     ensures { IsCountChanged target.old (C.changes changing) key.now target.new result }
 {
     match target {
@@ -63,7 +63,7 @@ fn try_bytes(
     key: &[u8],
     expected: Option<&[u8]>,
     value: Option<&[u8]>,
-) -> TriedChange<SharedBytes>
+) -> ChangeOutcome<SharedBytes>
     ensures { IsBytesExchanged target.old (option_copied expected.entry) (option_copied value.entry) key.now
         target.new result }
 {

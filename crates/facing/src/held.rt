@@ -9,13 +9,15 @@ use crate::handle::{FacingHandle, FacingOut};
 use crate::owners::give;
 use crate::target::Target;
 use bin_history::Reply;
-use facing_maps::{DONE, FacingAnswer, SharedBytes, Tried, WRONG_HANDLE, copy_into, tell_length};
+use facing_maps::{
+    CallOutcome, DONE, FacingAnswer, SharedBytes, WRONG_HANDLE, copy_into, tell_length,
+};
 use std::alloc::Global;
 
 /// Gives a handle of the value that a look found, and tells how many bytes it has.
 fn hold(
     alloc: Global,
-    tried: Tried<SharedBytes>,
+    tried: CallOutcome<SharedBytes>,
     held: &mut FacingOut,
     answer: &mut FacingAnswer,
 ) -> u32

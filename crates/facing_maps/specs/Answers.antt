@@ -21,11 +21,11 @@ code_of NoClient = facing_no_client
 
 -- what came of a call that was to be tried: its reply, or why it was refused, or nothing where another was in its way;
 -- or the status for which it was not tried
-abbrev pub Tried : Type 0 → Type 0
-Tried V = Result (Option (Result (Reply V) Fault)) ℕ
+abbrev pub CallOutcome : Type 0 → Type 0
+CallOutcome V = Result (Option (Result (Reply V) Fault)) ℕ
 
 -- the status of a call
-abbrev pub status_of : {V : Type 0} → Tried V → ℕ
+abbrev pub status_of : {V : Type 0} → CallOutcome V → ℕ
 status_of (Ok (Some (Ok _))) = facing_done
 status_of (Ok (Some (Err fault))) = code_of fault
 status_of (Ok None) = facing_busy
@@ -43,7 +43,7 @@ reply_by told (Truth true) = record { found = 1; value = 0 }
 reply_by told (Truth false) = record { found = 0; value = 0 }
 
 -- the answer of a call that was made; of another it is what was there before
-abbrev pub answer_by : {V : Type 0} → (V → ℕ) → Tried V → FacingAnswer → FacingAnswer
+abbrev pub answer_by : {V : Type 0} → (V → ℕ) → CallOutcome V → FacingAnswer → FacingAnswer
 answer_by told (Ok (Some (Ok reply))) before = reply_by told reply
 answer_by told (Ok (Some (Err _))) before = before
 answer_by told (Ok None) before = before

@@ -19,13 +19,13 @@ use Rattle.facing_maps.specs.declared.stage.Stage.TheVariants as stage
 use Rattle.facing_maps.specs.declared.status.FacingAnswer.{FacingAnswer}
 
 -- what a change tells, or that there was no memory to tell it
-abbrev pub Told : Type 0 → Type 0
-Told V = Result (Changed V) AllocError
+abbrev pub ChangeReply : Type 0 → Type 0
+ChangeReply V = Result (Changed V) AllocError
 
 -- what came of a change that was to be tried: what it told, or why it was refused, or nothing where another was in its
 -- way; or the status for which it was not tried
-abbrev pub TriedChange : Type 0 → Type 0
-TriedChange V = Result (Option (Result (Told V) Fault)) ℕ
+abbrev pub ChangeOutcome : Type 0 → Type 0
+ChangeOutcome V = Result (Option (Result (ChangeReply V) Fault)) ℕ
 
 -- == What changes there are ==
 
@@ -43,7 +43,7 @@ is_same same (Some _) None = false
 
 -- an exchange: where what is seen is what is expected, the change to the new value; it tells whether it was so, and what
 -- was seen
-abbrev pub exchange : {V : Type 0} → (V → V → Bool) → (expected value seen : Option V) → Change V × Told V
+abbrev pub exchange : {V : Type 0} → (V → V → Bool) → (expected value seen : Option V) → Change V × ChangeReply V
 exchange same expected value seen = cond (is_same same seen expected)
     (change_to value, Ok (record { made = true; value = seen }))
     (Keep, Ok (record { made = false; value = seen }))
@@ -54,7 +54,7 @@ number_in (Some n) = n
 number_in None = 0
 
 -- a sum up to a bound: where it is no more than that, the change to it; it tells whether it was so, and the value after
-abbrev pub add_up_to : (amount most : ℕ) → Option ℕ → Change ℕ × Told ℕ
+abbrev pub add_up_to : (amount most : ℕ) → Option ℕ → Change ℕ × ChangeReply ℕ
 add_up_to amount most seen = cond (nat_le (number_in seen + amount) most)
     (Set (number_in seen + amount), Ok (record { made = true; value = Some (number_in seen + amount) }))
     (Keep, Ok (record { made = false; value = seen }))
@@ -68,17 +68,17 @@ abbrev pub longest_in : (expected value : Option (List ℕ)) → ℕ
 longest_in expected value = max (length_in expected) (length_in value)
 
 -- the change is this one; or there was no memory to tell it, and the value stays
-abbrev pub IsOrStays : {V : Type 0} → Change V × Told V → Change V × Told V → Type 0
+abbrev pub IsOrStays : {V : Type 0} → Change V × ChangeReply V → Change V × ChangeReply V → Type 0
 IsOrStays change made = (made ≡ change) ⊎ (made ≡ (Keep, Err alloc_error))
 
 -- == What comes of them ==
 
 module _ {K V F : Type 0} (same_key : K → K → Bool) (same_value : V → V → Bool)
     (remapped : F → K → Option V → Option V) (merged : F → V → V → Option V)
-    (IsAllowed : Type 0) (IsRefused : ℕ → Type 0) (changes : Option V → Change V × Told V → Type 0) where
+    (IsAllowed : Type 0) (IsRefused : ℕ → Type 0) (changes : Option V → Change V × ChangeReply V → Type 0) where
   -- the change, where it is allowed, was made as a map's update is, by the value that all calls before had left at the key;
   -- or it was not made, and the pass is as it was
-  pub record IsChangeTried (ledger : LedgerView K V) (key : K) (old new : PassView K V F) (tried : TriedChange V) :
+  pub record IsChangeTried (ledger : LedgerView K V) (key : K) (old new : PassView K V F) (tried : ChangeOutcome V) :
       Type 0 where
     pub updated : IfOk tried (λ t. IfSome t (IsUpdate same_key same_value remapped merged
         (λ shown made. changes (option_copied shown) made) ledger key old new))
@@ -88,7 +88,7 @@ module _ {K V F : Type 0} (same_key : K → K → Bool) (same_value : V → V �
     pub refused : IfErr tried IsRefused
 
   -- what was a client is the client that tried the change, on the same map; anything else is as it was, and a wrong handle
-  abbrev pub IsChanged : Stage K V F → K → Stage K V F → TriedChange V → Type 0
+  abbrev pub IsChanged : Stage K V F → K → Stage K V F → ChangeOutcome V → Type 0
   IsChanged (stage.Client c) key then tried = (d : ClientView K V F) × (then ≡ stage.Client d) × (d.map ≡ c.map)
       × IsChangeTried c.map.ledger key c.pass d.pass tried
   IsChanged other key then tried = (then ≡ other) × (tried ≡ Err facing_wrong_handle)
@@ -96,7 +96,7 @@ module _ {K V F : Type 0} (same_key : K → K → Bool) (same_value : V → V �
 -- == What C is told ==
 
 -- what a change told, or the status for which it told nothing
-abbrev pub told_of : {V : Type 0} → TriedChange V → Result (Changed V) ℕ
+abbrev pub told_of : {V : Type 0} → ChangeOutcome V → Result (Changed V) ℕ
 told_of (Ok (Some (Ok (Ok changed)))) = Ok changed
 told_of (Ok (Some (Ok (Err _)))) = Err facing_no_memory
 told_of (Ok (Some (Err fault))) = Err (code_of fault)

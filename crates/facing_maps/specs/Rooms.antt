@@ -2,7 +2,7 @@
 use Rattle.std.specs.Prelude.{◌≡◌, ◌⊎◌, ℕ, ◌<◌, ◌≤◌, ◌++◌, List, length, take, drop, Option, Some, None, Result, Ok, Err}
 use Rattle.bin_history.specs.declared.call.Reply.{Reply}
 use Rattle.bin_history.specs.declared.call.Reply.TheVariants.{Value, Truth}
-use Rattle.facing_maps.specs.Answers.{Tried, code_of}
+use Rattle.facing_maps.specs.Answers.{CallOutcome, code_of}
 use Rattle.facing_maps.specs.Statuses.{facing_busy, facing_done, facing_no_room}
 
 -- room that bytes were copied into: the first ones, as many as there is room for, and what is beyond them is as it was
@@ -20,7 +20,7 @@ reply_room (Value value) room = found_room value room
 reply_room (Truth _) room = room
 
 -- the room after a call; where the call was not made it is as it was
-abbrev pub room_of : Tried (List ℕ) → List ℕ → List ℕ
+abbrev pub room_of : CallOutcome (List ℕ) → List ℕ → List ℕ
 room_of (Ok (Some (Ok reply))) room = reply_room reply room
 room_of (Ok (Some (Err _))) room = room
 room_of (Ok None) room = room
@@ -34,7 +34,7 @@ IsWhole bytes before after status =
     ⊎ ((length before < length bytes) × (status ≡ facing_no_room) × (after ≡ before))
 
 -- the whole value is shown, if there is one; else the room is as it was, and the status is that of the call
-abbrev pub IsShownWhole : Tried (List ℕ) → (before after : List ℕ) → ℕ → Type 0
+abbrev pub IsShownWhole : CallOutcome (List ℕ) → (before after : List ℕ) → ℕ → Type 0
 IsShownWhole (Ok (Some (Ok (Value (Some value))))) before after status = IsWhole value before after status
 IsShownWhole (Ok (Some (Ok (Value None)))) before after status = (status ≡ facing_done) × (after ≡ before)
 IsShownWhole (Ok (Some (Ok (Truth _)))) before after status = (status ≡ facing_done) × (after ≡ before)

@@ -7,12 +7,12 @@ ghost use Rattle.facing_maps.specs.Functions.{no_value};
 ghost use Rattle.facing_maps.specs.Keys.{key_of, same_key, same_bytes, longest, AreAllowed, IsRefusalOf};
 
 use crate::changes::ExchangeBytes;
-use crate::changing::{TriedChange, try_change_at};
+use crate::changing::{ChangeOutcome, try_change_at};
 use crate::keys::{Keys, SeededKey};
 use crate::seeded::try_at;
 use crate::shared::SharedBytes;
 use crate::stage::Stage;
-use crate::status::{MOST_BYTES, MOST_VALUE, NO_MEMORY, TOO_LONG, Tried, WRONG_HANDLE};
+use crate::status::{CallOutcome, MOST_BYTES, MOST_VALUE, NO_MEMORY, TOO_LONG, WRONG_HANDLE};
 use bin_history::Op;
 use clients::OwnedClient;
 use functions::NoFunction;
@@ -66,7 +66,7 @@ fn try_bytes_at(
     keys: &mut Keys,
     key: &[u8],
     op: Op<Bytes<'_>, NoFunction>,
-) -> Tried<SharedBytes>
+) -> CallOutcome<SharedBytes>
     ensures tried { IsTried same_key same_bytes no_value no_value
         (AreAllowed key.now (longest op.entry)) (IsRefusalOf key.now (longest op.entry)) client.old.map.ledger
         (call_on (key_of keys.old key.now) op.entry) client.old.pass client.new.pass result }
@@ -89,7 +89,7 @@ pub fn try_bytes(
     keys: &mut Keys,
     key: &[u8],
     op: Op<Bytes<'_>, NoFunction>,
-) -> Tried<SharedBytes>
+) -> CallOutcome<SharedBytes>
     ensures called { IsCalled same_key same_bytes no_value no_value
         (AreAllowed key.now (longest op.entry)) (IsRefusalOf key.now (longest op.entry)) stage.old
         (call_on (key_of keys.old key.now) op.entry) stage.new result }
@@ -131,7 +131,7 @@ fn try_exchange_at(
     key: &[u8],
     expected: Option<&[u8]>,
     value: Option<&[u8]>,
-) -> TriedChange<SharedBytes>
+) -> ChangeOutcome<SharedBytes>
     ensures tried { IsChangeTried same_key same_bytes no_value no_value
         (AreAllowed key.now (longest_in (option_copied expected.entry) (option_copied value.entry)))
         (IsRefusalOf key.now (longest_in (option_copied expected.entry) (option_copied value.entry)))
@@ -158,7 +158,7 @@ pub fn try_exchange_bytes(
     key: &[u8],
     expected: Option<&[u8]>,
     value: Option<&[u8]>,
-) -> TriedChange<SharedBytes>
+) -> ChangeOutcome<SharedBytes>
     ensures changed { IsChanged same_key same_bytes no_value no_value
         (AreAllowed key.now (longest_in (option_copied expected.entry) (option_copied value.entry)))
         (IsRefusalOf key.now (longest_in (option_copied expected.entry) (option_copied value.entry)))

@@ -4,13 +4,13 @@ ghost use Rattle.bin_history.specs.Ops.{call_on, key_in};
 ghost use Rattle.facing_maps.specs.Calls.{IsCalled, IsFound};
 
 use crate::stage::Stage;
-use crate::status::{Tried, WRONG_HANDLE};
+use crate::status::{CallOutcome, WRONG_HANDLE};
 use bin_history::{KeyArg, Op, Remap, Value};
 use hashkeys::{AsKey, HashKey};
 
 impl<K: HashKey, V: Value, F: Remap<K, V>> Stage<K, V, F> {
     /// Tries a call of the client that this is. It waits for nobody.
-    pub fn try_call(&mut self, key: KeyArg<'_, K>, op: Op<V, F>) -> Tried<V>
+    pub fn try_call(&mut self, key: KeyArg<'_, K>, op: Op<V, F>) -> CallOutcome<V>
         ensures { IsCalled K.eq V.eq F.remapped F.merged ⊤ (λ _. ⊥) self.old
             (call_on (key_in key.entry) op) self.new result }
     {

@@ -3,7 +3,7 @@ ghost use Rattle.std.specs.Prelude.{◌≡◌, option_copied};
 ghost use Rattle.facing_maps.specs.Changes.{change_to, is_same};
 ghost use Rattle.facing_maps.specs.Keys.{same_bytes};
 
-use crate::changing::{Changed, Changing, Told};
+use crate::changing::{ChangeReply, Changed, Changing};
 use crate::seeded::copied;
 use crate::shared::SharedBytes;
 use clients::Change;
@@ -32,7 +32,7 @@ impl Changing<u64> for Exchange {
 
     ghost changes = { λ e seen made. made ≡ exchange nat_eq e.expected e.value seen };
 
-    fn change(self, seen: Option<&u64>) -> (Change<u64>, Told<u64>) {
+    fn change(self, seen: Option<&u64>) -> (Change<u64>, ChangeReply<u64>) {
         let seen = seen.copied();
         let is_expected = seen == self.expected;
         let change = if is_expected {
@@ -64,7 +64,7 @@ impl Changing<u64> for AddUpTo {
 
     ghost changes = { λ a seen made. made ≡ add_up_to a.amount a.most seen };
 
-    fn change(self, seen: Option<&u64>) -> (Change<u64>, Told<u64>) {
+    fn change(self, seen: Option<&u64>) -> (Change<u64>, ChangeReply<u64>) {
         let seen = seen.copied();
         let before = seen.unwrap_or(0);
         if self.amount > self.most || before > self.most - self.amount {
@@ -112,7 +112,7 @@ impl<'a> Changing<SharedBytes> for ExchangeBytes<'a> {
 
     ghost changes = { λ e seen made. IsOrStays (exchange same_bytes (option_copied e.expected) e.value seen) made };
 
-    fn change(self, seen: Option<&SharedBytes>) -> (Change<SharedBytes>, Told<SharedBytes>) {
+    fn change(self, seen: Option<&SharedBytes>) -> (Change<SharedBytes>, ChangeReply<SharedBytes>) {
         let made = are_expected(seen, self.expected);
         match copied(seen) {
             Ok(value) => {

@@ -23,22 +23,22 @@ pub struct Changed<V> {
 }
 
 /// What a change tells, or that there was no memory to tell it: then the value stays as it was.
-pub type Told<V> = Result<Changed<V>, AllocError>;
+pub type ChangeReply<V> = Result<Changed<V>, AllocError>;
 
 /// What came of a change that was to be tried: what it told or why it was refused, or none where
 /// another thread was in its way; or the status for which it was not tried.
-pub type TriedChange<V> = Result<Option<Result<Told<V>, Fault>>, u32>;
+pub type ChangeOutcome<V> = Result<Option<Result<ChangeReply<V>, Fault>>, u32>;
 
 /// A change of the value at a key, which may depend on the value.
 pub trait Changing<V>: Drop {
     ghost use Rattle.std.specs.Prelude.{Option, option_copied};
     ghost use Rattle.chm.specs.declared.calls.update.Change.{Change};
-    ghost use Rattle.facing_maps.specs.Changes.{Told};
+    ghost use Rattle.facing_maps.specs.Changes.{ChangeReply};
 
-    ghost changes: { Self → Option V → Change V × Told V → Type 0 };
+    ghost changes: { Self → Option V → Change V × ChangeReply V → Type 0 };
 
     /// The change, by the value that it sees, and what is told of it.
-    fn change(self, seen: Option<&V>) -> (Change<V>, Told<V>)
+    fn change(self, seen: Option<&V>) -> (Change<V>, ChangeReply<V>)
         ensures { changes self (option_copied seen.entry) result };
 }
 
@@ -47,7 +47,7 @@ fn try_change_with<K: HashKey, V: Value, F: Remap<K, V>, C: Changing<V>>(
     client: &mut OwnedClient<K, V, F, Global>,
     key: KeyArg<'_, K>,
     changing: C,
-) -> Option<Result<Told<V>, Fault>>
+) -> Option<Result<ChangeReply<V>, Fault>>
     ensures updated { IfSome result (IsUpdate K.eq V.eq F.remapped F.merged
         (λ shown made. C.changes changing (option_copied shown) made) client.old.map.ledger
         (key_in key.entry) client.old.pass client.new.pass) }
@@ -59,7 +59,11 @@ fn try_change_with<K: HashKey, V: Value, F: Remap<K, V>, C: Changing<V>>(
 
 impl<K: HashKey, V: Value, F: Remap<K, V>> Stage<K, V, F> {
     /// Tries a change on this key, by the client that this is. It waits for nobody.
-    pub fn try_change<C: Changing<V>>(&mut self, key: KeyArg<'_, K>, changing: C) -> TriedChange<V>
+    pub fn try_change<C: Changing<V>>(
+        &mut self,
+        key: KeyArg<'_, K>,
+        changing: C,
+    ) -> ChangeOutcome<V>
         ensures { IsChanged K.eq V.eq F.remapped F.merged ⊤ (λ _. ⊥) (C.changes changing) self.old
             (key_in key.entry) self.new result }
     {
@@ -79,7 +83,7 @@ pub(crate) fn try_change_at<V: Value, F: Remap<SeededKey, V>, C: Changing<V>>(
     keys: &mut Keys,
     key: &[u8],
     changing: C,
-) -> TriedChange<V>
+) -> ChangeOutcome<V>
     ensures tried { IsChangeTried same_key V.eq F.remapped F.merged
         (length key.now ≤ facing_longest) (IsRefusal (length key.now)) (C.changes changing)
         client.old.map.ledger (key_of keys.old key.now) client.old.pass client.new.pass result }
@@ -105,7 +109,7 @@ pub fn try_change_on<V: Value, F: Remap<SeededKey, V>, C: Changing<V>>(
     keys: &mut Keys,
     key: &[u8],
     changing: C,
-) -> TriedChange<V>
+) -> ChangeOutcome<V>
     ensures changed { IsChanged same_key V.eq F.remapped F.merged
         (length key.now ≤ facing_longest) (IsRefusal (length key.now)) (C.changes changing) stage.old
         (key_of keys.old key.now) stage.new result }

@@ -3,7 +3,7 @@ ghost use Rattle.std.specs.Prelude.{◌≡◌, length};
 ghost use Rattle.facing_maps.specs.Changes.{added_by, exchanged_by, one_if, seen_room, told_of};
 ghost use Rattle.facing_maps.specs.Stages.{status_in};
 
-use crate::changing::{Changed, TriedChange};
+use crate::changing::{ChangeOutcome, Changed};
 use crate::copying::copy_into;
 use crate::shared::SharedBytes;
 use crate::status::{BUSY, DONE, FacingAnswer, NO_MEMORY, code_of};
@@ -41,7 +41,7 @@ impl FacingExchanged {
 }
 
 /// What a change told, or the status for which it told nothing.
-fn told<V: Drop>(tried: TriedChange<V>) -> Result<Changed<V>, u32>
+fn told<V: Drop>(tried: ChangeOutcome<V>) -> Result<Changed<V>, u32>
     ensures { result ≡ told_of tried }
 {
     match tried {
@@ -54,7 +54,7 @@ fn told<V: Drop>(tried: TriedChange<V>) -> Result<Changed<V>, u32>
 }
 
 /// Tells what came of an exchange of numbers. Where it was not tried, the answer is as it was.
-pub fn tell_exchanged(tried: TriedChange<u64>, answer: &mut FacingExchanged) -> u32
+pub fn tell_exchanged(tried: ChangeOutcome<u64>, answer: &mut FacingExchanged) -> u32
     ensures status { result ≡ status_in (told_of tried) }
     ensures answer { answer.new ≡ exchanged_by (λ v. v) (told_of tried) answer.old }
 {
@@ -68,7 +68,7 @@ pub fn tell_exchanged(tried: TriedChange<u64>, answer: &mut FacingExchanged) -> 
 }
 
 /// Tells what came of a sum up to a bound: whether it was at most the bound, and the value after.
-pub fn tell_added(tried: TriedChange<u64>, answer: &mut FacingAnswer) -> u32
+pub fn tell_added(tried: ChangeOutcome<u64>, answer: &mut FacingAnswer) -> u32
     ensures status { result ≡ status_in (told_of tried) }
     ensures answer { answer.new ≡ added_by (told_of tried) answer.old }
 {
@@ -87,7 +87,7 @@ pub fn tell_added(tried: TriedChange<u64>, answer: &mut FacingAnswer) -> u32
 /// Tells what came of an exchange of bytes: what was there as far as there is room for it, and how many
 /// bytes it has. Where it was not tried, nothing is touched.
 pub fn tell_exchanged_bytes(
-    tried: TriedChange<SharedBytes>,
+    tried: ChangeOutcome<SharedBytes>,
     room: &mut [u8],
     answer: &mut FacingExchanged,
 ) -> u32

@@ -20,7 +20,7 @@ mod status;
 
 pub use bytes::{try_bytes, try_exchange_bytes};
 pub use changes::{AddUpTo, Exchange};
-pub use changing::{Changed, Changing, Told, TriedChange, try_change_on};
+pub use changing::{ChangeOutcome, ChangeReply, Changed, Changing, try_change_on};
 pub use closed::ClosedMap;
 pub use copying::copy_into;
 pub use exchanged::{FacingExchanged, tell_added, tell_exchanged, tell_exchanged_bytes};
@@ -32,7 +32,7 @@ pub use seeded::{find, try_has, try_look, try_on};
 pub use shared::SharedBytes;
 pub use stage::Stage;
 pub use status::{
-    BAD_CAPACITY, BAD_CLIENTS, BAD_PLACE, BIN_MISSING, BUSY, CLIENT_FULL, CLIENT_OUT, DONE,
-    FacingAnswer, MOST_BYTES, MOST_VALUE, NO_CLIENT, NO_MEMORY, NO_ROOM, TOO_LONG, Tried,
+    BAD_CAPACITY, BAD_CLIENTS, BAD_PLACE, BIN_MISSING, BUSY, CLIENT_FULL, CLIENT_OUT, CallOutcome,
+    DONE, FacingAnswer, MOST_BYTES, MOST_VALUE, NO_CLIENT, NO_MEMORY, NO_ROOM, TOO_LONG,
     WRONG_HANDLE, code_of, show_whole, tell, tell_bytes, tell_length, tell_whole,
 };

@@ -11,7 +11,7 @@ ghost use Rattle.facing_maps.specs.Statuses.{facing_longest};
 
 use crate::keys::{Keys, SeededKey};
 use crate::stage::Stage;
-use crate::status::{MOST_BYTES, NO_MEMORY, TOO_LONG, Tried, WRONG_HANDLE};
+use crate::status::{CallOutcome, MOST_BYTES, NO_MEMORY, TOO_LONG, WRONG_HANDLE};
 use bin_history::{Exact, KeyArg, Op, Remap, Reply, Value};
 use chm::Fault;
 use clients::OwnedClient;
@@ -34,7 +34,7 @@ pub(crate) fn try_at<V: Value, F: Remap<SeededKey, V>>(
     keys: &mut Keys,
     key: &[u8],
     op: Op<V, F>,
-) -> Tried<V>
+) -> CallOutcome<V>
     ensures tried { IsTried same_key V.eq F.remapped F.merged
         (length key.now ≤ facing_longest) (IsRefusal (length key.now)) client.old.map.ledger
         (call_on (key_of keys.old key.now) op) client.old.pass client.new.pass result }
@@ -59,7 +59,7 @@ fn try_look_at<V: Value, F: Remap<SeededKey, V>>(
     client: &mut OwnedClient<SeededKey, V, F, Global>,
     keys: &Keys,
     key: &[u8],
-) -> Tried<V>
+) -> CallOutcome<V>
     ensures look { IsLook same_key (after V.eq F.remapped F.merged)
         (IsNeverRefused V.is_infallible) Value (length key.now ≤ facing_longest)
         (IsTooLong (length key.now)) client.old.map.ledger (key_of keys.now key.now)
@@ -81,7 +81,7 @@ fn try_has_at<V: Value, F: Remap<SeededKey, V>>(
     client: &mut OwnedClient<SeededKey, V, F, Global>,
     keys: &Keys,
     key: &[u8],
-) -> Tried<V>
+) -> CallOutcome<V>
     ensures look { IsLook same_key (after V.eq F.remapped F.merged) ⊤ (λ v. Truth (is_some v))
         (length key.now ≤ facing_longest) (IsTooLong (length key.now)) client.old.map.ledger
         (key_of keys.now key.now) client.old.pass client.new.pass result }
@@ -102,7 +102,7 @@ pub fn try_on<V: Value, F: Remap<SeededKey, V>>(
     keys: &mut Keys,
     key: &[u8],
     op: Op<V, F>,
-) -> Tried<V>
+) -> CallOutcome<V>
     ensures called { IsCalled same_key V.eq F.remapped F.merged
         (length key.now ≤ facing_longest) (IsRefusal (length key.now)) stage.old
         (call_on (key_of keys.old key.now) op) stage.new result }
@@ -123,7 +123,7 @@ pub fn try_look<V: Value, F: Remap<SeededKey, V>>(
     stage: &mut Stage<SeededKey, V, F>,
     keys: &Keys,
     key: &[u8],
-) -> Tried<V>
+) -> CallOutcome<V>
     ensures { IsLooked same_key (after V.eq F.remapped F.merged) (IsNeverRefused V.is_infallible)
         Value (length key.now ≤ facing_longest) (IsTooLong (length key.now)) stage.old
         (key_of keys.now key.now) stage.new result }
@@ -143,7 +143,7 @@ pub fn try_has<V: Value, F: Remap<SeededKey, V>>(
     stage: &mut Stage<SeededKey, V, F>,
     keys: &Keys,
     key: &[u8],
-) -> Tried<V>
+) -> CallOutcome<V>
     ensures { IsLooked same_key (after V.eq F.remapped F.merged) ⊤ (λ v. Truth (is_some v))
         (length key.now ≤ facing_longest) (IsTooLong (length key.now)) stage.old
         (key_of keys.now key.now)

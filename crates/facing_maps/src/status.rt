@@ -43,7 +43,7 @@ pub const NO_ROOM: u32 = 13;
 
 /// What came of a call that was to be tried: its reply or why it was refused, or none where another
 /// thread was in its way; or the status for which it was not tried.
-pub type Tried<V> = Result<Option<Result<Reply<V>, Fault>>, u32>;
+pub type CallOutcome<V> = Result<Option<Result<Reply<V>, Fault>>, u32>;
 
 /// What an export answers beside its status: whether there is a value, or whether it was so, as 1 or
 /// 0; and the value, or how many bytes it has, or 0.
@@ -108,7 +108,7 @@ pub fn code_of(fault: Fault) -> u32
 
 /// Tells what came of a call on a number: its status, and its answer. Where it was not made, the
 /// answer is as it was.
-pub fn tell(tried: Tried<u64>, answer: &mut FacingAnswer) -> u32
+pub fn tell(tried: CallOutcome<u64>, answer: &mut FacingAnswer) -> u32
     ensures status { result ≡ status_of tried }
     ensures answer { answer.new ≡ answer_by (λ v. v) tried answer.old }
 {
@@ -167,7 +167,11 @@ fn show_reply(reply: Reply<SharedBytes>, room: &mut [u8], answer: &mut FacingAns
 
 /// Tells what came of a call: its status, its answer, and the value as far as there is room for it.
 /// Where it was not made, nothing is touched.
-pub fn tell_bytes(tried: Tried<SharedBytes>, room: &mut [u8], answer: &mut FacingAnswer) -> u32
+pub fn tell_bytes(
+    tried: CallOutcome<SharedBytes>,
+    room: &mut [u8],
+    answer: &mut FacingAnswer,
+) -> u32
     ensures status { result ≡ status_of tried }
     ensures room { room.new ≡ room_of tried room.old }
     ensures answer { answer.new ≡ answer_by length tried answer.old }
@@ -185,7 +189,7 @@ pub fn tell_bytes(tried: Tried<SharedBytes>, room: &mut [u8], answer: &mut Facin
 
 /// Tells what came of a call: its status, and its answer. Where it was not made, the answer is as it
 /// was.
-pub fn tell_length(tried: Tried<SharedBytes>, answer: &mut FacingAnswer) -> u32
+pub fn tell_length(tried: CallOutcome<SharedBytes>, answer: &mut FacingAnswer) -> u32
     ensures status { result ≡ status_of tried }
     ensures answer { answer.new ≡ answer_by length tried answer.old }
 {
@@ -206,7 +210,11 @@ pub fn tell_length(tried: Tried<SharedBytes>, answer: &mut FacingAnswer) -> u32
 }
 
 /// Tells what came of a look: the value where it finds room, and how many bytes it has.
-pub fn tell_whole(tried: Tried<SharedBytes>, room: &mut [u8], answer: &mut FacingAnswer) -> u32
+pub fn tell_whole(
+    tried: CallOutcome<SharedBytes>,
+    room: &mut [u8],
+    answer: &mut FacingAnswer,
+) -> u32
     ensures whole { IsShownWhole tried room.old room.new result }
     ensures answer { answer.new ≡ answer_by length tried answer.old }
 {

@@ -1,5 +1,5 @@
 //! The calls of a client.
-use crate::event::{Asked, Kind, MOST_KEYS, Shown, Told, Updated};
+use crate::event::{Asked, Kind, MOST_KEYS, Returned, Shown, Updated};
 use crate::pause::pause;
 use crate::step::Step;
 use clients::{Change, Client, Fault, KeyArg, Loan};
@@ -39,18 +39,18 @@ fn read<L: Loan, R: Wait>(
     client: &mut Caller<'_, L>,
     asked: &Asked,
     pauses: u32,
-) -> Result<Told, Fault> {
+) -> Result<Returned, Fault> {
     let key = &asked.key;
     match asked.kind {
-        Kind::LookUp => Ok(Told::Value(client.look_up(rt, key)?)),
-        Kind::Glance => Ok(Told::Value(client.glance(rt, key)?)),
-        Kind::Contains => Ok(Told::Truth(client.contains_key(rt, key)?)),
-        Kind::View => Ok(Told::Value(client.view(rt, key, |value| shown(value, pauses)))),
+        Kind::LookUp => Ok(Returned::Value(client.look_up(rt, key)?)),
+        Kind::Glance => Ok(Returned::Value(client.glance(rt, key)?)),
+        Kind::Contains => Ok(Returned::Truth(client.contains_key(rt, key)?)),
+        Kind::View => Ok(Returned::Value(client.view(rt, key, |value| shown(value, pauses)))),
         Kind::TryView => match client.try_view(key, |value| shown(value, pauses)) {
-            Some(value) => Ok(Told::Value(value)),
-            None => Ok(Told::Busy),
+            Some(value) => Ok(Returned::Value(value)),
+            None => Ok(Returned::Busy),
         },
-        _ => Ok(Told::Value(client.get(rt, key)?)),
+        _ => Ok(Returned::Value(client.get(rt, key)?)),
     }
 }
 
@@ -78,7 +78,7 @@ fn update<L: Loan, R: Wait>(
     client: &mut Caller<'_, L>,
     asked: &Asked,
     pauses: u32,
-) -> Result<Told, Fault> {
+) -> Result<Returned, Fault> {
     let Asked {
         kind,
         key,
@@ -88,11 +88,11 @@ fn update<L: Loan, R: Wait>(
     match kind {
         Kind::TryUpdate => {
             match client.try_update(KeyArg::Owned(key), |value| change(value, first, pauses)) {
-                Some(updated) => Ok(Told::Updated(updated?)),
-                None => Ok(Told::Busy),
+                Some(updated) => Ok(Returned::Updated(updated?)),
+                None => Ok(Returned::Busy),
             }
         }
-        _ => Ok(Told::Updated(client.update(rt, key, |value| change(value, first, pauses))?)),
+        _ => Ok(Returned::Updated(client.update(rt, key, |value| change(value, first, pauses))?)),
     }
 }
 
@@ -101,24 +101,28 @@ fn sweep<L: Loan, R: Wait>(
     rt: &R,
     client: &mut Caller<'_, L>,
     asked: &Asked,
-) -> Result<Told, Fault> {
+) -> Result<Returned, Fault> {
     let (divisor, rest) = (asked.first.max(1), asked.second);
     match asked.kind {
         Kind::Clear => {
             client.clear(rt)?;
-            Ok(Told::Done)
+            Ok(Returned::Done)
         }
         Kind::Retain => {
             client.retain(rt, |_key: &u64, value: &u64| *value % divisor == rest)?;
-            Ok(Told::Done)
+            Ok(Returned::Done)
         }
-        Kind::ShowEach => Ok(Told::Shown(show_each(rt, client))),
-        _ => Ok(Told::Shown(walk(rt, client)?)),
+        Kind::ShowEach => Ok(Returned::Shown(show_each(rt, client))),
+        _ => Ok(Returned::Shown(walk(rt, client)?)),
     }
 }
 
 /// Makes a call that puts, replaces or removes.
-fn set<L: Loan, R: Wait>(rt: &R, client: &mut Caller<'_, L>, asked: &Asked) -> Result<Told, Fault> {
+fn set<L: Loan, R: Wait>(
+    rt: &R,
+    client: &mut Caller<'_, L>,
+    asked: &Asked,
+) -> Result<Returned, Fault> {
     let Asked {
         kind,
         key,
@@ -126,12 +130,12 @@ fn set<L: Loan, R: Wait>(rt: &R, client: &mut Caller<'_, L>, asked: &Asked) -> R
         second,
     } = *asked;
     match kind {
-        Kind::PutIfAbsent => Ok(Told::Value(client.put_if_absent(rt, key, first)?)),
-        Kind::Remove => Ok(Told::Value(client.remove(rt, &key)?)),
-        Kind::RemoveIf => Ok(Told::Truth(client.remove_if(rt, &key, first)?)),
-        Kind::Replace => Ok(Told::Value(client.replace(rt, &key, first)?)),
-        Kind::ReplaceIf => Ok(Told::Truth(client.replace_if(rt, &key, first, second)?)),
-        _ => Ok(Told::Value(client.put(rt, key, first)?)),
+        Kind::PutIfAbsent => Ok(Returned::Value(client.put_if_absent(rt, key, first)?)),
+        Kind::Remove => Ok(Returned::Value(client.remove(rt, &key)?)),
+        Kind::RemoveIf => Ok(Returned::Truth(client.remove_if(rt, &key, first)?)),
+        Kind::Replace => Ok(Returned::Value(client.replace(rt, &key, first)?)),
+        Kind::ReplaceIf => Ok(Returned::Truth(client.replace_if(rt, &key, first, second)?)),
+        _ => Ok(Returned::Value(client.put(rt, key, first)?)),
     }
 }
 
@@ -141,7 +145,7 @@ fn compute<L: Loan, R: Wait>(
     client: &mut Caller<'_, L>,
     asked: &Asked,
     pauses: u32,
-) -> Result<Told, Fault> {
+) -> Result<Returned, Fault> {
     let Asked {
         kind,
         key,
@@ -153,12 +157,14 @@ fn compute<L: Loan, R: Wait>(
         pauses,
     };
     match kind {
-        Kind::ComputeIfAbsent => { Ok(Told::Value(client.compute_if_absent(rt, key, step)?.value)) }
-        Kind::ComputeIfPresent => {
-            Ok(Told::Value(client.compute_if_present(rt, &key, step)?.value))
+        Kind::ComputeIfAbsent => {
+            Ok(Returned::Value(client.compute_if_absent(rt, key, step)?.value))
         }
-        Kind::Merge => Ok(Told::Value(client.merge(rt, key, first, step)?.value)),
-        _ => Ok(Told::Value(client.compute(rt, key, step)?)),
+        Kind::ComputeIfPresent => {
+            Ok(Returned::Value(client.compute_if_present(rt, &key, step)?.value))
+        }
+        Kind::Merge => Ok(Returned::Value(client.merge(rt, key, first, step)?.value)),
+        _ => Ok(Returned::Value(client.compute(rt, key, step)?)),
     }
 }
 
@@ -168,7 +174,7 @@ pub(crate) fn make<L: Loan, R: Wait>(
     client: &mut Caller<'_, L>,
     asked: &Asked,
     pauses: u32,
-) -> Result<Told, Fault> {
+) -> Result<Returned, Fault> {
     match asked.kind {
         Kind::Get | Kind::LookUp | Kind::Glance | Kind::Contains | Kind::View | Kind::TryView =>
             read(rt, client, asked, pauses),

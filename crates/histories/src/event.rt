@@ -79,7 +79,7 @@ pub(crate) type Updated = (Option<u64>, Option<u64>);
 
 /// What a call returned.
 #[derive(Clone, Copy)]
-pub(crate) enum Told {
+pub(crate) enum Returned {
     Value(Option<u64>),
     Truth(bool),
     Updated(Updated),
@@ -93,7 +93,7 @@ pub(crate) enum Told {
 #[derive(Clone, Copy)]
 pub(crate) struct Event {
     pub(crate) asked: Asked,
-    pub(crate) told: Told,
+    pub(crate) told: Returned,
     pub(crate) start: u64,
     pub(crate) end: u64,
 }
@@ -107,21 +107,21 @@ fn write_value<R: Print>(rt: &R, value: Option<u64>) -> io::Result<()> {
 }
 
 /// Writes what a call returned, and ends the line.
-fn write_told<R: Print>(rt: &R, told: Told) -> io::Result<()> {
+fn write_told<R: Print>(rt: &R, told: Returned) -> io::Result<()> {
     match told {
-        Told::Value(value) => write_value(rt, value)?,
-        Told::Truth(truth) => print!(rt; " {truth}")?,
-        Told::Shown(shown) => {
+        Returned::Value(value) => write_value(rt, value)?,
+        Returned::Truth(truth) => print!(rt; " {truth}")?,
+        Returned::Shown(shown) => {
             for value in &shown {
                 write_value(rt, *value)?;
             }
         }
-        Told::Updated((before, after)) => {
+        Returned::Updated((before, after)) => {
             write_value(rt, before)?;
             write_value(rt, after)?;
         }
-        Told::Done => print!(rt; " done")?,
-        Told::Busy => print!(rt; " busy")?,
+        Returned::Done => print!(rt; " done")?,
+        Returned::Busy => print!(rt; " busy")?,
     }
     println!(rt;)
 }

@@ -1,6 +1,6 @@
 //! A history: clients that call at the same time, and when each call began and ended.
 use crate::calls::{Caller, make};
-use crate::event::{Asked, Event, Kind, MOST_KEYS, Told};
+use crate::event::{Asked, Event, Kind, MOST_KEYS, Returned};
 use crate::pause::pause;
 use crate::plan::Plan;
 use crate::random::Random;
@@ -66,7 +66,7 @@ impl Recording<'_> {
 
 /// Keeps the value that the call showed at its key, where it showed one.
 fn notice(seen: &mut [u64; 8], event: &Event) {
-    if let Told::Value(Some(value)) | Told::Updated((_, Some(value))) = event.told {
+    if let Returned::Value(Some(value)) | Returned::Updated((_, Some(value))) = event.told {
         let place = (event.asked.key % 8) as usize;
         seen[place] = value;
     }
@@ -133,7 +133,7 @@ fn final_walk(closed: &Closed, ticks: u64) -> Event {
             first: 0,
             second: 0,
         },
-        told: Told::Shown(shown),
+        told: Returned::Shown(shown),
         start: ticks,
         end: ticks.wrapping_add(1),
     }

@@ -51,7 +51,7 @@ fn bring_all<K: HashKey, V: Value, F: Remap<K, V>, A: Allocator + Clone>(
     ensures more { BeginsWith moment.new.seen moment.old.seen }
 {
     hear_each(map.map(), &mut passes, moment);
-    map.bring_passes(passes);
+    map.return_passes(passes);
 }
 
 /// Returns the value of the map's entries by the reducer, as `live_reduce` does, after all calls that

@@ -12,7 +12,7 @@ fn passes_are_lent_and_brought_back(rt: HostRuntime) {
     );
     let passes = map.lend_passes(4).expect(&rt, "no fault");
     let lent = passes.len();
-    map.bring_passes(passes);
+    map.return_passes(passes);
     assert_same(&rt, &lent, &4);
     let closed = map.close().expect(&rt, "a closed map");
     assert_same(&rt, &closed.mapping_count(), &0);
@@ -31,11 +31,11 @@ fn passes_that_are_lent_are_out(rt: HostRuntime) {
     let lent = passes.len();
     let missing = map.client().err();
     let none = map.lend_passes(1);
-    map.bring_passes(passes);
+    map.return_passes(passes);
     let fewer = match none {
         Ok(none) => {
             let fewer = none.len();
-            map.bring_passes(none);
+            map.return_passes(none);
             fewer
         }
         Err(_) => 9,

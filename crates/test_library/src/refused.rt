@@ -160,14 +160,14 @@ fn lend_nine<A: Allocator + Clone>(
     let told = match lent {
         Ok(passes) => {
             let lent = passes.len();
-            map.bring_passes(passes);
+            map.return_passes(passes);
             Ok(lent)
         }
         Err(fault) => Err(fault),
     };
     let all = map.lend_passes(9)?;
     let taken = all.len();
-    map.bring_passes(all);
+    map.return_passes(all);
     map.close()?;
     Ok((told, taken))
 }

@@ -47,7 +47,7 @@ fn keys_are_shown_once_while_the_table_grows(rt: HostRuntime) -> Result<(), Fail
         let map = filled(&rt, rt.alloc(), 1, 20, 100)?;
         // (all passes are made, since two threads do not make one at the same time)
         let passes = map.lend_passes(20)?;
-        map.bring_passes(passes);
+        map.return_passes(passes);
         let before = map.map().table_size();
         let gate = gate_of(&rt, &map);
         let plan = Plan {

@@ -112,7 +112,7 @@ impl<K: HashKey, V: Value, F: Remap<K, V>, A: Allocator + Clone> Map<K, V, F, A>
     }
 
     /// The pass sees all calls so far, and the bin that is held has what they left in its class.
-    pub(crate) fn meet_under(
+    pub(crate) fn observe_bin(
         &self,
         pass: &mut Pass<K, V, F>,
         bin: &Bin<K, V, F, A>,

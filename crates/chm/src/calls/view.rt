@@ -76,7 +76,7 @@ impl<
     ) -> Result<(T, Growth), Never> {
         let Viewing { query, f } = self;
         let answer = f(bin_slot.entries.get_as(hash, query));
-        map.meet_in_place(pass, bin_slot, class);
+        map.observe_in_place(pass, bin_slot, class);
         Ok((answer, Growth::none()))
     }
 
@@ -90,7 +90,7 @@ impl<
     ) -> Result<(T, Growth), Never> {
         let Viewing { query, f } = self;
         let answer = f(bin.get_as(hash, query));
-        map.meet_under(pass, bin, role);
+        map.observe_bin(pass, bin, role);
         Ok((answer, Growth::none()))
     }
 }

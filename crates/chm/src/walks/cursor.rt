@@ -298,7 +298,7 @@ impl<K: HashKey, V: Value, F: Remap<K, V>, A: Allocator + Clone> Map<K, V, F, A>
         bin.lawful();
         let class = narrower(next, bin.class());
         let copies = copies_of_class(self.resizer.allocator(), bin, class);
-        self.meet_under(pass, bin, &mut lent.role);
+        self.observe_bin(pass, bin, &mut lent.role);
         held.release();
         let entries = copies?;
         cursor.go_past(class);

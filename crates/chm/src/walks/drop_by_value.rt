@@ -173,7 +173,7 @@ impl<K: HashKey, V: Value, F: Remap<K, V>, A: Allocator + Clone> Map<K, V, F, A>
         let bin = &mut lent.bin;
         let done = self.drop_all(rt, pass, bin, &mut lent.role, class, keeps);
         bin.lawful();
-        self.meet_under(pass, bin, &mut lent.role);
+        self.observe_bin(pass, bin, &mut lent.role);
         held.release();
         done?;
         cursor.go_past(class);

@@ -153,7 +153,7 @@ impl<K: HashKey, V: Value, F: Remap<K, V>, A: Allocator + Clone> Map<K, V, F, A>
     {
         let done = self.drop_all_in_place(rt, pass, bin_slot, own, class, keeps);
         lawful_entries::<K, V, F, A>(&bin_slot.entries);
-        self.meet_in_place(pass, bin_slot, own);
+        self.observe_in_place(pass, bin_slot, own);
         done
     }
 

@@ -29,7 +29,7 @@ impl<K: HashKey, V: Value, F: Remap<K, V>, A: Allocator + Clone> Map<K, V, F, A>
     /// The pass sees all calls so far, and what lies at the place of a lean bucket of the class is what
     /// they left in its class.
     #[inline(always)]
-    pub(crate) fn meet_in_place(
+    pub(crate) fn observe_in_place(
         &self,
         pass: &mut Pass<K, V, F>,
         bin_slot: &mut BinSlot<K, V, F, A>,
@@ -73,7 +73,7 @@ impl<K: HashKey, V: Value, F: Remap<K, V>, A: Allocator + Clone> Map<K, V, F, A>
         lawful_entries::<K, V, F, A>(&bin_slot.entries);
         let alloc = self.resizer.allocator();
         let copies = copies_of_entries(alloc, &bin_slot.entries, self.salt(), own, class);
-        self.meet_in_place(pass, bin_slot, own);
+        self.observe_in_place(pass, bin_slot, own);
         copies
     }
 
@@ -104,7 +104,7 @@ impl<K: HashKey, V: Value, F: Remap<K, V>, A: Allocator + Clone> Map<K, V, F, A>
     {
         lawful_entries::<K, V, F, A>(&bin_slot.entries);
         use_at_class(bin_slot.entries.walk(), self.salt(), own, class, f);
-        self.meet_in_place(pass, bin_slot, own);
+        self.observe_in_place(pass, bin_slot, own);
     }
 
     /// Gives the taker those entries at the place of a lean bucket of its own class that are of
@@ -136,7 +136,7 @@ impl<K: HashKey, V: Value, F: Remap<K, V>, A: Allocator + Clone> Map<K, V, F, A>
         lawful_entries::<K, V, F, A>(&bin_slot.entries);
         let walk = bin_slot.entries.walk();
         let more = show_entries(taker, part, walk, self.salt(), own, class);
-        self.meet_in_place(pass, bin_slot, own);
+        self.observe_in_place(pass, bin_slot, own);
         more
     }
 

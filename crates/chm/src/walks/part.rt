@@ -110,7 +110,7 @@ impl<K: HashKey, V: Value, F: Remap<K, V>, A: Allocator + Clone> Map<K, V, F, A>
         bin.lawful();
         let class = walk.class_in(bin.class());
         let more = add_of_bin(taker, part, bin, class);
-        self.meet_under(pass, bin, &mut lent.role);
+        self.observe_bin(pass, bin, &mut lent.role);
         held.release();
         walk.go_past(class);
         more

@@ -129,7 +129,7 @@ impl<K: HashKey, V: Value, F: Remap<K, V>, A: Allocator + Clone> Map<K, V, F, A>
         bin.lawful();
         let class = narrower(next, bin.class());
         use_at_bin(bin, class, f);
-        self.meet_under(pass, bin, &mut lent.role);
+        self.observe_bin(pass, bin, &mut lent.role);
         held.release();
         cursor.go_past(class);
     }

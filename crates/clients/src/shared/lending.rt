@@ -9,11 +9,11 @@ use std::alloc::Allocator;
 
 impl<K: HashKey, V: Value, F: Remap<K, V>, A: Allocator + Clone> SharedMap<K, V, F, A> {
     /// Takes up to this many passes, as `client` takes one each: fewer where fewer are free, which may
-    /// be none. The map does not close until `bring_passes` has all of them back. It allocates the
+    /// be none. The map does not close until `return_passes` has all of them back. It allocates the
     /// list, and waits for nobody.
     ///
     ///     let passes = map.lend_passes(4)?;
-    ///     map.bring_passes(passes);
+    ///     map.return_passes(passes);
     ///
     /// # Errors
     ///
@@ -30,7 +30,7 @@ impl<K: HashKey, V: Value, F: Remap<K, V>, A: Allocator + Clone> SharedMap<K, V,
                 Ok(pass) => passes.push_reserved(pass),
                 Err(Fault::NoClient) => break,
                 Err(_) => {
-                    self.bring_passes(passes);
+                    self.return_passes(passes);
                     return Err(Fault::NoMemory);
                 }
             }
@@ -41,12 +41,12 @@ impl<K: HashKey, V: Value, F: Remap<K, V>, A: Allocator + Clone> SharedMap<K, V,
     /// Gives passes of the map back. A full one is not taken again. It takes time linear in their
     /// number, no memory, and waits for nobody.
     ///
-    ///     map.bring_passes(passes);
-    pub fn bring_passes(&self, mut passes: Vec<Pass<K, V, F>, A>)
+    ///     map.return_passes(passes);
+    pub fn return_passes(&self, mut passes: Vec<Pass<K, V, F>, A>)
         requires { All (λ p. p.ledger ≡ self.now.ledger.id) passes.items }
     {
         while let Some(pass) = passes.pop() {
-            self.pass_pool.bring(pass);
+            self.pass_pool.put_back(pass);
         }
         passes.destroy_empty();
     }

@@ -6,6 +6,6 @@ load-requires g c = (
   c.requires.seat,
   c.requires.word,
   rw c.requires.terms
-      (Allows-told g.K.HashKey.code g.K.PartialEq.eq _ c.args.shared.now.key _ g.T.Told.change _ c.args.word c.args.seat.now.me
+      (Allows-told g.K.HashKey.code g.K.PartialEq.eq _ c.args.shared.now.key _ g.T.StepTerms.change _ c.args.word c.args.seat.now.me
       (λ n. n) c.requires.rule),
 )

@@ -30,8 +30,8 @@ returns-clause-shown g c =
     let p = place_of (bins_of c.args.self.now) c.args.own in
     let own = class_at g.K.PartialEq.eq after_is p x.entries x.role c.requires.lies in
     let visit = IsVisit-met g.K.PartialEq.eq (key_tells g.met.K.Eq.laws g.met.K.HashKey.equal_is_same) code ledger
-    c.meet_in_place.new.pass.seen c.args.own c.args.class (as_bin x.entries) own c.lawful_entries.ensures.distinct
-    c.meet_in_place.ensures.met c.requires.within in
+    c.observe_in_place.new.pass.seen c.args.own c.args.class (as_bin x.entries) own c.lawful_entries.ensures.distinct
+    c.observe_in_place.ensures.met c.requires.within in
     let Comes : List (_ × _) → Salt → List (_ × _) → Type 0 = λ before s es. g.T.Taker.reached c.args.taker.now
     (before ++ part_of_entries (is_of code s c.args.class) es) c.show_entries-more.result in (
       part_of_entries (is_of code ledger.salt c.args.class) x.entries.entries,

@@ -34,10 +34,10 @@ returns-clause-visit g c =
     let p = place_of (bins_of c.args.self.now) c.args.own in
     let own = class_at g.K.PartialEq.eq after_is p x.entries x.role c.requires.lies in
     let visit = IsVisit-met g.K.PartialEq.eq (key_tells g.met.K.Eq.laws g.met.K.HashKey.equal_is_same) code ledger
-    c.meet_in_place.new.pass.seen c.args.own c.args.class (as_bin x.entries) own c.lawful_entries.ensures.distinct
-    c.meet_in_place.ensures.met c.requires.within in
+    c.observe_in_place.new.pass.seen c.args.own c.args.class (as_bin x.entries) own c.lawful_entries.ensures.distinct
+    c.observe_in_place.ensures.met c.requires.within in
     IfOk-weaker c.copies_of_entries-copies.result _ _
-    (λ copies is. subst (λ (es : List (_ × _)). IsVisit g.K.PartialEq.eq code ledger c.meet_in_place.new.pass.seen
+    (λ copies is. subst (λ (es : List (_ × _)). IsVisit g.K.PartialEq.eq code ledger c.observe_in_place.new.pass.seen
     (record { class = c.args.class; entries = es }))
     (sym (subst (λ (s : Salt). copies.items ≡ part_of_entries (is_of code s c.args.class) x.entries.entries)
     c.salt.ensures is)) visit) c.copies_of_entries-copies.ensures

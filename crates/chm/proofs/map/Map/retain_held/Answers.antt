@@ -21,7 +21,7 @@ use Rattle.chm.proofs.map.Map.retain_held.Goals as goal
 pub release-requires : goal.release-requires
 release-requires g c =
     let at = c.requires.at in
-    let same = c.meet_under.ensures.same_role in
+    let same = c.observe_bin.ensures.same_role in
     record {
       class = c.drop_all-done.ensures.class ∙ at.class;
       form = c.drop_all-done.ensures.form ∙ at.form;
@@ -38,9 +38,9 @@ returns-clause-removed g c =
     let (rs, each, is) = c.drop_all-done.ensures.removed in (
       rs,
       each,
-      made_seen rs c.args.pass.now c.drop_all-done.new.pass c.meet_under.new.pass is
+      made_seen rs c.args.pass.now c.drop_all-done.new.pass c.observe_bin.new.pass is
           (HasSeenMore-seen g.K.PartialEq.eq (after g.V.PartialEq.eq g.F.Remap.remapped g.F.Remap.merged)
-          c.args.self.now.ledger c.drop_all-done.new.pass c.meet_under.new.pass c.meet_under.ensures.seen),
+          c.args.self.now.ledger c.drop_all-done.new.pass c.observe_bin.new.pass c.observe_bin.ensures.seen),
     )
 
 pub returns-in_err-done-clause-removed : goal.returns-in_err-done-clause-removed
@@ -48,9 +48,9 @@ returns-in_err-done-clause-removed g c =
     let (rs, each, is) = c.drop_all-done.ensures.removed in (
       rs,
       each,
-      made_seen rs c.args.pass.now c.drop_all-done.new.pass c.meet_under.new.pass is
+      made_seen rs c.args.pass.now c.drop_all-done.new.pass c.observe_bin.new.pass is
           (HasSeenMore-seen g.K.PartialEq.eq (after g.V.PartialEq.eq g.F.Remap.remapped g.F.Remap.merged)
-          c.args.self.now.ledger c.drop_all-done.new.pass c.meet_under.new.pass c.meet_under.ensures.seen),
+          c.args.self.now.ledger c.drop_all-done.new.pass c.observe_bin.new.pass c.observe_bin.ensures.seen),
     )
 
 pub returns-clause-kept : goal.returns-clause-kept
@@ -61,16 +61,16 @@ returns-clause-kept g c =
     let ledger = c.args.self.now.ledger in
     let bin = c.drop_all-done.new.bin in
     let mid = c.drop_all-done.new.pass in
-    let end = c.meet_under.new.pass in
+    let end = c.observe_bin.new.pass in
     let all = replay same ledger.opening end.seen in
     let narrow = subst (λ (k : ClassView). (hash : ℕ) → covers c.args.class hash ≡ true → covers k hash ≡ true)
     (sym c.drop_all-done.ensures.class) c.requires.within in
-    let part = part-of-part code ledger bin.class c.args.class bin.entries all c.meet_under.ensures.met.entries narrow in (
+    let part = part-of-part code ledger bin.class c.args.class bin.entries all c.observe_bin.ensures.met.entries narrow in (
       record {
-        front = IsFront-seen same its_after ledger mid end c.meet_under.ensures.seen;
+        front = IsFront-seen same its_after ledger mid end c.observe_bin.ensures.seen;
         kept = kept-seen (goal.G-step g) code ledger c.args.class c.args.keeps.now c.args.pass.now
             c.drop_all-done.new.keeps mid end bin.entries all c.in_ok-done.ensures.kept
-            (HasSeenMore-seen same its_after ledger mid end c.meet_under.ensures.seen) part;
+            (HasSeenMore-seen same its_after ledger mid end c.observe_bin.ensures.seen) part;
       },
       c.go_past.ensures.passed,
     )
@@ -87,13 +87,13 @@ returns-in_err-done-clause-stopped g c =
     let old = c.args.pass.now in
     let q = c.drop_all-done.new.keeps in
     let mid = c.drop_all-done.new.pass in
-    let end = c.meet_under.new.pass in
+    let end = c.observe_bin.new.pass in
     let all = replay same ledger.opening end.seen in
     let narrow = subst (λ (k : ClassView). (hash : ℕ) → covers class hash ≡ true → covers k hash ≡ true)
     (sym c.drop_all-done.ensures.class) c.requires.within in
-    let part = part-of-part code ledger bin.class class bin.entries all c.meet_under.ensures.met.entries narrow in
+    let part = part-of-part code ledger bin.class class bin.entries all c.observe_bin.ensures.met.entries narrow in
     let visit = IsVisit-part same (key_tells g.met.K.Eq.laws g.met.K.HashKey.equal_is_same) code ledger end.seen bin.class
-    class bin.entries c.lawful.ensures.lawful.distinct c.meet_under.ensures.met.entries narrow in
+    class bin.entries c.lawful.ensures.lawful.distinct c.observe_bin.ensures.met.entries narrow in
     let (next, next_is, is_first) = some_and (λ (k : ClassView). IsFirstOf k class) c.args.cursor.now.next c.requires.first in
     let P : Fault → Type 0 = λ fault. IsSomeAnd c.args.cursor.now.next (λ (k : ClassView). HasStoppedAt (goal.G-step g) same
     code its_after ledger fault k p old q end) × (c.args.cursor.now ≡ c.args.cursor.now) in
@@ -104,11 +104,11 @@ returns-in_err-done-clause-stopped g c =
             class,
             is_first,
             record {
-              front = IsFront-seen same its_after ledger mid end c.meet_under.ensures.seen;
+              front = IsFront-seen same its_after ledger mid end c.observe_bin.ensures.seen;
               visit = subst (λ (es : List (_ × _)). IsVisit same code ledger end.seen (record { class = class; entries = es }))
                   part visit;
               stopped = stopped-seen (goal.G-step g) code ledger class fault p old q mid end bin.entries all stopped
-                  (HasSeenMore-seen same its_after ledger mid end c.meet_under.ensures.seen) part;
+                  (HasSeenMore-seen same its_after ledger mid end c.observe_bin.ensures.seen) part;
             },
           ),
       refl,

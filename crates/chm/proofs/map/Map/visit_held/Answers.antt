@@ -18,7 +18,7 @@ pub release-requires : goal.release-requires
 release-requires g c =
     let At : RoleView _ _ _ → Type 0 = λ r. AreAt g.K.PartialEq.eq
     (after g.V.PartialEq.eq g.F.Remap.remapped g.F.Remap.merged) (tag_of c.args.held.place) c.args.held.bin r in
-    subst At (sym c.meet_under.ensures.same_role) c.requires.at
+    subst At (sym c.observe_bin.ensures.same_role) c.requires.at
 
 pub go_past-requires : goal.go_past-requires
 go_past-requires g c =
@@ -37,11 +37,11 @@ returns-clause-visit g c =
     let is : copies ≡ part_of_entries (is_of code ledger.salt class) bin.entries =
     subst (λ (s : Salt). copies ≡ part_of_entries (is_of code s class) bin.entries) c.requires.salt
     c.in_ok-entries.ensures in
-    subst (λ (es : List (_ × _)). IsVisit g.K.PartialEq.eq code ledger c.meet_under.new.pass.seen
+    subst (λ (es : List (_ × _)). IsVisit g.K.PartialEq.eq code ledger c.observe_bin.new.pass.seen
     (record { class = class; entries = es })) (sym is)
     (IsVisit-met g.K.PartialEq.eq (key_tells g.met.K.Eq.laws g.met.K.HashKey.equal_is_same) code ledger
-    c.meet_under.new.pass.seen c.class.result class bin (sym c.class.ensures) c.lawful.ensures.lawful.distinct
-    c.meet_under.ensures.met c.narrower-class.ensures.within)
+    c.observe_bin.new.pass.seen c.class.result class bin (sym c.class.ensures) c.lawful.ensures.lawful.distinct
+    c.observe_bin.ensures.met c.narrower-class.ensures.within)
 
 pub returns-clause-come : goal.returns-clause-come
 returns-clause-come g c = λ shown come.

@@ -10,12 +10,12 @@ returns-clause-done g c =
     let key = g.Q.AsKey.stands_for c.args.self.query in
     let bin = c.args.bin.now in
     let on = ap (covers bin.class) (sym c.requires.hash) ∙ c.requires.covers in
-    (c.meet_under.ensures.seen, (c.get_as.result, c.get_as.ensures ∙ c.meet_under.ensures.met.same_map key on, c.f-answer.ensures))
+    (c.observe_bin.ensures.seen, (c.get_as.result, c.get_as.ensures ∙ c.observe_bin.ensures.met.same_map key on, c.f-answer.ensures))
 
 pub returns-clause-ledger : goal.returns-clause-ledger
-returns-clause-ledger g c = ap (λ (r : RoleView _ _ _). r.ledger) c.meet_under.ensures.same_role
+returns-clause-ledger g c = ap (λ (r : RoleView _ _ _). r.ledger) c.observe_bin.ensures.same_role
 
 pub returns-clause-agree : goal.returns-clause-agree
 returns-clause-agree g c =
     subst (λ (r : RoleView _ _ _). BinAgrees g.K.PartialEq.eq (after g.V.PartialEq.eq g.F.Remap.remapped g.F.Remap.merged)
-    c.args.bin.now r) (sym c.meet_under.ensures.same_role) c.requires.agree
+    c.args.bin.now r) (sym c.observe_bin.ensures.same_role) c.requires.agree

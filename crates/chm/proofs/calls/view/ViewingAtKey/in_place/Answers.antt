@@ -23,4 +23,4 @@ returns-clause-done g c =
     let on = (λ i. covers (class i) (hash_of c.args.map.now.ledger.salt (g.K.HashKey.code key)))
     ∙ ap (covers c.args.class) (sym c.requires.hash)
     ∙ c.requires.covers in
-    (c.meet_in_place.ensures.seen, (c.get_as.result, c.get_as.ensures ∙ c.meet_in_place.ensures.met.same_map key on, c.f-answer.ensures))
+    (c.observe_in_place.ensures.seen, (c.get_as.result, c.get_as.ensures ∙ c.observe_in_place.ensures.met.same_map key on, c.f-answer.ensures))

@@ -10,7 +10,7 @@ use Rattle.chm.specs.Histories.{IsMet}
 use Rattle.chm.specs.Views.{MapView, bins_of}
 use Rattle.chm.proofs.InPlace.{at_role, role_at, same_at, role_class}
 use Rattle.chm.proofs.Meeting.{IsMet-front}
-use Rattle.chm.proofs.map.Map.meet_in_place.Goals as goal
+use Rattle.chm.proofs.map.Map.observe_in_place.Goals as goal
 
 pub take_role-role-requires : goal.take_role-role-requires
 take_role-role-requires g c =

@@ -6,7 +6,7 @@ use Rattle.count_ledger.specs.Views.{LedgerView}
 use Rattle.chm.specs.Histories.{IsMet}
 use Rattle.chm.specs.Views.{MapView}
 use Rattle.chm.proofs.Meeting.{IsMet-front}
-use Rattle.chm.proofs.map.Map.meet_under.Goals as goal
+use Rattle.chm.proofs.map.Map.observe_bin.Goals as goal
 
 pub returns-clause-seen : goal.returns-clause-seen
 returns-clause-seen g c =

@@ -1,5 +1,5 @@
 use Rattle.std.proofs.Common.{◌≡◌, All}
-use Rattle.clients.proofs.shared.SharedMap.bring_passes.Given as goal
+use Rattle.clients.proofs.shared.SharedMap.return_passes.Given as goal
 
 abbrev pub invariant-loop-pass : goal.invariant-loop-pass
 invariant-loop-pass g l = All (λ p. p.ledger ≡ l.self.ledger.id) l.passes.items
