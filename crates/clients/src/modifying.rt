@@ -133,9 +133,10 @@ impl<H: Holder<K, V, F, A>, K: HashKey, V: Value, F: Remap<K, V>, A: Allocator +
     ///
     /// # Errors
     ///
-    /// `PassFull` before the function is called, and `NoMemory`. The map and the client are as they were.
-    /// The default and the function come back, and the function was not called; but nothing comes back of
-    /// a recorded map that was out of memory after it had called the function.
+    /// `PassFull` before the function is called. `NoMemory`, which in a lean map comes only where the key
+    /// has no value. The map and the client are as they were. The default and the function come back,
+    /// and the function was not called; but nothing comes back of a recorded map that was out of memory
+    /// after it had called the function.
     pub fn modify_or_insert<R: Wait, Q: MakesKey<K, A>, T: Drop, G: FnOnce(&mut V) -> T>(
         &mut self,
         rt: &R,
