@@ -163,7 +163,7 @@ where
 
     ghost key = { λ w. Q.stands_for w.query };
 
-    ghost may = { λ w ledger pass. IsWithin ledger pass × G.IsAlwaysCallable w.f × (ledger.form ≡ Lean) };
+    ghost may = { λ w ledger pass. IsWithin ledger pass × G.IsAlwaysCallable w.f };
 
     ghost does = { λ w ledger old new answer. IsModified K.eq V.eq F.remapped F.merged
         (FnOnceReturnsAtMut G.FnOnce w.f) ledger (Q.stands_for w.query) old new answer };
@@ -188,6 +188,7 @@ where
         Ok((answer, Growth::none()))
     }
 
+    // A recorded map keeps the key of each call, and there is none.
     fn by_value(
         self,
         map: &Map<K, V, F, A>,
@@ -196,7 +197,7 @@ where
         role: &mut BinRole<K, V, F>,
         hash: u32,
     ) -> Result<(Option<T>, Growth), Fault> {
-        unreachable!()
+        Err(Fault::NoMemory)
     }
 }
 

@@ -46,13 +46,13 @@ impl<K: HashKey, V: Value, F: Remap<K, V>, A: Allocator + Clone, Q: AsKey<K>> At
 
     ghost key = { λ w. Q.stands_for w.query };
 
-    ghost may = { λ w ledger pass. IsWithin ledger pass × (ledger.form ≡ Lean) };
+    ghost may = { λ w ledger pass. IsWithin ledger pass };
 
     ghost does = { λ w ledger old new reply. IsCalled K.eq V.eq F.remapped F.merged ledger
         (call_on (Q.stands_for w.query) (op_for w.seek)) old new reply };
 
     ghost fails = { λ w ledger old fault. (fault ≡ NoMemory)
-        × ((w.seek ≡ Get → IsNeverRefused V.is_infallible) → ⊥) };
+        × (ledger.form ≡ Lean → (w.seek ≡ Get → IsNeverRefused V.is_infallible) → ⊥) };
 
     #[inline(always)]
     fn hash(&self, salt: Salt) -> u32 {
@@ -83,6 +83,7 @@ impl<K: HashKey, V: Value, F: Remap<K, V>, A: Allocator + Clone, Q: AsKey<K>> At
         Ok((reply, Growth::none()))
     }
 
+    // A recorded map keeps the key of each call, and there is none.
     fn by_value(
         self,
         map: &Map<K, V, F, A>,
@@ -91,7 +92,7 @@ impl<K: HashKey, V: Value, F: Remap<K, V>, A: Allocator + Clone, Q: AsKey<K>> At
         role: &mut BinRole<K, V, F>,
         hash: u32,
     ) -> Result<(Reply<V>, Growth), Fault> {
-        unreachable!()
+        Err(Fault::NoMemory)
     }
 }
 

@@ -7,6 +7,7 @@ use Rattle.bin_history.specs.Leans.{as_bin}
 use Rattle.bin_history.specs.Ops.{call_on}
 use Rattle.bin_history.specs.Seeks.{op_for}
 use Rattle.bin_history.specs.Sure.{IsNeverRefused}
+use Rattle.bin_history.specs.declared.form.Form.TheVariants.{Lean}
 use Rattle.bin_history.specs.declared.seek.Seek.TheVariants.{Get}
 use Rattle.bin_history.proofs.Changes.{key-call_on}
 use Rattle.bin_history.proofs.Keys.{key_tells}
@@ -132,6 +133,6 @@ returns-in_err-reply-clause-lies g c =
 pub returns-in_err-reply-clause-fails : goal.returns-in_err-reply-clause-fails
 returns-in_err-reply-clause-fails g c =
     let P : Fault → Type 0 = λ fault. (fault ≡ NoMemory)
-    × ((c.args.self.seek ≡ Get → IsNeverRefused g.V.Clone.is_infallible) → ⊥) in
+    × (c.args.map.now.ledger.form ≡ Lean → (c.args.self.seek ≡ Get → IsNeverRefused g.V.Clone.is_infallible) → ⊥) in
     IfErr-of P c.from_residual.result NoMemory c.from_residual.ensures.1
-    (refl, λ never. false≢true (c.in_err-reply.ensures.spared never))
+    (refl, λ lean never. false≢true (c.in_err-reply.ensures.spared never))
