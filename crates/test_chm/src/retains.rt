@@ -1,6 +1,6 @@
 //! A retain by a function that changes with each call: what it is called for, in which order, how many
 //! entries are removed, and where it stops.
-ghost use Rattle.std.specs.Prelude.{◌≡◌};
+ghost use Rattle.std.specs.Prelude.{◌≡◌, All};
 
 use crate::maps::{KeyMap, KeyPass, assert_same, get_often, key, put_new, put_texts};
 use bin_history::Form;
@@ -65,7 +65,8 @@ fn every_second<R: Wait, A: Allocator + Clone>(rt: &R, map: &KeyMap<A>, pass: &m
 
 /// The sum of the values of a closed map, and how many there are.
 fn left_of(rt: &impl Abort, single: Single<Key, u64, test_support::Plus, Global>) -> (u64, u64)
-    requires { single.pass.ledger ≡ single.map.ledger.id }
+    requires pass { single.pass.ledger ≡ single.map.ledger.id }
+    requires place { All (λ p. p.ledger ≡ single.map.ledger.id) single.place.items }
 {
     let Single { map, pass, place } = single;
     let closed = close_single(map, pass, place).expect(rt, "a closed map");
