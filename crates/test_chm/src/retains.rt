@@ -161,6 +161,28 @@ fn the_error_counts_what_was_removed(rt: HostRuntime) {
     assert_same(&rt, &told, &(Ok(3), 3));
 }
 
+/// Removes the entries whose values are at most 5, bucket by bucket, and counts them by what the steps
+/// return.
+fn removed_by_steps<R: Wait, A: Allocator + Clone>(
+    rt: &R,
+    map: &KeyMap<A>,
+    pass: &mut KeyPass,
+) -> u64
+    requires { pass.old.ledger ≡ map.now.ledger.id }
+    ensures { pass.new.ledger ≡ map.now.ledger.id }
+{
+    let mut cursor = map.cursor();
+    let mut removed = 0u64;
+    let mut keeps = |_key: &Key, value: &u64| *value > 5;
+    for _ in rt.forever() {
+        match map.retain_next(rt, pass, &mut cursor, &mut keeps) {
+            Ok(Some(some)) => removed = removed.wrapping_add(some),
+            _ => return removed,
+        }
+    }
+    unreachable!()
+}
+
 #[test]
 fn a_step_counts_the_entries_of_its_bucket(rt: HostRuntime) {
     for form in BOTH {
@@ -170,15 +192,7 @@ fn a_step_counts_the_entries_of_its_bucket(rt: HostRuntime) {
             place,
         } = open_single(rt.alloc(), form, 1).expect(&rt, "a map");
         put_new(&rt, &map, &mut pass, key(&rt, b"a"), 5);
-        let mut cursor = map.cursor();
-        let mut removed = 0u64;
-        let mut keeps = |_key: &Key, value: &u64| *value > 5;
-        for _ in rt.forever() {
-            match map.retain_next(&rt, &mut pass, &mut cursor, &mut keeps) {
-                Ok(Some(some)) => removed = removed.wrapping_add(some),
-                _ => break,
-            }
-        }
+        let removed = removed_by_steps(&rt, &map, &mut pass);
         assert_same(&rt, &removed, &1);
         let left = left_of(&rt, Single { map, pass, place });
         assert_same(&rt, &left, &(0, 0));
