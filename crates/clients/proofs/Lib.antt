@@ -5,6 +5,7 @@ mod Computing
 mod ManyPuts
 mod Turns
 mod Whole
+mod Walked
 mod Kept
 mod Made
 mod Replies

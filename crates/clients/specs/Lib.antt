@@ -5,4 +5,5 @@ pub mod Replies
 pub mod PassPools
 pub mod Folds
 pub mod Filled
+pub mod Found
 pub mod Clients

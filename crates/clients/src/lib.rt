@@ -9,6 +9,7 @@ mod client;
 mod client_fault;
 mod computed;
 mod filling;
+mod finding;
 mod folding;
 mod holder;
 mod lent;

@@ -13,6 +13,8 @@ mod closed;
 #[cfg(test)]
 mod examples;
 #[cfg(test)]
+mod finding;
+#[cfg(test)]
 mod in_place;
 #[cfg(test)]
 mod keys;
