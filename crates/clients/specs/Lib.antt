@@ -6,4 +6,5 @@ pub mod PassPools
 pub mod Folds
 pub mod Filled
 pub mod Found
+pub mod Stats
 pub mod Clients

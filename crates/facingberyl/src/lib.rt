@@ -11,8 +11,8 @@ pub use clients::{
     MOST_LEAN_CLIENTS, MakesKey, Map, Moment, NoFunction, NotClosed, NotClosedWith, NotMade,
     NotRetained, Op, Opened, Owned, OwnedClient, OwnedPass, Pass, Quiet, Remap, Reply, Roster,
     Salt, Seat, Set, Shared, SharedMap, SharedNotClosed, Sharing, ShownEntries, ShownQuiet,
-    Started, Team, TeamNotClosed, Text, Unshared, Update, Value, Visit, Work, Worked, Working,
-    retire_all,
+    Started, Stats, Team, TeamNotClosed, Text, Unshared, Update, Value, Visit, Work, Worked,
+    Working, retire_all,
 };
 /// Bulk operations on a map that others call meanwhile.
 pub use live_maps as live;

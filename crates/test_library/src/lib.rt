@@ -9,6 +9,8 @@ mod asserts;
 #[cfg(test)]
 mod boxes;
 #[cfg(test)]
+mod bucket_lengths;
+#[cfg(test)]
 mod closed;
 #[cfg(test)]
 mod examples;
