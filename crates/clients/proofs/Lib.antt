@@ -2,6 +2,7 @@ mod AllPasses
 mod Rows
 pub mod Passes
 mod Computing
+mod Inserts
 mod Lengths
 mod ManyPuts
 mod Turns

@@ -6,5 +6,6 @@ pub mod PassPools
 pub mod Folds
 pub mod Filled
 pub mod Found
+pub mod Inserted
 pub mod Stats
 pub mod Clients

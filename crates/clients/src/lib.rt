@@ -12,6 +12,7 @@ mod filling;
 mod finding;
 mod folding;
 mod holder;
+mod inserting;
 mod lent;
 mod letter;
 mod making;

@@ -19,6 +19,8 @@ mod finding;
 #[cfg(test)]
 mod in_place;
 #[cfg(test)]
+mod inserting;
+#[cfg(test)]
 mod keys;
 #[cfg(test)]
 mod lending;
