@@ -10,8 +10,9 @@ from .build import Build, Room
 
 # The modules that the crates become, and the tests that the programs become.
 PREFIX, PROGRAM = "in_", "the_program"
-# A crate's tests are built with those of other crates that have the same one of these below them, the first that they have.
-LAYERS = ("clients", "mapcli_core", "chm")
+# A crate's tests are built with those of other crates that have the same one of these below them, the first that they have: more in one
+# program would be more copies of generic functions than the kit compiles (65,536).
+LAYERS = ("caches", "clients", "mapcli_core", "chm")
 MAIN = re.compile(r"^fn main\(", re.M)
 # The first source. A test is started with its name as the first word, so the words of a crate's program come after that.
 ROOT = """//! Tests of several crates.
