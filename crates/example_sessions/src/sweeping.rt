@@ -13,9 +13,7 @@ fn drop_ended<L: Loan, R: Wait>(rt: &R, client: &mut Caller<'_, L>, now: u64) ->
     let mut cursor = client.cursor();
     for _ in rt.forever() {
         let mut lasts = |_number: &u64, session: &Session| now < session.deadline;
-        if client
-            .retain_next(rt, &mut cursor, &mut lasts)?
-            .is_none() {
+        if client.retain_next(rt, &mut cursor, &mut lasts)?.is_none() {
             break;
         }
     }
