@@ -40,7 +40,7 @@ fn by_slice<R: Wait>(
         runs = runs.wrapping_add(1);
         6
     })?;
-    Ok(([first, second], runs, client.get_as(rt, b"one".as_slice())?))
+    Ok(([first, second], runs, client.get(rt, &Bytes(b"one"))?))
 }
 
 #[test]
