@@ -33,7 +33,7 @@ THINGS = (
     ("functions that are lent or given a value, and keys that are made only where there are none", "each_example_of_a_value_that_a_client_lends_is_as_it_says", "each_example_of_what_makes_its_key_is_as_it_says", "a_list_grows_where_it_lies", "an_error_of_the_function_leaves_the_value", "what_is_refused_comes_back_uncalled", "a_key_that_is_there_asks_for_no_memory", "a_busy_try_lends_nothing"),
     ("`retain`", "each_entry_that_goes_is_a_remove", "a_refused_remove_leaves_those_before_it"),
     ("walks by a cursor, one bucket at a time", "a_client_calls_between_two_steps_of_its_walk", "a_walk_shows_each_key_once_whatever_was_divided", "a_walk_goes_in_the_order_of_the_table_of_its_beginning", "a_cursor_of_a_wider_table_meets_each_bucket_by_its_parts"),
-    ("codes, hashes, salts", "known_codes_spreads_and_slots", "known_hashes_under_salts", "numbers_have_known_codes"),
+    ("codes, hashes, salts", "known_codes_spreads_hashes_and_slots", "numbers_have_known_codes"),
     ("seeds: known codes, and keys that collide without one", "codes_under_a_seed_are_known", "keys_that_share_a_plain_code_differ_under_a_seed"),
     ("a set", "a_key_is_inserted_and_removed_once"),
     ("maps for text from outside: calls by queries, seeds, closing and opening again", "each_call_takes_the_query_of_a_text", "texts_that_differ_are_other_keys", "two_maps_draw_two_seeds", "a_map_has_the_seed_that_its_source_gives", "a_map_is_opened_again_with_its_texts_and_its_seed", "a_map_with_a_client_out_comes_back_with_its_seed"),

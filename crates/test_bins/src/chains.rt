@@ -3,6 +3,7 @@ ghost use Rattle.std.specs.Prelude.{nat_eq, IfOk};
 ghost use Rattle.bin_history.specs.Entries.{HasDistinctKeys};
 
 use crate::asserts::assert_same;
+use crate::rows::op_between;
 use crate::twins::Twin;
 use bin_history::{Bin, Form, KeyArg, Op, Reply};
 use hashkeys::{Class, Salt};
@@ -33,12 +34,13 @@ fn make(
     bin: &mut LongBin,
     number: u64,
     op: Op<u64, Plus>,
-) -> Result<Reply<u64>, AllocError> {
+) -> Reply<u64> {
     let key = Twin(number);
     let (salt, class) = (bin.salt(), bin.class());
     let hash = salt.hash_of(&key);
     assert!(rt; class.covers(hash));
-    Ok(bin.make_on(&alloc, hash, KeyArg::Owned(key), op, 0, 0)?.0)
+    let made = bin.make_on(&alloc, hash, KeyArg::Owned(key), op, 0, 0);
+    made.expect(rt, "memory").0
 }
 
 /// Asserts that the walk goes over the numbers from 1 on, in order, but for 500,000, then over the
@@ -57,32 +59,53 @@ fn assert_walk(rt: &impl Abort, bin: &LongBin) {
     assert_same(rt, &turn, &1_000_001);
 }
 
-#[test]
-fn a_million_entries_under_one_hash(rt: HostRuntime) {
-    let alloc = rt.alloc();
-    let base = numbered(alloc).expect(&rt, "memory");
-    let mut bin = Bin::new(&alloc, Form::Lean, Salt(0), Class::new(1, 0), base).expect(
-        &rt, "memory",
-    );
-    for (number, op, found) in [
-        (999_999, Op::Put(7), Some(999_999)),
-        (0, Op::Remove, Some(0)),
-        (500_000, Op::Remove, Some(500_000)),
-        (500_000, Op::Get, None),
-        (0, Op::Put(5), None),
-        (0, Op::Get, Some(5)),
-    ] {
-        let reply = make(&rt, alloc, &mut bin, number, op).expect(&rt, "memory");
-        assert_same(&rt, &(number, reply), &(number, Reply::Value(found)));
-    }
-    assert_walk(&rt, &bin);
-    let copy = bin.copy_entries(&alloc).expect(&rt, "memory");
-    assert_same(&rt, &copy.len(), &999_999);
+/// A number, the value that a call finds there, and the value that it leaves.
+const CALLS: [(u64, Option<u64>, Option<u64>); 6] = [
+    (999_999, Some(999_999), Some(7)),
+    (0, Some(0), None),
+    (500_000, Some(500_000), None),
+    (500_000, None, None),
+    (0, None, Some(5)),
+    (0, Some(5), Some(5)),
+];
+
+/// The halves of a bin.
+fn halves(rt: &impl Abort, alloc: Global, bin: LongBin) -> (LongBin, LongBin) {
     assert!(rt; bin.class().n() < 65536);
-    let Ok((low, high)) = bin.split(&alloc) else {
+    let Ok(halves) = bin.split(&alloc) else {
         assert!(rt; false, "nothing is refused");
         unreachable!()
     };
+    halves
+}
+
+/// A lean bin with all entries.
+fn opened(rt: &impl Abort, alloc: Global) -> LongBin {
+    let base = numbered(alloc).expect(rt, "memory");
+    let made = Bin::new(&alloc, Form::Lean, Salt(0), Class::new(1, 0), base);
+    made.expect(rt, "memory")
+}
+
+/// Makes the calls, each of which finds what is said.
+fn assert_calls(rt: &impl Abort, alloc: Global, bin: &mut LongBin) {
+    for (number, found, left) in &CALLS {
+        let reply = make(rt, alloc, bin, *number, op_between(*found, *left));
+        assert_same(rt, &(*number, reply), &(*number, Reply::Value(*found)));
+    }
+}
+
+/// How many entries a copy of the bin's has.
+fn copied(rt: &impl Abort, alloc: Global, bin: &LongBin) -> usize {
+    bin.copy_entries(&alloc).expect(rt, "memory").len()
+}
+
+#[test]
+fn a_million_entries_under_one_hash(rt: HostRuntime) {
+    let mut bin = opened(&rt, rt.alloc());
+    assert_calls(&rt, rt.alloc(), &mut bin);
+    assert_walk(&rt, &bin);
+    assert_same(&rt, &copied(&rt, rt.alloc(), &bin), &999_999);
+    let (low, high) = halves(&rt, rt.alloc(), bin);
     assert_walk(&rt, &low);
-    assert!(rt; high.first().is_none());
+    assert_same(&rt, &high.first().is_none(), &true);
 }

@@ -1,5 +1,5 @@
 //! Bins with their roles, and the calls on them that are posted.
-ghost use Rattle.std.specs.Prelude.{◌≡◌, ◌<◌, ◌^◌, true, [], length, All, IfOk, IfErr};
+ghost use Rattle.std.specs.Prelude.{◌≡◌, ◌<◌, ◌^◌, true, [], length, All, IfOk};
 ghost use Rattle.hashkeys.specs.Classes.{is_of, low_half, high_half};
 ghost use Rattle.hashkeys.specs.Limits.{most_bins};
 ghost use Rattle.count_ledger.specs.Agreement.{part_of_role};
@@ -121,34 +121,35 @@ impl Held {
         (low, high)
     }
 
-    /// Settles with this role alone, or hands everything back.
-    pub(crate) fn settle_alone(
+    /// Asserts that the ledger does not settle with this role and these passes, and hands everything
+    /// back.
+    pub(crate) fn refused(
         self,
         rt: &impl Abort,
         ledger: KeyLedger,
         passes: Vec<KeyPass>,
-    ) -> Result<u64, (KeyLedger, Vec<KeyPass>, Held)>
+    ) -> (KeyLedger, Vec<KeyPass>, Held)
         requires passes { All (λ p. p.ledger ≡ ledger.id) passes.items }
         requires role { self.ledger ≡ ledger.id }
-        ensures ledger { IfErr result (λ u. u.0 ≡ ledger) }
-        ensures passes { IfErr result (λ u. u.1 ≡ passes) }
-        ensures role { IfErr result (λ u. u.2 ≡ self) }
+        ensures ledger { result.0 ≡ ledger }
+        ensures passes { result.1 ≡ passes }
+        ensures role { result.2 ≡ self }
     {
         let Held { alloc, bin, role } = self;
         let roles = Vec::from_array(alloc, [role]).expect(rt, "memory");
-        match ledger.settle(passes, roles) {
-            Ok(total) => Ok(total),
-            Err(
-                Unsettled {
-                    ledger,
-                    passes,
-                    mut roles,
-                },
-            ) => {
-                let role = roles.pop().expect(rt, "a role");
-                Err((ledger, passes, Held { alloc, bin, role }))
-            }
-        }
+        let Err(
+            Unsettled {
+                ledger,
+                passes,
+                mut roles,
+            },
+        ) = ledger.settle(passes, roles)
+        else {
+            assert!(rt; false, "a pass or a role is missing");
+            unreachable!()
+        };
+        let role = roles.pop().expect(rt, "a role");
+        (ledger, passes, Held { alloc, bin, role })
     }
 }
 

@@ -48,30 +48,34 @@ fn counted(len: u8) -> &'static [u8] {
     front
 }
 
+/// Whether bytes that lie inline are those given, as a key of their own and as the key.
+fn inline(own: &Hashed<Global>, given: &[u8]) -> Option<[bool; 2]> {
+    match seed().short_key::<Global>(given) {
+        Some(short) => Some([short.bytes() == given, short == *own]),
+        None => None,
+    }
+}
+
+/// Whether the room of a key has the bytes given.
+fn room(own: Hashed<Global>, given: &[u8]) -> Option<bool> {
+    match own.into_room() {
+        Some(room) => Some(room.as_slice() == given),
+        None => None,
+    }
+}
+
 #[test]
 fn up_to_eighteen_bytes_lie_inline(rt: HostRuntime) {
     for (len, blocks) in &LENGTHS {
         let given = counted(*len);
         let own = key(&rt, rt.alloc(), given);
-        let is_same = own.bytes() == given;
-        let inline = match seed().short_key::<Global>(given) {
-            Some(short) => Some([short.bytes() == given, short == own]),
-            None => None,
-        };
-        let is_room = match own.into_room() {
-            Some(room) => Some(room.as_slice() == given),
-            None => None,
-        };
+        let found = (own.bytes() == given, inline(&own, given), room(own, given));
         let wanted = if *blocks == 0 {
-            (Some([true; 2]), None)
+            (true, Some([true; 2]), None)
         } else {
-            (None, Some(true))
+            (true, None, Some(true))
         };
-        assert_same(
-            &rt,
-            &(*len, is_same, (inline, is_room)),
-            &(*len, true, wanted),
-        );
+        assert_same(&rt, &(*len, found), &(*len, wanted));
     }
 }
 
@@ -96,44 +100,55 @@ fn padded_bytes_have_zeros_behind_them(rt: HostRuntime) {
     assert_same(&rt, &padded.front(5), &b"\x01\x02\x03\0\0".as_slice());
 }
 
+/// Whether a clone is made where the next request is refused, and whether there was one. What comes after
+/// it is granted.
+fn refused_clone(alloc: Alloc<'_>, own: &Hashed<Alloc<'_>>) -> (bool, bool) {
+    alloc.refuse_after(0);
+    let is_made = own.clone().is_ok();
+    (is_made, alloc.has_refused())
+}
+
+/// What is found of a clone and of its clone: whether both are as the key and the latter has the bytes
+/// given, the codes of both, how many blocks are out with them, and whether the latter has room.
+type Clones = ([bool; 3], [u32; 2], u64, bool);
+
+fn clones(rt: &impl Abort, alloc: Alloc<'_>, own: &Hashed<Alloc<'_>>, given: &[u8]) -> Clones {
+    let same = own.clone().expect(rt, "memory");
+    let again = same.clone().expect(rt, "memory");
+    let equal = [same == *own, again == *own, again.bytes() == given];
+    let codes = [same.hash_code(), again.hash_code()];
+    let blocks = alloc.blocks_out();
+    (equal, codes, blocks, again.into_room().is_some())
+}
+
 #[test]
 fn clones_of_long_keys_alone_take_memory(rt: HostRuntime) {
     let alloc = Refusing::new(rt.alloc());
     for (len, blocks) in &LENGTHS {
-        let own = key(&rt, &alloc, counted(*len));
+        let given = counted(*len);
+        let own = key(&rt, &alloc, given);
         let before = alloc.blocks_out();
-        // The next request is refused, and what comes after it is granted.
-        alloc.refuse_after(0);
-        let first = own.clone().is_ok();
-        let asked = alloc.has_refused();
-        let same = own.clone().expect(&rt, "memory");
-        let again = same.clone().expect(&rt, "memory");
-        let code = [same.hash_code(), again.hash_code()];
-        let found = [
-            first,
-            asked,
-            same == own,
-            again == own,
-            again.bytes() == counted(*len),
-        ];
-        let numbers = [before, alloc.blocks_out()];
+        let refused = refused_clone(&alloc, &own);
+        let found = clones(&rt, &alloc, &own, given);
         alloc.refuse_after(9);
         let inline = *blocks == 0;
-        let room = if inline { 0 } else { 2 };
-        assert_same(&rt, &(*len, numbers), &(*len, [room, room + 2 * *blocks]));
-        assert_same(
-            &rt,
-            &(*len, found),
-            &(*len, [inline, !inline, true, true, true]),
+        let own_blocks = if inline { 0 } else { 2 };
+        let wanted = (
+            [true; 3],
+            [own.hash_code(); 2],
+            own_blocks + 2 * *blocks,
+            *blocks == 2,
         );
-        assert_same(&rt, &(*len, code), &(*len, [own.hash_code(); 2]));
-        assert_same(
-            &rt,
-            &(*len, again.into_room().is_some()),
-            &(*len, *blocks == 2),
-        );
+        let first = (*len, before, refused);
+        assert_same(&rt, &first, &(*len, own_blocks, (inline, !inline)));
+        assert_same(&rt, &(*len, found), &(*len, wanted));
     }
     assert_same(&rt, &alloc.blocks_out(), &0);
+}
+
+/// Whether a look-up by the bytes finds the key.
+fn is_found(bytes: &[u8], key: &Hashed<Alloc<'_>>) -> bool {
+    seed().query(bytes).is_key(key)
 }
 
 /// Whether the keys of two texts are equal, as they are made, as they are stored and as a look-up compares
@@ -144,9 +159,9 @@ fn are_equal(rt: &impl Abort, alloc: Alloc<'_>, one: &[u8], other: &[u8]) -> boo
     let is_equal = first == second;
     let found = [
         first == stored,
-        seed().query(one).is_key(&second),
-        seed().query(one).is_key(&stored),
-        seed().query(other).is_key(&first),
+        is_found(one, &second),
+        is_found(one, &stored),
+        is_found(other, &first),
     ];
     assert_same(rt, &(one, other, found), &(one, other, [is_equal; 4]));
     is_equal

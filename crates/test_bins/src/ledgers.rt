@@ -6,8 +6,9 @@ ghost use Rattle.count_ledger.specs.Opening.{new_passes};
 
 use crate::asserts::{assert_same, key};
 use crate::held::{Held, KeyLedger, KeyPass, KeyRole, hold_all, roles_of};
-use bin_history::{Form, Op, Reply};
-use count_ledger::{Ledger, LedgerName, MOST_CALLS};
+use crate::rows::op_between;
+use bin_history::{Form, Reply};
+use count_ledger::{Ledger, LedgerName, MOST_CALLS, retire_all};
 use hashkeys::{Key, Salt};
 use std::alloc::{AllocError, Global};
 use std::process::Abort;
@@ -16,9 +17,8 @@ use std::thread::join_mut;
 use test_support::{Plus, settled};
 
 /// A call: which client makes it, on which bin and key, and which value it is to find and to leave.
-/// It is a put, or where it leaves none a remove.
 #[derive(Drop)]
-pub(crate) struct Row {
+struct Row {
     client: usize,
     bin: usize,
     key: &'static [u8],
@@ -26,31 +26,15 @@ pub(crate) struct Row {
     after: Option<u64>,
 }
 
-pub(crate) fn put(
-    client: usize,
-    bin: usize,
-    key: &'static [u8],
-    before: Option<u64>,
-    after: u64,
-) -> Row {
-    Row {
-        client,
-        bin,
-        key,
-        before,
-        after: Some(after),
-    }
-}
-
-/// Makes a call on the key as the pass's next, which finds this value, and posts it.
+/// Makes a call on the key as the pass's next, which finds a value and leaves one, and posts it.
 pub(crate) fn call(
     rt: &impl Abort,
     ledger: &KeyLedger,
     pass: &mut KeyPass,
     bin: &mut Held,
     text: &[u8],
-    op: Op<u64, Plus>,
     before: Option<u64>,
+    after: Option<u64>,
 )
     requires pass { pass.old.ledger ≡ ledger.now.id }
     requires role { bin.old.ledger ≡ ledger.now.id }
@@ -61,28 +45,9 @@ pub(crate) fn call(
     assert!(rt; pass.made() < ledger.most_calls());
     assert!(rt; pass.made() < 1 << 48);
     assert!(rt; bin.class().covers(bin.salt().hash_of(&key)));
+    let op = op_between(before, after);
     let reply = bin.post(ledger, pass, key, op).expect(rt, "memory");
     assert_same(rt, &reply, &Reply::Value(before));
-}
-
-/// Makes the call of a row.
-pub(crate) fn make(
-    rt: &impl Abort,
-    ledger: &KeyLedger,
-    pass: &mut KeyPass,
-    bin: &mut Held,
-    row: &Row,
-)
-    requires pass { pass.old.ledger ≡ ledger.now.id }
-    requires role { bin.old.ledger ≡ ledger.now.id }
-    ensures pass { pass.new.ledger ≡ ledger.now.id }
-    ensures role { bin.new.ledger ≡ ledger.now.id }
-{
-    let op = match row.after {
-        Some(value) => Op::Put(value),
-        None => Op::Remove,
-    };
-    call(rt, ledger, pass, bin, row.key, op, row.before);
 }
 
 fn make_all(
@@ -103,7 +68,15 @@ fn make_all(
 {
     for row in rows {
         assert!(rt; row.client < passes.len() && row.bin < bins.len());
-        make(rt, ledger, &mut passes[row.client], &mut bins[row.bin], row);
+        call(
+            rt,
+            ledger,
+            &mut passes[row.client],
+            &mut bins[row.bin],
+            row.key,
+            row.before,
+            row.after,
+        );
     }
 }
 
@@ -159,30 +132,112 @@ pub(crate) fn open(
     Ok((ledger, passes, bins))
 }
 
+/// A ledger of two clients over an empty map, the pass of each, and its bins.
+pub(crate) fn open_for_two(
+    rt: &impl Abort,
+    alloc: Global,
+    n: usize,
+) -> (KeyLedger, KeyPass, KeyPass, Vec<Held>)
+    requires size { IsTableSize n }
+    ensures pass { result.1.ledger ≡ result.0.id }
+    ensures other_pass { result.2.ledger ≡ result.0.id }
+    ensures own { All (λ x. x.ledger ≡ result.0.id) result.3.items }
+{
+    let (ledger, mut passes, bins) = open(rt, alloc, 2, n).expect(rt, "memory");
+    let other_pass = passes.pop().expect(rt, "a pass");
+    let pass = passes.pop().expect(rt, "a pass");
+    retire_all(passes);
+    (ledger, pass, other_pass, bins)
+}
+
+/// Takes the last bin out.
+pub(crate) fn take_bin(rt: &impl Abort, ledger: &KeyLedger, bins: &mut Vec<Held>) -> Held
+    requires { All (λ r. r.ledger ≡ ledger.now.id) bins.old.items }
+    ensures bin { result.ledger ≡ ledger.now.id }
+    ensures others { All (λ r. r.ledger ≡ ledger.now.id) bins.new.items }
+{
+    // read for the proof alone
+    let _ = ledger;
+    let bin = bins.pop().expect(rt, "a bin");
+    bin
+}
+
+/// Puts a bin back behind the others.
+pub(crate) fn put_bin(rt: &impl Abort, ledger: &KeyLedger, bins: &mut Vec<Held>, bin: Held)
+    requires bin { bin.ledger ≡ ledger.now.id }
+    requires others { All (λ r. r.ledger ≡ ledger.now.id) bins.old.items }
+    ensures { All (λ r. r.ledger ≡ ledger.now.id) bins.new.items }
+{
+    // read for the proof alone
+    let _ = ledger;
+    bins.push(bin).expect(rt, "memory");
+}
+
+/// Settles a ledger of two clients, and returns the sum of all deltas.
+pub(crate) fn settled_for_two(
+    rt: &impl Abort,
+    ledger: KeyLedger,
+    pass: KeyPass,
+    other_pass: KeyPass,
+    bins: Vec<Held>,
+) -> Option<u64>
+    requires pass { pass.ledger ≡ ledger.id }
+    requires other_pass { other_pass.ledger ≡ ledger.id }
+    requires own { All (λ r. r.ledger ≡ ledger.id) bins.items }
+{
+    let passes = Vec::from_array(*bins.allocator(), [pass, other_pass]).expect(rt, "memory");
+    settled(ledger, passes, roles_of(rt, bins))
+}
+
+/// The first client puts four times, and the second takes one of its keys away.
+const SHARED: [Row; 5] = [
+    Row {
+        client: 0,
+        bin: 1,
+        key: b"a",
+        before: None,
+        after: Some(1),
+    },
+    Row {
+        client: 0,
+        bin: 0,
+        key: b"b",
+        before: None,
+        after: Some(2),
+    },
+    Row {
+        client: 0,
+        bin: 1,
+        key: b"a",
+        before: Some(1),
+        after: Some(3),
+    },
+    Row {
+        client: 0,
+        bin: 1,
+        key: b"q",
+        before: None,
+        after: Some(4),
+    },
+    Row {
+        client: 1,
+        bin: 0,
+        key: b"b",
+        before: Some(2),
+        after: None,
+    },
+];
+
 #[test]
 fn shares_and_sums_count_new_keys(rt: HostRuntime) {
     let (ledger, mut passes, mut bins) = open(&rt, rt.alloc(), 2, 2).expect(&rt, "memory");
-    let rows = [
-        put(0, 1, b"a", None, 1),
-        put(0, 0, b"b", None, 2),
-        put(0, 1, b"a", Some(1), 3),
-        put(0, 1, b"q", None, 4),
-        Row {
-            client: 1,
-            bin: 0,
-            key: b"b",
-            before: Some(2),
-            after: None,
-        },
-    ];
-    make_all(&rt, &ledger, &mut passes, &mut bins, &rows);
+    make_all(&rt, &ledger, &mut passes, &mut bins, &SHARED);
     let sums = (ledger.sum(), ledger.sum_all(&mut passes));
     assert!(rt; passes.len() == 2);
     let shares = (ledger.share(&mut passes[0]), ledger.share(&mut passes[1]));
     let total = settled(ledger, passes, roles_of(&rt, bins));
-    assert_same(&rt, &sums, &(2, 2));
-    assert_same(&rt, &shares, &(3, 18_446_744_073_709_551_615));
-    assert_same(&rt, &total, &Some(2));
+    let wanted = ((2, 2), (3, 18_446_744_073_709_551_615), Some(2));
+    assert_same(&rt, &(sums, shares, total), &wanted);
 }
 
 /// Divides the last bin.
@@ -207,28 +262,64 @@ fn are_of(bins: &[Held], classes: &[(u32, u32)]) -> bool {
     bins.len() == classes.len()
 }
 
+/// Both clients put a key before its bin is divided.
+const BEFORE: [Row; 2] = [
+    Row {
+        client: 0,
+        bin: 1,
+        key: b"a",
+        before: None,
+        after: Some(1),
+    },
+    Row {
+        client: 1,
+        bin: 1,
+        key: b"c",
+        before: None,
+        after: Some(2),
+    },
+];
+
+/// Each puts the other's key afterwards, and one puts a key more.
+const AFTER: [Row; 3] = [
+    Row {
+        client: 1,
+        bin: 1,
+        key: b"a",
+        before: Some(1),
+        after: Some(3),
+    },
+    Row {
+        client: 0,
+        bin: 2,
+        key: b"c",
+        before: Some(2),
+        after: Some(4),
+    },
+    Row {
+        client: 0,
+        bin: 1,
+        key: b"q",
+        before: None,
+        after: Some(5),
+    },
+];
+
 #[test]
 fn a_divided_role_keeps_each_key_in_its_half(rt: HostRuntime) {
     let (ledger, mut passes, mut bins) = open(&rt, rt.alloc(), 2, 2).expect(&rt, "memory");
-    let before = [put(0, 1, b"a", None, 1), put(1, 1, b"c", None, 2)];
-    make_all(&rt, &ledger, &mut passes, &mut bins, &before);
+    make_all(&rt, &ledger, &mut passes, &mut bins, &BEFORE);
     divide_last(&rt, &ledger, &mut bins);
     let are_divided = are_of(&bins, &[(2, 0), (4, 1), (4, 3)]);
-    let after = [
-        put(1, 1, b"a", Some(1), 3),
-        put(0, 2, b"c", Some(2), 4),
-        put(0, 1, b"q", None, 5),
-    ];
-    make_all(&rt, &ledger, &mut passes, &mut bins, &after);
+    make_all(&rt, &ledger, &mut passes, &mut bins, &AFTER);
     let mut roles = roles_of(&rt, bins);
     assert!(rt; passes.len() == 2 && roles.len() == 3);
     ledger.meet(&mut passes[0], &mut roles[2]);
     let first = (passes[0].client(), passes[0].made());
     let second = (passes[1].client(), passes[1].made());
     let total = settled(ledger, passes, roles);
-    assert!(rt; are_divided);
-    assert_same(&rt, &(first, second), &((0, 3), (1, 2)));
-    assert_same(&rt, &total, &Some(3));
+    let wanted = (true, ((0, 3), (1, 2)), Some(3));
+    assert_same(&rt, &(are_divided, (first, second), total), &wanted);
 }
 
 /// Puts a key this many times.
@@ -247,29 +338,25 @@ pub(crate) fn put_often(
 {
     let mut before = None;
     for time in 0..times {
-        call(rt, ledger, pass, bin, text, Op::Put(time), before);
+        call(rt, ledger, pass, bin, text, before, Some(time));
         before = Some(time);
     }
 }
 
 #[test]
 fn two_threads_post_to_two_roles(rt: HostRuntime) {
-    let (ledger, mut passes, mut bins) = open(&rt, rt.alloc(), 2, 2).expect(&rt, "memory");
-    let mut pass = passes.pop().expect(&rt, "a pass");
-    let mut other_pass = passes.pop().expect(&rt, "a pass");
-    let mut bin = bins.pop().expect(&rt, "a bin");
-    let mut other_bin = bins.pop().expect(&rt, "a bin");
+    let (ledger, mut pass, mut other_pass, mut bins) = open_for_two(&rt, rt.alloc(), 2);
+    let mut bin = take_bin(&rt, &ledger, &mut bins);
+    let mut other_bin = take_bin(&rt, &ledger, &mut bins);
     join_mut(
         &rt,
         &mut || put_often(&rt, &ledger, &mut pass, &mut bin, b"a", 1000),
         &mut || put_often(&rt, &ledger, &mut other_pass, &mut other_bin, b"b", 1000),
     );
     let counts = (pass.made(), other_pass.made(), ledger.sum());
-    passes.push_reserved(pass);
-    passes.push_reserved(other_pass);
-    bins.push_reserved(bin);
-    bins.push_reserved(other_bin);
-    let total = settled(ledger, passes, roles_of(&rt, bins));
+    put_bin(&rt, &ledger, &mut bins, bin);
+    put_bin(&rt, &ledger, &mut bins, other_bin);
+    let total = settled_for_two(&rt, ledger, pass, other_pass, bins);
     assert_same(&rt, &(counts, total), &((1000, 1000, 2), Some(2)));
 }
 

@@ -4,15 +4,16 @@ use bin_history::Form;
 
 #[test]
 fn clients_and_their_calls_are_limited_by_form(rt: HostRuntime) {
-    assert_same(&rt, &Form::Recorded.most_clients(), &32);
-    assert_same(&rt, &Form::Lean.most_clients(), &65_536);
+    let clients = [Form::Recorded.most_clients(), Form::Lean.most_clients()];
+    assert_same(&rt, &clients, &[32, 65_536]);
     for (clients, calls) in [
         (1, 4_611_686_018_427_387_904),
         (3, 1_537_228_672_809_129_301),
         (32, 144_115_188_075_855_872),
         (65_536, 70_368_744_177_664),
     ] {
-        assert_same(&rt, &Form::Recorded.most_calls(clients), &1_000_000);
-        assert_same(&rt, &Form::Lean.most_calls(clients), &calls);
+        let recorded = Form::Recorded.most_calls(clients);
+        let found = (clients, recorded, Form::Lean.most_calls(clients));
+        assert_same(&rt, &found, &(clients, 1_000_000, calls));
     }
 }

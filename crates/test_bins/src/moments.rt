@@ -3,15 +3,13 @@ ghost use Rattle.std.specs.Prelude.{◌≡◌};
 ghost use Rattle.count_ledger.specs.Fronts.{BeginsWith};
 
 use crate::asserts::assert_same;
-use crate::held::{Held, KeyLedger, KeyPass, roles_of};
-use crate::ledgers::{call, open, put_often};
-use bin_history::Op;
+use crate::held::{Held, KeyLedger, KeyPass};
+use crate::ledgers::{call, open_for_two, put_bin, put_often, settled_for_two, take_bin};
 use count_ledger::Moment;
 use hashkeys::Key;
 use std::process::Abort;
-use std::test::Fail;
 use std::thread::join_mut;
-use test_support::{Plus, settled};
+use test_support::Plus;
 
 type KeyMoment = Moment<Key, u64, Plus>;
 
@@ -31,34 +29,22 @@ fn tell(ledger: &KeyLedger, from: &mut KeyPass, to: &mut KeyPass)
 
 #[test]
 fn who_learned_a_moment_finds_what_its_calls_left(rt: HostRuntime) {
-    let (ledger, mut passes, mut bins) = open(&rt, rt.alloc(), 2, 1).expect(&rt, "memory");
-    let mut bin = bins.pop().expect(&rt, "a bin");
-    let mut other = passes.pop().expect(&rt, "a pass");
-    let mut pass = passes.pop().expect(&rt, "a pass");
-    call(&rt, &ledger, &mut pass, &mut bin, b"a", Op::Put(1), None);
-    call(&rt, &ledger, &mut pass, &mut bin, b"b", Op::Put(2), None);
+    let (ledger, mut pass, mut other, mut bins) = open_for_two(&rt, rt.alloc(), 1);
+    let mut bin = take_bin(&rt, &ledger, &mut bins);
+    call(&rt, &ledger, &mut pass, &mut bin, b"a", None, Some(1));
+    call(&rt, &ledger, &mut pass, &mut bin, b"b", None, Some(2));
     tell(&ledger, &mut pass, &mut other);
-    call(&rt, &ledger, &mut other, &mut bin, b"a", Op::Get, Some(1));
-    call(
-        &rt,
-        &ledger,
-        &mut other,
-        &mut bin,
-        b"b",
-        Op::Remove,
-        Some(2),
-    );
+    call(&rt, &ledger, &mut other, &mut bin, b"a", Some(1), Some(1));
+    call(&rt, &ledger, &mut other, &mut bin, b"b", Some(2), None);
     tell(&ledger, &mut other, &mut pass);
-    call(&rt, &ledger, &mut pass, &mut bin, b"b", Op::Get, None);
+    call(&rt, &ledger, &mut pass, &mut bin, b"b", None, None);
     let made = (pass.made(), other.made());
     let shares = (ledger.share(&mut pass), ledger.share(&mut other));
-    passes.push_reserved(pass);
-    passes.push_reserved(other);
-    bins.push_reserved(bin);
-    let total = settled(ledger, passes, roles_of(&rt, bins));
-    assert_same(&rt, &made, &(3, 2));
-    assert_same(&rt, &shares, &(2, 18_446_744_073_709_551_615));
-    assert_same(&rt, &(total, size_of::<KeyMoment>()), &(Some(1), 0));
+    put_bin(&rt, &ledger, &mut bins, bin);
+    let total = settled_for_two(&rt, ledger, pass, other, bins);
+    let wanted = ((3, 2), (2, 18_446_744_073_709_551_615), Some(1));
+    assert_same(&rt, &(made, shares, total), &wanted);
+    assert_same(&rt, &size_of::<KeyMoment>(), &0);
 }
 
 /// What a pass has seen.
@@ -85,25 +71,15 @@ fn hear(
     ensures role { bin.new.ledger ≡ ledger.now.id }
 {
     ledger.learn(pass, moment);
-    call(rt, ledger, pass, bin, b"a", Op::Get, Some(1));
+    call(rt, ledger, pass, bin, b"a", Some(1), Some(1));
 }
 
 #[test]
-fn a_moment_is_learned_in_another_thread(rt: HostRuntime) -> Result<(), Fail> {
-    let (ledger, mut passes, mut bins) = open(&rt, rt.alloc(), 2, 2)?;
-    let mut other_pass = passes.pop().expect(&rt, "a pass");
-    let mut pass = passes.pop().expect(&rt, "a pass");
-    let mut other_bin = bins.pop().expect(&rt, "a bin");
-    let mut bin = bins.pop().expect(&rt, "a bin");
-    call(
-        &rt,
-        &ledger,
-        &mut pass,
-        &mut other_bin,
-        b"a",
-        Op::Put(1),
-        None,
-    );
+fn a_moment_is_learned_in_another_thread(rt: HostRuntime) {
+    let (ledger, mut pass, mut other_pass, mut bins) = open_for_two(&rt, rt.alloc(), 2);
+    let mut other_bin = take_bin(&rt, &ledger, &mut bins);
+    let mut bin = take_bin(&rt, &ledger, &mut bins);
+    call(&rt, &ledger, &mut pass, &mut other_bin, b"a", None, Some(1));
     let mut moment = moment_of(&ledger, &mut pass);
     join_mut(
         &rt,
@@ -111,11 +87,8 @@ fn a_moment_is_learned_in_another_thread(rt: HostRuntime) -> Result<(), Fail> {
         &mut || put_often(&rt, &ledger, &mut pass, &mut bin, b"b", 1000),
     );
     let counts = (pass.made(), other_pass.made(), ledger.sum());
-    passes.push_reserved(pass);
-    passes.push_reserved(other_pass);
-    bins.push_reserved(bin);
-    bins.push_reserved(other_bin);
-    let total = settled(ledger, passes, roles_of(&rt, bins));
+    put_bin(&rt, &ledger, &mut bins, bin);
+    put_bin(&rt, &ledger, &mut bins, other_bin);
+    let total = settled_for_two(&rt, ledger, pass, other_pass, bins);
     assert_same(&rt, &(counts, total), &((1001, 1, 2), Some(2)));
-    Ok(())
 }

@@ -1,5 +1,6 @@
 //! Moves of tables.
-ghost use Rattle.std.specs.Prelude.{◌≡◌, ◌<◌, ◌≤◌};
+ghost use Rattle.std.specs.Prelude.{◌≡◌, ◌<◌, ◌≤◌, ◌∷◌, ◌++◌, [], true};
+ghost use Rattle.transfer.specs.Views.{IsUnfinished};
 
 use crate::asserts::assert_same;
 use std::alloc::{AllocError, Global};
@@ -48,25 +49,55 @@ fn moves(strides: &Strides<Global>, mover: &mut Mover, want: Range, finish: Fini
     }
 }
 
+// Claims and finishes so many ranges of 16 bins each. Returns how many of them were as they are to be.
+fn moved(strides: &Strides<Global>, mover: &mut Mover, ranges: usize) -> usize
+    requires { mover.old.strides ≡ strides.now }
+    ensures { mover.new.strides ≡ strides.now }
+{
+    let (mut lo, mut right) = (0usize, 0usize);
+    for _range in 0..ranges {
+        let hi = lo.wrapping_add(16);
+        if moves(strides, mover, Range { lo, hi }, Finish::More) {
+            right = right.wrapping_add(1);
+        }
+        lo = hi;
+    }
+    right
+}
+
+// Moves a table of so many bins by one mover. Returns how many ranges but the last were as they are to be,
+// whether the last was, and whether there was none after it.
+fn moved_alone(
+    alloc: Global,
+    bins: usize,
+    ranges: usize,
+    last: Range,
+) -> Result<(usize, bool, bool), AllocError>
+    requires { (0 < bins) × (bins ≤ 65536) }
+{
+    let (strides, mut opener) = Strides::new(alloc, bins)?;
+    let right = moved(&strides, &mut opener, ranges.wrapping_sub(1));
+    let is_last = moves(&strides, &mut opener, last, Finish::Last);
+    Ok((right, is_last, is_over(&strides, &mut opener)))
+}
+
+// Whether there is no range left to claim.
+fn is_over(strides: &Strides<Global>, mover: &mut Mover) -> bool
+    requires { mover.old.strides ≡ strides.now }
+{
+    strides.claim(mover).is_none()
+}
+
 #[test]
 fn one_mover_moves_each_table_alone(rt: HostRuntime) {
-    for (bins, ranges, last) in TABLES {
-        assert!(rt; 0 < bins && bins <= 65536);
-        let (strides, mut opener) = Strides::new(rt.alloc(), bins).expect(&rt, "memory");
-        let mut lo = 0usize;
-        for _more in 1..ranges {
-            let hi = lo.wrapping_add(16);
-            assert!(rt;
-                moves(&strides, &mut opener, Range { lo, hi }, Finish::More),
-                "of {bins}"
-            );
-            lo = hi;
-        }
-        assert!(rt;
-            moves(&strides, &mut opener, last, Finish::Last),
-            "of {bins}"
+    for (bins, ranges, last) in &TABLES {
+        assert!(rt; 0 < *bins && *bins <= 65536);
+        let found = moved_alone(rt.alloc(), *bins, *ranges, *last).expect(&rt, "memory");
+        assert_same(
+            &rt,
+            &(*bins, found),
+            &(*bins, (ranges.wrapping_sub(1), true, true)),
         );
-        assert!(rt; strides.claim(&mut opener).is_none(), "of {bins}");
     }
 }
 
@@ -101,43 +132,66 @@ fn moves_of_each_size_have_their_memory(rt: HostRuntime) {
     }
 }
 
+// A move of 32 bins. Where memory is refused once, as in a run with `--fail-alloc N`, nothing is lost and
+// the next try makes the move.
+fn strides_of_32(rt: &impl Abort, alloc: Global) -> (Strides<Global>, Mover)
+    ensures { result.1.strides ≡ result.0 }
+{
+    match Strides::new(alloc, 32) {
+        Ok(made) => made,
+        Err(_) => Strides::new(alloc, 32).expect(rt, "memory"),
+    }
+}
+
+// The next range.
+fn claimed(rt: &impl Abort, strides: &Strides<Global>, mover: &mut Mover) -> Range
+    requires { mover.old.strides ≡ strides.now }
+    ensures book { mover.new ≡ record mover.old { claimed = mover.old.claimed ++ result ∷ [] } }
+    ensures unfinished { IsUnfinished mover.new result }
+{
+    strides.claim(mover).expect(rt, "a range")
+}
+
+// Asserts that there is no range left to claim.
+fn assert_over(rt: &impl Abort, strides: &Strides<Global>, mover: &mut Mover)
+    requires { mover.old.strides ≡ strides.now }
+    ensures { mover.new ≡ record mover.old { got_none = true } }
+{
+    if strides.claim(mover).is_some() {
+        assert!(rt; false, "a range is left");
+        unreachable!()
+    }
+}
+
 #[test]
 fn two_movers_finish_a_table_of_32(rt: HostRuntime) {
-    // Where memory is refused once, as in a run with `--fail-alloc N`, nothing is lost and the next
-    // try makes the move.
-    let made = Strides::new(rt.alloc(), 32).or_else(|_| Strides::new(rt.alloc(), 32));
-    let (strides, mut opener) = made.expect(&rt, "memory");
+    let (strides, mut opener) = strides_of_32(&rt, rt.alloc());
     let mut helper = strides.enter().expect(&rt, "a spare mover");
-    let first = strides.claim(&mut opener).expect(&rt, "a range");
-    let second = strides.claim(&mut helper).expect(&rt, "a range");
-    assert!(rt; first == Range { lo: 0, hi: 16 } && second == Range { lo: 16, hi: 32 });
-    assert!(rt; strides.claim(&mut opener).is_none() && strides.claim(&mut helper).is_none());
-    assert!(rt; strides.finish(&mut opener, first) == Finish::More);
-    assert!(rt; strides.finish(&mut helper, second) == Finish::Last);
+    let first = claimed(&rt, &strides, &mut opener);
+    let second = claimed(&rt, &strides, &mut helper);
+    assert_over(&rt, &strides, &mut opener);
+    assert_over(&rt, &strides, &mut helper);
+    let early = strides.finish(&mut opener, first);
+    let late = strides.finish(&mut helper, second);
     strides.leave(helper);
+    let wanted = [Range { lo: 0, hi: 16 }, Range { lo: 16, hi: 32 }];
+    assert_same(
+        &rt,
+        &([first, second], early, late),
+        &(wanted, Finish::More, Finish::Last),
+    );
 }
 
-// Two movers have the two ranges of a table of 32, and finish the second one first. What the
-// finishes tell.
-fn finishes_turned(alloc: Global) -> Result<Option<(Finish, Finish)>, AllocError> {
-    let (strides, mut opener) = Strides::new(alloc, 32)?;
-    let Some(mut helper) = strides.enter() else {
-        return Ok(None);
-    };
-    let Some(first) = strides.claim(&mut opener) else {
-        return Ok(None);
-    };
-    let Some(second) = strides.claim(&mut helper) else {
-        return Ok(None);
-    };
-    let early = strides.finish(&mut helper, second);
-    Ok(Some((early, strides.finish(&mut opener, first))))
-}
-
+// Two movers have the two ranges of a table of 32, and finish the second one first.
 #[test]
 fn the_finish_that_comes_last_is_told_so(rt: HostRuntime) {
-    let told = finishes_turned(rt.alloc()).expect(&rt, "memory");
-    assert!(rt; told == Some((Finish::More, Finish::Last)));
+    let (strides, mut opener) = strides_of_32(&rt, rt.alloc());
+    let mut helper = strides.enter().expect(&rt, "a spare mover");
+    let first = claimed(&rt, &strides, &mut opener);
+    let second = claimed(&rt, &strides, &mut helper);
+    let early = strides.finish(&mut helper, second);
+    let late = strides.finish(&mut opener, first);
+    assert_same(&rt, &(early, late), &(Finish::More, Finish::Last));
 }
 
 // Claims and finishes until there is no range left, and marks each that it had. Says whether it was
@@ -166,8 +220,15 @@ pub(crate) fn new_marks(rt: &impl Abort, alloc: Global) -> Vec<AtomicU64> {
 
 // Asserts that one thread was told that it was the last, and that each range was marked once.
 pub(crate) fn assert_moved_once(rt: &impl Abort, lasts: &[bool], marks: &[AtomicU64]) {
-    assert!(rt; lasts.iter().filter(|is_last| **is_last).count() == 1);
-    assert!(rt; marks.iter().all(|mark| mark.load(SeqCst) == 1));
+    let mut last = 0usize;
+    for is_last in lasts {
+        last = last.wrapping_add(*is_last as usize);
+    }
+    let mut moved = 0usize;
+    for mark in marks {
+        moved = moved.wrapping_add((mark.load(SeqCst) == 1) as usize);
+    }
+    assert_same(rt, &(last, moved), &(1, marks.len()));
 }
 
 #[test]
@@ -188,6 +249,9 @@ fn sixty_three_of_sixty_four_enter(rt: HostRuntime) {
     let (strides, _opener) = Strides::new(rt.alloc(), 16).expect(&rt, "memory");
     let enter = |_: usize| strides.enter();
     let movers = thread::map_indices(&rt, rt.alloc(), 64, &enter).expect(&rt, "memory");
-    assert!(rt; movers.iter().filter(|mover| mover.is_some()).count() == 63);
-    assert!(rt; strides.enter().is_none());
+    let mut entered = 0usize;
+    for mover in &movers {
+        entered = entered.wrapping_add(mover.is_some() as usize);
+    }
+    assert_same(&rt, &(entered, strides.enter().is_none()), &(63, true));
 }

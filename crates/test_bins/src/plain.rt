@@ -2,9 +2,10 @@
 ghost use Rattle.std.specs.Prelude.{◌<◌};
 
 use crate::asserts::{assert_same, key};
-use bin_history::{Bin, Call, Form, KeyArg, RecordedBin, Reply};
-use hashkeys::{Class, Key, Salt};
-use std::alloc::{AllocError, Global};
+use crate::{bins, made};
+use bin_history::{Call, Form, Record, Reply};
+use hashkeys::Key;
+use std::alloc::Global;
 use std::process::Abort;
 use test_support::Plus;
 
@@ -27,29 +28,26 @@ struct Plain {
 impl Plain {
     /// What the function answers for this value.
     fn computed(&self, value: u64) -> Option<u64> {
-        self.function.map(|n| value.saturating_add(n))
+        match self.function {
+            Some(n) => Some(value.saturating_add(n)),
+            None => None,
+        }
     }
 
     /// The value after the call, and the reply, by the value before it.
     fn effect(&self, before: Option<u64>) -> (Option<u64>, Reply<u64>) {
         let is_given = before == Some(self.given);
-        let after = match self.kind {
-            0 | 1 => before,
-            2 => Some(self.given),
-            3 => before.or(Some(self.given)),
-            4 => None,
-            5 if is_given => None,
-            5 => before,
-            6 => before.map(|_| self.given),
-            7 if is_given => Some(self.other),
-            7 => before,
-            8 => before.or(self.computed(0)),
-            9 => before.and_then(|value| self.computed(value)),
-            10 => self.computed(before.unwrap_or(0)),
-            _ => match before {
-                Some(value) => self.computed(value.saturating_add(self.given)),
-                None => Some(self.given),
-            },
+        let after = match (self.kind, before) {
+            (2, _) | (3, None) | (6, Some(_)) => Some(self.given),
+            (4, _) => None,
+            (5, _) if is_given => None,
+            (7, _) if is_given => Some(self.other),
+            (8, None) => self.computed(0),
+            (9, Some(value)) => self.computed(value),
+            (10, _) => self.computed(before.unwrap_or(0)),
+            (11, Some(value)) => self.computed(value.saturating_add(self.given)),
+            (11, None) => Some(self.given),
+            _ => before,
         };
         let reply = match self.kind {
             0 | 2 | 3 | 4 | 6 => Reply::Value(before),
@@ -61,47 +59,31 @@ impl Plain {
     }
 
     /// Makes the call on the pairs.
-    fn make(&self, pairs: &mut Pairs) -> Result<Reply<u64>, AllocError> {
-        let before = pairs
-            .iter()
-            .find(|pair| pair.0 == self.key)
-            .map(|pair| pair.1);
+    fn make(&self, rt: &impl Abort, pairs: &mut Pairs) -> Reply<u64> {
+        let before = value_at(pairs, self.key);
         let (after, reply) = self.effect(before);
         match (before, after) {
-            (Some(_), Some(value)) => {
-                for pair in pairs.iter_mut() {
-                    if pair.0 == self.key {
-                        pair.1 = value;
-                    }
-                }
-            }
-            (None, Some(value)) => pairs.push((self.key, value))?,
+            (Some(_), Some(value)) => set_at(pairs, self.key, value),
+            (None, Some(value)) => pairs.push((self.key, value)).expect(rt, "memory"),
             _ => pairs.retain(|pair| pair.0 != self.key),
         }
-        Ok(reply)
+        reply
+    }
+
+    /// What a call of this kind takes, as `given_to` tells it of a call.
+    fn given(&self) -> (u64, u64, u64, Option<u64>) {
+        match self.kind {
+            0 | 1 | 4 => (self.kind, 0, 0, None),
+            2 | 3 | 5 | 6 => (self.kind, self.given, 0, None),
+            7 => (7, self.given, self.other, None),
+            11 => (11, self.given, 0, self.function),
+            _ => (self.kind, 0, 0, self.function),
+        }
     }
 
     /// Whether this is the call.
     fn is(&self, rt: &impl Abort, call: &Call<Key, u64, Plus>) -> bool {
-        let is_rest = match call {
-            Call::Get(_) => self.kind == 0,
-            Call::Contains(_) => self.kind == 1,
-            Call::Put(_, value) => self.kind == 2 && *value == self.given,
-            Call::PutIfAbsent(_, value) => self.kind == 3 && *value == self.given,
-            Call::Remove(_) => self.kind == 4,
-            Call::RemoveIf(_, value) => self.kind == 5 && *value == self.given,
-            Call::Replace(_, value) => self.kind == 6 && *value == self.given,
-            Call::ReplaceIf(_, old, new) => {
-                self.kind == 7 && *old == self.given && *new == self.other
-            }
-            Call::ComputeIfAbsent(_, function) => self.kind == 8 && function.0 == self.function,
-            Call::ComputeIfPresent(_, function) => self.kind == 9 && function.0 == self.function,
-            Call::Compute(_, function) => self.kind == 10 && function.0 == self.function,
-            Call::Merge(_, value, function) => {
-                self.kind == 11 && *value == self.given && function.0 == self.function
-            }
-        };
-        is_rest && *call.key() == text(rt, self.key)
+        given_to(call) == self.given() && *call.key() == text(rt, self.key)
     }
 
     /// The call, as a bin takes it.
@@ -125,9 +107,50 @@ impl Plain {
     }
 }
 
+/// The kind of a call, the values that it is given, and what its function adds.
+fn given_to(call: &Call<Key, u64, Plus>) -> (u64, u64, u64, Option<u64>) {
+    match call {
+        Call::Get(_) => (0, 0, 0, None),
+        Call::Contains(_) => (1, 0, 0, None),
+        Call::Put(_, value) => (2, *value, 0, None),
+        Call::PutIfAbsent(_, value) => (3, *value, 0, None),
+        Call::Remove(_) => (4, 0, 0, None),
+        Call::RemoveIf(_, value) => (5, *value, 0, None),
+        Call::Replace(_, value) => (6, *value, 0, None),
+        Call::ReplaceIf(_, old, new) => (7, *old, *new, None),
+        Call::ComputeIfAbsent(_, function) => (8, 0, 0, function.0),
+        Call::ComputeIfPresent(_, function) => (9, 0, 0, function.0),
+        Call::Compute(_, function) => (10, 0, 0, function.0),
+        Call::Merge(_, value, function) => (11, *value, 0, function.0),
+    }
+}
+
+/// The value at a key of the pairs.
+fn value_at(pairs: &[(usize, u64)], key: usize) -> Option<u64> {
+    for pair in pairs {
+        if pair.0 == key {
+            return Some(pair.1);
+        }
+    }
+    None
+}
+
+/// Sets the value at a key of the pairs.
+fn set_at(pairs: &mut [(usize, u64)], key: usize, value: u64) {
+    for pair in pairs.iter_mut() {
+        if pair.0 == key {
+            pair.1 = value;
+        }
+    }
+}
+
+/// A decimal digit.
+fn digit(number: usize) -> u8 {
+    b'0' + (number % 10) as u8
+}
+
 /// The key of a number: one of the texts and, from 6 to 99, `k` and two digits.
 fn text(rt: &impl Abort, number: usize) -> Key {
-    let digit = |n: usize| b'0' + (n % 10) as u8;
     match TEXTS.get(number) {
         Some(known) => key(rt, known),
         None => key(rt, &[b'k', digit(number / 10), digit(number)]),
@@ -185,32 +208,38 @@ struct Folded {
     calls: usize,
 }
 
-/// Whether the bin's records are the newest of these calls, and its base is what those before them
-/// left.
-fn are_stored(
-    rt: &impl Abort,
-    bin: &RecordedBin<Key, u64, Plus, Global>,
-    made: &[Plain],
-    folded: &mut Folded,
-) -> Result<bool, AllocError> {
-    let calls = made.len().saturating_sub(bin.records().len());
-    for plain in made.iter().take(calls).skip(folded.calls) {
-        drop(plain.make(&mut folded.pairs)?);
-    }
-    folded.calls = calls;
-    for (entry, plain) in bin.records().iter().zip(made.iter().skip(calls)) {
-        if !plain.is(rt, entry.call()) {
-            return Ok(false);
+/// Whether the records are of these calls, in order.
+fn are_records(rt: &impl Abort, records: &[Record<Key, u64, Plus>], made: &[Plain]) -> bool {
+    let mut rest = made.iter();
+    for record in records {
+        let plain = rest.next().expect(rt, "a call");
+        if !plain.is(rt, record.call()) {
+            return false;
         }
     }
-    Ok(are_same(rt, bin.base(), &folded.pairs))
+    rest.next().is_none()
+}
+
+/// Whether the bin's records are the newest of these calls, and its base is what those before them
+/// left.
+fn are_stored(rt: &impl Abort, bin: &bins::KeyBin, made: &[Plain], folded: &mut Folded) -> bool {
+    let calls = made.len().saturating_sub(bin.records().len());
+    let (oldest, newest) = made.split_at(calls);
+    let mut number = 0usize;
+    for plain in oldest {
+        if number >= folded.calls {
+            let _ = plain.make(rt, &mut folded.pairs);
+        }
+        number = number.wrapping_add(1);
+    }
+    folded.calls = calls;
+    are_records(rt, bin.records(), newest) && are_same(rt, bin.base(), &folded.pairs)
 }
 
 /// Makes 3,000 calls on a recorded bin, and answers which is the first after which its records are
 /// not those calls, or its base is not what those before them left.
-fn first_misstored(rt: &impl Abort, alloc: Global) -> Result<Option<u64>, AllocError> {
-    let class = Class::new(1, 0);
-    let mut bin = RecordedBin::new(alloc, Salt(0), class, Vec::new(alloc))?;
+fn first_misstored(rt: &impl Abort, alloc: Global) -> Option<u64> {
+    let mut bin = bins::empty(rt, alloc);
     let mut made = Vec::new(alloc);
     let mut folded = Folded {
         pairs: Vec::new(alloc),
@@ -219,23 +248,31 @@ fn first_misstored(rt: &impl Abort, alloc: Global) -> Result<Option<u64>, AllocE
     let mut numbers = Numbers(1);
     for line in 0..3_000u64 {
         let plain = numbers.call(6);
-        let call = plain.call(rt);
-        assert!(rt; bin.class().covers(bin.salt().hash_of(call.key())));
-        let ready = bin.prepare(call)?;
-        drop(bin.apply(ready, 0, line));
-        made.push(plain)?;
+        let _ = bins::make(rt, &mut bin, plain.call(rt));
+        made.push(plain).expect(rt, "memory");
         let is_checked = line % 61 == 0 || line == 1024 || line == 1536;
-        if is_checked && !are_stored(rt, &bin, &made, &mut folded)? {
-            return Ok(Some(line));
+        if is_checked && !are_stored(rt, &bin, &made, &mut folded) {
+            return Some(line);
         }
     }
-    Ok(None)
+    None
 }
 
 #[test]
 fn a_bin_stores_its_newest_calls_over_what_the_others_left(rt: HostRuntime) {
-    let misstored = first_misstored(&rt, rt.alloc()).expect(&rt, "memory");
-    assert_same(&rt, &misstored, &None);
+    assert_same(&rt, &first_misstored(&rt, rt.alloc()), &None);
+}
+
+/// Makes a call on the bin and on the pairs, and says whether both answered and left the same.
+fn is_made_by_both(
+    rt: &impl Abort,
+    alloc: Global,
+    plain: &Plain,
+    bin: &mut made::KeyBin,
+    pairs: &mut Pairs,
+) -> bool {
+    let (reply, _) = made::make(rt, alloc, bin, plain.call(rt), 0);
+    reply == plain.make(rt, pairs) && are_same(rt, &made::copied(rt, alloc, bin), pairs)
 }
 
 /// Makes so many calls on as many keys of a bin of the form and of a plain map, and answers which
@@ -246,36 +283,35 @@ fn first_difference(
     form: Form,
     keys: u64,
     calls: u64,
-) -> Result<Option<u64>, AllocError>
+) -> Option<u64>
     requires { 0 < keys }
 {
-    let mut bin = Bin::new(&alloc, form, Salt(0), Class::new(1, 0), Vec::new(alloc))?;
+    let mut bin = made::empty(rt, alloc, form);
     let mut pairs = Vec::new(alloc);
     let mut numbers = Numbers(1);
     for line in 0..calls {
         let plain = numbers.call(keys);
-        let call = plain.call(rt);
-        let hash = bin.salt().hash_of(call.key());
-        assert!(rt; bin.class().covers(hash));
-        let (key, op) = call.into_parts();
-        let (reply, _) = bin.make_on(&alloc, hash, KeyArg::Owned(key), op, 0, 0)?;
-        let entries = bin.copy_entries(&alloc)?;
-        if reply != plain.make(&mut pairs)? || !are_same(rt, &entries, &pairs) {
-            return Ok(Some(line));
+        if !is_made_by_both(rt, alloc, &plain, &mut bin, &mut pairs) {
+            return Some(line);
         }
     }
-    Ok(None)
+    None
 }
+
+/// A form, of how many keys, and how many calls on them. On 100 keys a bin has some 50 entries, more than a
+/// walk goes past by calls in calls.
+const MADE: [(Form, u64, u64); 4] = [
+    (Form::Recorded, 6, 10_000),
+    (Form::Recorded, 100, 3_000),
+    (Form::Lean, 6, 10_000),
+    (Form::Lean, 100, 3_000),
+];
 
 #[test]
 fn a_bin_answers_as_a_plain_map(rt: HostRuntime) {
-    for form in [Form::Recorded, Form::Lean] {
-        // On 100 keys a bin has some 50 entries, more than a walk goes past by calls in calls.
-        for (keys, calls) in [(6, 10_000), (100, 3_000)] {
-            let difference = first_difference(&rt, rt.alloc(), form, keys, calls).expect(
-                &rt, "memory",
-            );
-            assert_same(&rt, &(keys, difference), &(keys, None));
-        }
+    for (form, keys, calls) in &MADE {
+        assert!(rt; 0 < *keys);
+        let difference = first_difference(&rt, rt.alloc(), *form, *keys, *calls);
+        assert_same(&rt, &(*form, *keys, difference), &(*form, *keys, None));
     }
 }

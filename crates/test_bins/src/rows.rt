@@ -1,16 +1,10 @@
 //! Calls, and what each is to reply.
-use crate::asserts::key;
-use bin_history::{Call, Reply};
+use bin_history::{Call, Op, Reply};
 use hashkeys::Key;
-use std::alloc::{AllocError, Global};
-use std::process::Abort;
 use test_support::Plus;
 
-/// A call, its reply, and how many keys more there are.
-pub(crate) type Row = (Call<Key, u64, Plus>, Reply<u64>, i64);
-
 /// A call without its key.
-#[derive(Clone, Copy)]
+#[derive(Drop)]
 pub(crate) enum Kind {
     Get,
     Contains,
@@ -27,8 +21,8 @@ pub(crate) enum Kind {
 }
 
 /// A reply.
-#[derive(Clone, Copy)]
-enum Told {
+#[derive(Drop)]
+pub(crate) enum Told {
     Value(Option<u64>),
     Truth(bool),
 }
@@ -37,7 +31,7 @@ const NONE: Told = Told::Value(None);
 
 /// Calls one after the other: each by the byte of its key, its reply, and how many keys more there
 /// are.
-const LINES: [(u8, Kind, Told, i64); 36] = [
+pub(crate) const LINES: [(u8, Kind, Told, i64); 36] = [
     (b'a', Kind::Get, NONE, 0),
     (b'a', Kind::Contains, Told::Truth(false), 0),
     (b'a', Kind::Replace(9), NONE, 0),
@@ -96,35 +90,38 @@ const LINES: [(u8, Kind, Told, i64); 36] = [
     ),
 ];
 
-pub(crate) fn call_of(key: Key, kind: Kind) -> Call<Key, u64, Plus> {
+pub(crate) fn call_of(key: Key, kind: &Kind) -> Call<Key, u64, Plus> {
     match kind {
         Kind::Get => Call::Get(key),
         Kind::Contains => Call::Contains(key),
-        Kind::Put(n) => Call::Put(key, n),
-        Kind::PutIfAbsent(n) => Call::PutIfAbsent(key, n),
+        Kind::Put(n) => Call::Put(key, *n),
+        Kind::PutIfAbsent(n) => Call::PutIfAbsent(key, *n),
         Kind::Remove => Call::Remove(key),
-        Kind::RemoveIf(n) => Call::RemoveIf(key, n),
-        Kind::Replace(n) => Call::Replace(key, n),
-        Kind::ReplaceIf(n, m) => Call::ReplaceIf(key, n, m),
-        Kind::ComputeIfAbsent(n) => Call::ComputeIfAbsent(key, Plus(n)),
-        Kind::ComputeIfPresent(n) => Call::ComputeIfPresent(key, Plus(n)),
-        Kind::Compute(n) => Call::Compute(key, Plus(n)),
-        Kind::Merge(n, m) => Call::Merge(key, n, Plus(m)),
+        Kind::RemoveIf(n) => Call::RemoveIf(key, *n),
+        Kind::Replace(n) => Call::Replace(key, *n),
+        Kind::ReplaceIf(n, m) => Call::ReplaceIf(key, *n, *m),
+        Kind::ComputeIfAbsent(n) => Call::ComputeIfAbsent(key, Plus(*n)),
+        Kind::ComputeIfPresent(n) => Call::ComputeIfPresent(key, Plus(*n)),
+        Kind::Compute(n) => Call::Compute(key, Plus(*n)),
+        Kind::Merge(n, m) => Call::Merge(key, *n, Plus(*m)),
     }
 }
 
-fn reply_of(told: Told) -> Reply<u64> {
+/// The call that finds a value and leaves one: a get where it leaves what it finds, a remove where it
+/// leaves none, and else a put.
+pub(crate) fn op_between(before: Option<u64>, after: Option<u64>) -> Op<u64, Plus> {
+    if before == after {
+        return Op::Get;
+    }
+    match after {
+        Some(value) => Op::Put(value),
+        None => Op::Remove,
+    }
+}
+
+pub(crate) fn reply_of(told: &Told) -> Reply<u64> {
     match told {
-        Told::Value(value) => Reply::Value(value),
-        Told::Truth(truth) => Reply::Truth(truth),
+        Told::Value(value) => Reply::Value(*value),
+        Told::Truth(truth) => Reply::Truth(*truth),
     }
-}
-
-/// The calls of the lines.
-pub(crate) fn rows(rt: &impl Abort, alloc: Global) -> Result<Vec<Row>, AllocError> {
-    let mut rows = Vec::new(alloc);
-    for (byte, kind, told, delta) in LINES {
-        rows.push((call_of(key(rt, &[byte]), kind), reply_of(told), delta))?;
-    }
-    Ok(rows)
 }

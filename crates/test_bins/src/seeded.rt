@@ -1,8 +1,9 @@
 //! Codes of bytes under a seed, and keys that keep them. The codes are the lower halves of SipHash-1-3
 //! as Rust's and Python's libraries compute it.
+use crate::asserts::assert_same;
 use hashkeys::{AsKey, HashKey, MakesKey};
 use seeded_keys::{Hashed, Query, Seed};
-use std::alloc::Global;
+use std::alloc::{AllocError, Global};
 use std::io;
 use std::process::Abort;
 use std::random::RandomSource;
@@ -58,9 +59,12 @@ fn codes_under_a_seed_are_known(rt: HostRuntime) {
         for byte in 0..row.len {
             bytes.push(byte).expect(&rt, "memory");
         }
-        assert!(rt; seed.code(bytes.as_slice()) == row.code);
-        assert!(rt; code_of(seed.query(bytes.as_slice())) == row.code);
-        assert!(rt; key(&rt, rt.alloc(), seed, bytes.as_slice()).hash_code() == row.code);
+        let codes = [
+            seed.code(bytes.as_slice()),
+            code_of(seed.query(bytes.as_slice())),
+            key(&rt, rt.alloc(), seed, bytes.as_slice()).hash_code(),
+        ];
+        assert_same(&rt, &(row.len, codes), &(row.len, [row.code; 3]));
     }
 }
 
@@ -77,22 +81,37 @@ fn key(rt: &impl Abort, alloc: Global, seed: Seed, text: &[u8]) -> Hashed<Global
 #[test]
 fn keys_that_share_a_plain_code_differ_under_a_seed(rt: HostRuntime) {
     let (first, second) = (Seed::of(0, 0), Seed::of(1, 2));
-    assert!(rt; first.code(b"AaAaBB") == 1_627_611_258);
-    assert!(rt; first.code(b"BBAaBB") == 2_557_305_604);
-    assert!(rt; second.code(b"AaAaBB") == 3_774_494_831);
-    assert!(rt; second.code(b"BBAaBB") == 2_007_832_404);
+    let of_first = [first.code(b"AaAaBB"), first.code(b"BBAaBB")];
+    let of_second = [second.code(b"AaAaBB"), second.code(b"BBAaBB")];
+    let wanted = (
+        [1_627_611_258, 2_557_305_604],
+        [3_774_494_831, 2_007_832_404],
+    );
+    assert_same(&rt, &(of_first, of_second), &wanted);
 }
 
 #[test]
 fn a_query_finds_the_key_of_its_seed_alone(rt: HostRuntime) {
     let (first, second) = (Seed::of(0, 0), Seed::of(1, 2));
     let one = key(&rt, rt.alloc(), first, b"AaAaBB");
-    assert!(rt; first.query(b"AaAaBB").is_key(&one));
-    assert!(rt; !second.query(b"AaAaBB").is_key(&one));
-    assert!(rt; !first.query(b"BBAaBB").is_key(&one));
-    assert!(rt; one == one.clone().expect(&rt, "memory"));
-    assert!(rt; one != key(&rt, rt.alloc(), second, b"AaAaBB"));
-    assert!(rt; one.bytes() == b"AaAaBB".as_slice());
+    let found = [
+        first.query(b"AaAaBB").is_key(&one),
+        second.query(b"AaAaBB").is_key(&one),
+        first.query(b"BBAaBB").is_key(&one),
+        one == one.clone().expect(&rt, "memory"),
+        one == key(&rt, rt.alloc(), second, b"AaAaBB"),
+        one.bytes() == b"AaAaBB".as_slice(),
+    ];
+    assert_same(&rt, &found, &[true, false, false, true, false, true]);
+}
+
+/// Whether the key that a query makes has the bytes and their code, where one is made.
+fn is_made(alloc: Alloc<'_>, seed: Seed, text: &[u8]) -> Option<bool> {
+    let made: Result<Hashed<Alloc<'_>>, AllocError> = seed.query(text).make(&alloc);
+    match made {
+        Ok(made) => Some(made.hash_code() == seed.code(text) && made.bytes() == text),
+        Err(_) => None,
+    }
 }
 
 /// At most eighteen bytes lie in the key itself. Out of memory for more, none is made.
@@ -103,17 +122,10 @@ fn a_query_makes_its_key_and_asks_for_memory_for_long_bytes(rt: HostRuntime) {
     let eighteen = b"abcdefghijklmnopqr".as_slice();
     let more = b"abcdefghijklmnopqrs".as_slice();
     alloc.refuse_after(0);
-    for text in [b"".as_slice(), eighteen] {
-        let made: Hashed<Alloc<'_>> = seed.query(text).make(&&alloc).expect(&rt, "no request");
-        assert!(rt; made.hash_code() == seed.code(text));
-        assert!(rt; made.bytes() == text);
-    }
-    assert!(rt; alloc.requests() == 0);
-    let refused: Result<Hashed<Alloc<'_>>, _> = seed.query(more).make(&&alloc);
-    assert!(rt; refused.is_err());
-    let made: Hashed<Alloc<'_>> = seed.query(more).make(&&alloc).expect(&rt, "memory");
-    assert!(rt; made.hash_code() == seed.code(more));
-    assert!(rt; made.bytes() == more);
+    let short = [is_made(&alloc, seed, b""), is_made(&alloc, seed, eighteen)];
+    assert_same(&rt, &(short, alloc.requests()), &([Some(true); 2], 0));
+    let long = [is_made(&alloc, seed, more), is_made(&alloc, seed, more)];
+    assert_same(&rt, &long, &[None, Some(true)]);
 }
 
 #[test]
@@ -142,16 +154,19 @@ impl RandomSource for Counting {
     }
 }
 
+/// The number that a source begins with, and both halves of its seed.
+const HALVES: [(u8, u64, u64); 2] = [
+    (0, 0x0706_0504_0302_0100, 0x0f0e_0d0c_0b0a_0908),
+    (0x80, 0x8786_8584_8382_8180, 0x8f8e_8d8c_8b8a_8988),
+];
+
 /// The first half is of the first eight bytes that the source gives, and the second of the next eight,
 /// least byte first.
 #[test]
 fn each_half_of_a_seed_is_of_bytes_of_its_own(rt: HostRuntime) {
-    let rows = [
-        (0, Seed::of(0x0706_0504_0302_0100, 0x0f0e_0d0c_0b0a_0908)),
-        (0x80, Seed::of(0x8786_8584_8382_8180, 0x8f8e_8d8c_8b8a_8988)),
-    ];
-    for (first, wanted) in rows {
-        let seed = Seed::random(&Counting { first }).expect(&rt, "bytes");
-        assert!(rt; seed == wanted);
+    for (first, low, high) in &HALVES {
+        let seed = Seed::random(&Counting { first: *first }).expect(&rt, "bytes");
+        let is_same = seed == Seed::of(*low, *high);
+        assert_same(&rt, &(*first, is_same), &(*first, true));
     }
 }

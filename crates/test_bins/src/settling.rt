@@ -1,7 +1,7 @@
 //! Ledgers that are not settled at first.
 use crate::asserts::assert_same;
 use crate::held::roles_of;
-use crate::ledgers::{make, open, put};
+use crate::ledgers::{call, open};
 use test_support::settled;
 
 #[test]
@@ -10,25 +10,9 @@ fn settling_needs_each_pass(rt: HostRuntime) {
     let mut bin = bins.pop().expect(&rt, "a bin");
     let pass = passes.pop().expect(&rt, "a pass");
     assert!(rt; passes.len() == 1);
-    make(
-        &rt,
-        &ledger,
-        &mut passes[0],
-        &mut bin,
-        &put(0, 0, b"a", None, 1),
-    );
-    let settled_early = bin.settle_alone(&rt, ledger, passes);
-    let Err((ledger, mut passes, mut bin)) = settled_early else {
-        assert!(rt; false, "a pass is missing");
-        unreachable!()
-    };
-    make(
-        &rt,
-        &ledger,
-        &mut passes[0],
-        &mut bin,
-        &put(0, 0, b"q", None, 2),
-    );
+    call(&rt, &ledger, &mut passes[0], &mut bin, b"a", None, Some(1));
+    let (ledger, mut passes, mut bin) = bin.refused(&rt, ledger, passes);
+    call(&rt, &ledger, &mut passes[0], &mut bin, b"q", None, Some(2));
     passes.push_reserved(pass);
     bins.push_reserved(bin);
     let total = settled(ledger, passes, roles_of(&rt, bins));
@@ -41,25 +25,17 @@ fn settling_needs_each_role(rt: HostRuntime) {
     let mut other = bins.pop().expect(&rt, "a bin");
     let bin = bins.pop().expect(&rt, "a bin");
     assert!(rt; passes.len() == 2);
-    make(
+    call(
         &rt,
         &ledger,
         &mut passes[0],
         &mut other,
-        &put(0, 1, b"a", None, 1),
+        b"a",
+        None,
+        Some(1),
     );
-    let settled_early = bin.settle_alone(&rt, ledger, passes);
-    let Err((ledger, mut passes, mut bin)) = settled_early else {
-        assert!(rt; false, "a role is missing");
-        unreachable!()
-    };
-    make(
-        &rt,
-        &ledger,
-        &mut passes[1],
-        &mut bin,
-        &put(1, 0, b"b", None, 2),
-    );
+    let (ledger, mut passes, mut bin) = bin.refused(&rt, ledger, passes);
+    call(&rt, &ledger, &mut passes[1], &mut bin, b"b", None, Some(2));
     bins.push_reserved(bin);
     bins.push_reserved(other);
     let total = settled(ledger, passes, roles_of(&rt, bins));

@@ -3,10 +3,43 @@ use crate::asserts::assert_same;
 use crate::twins::Twin;
 use bin_history::{LeanEntries, Posting, change_on, prepare_as, update_on};
 use hashkeys::{ByteString, Class, Salt};
-use std::alloc::{AllocError, Global};
+use std::alloc::Global;
 use std::marker::Model;
 use std::process::Abort;
 use test_support::Plus;
+
+/// What a function does at a number.
+#[derive(Clone, Copy)]
+enum Change {
+    /// It leaves this, or nothing, and finds the value before.
+    Leave(Option<u64>),
+    /// It adds 1 to the value, or leaves 100 more than the number, and finds what it leaves.
+    Count,
+    /// It takes 1 from the value, and the entry out where none is left, and finds what it leaves. Of no
+    /// value it fails, with the number.
+    Spend,
+}
+
+/// What a change finds.
+type Found = Result<Option<u64>, u64>;
+
+impl Change {
+    /// What the change leaves of the number's value, and what it finds.
+    fn of(self, number: u64, value: Option<u64>) -> (Option<u64>, Found) {
+        match self {
+            Change::Leave(left) => (left, Ok(value)),
+            Change::Count => {
+                let now = value.unwrap_or(number.wrapping_add(99)).wrapping_add(1);
+                (Some(now), Ok(Some(now)))
+            }
+            Change::Spend => match value {
+                None => (None, Err(number)),
+                Some(left) if left <= 1 => (None, Ok(Some(0))),
+                Some(left) => (Some(left - 1), Ok(Some(left - 1))),
+            },
+        }
+    }
+}
 
 /// A lean bin that every hash is of.
 #[derive(Drop)]
@@ -39,38 +72,18 @@ impl Twins {
         }
     }
 
-    /// Leaves this at the number, or takes it out. Returns the value before, and how the call changed
-    /// the number of keys.
-    fn leave(
-        &mut self,
-        rt: &impl Abort,
-        number: u64,
-        left: Option<u64>,
-    ) -> Result<(Option<u64>, i64), AllocError> {
+    /// Makes a change at the number. Returns what the change found, and how it changed the number of keys.
+    fn update(&mut self, rt: &impl Abort, number: u64, change: Change) -> (Found, i64) {
         let key = Twin(number);
         let hash = self.salt.hash_of(&key);
         assert!(rt; self.class.covers(hash));
-        let prepared = prepare_as(&self.entries, &self.alloc, hash, &key)?;
-        let leaving = move |value: Option<u64>| -> (Option<u64>, Option<u64>) { (left, value) };
-        let made = update_on(&mut self.entries, hash, prepared, leaving, 0, 0);
-        let (before, posting): (Option<u64>, Posting<Twin, u64, Plus>) = made;
-        Ok((before, posting.delta()))
-    }
-
-    /// Adds 1 to the number's value, or puts 100 more than the number. Returns what is there now, and
-    /// how the call changed the number of keys.
-    fn count(&mut self, rt: &impl Abort, number: u64) -> Result<(u64, i64), AllocError> {
-        let key = Twin(number);
-        let hash = self.salt.hash_of(&key);
-        assert!(rt; self.class.covers(hash));
-        let prepared = prepare_as(&self.entries, &self.alloc, hash, &key)?;
-        let counting = move |value: Option<u64>| -> (Option<u64>, u64) {
-            let now = value.unwrap_or(number.wrapping_add(99)).wrapping_add(1);
-            (Some(now), now)
+        let prepared = prepare_as(&self.entries, &self.alloc, hash, &key).expect(rt, "memory");
+        let changing = move |value: Option<u64>| -> (Option<u64>, Found) {
+            change.of(number, value)
         };
-        let made = update_on(&mut self.entries, hash, prepared, counting, 0, 0);
-        let (now, posting): (u64, Posting<Twin, u64, Plus>) = made;
-        Ok((now, posting.delta()))
+        let made = update_on(&mut self.entries, hash, prepared, changing, 0, 0);
+        let (found, posting): (Found, Posting<Twin, u64, Plus>) = made;
+        (found, posting.delta())
     }
 
     /// Sets the number's value, where it has one. Returns the one before.
@@ -88,37 +101,14 @@ impl Twins {
         before
     }
 
-    /// Takes 1 from the number's value, and the entry out where none is left; of none it fails, with
-    /// the number.
-    fn spend(&mut self, rt: &impl Abort, number: u64) -> Result<Result<u64, u64>, AllocError> {
-        let key = Twin(number);
-        let hash = self.salt.hash_of(&key);
-        assert!(rt; self.class.covers(hash));
-        let prepared = prepare_as(&self.entries, &self.alloc, hash, &key)?;
-        let spending = move |value: Option<u64>| -> (Option<u64>, Result<u64, u64>) {
-            match value {
-                None => (None, Err(number)),
-                Some(left) if left <= 1 => (None, Ok(0)),
-                Some(left) => (Some(left - 1), Ok(left - 1)),
-            }
-        };
-        let made = update_on(&mut self.entries, hash, prepared, spending, 0, 0);
-        let (spent, _posting): (Result<u64, u64>, Posting<Twin, u64, Plus>) = made;
-        Ok(spent)
-    }
-
     /// Asserts that the entries are these.
     fn assert_walk(&self, rt: &impl Abort, wanted: &[(u64, u64)]) {
-        let mut rest = wanted;
+        let mut rest = wanted.iter();
         for (key, value) in self.entries.walk() {
-            let Some((first, others)) = rest.split_first() else {
-                assert!(rt; false, "{} more", key.0);
-                return;
-            };
+            let first = rest.next().expect(rt, "no entry more");
             assert_same(rt, &(key.0, *value), first);
-            rest = others;
         }
-        assert_same(rt, &rest.len(), &0);
+        assert_same(rt, &rest.next().is_none(), &true);
     }
 }
 
@@ -154,19 +144,14 @@ impl Words {
     }
 
     /// Leaves this at the bytes, or takes them out. Returns the value before.
-    fn leave(
-        &mut self,
-        rt: &impl Abort,
-        bytes: &[u8],
-        left: Option<u64>,
-    ) -> Result<Option<u64>, AllocError> {
+    fn leave(&mut self, rt: &impl Abort, bytes: &[u8], left: Option<u64>) -> Option<u64> {
         let hash = self.salt.hash_of_as::<ByteString<Global>, &[u8]>(bytes);
         assert!(rt; self.class.covers(hash));
-        let prepared = prepare_as(&self.entries, &self.alloc, hash, bytes)?;
+        let prepared = prepare_as(&self.entries, &self.alloc, hash, bytes).expect(rt, "memory");
         let leaving = move |value: Option<u64>| -> (Option<u64>, Option<u64>) { (left, value) };
         let made = update_on(&mut self.entries, hash, prepared, leaving, 0, 0);
         let (before, _posting): (Option<u64>, Posting<ByteString<Global>, u64, Plus>) = made;
-        Ok(before)
+        before
     }
 
     /// Asserts that there is one entry, of these bytes and this value.
@@ -180,59 +165,83 @@ impl Words {
     }
 }
 
+/// A number, what a function does there and finds, and how many keys more there are.
+type Row = (u64, Change, Found, i64);
+
+/// What values a function is given where they lie.
+const LEFT: [Row; 13] = [
+    (7, Change::Leave(None), Ok(None), 0),
+    (1, Change::Leave(Some(10)), Ok(None), 1),
+    (2, Change::Leave(Some(20)), Ok(None), 1),
+    (3, Change::Leave(Some(30)), Ok(None), 1),
+    // a value that stays keeps its place, the first's, another's and the last's
+    (1, Change::Leave(Some(11)), Ok(Some(10)), 0),
+    (2, Change::Leave(Some(21)), Ok(Some(20)), 0),
+    (3, Change::Leave(Some(31)), Ok(Some(30)), 0),
+    (4, Change::Leave(None), Ok(None), 0),
+    (4, Change::Leave(Some(40)), Ok(None), 1),
+    // one that goes leaves the others in order
+    (2, Change::Leave(None), Ok(Some(21)), -1),
+    (1, Change::Leave(None), Ok(Some(11)), -1),
+    (4, Change::Leave(None), Ok(Some(40)), -1),
+    (2, Change::Leave(Some(22)), Ok(None), 1),
+];
+
+/// Counts that begin at none.
+const COUNTED: [Row; 5] = [
+    (1, Change::Count, Ok(Some(101)), 1),
+    (1, Change::Count, Ok(Some(102)), 0),
+    (2, Change::Count, Ok(Some(102)), 1),
+    (2, Change::Count, Ok(Some(103)), 0),
+    (1, Change::Count, Ok(Some(103)), 0),
+];
+
+/// What is spent until none is left.
+const SPENT: [Row; 6] = [
+    (1, Change::Leave(Some(2)), Ok(None), 1),
+    (2, Change::Leave(Some(9)), Ok(None), 1),
+    (1, Change::Spend, Ok(Some(1)), 0),
+    (1, Change::Spend, Ok(Some(0)), -1),
+    (1, Change::Spend, Err(1), 0),
+    (1, Change::Spend, Err(1), 0),
+];
+
+/// Values far back among those of 100 numbers.
+const FAR: [Row; 4] = [
+    (99, Change::Leave(Some(7)), Ok(Some(99)), 0),
+    (50, Change::Leave(Some(8)), Ok(Some(50)), 0),
+    (98, Change::Leave(None), Ok(Some(98)), -1),
+    (100, Change::Leave(None), Ok(None), 0),
+];
+
+/// Makes the changes of the rows, in order.
+fn change_all(rt: &impl Abort, twins: &mut Twins, rows: &[Row]) {
+    for (number, change, wanted, delta) in rows {
+        let found = twins.update(rt, *number, *change);
+        assert_same(rt, &(*number, found), &(*number, (*wanted, *delta)));
+    }
+}
+
 #[test]
 fn a_function_is_given_values_where_they_lie(rt: HostRuntime) {
     let mut twins = Twins::new(rt.alloc());
-    for (number, left, before, delta) in [
-        (7, None, None, 0),
-        (1, Some(10), None, 1),
-        (2, Some(20), None, 1),
-        (3, Some(30), None, 1),
-        // a value that stays keeps its place, the first's, another's and the last's
-        (1, Some(11), Some(10), 0),
-        (2, Some(21), Some(20), 0),
-        (3, Some(31), Some(30), 0),
-        (4, None, None, 0),
-        (4, Some(40), None, 1),
-        // one that goes leaves the others in order
-        (2, None, Some(21), -1),
-        (1, None, Some(11), -1),
-        (4, None, Some(40), -1),
-        (2, Some(22), None, 1),
-    ] {
-        let found = twins.leave(&rt, number, left).expect(&rt, "memory");
-        assert_same(&rt, &(number, found), &(number, (before, delta)));
-    }
+    change_all(&rt, &mut twins, &LEFT);
     twins.assert_walk(&rt, &[(3, 31), (2, 22)]);
 }
 
 #[test]
 fn a_function_is_given_a_value_or_none(rt: HostRuntime) {
     let mut twins = Twins::new(rt.alloc());
-    for (number, now, delta) in [
-        (1, 101, 1),
-        (1, 102, 0),
-        (2, 102, 1),
-        (2, 103, 0),
-        (1, 103, 0),
-    ] {
-        let found = twins.count(&rt, number).expect(&rt, "memory");
-        assert_same(&rt, &(number, found), &(number, (now, delta)));
-    }
-    assert_same(&rt, &twins.set(&rt, 2, 5), &Some(103));
-    assert_same(&rt, &twins.set(&rt, 3, 5), &None);
+    change_all(&rt, &mut twins, &COUNTED);
+    let found = [twins.set(&rt, 2, 5), twins.set(&rt, 3, 5)];
+    assert_same(&rt, &found, &[Some(103), None]);
     twins.assert_walk(&rt, &[(1, 103), (2, 5)]);
 }
 
 #[test]
 fn a_function_leaves_none_where_there_is_none(rt: HostRuntime) {
     let mut twins = Twins::new(rt.alloc());
-    twins.leave(&rt, 1, Some(2)).expect(&rt, "memory");
-    twins.leave(&rt, 2, Some(9)).expect(&rt, "memory");
-    for wanted in [Ok(1), Ok(0), Err(1), Err(1)] {
-        let spent = twins.spend(&rt, 1).expect(&rt, "memory");
-        assert_same(&rt, &spent, &wanted);
-    }
+    change_all(&rt, &mut twins, &SPENT);
     twins.assert_walk(&rt, &[(2, 9)]);
 }
 
@@ -240,38 +249,34 @@ fn a_function_leaves_none_where_there_is_none(rt: HostRuntime) {
 fn values_far_back_in_a_chain_are_updated(rt: HostRuntime) {
     let mut twins = Twins::new(rt.alloc());
     for number in 0..100u64 {
-        twins.leave(&rt, number, Some(number)).expect(&rt, "memory");
+        let row = (number, Change::Leave(Some(number)), Ok(None), 1);
+        change_all(&rt, &mut twins, &[row]);
     }
-    for (number, left, before) in [
-        (99, Some(7), Some(99)),
-        (50, Some(8), Some(50)),
-        (98, None, Some(98)),
-        (100, None, None),
-    ] {
-        let found = twins.leave(&rt, number, left).expect(&rt, "memory");
-        assert_same(&rt, &found.0, &before);
-    }
+    change_all(&rt, &mut twins, &FAR);
     assert_same(&rt, &twins.set(&rt, 97, 6), &Some(97));
     for number in 0..97u64 {
         let wanted = if number == 50 { 8 } else { number };
-        let found = twins.leave(&rt, number, None).expect(&rt, "memory");
-        assert_same(&rt, &found, &(Some(wanted), -1));
+        let row = (number, Change::Leave(None), Ok(Some(wanted)), -1);
+        change_all(&rt, &mut twins, &[row]);
     }
     twins.assert_walk(&rt, &[(97, 6), (99, 7)]);
 }
 
+/// What a function leaves at a text, and the value before it.
+const TEXTS: [(&[u8], Option<u64>, Option<u64>); 5] = [
+    (b"one", None, None),
+    (b"one", Some(1), None),
+    (b"two", Some(2), None),
+    (b"two", Some(3), Some(2)),
+    (b"one", None, Some(1)),
+];
+
 #[test]
 fn a_key_is_made_of_a_slice(rt: HostRuntime) {
     let mut words = Words::new(rt.alloc());
-    for (bytes, left, before) in [
-        (b"one".as_slice(), None, None),
-        (b"one".as_slice(), Some(1), None),
-        (b"two".as_slice(), Some(2), None),
-        (b"two".as_slice(), Some(3), Some(2)),
-        (b"one".as_slice(), None, Some(1)),
-    ] {
-        let found = words.leave(&rt, bytes, left).expect(&rt, "memory");
-        assert_same(&rt, &(bytes, found), &(bytes, before));
+    for (bytes, left, before) in &TEXTS {
+        let found = words.leave(&rt, bytes, *left);
+        assert_same(&rt, &(*bytes, found), &(*bytes, *before));
     }
     words.assert_one(&rt, b"two", 3);
 }
