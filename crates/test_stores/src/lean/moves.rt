@@ -1,11 +1,11 @@
 //! What moves find, where bins are tried, and bins that are taken out.
 ghost use Rattle.std.specs.Prelude.{◌≡◌};
 
-use crate::lean::maps::{KeyLedger, KeyMap, assert_same, open_quiet};
+use crate::calls::{KeyLedger, assert_same};
+use crate::lean::maps::{KeyMap, open_quiet, quiet};
 use bin_layout::{Moved, Refused};
 use hashkeys::Class;
 use std::alloc::{AllocError, Allocator, Global};
-use std::test::Fail;
 use test_support::Refusing;
 
 /// Takes the bins out, and gives the sizes and indices of their classes in walk order.
@@ -38,26 +38,26 @@ fn moves_of_one<A: Allocator + Clone>(
     [narrow, narrower, own, again, of_a_half]
 }
 
+/// What the moves of the class of 2 at 1, and of classes that it divides into, are to find.
+const MOVED: [Result<Moved, Refused>; 5] = [
+    Ok(Moved::Wider),
+    Ok(Moved::Wider),
+    Ok(Moved::Yes),
+    Ok(Moved::Already),
+    Ok(Moved::Wider),
+];
+
+/// The classes that they leave, in walk order.
+const LEFT: [(u32, u32); 3] = [(2, 0), (4, 1), (4, 3)];
+
 #[test]
 fn a_move_leaves_a_wider_bin(rt: HostRuntime) {
-    let (map, ledger) = open_quiet(rt.alloc(), 2).expect(&rt, "memory");
+    let (map, ledger) = quiet(&rt, rt.alloc(), 2);
     let found = moves_of_one(&map, &ledger);
-    let classes = classes_of(rt.alloc(), map);
+    let classes = classes_of(rt.alloc(), map).expect(&rt, "memory");
     drop(ledger);
-    let wanted = [
-        Ok(Moved::Wider),
-        Ok(Moved::Wider),
-        Ok(Moved::Yes),
-        Ok(Moved::Already),
-        Ok(Moved::Wider),
-    ];
-    assert_same(&rt, &found, &wanted);
-    let left = [(2, 0), (4, 1), (4, 3)];
-    assert_same(
-        &rt,
-        &classes.expect(&rt, "memory").as_slice(),
-        &left.as_slice(),
-    );
+    assert_same(&rt, &found, &MOVED);
+    assert_same(&rt, &classes.as_slice(), &LEFT.as_slice());
 }
 
 /// The class of the bin of the hash that a try finds where it lies.
@@ -69,8 +69,8 @@ fn tried<A: Allocator + Clone>(map: &KeyMap<A>, hash: u32) -> Option<(u32, u32)>
 }
 
 #[test]
-fn a_try_finds_a_bin_at_each_width(rt: HostRuntime) -> Result<(), Fail> {
-    let (map, ledger) = open_quiet(rt.alloc(), 2)?;
+fn a_try_finds_a_bin_at_each_width(rt: HostRuntime) {
+    let (map, ledger) = quiet(&rt, rt.alloc(), 2);
     let widened = map.try_widen(8);
     let at_first = tried(&map, 5);
     let moved = map.try_forward(&ledger, Class::new(2, 1));
@@ -79,12 +79,11 @@ fn a_try_finds_a_bin_at_each_width(rt: HostRuntime) -> Result<(), Fail> {
     let widest = [tried(&map, 5), tried(&map, 3), tried(&map, 4)];
     drop(map);
     drop(ledger);
-    assert_same(&rt, &widened, &Ok(()));
-    assert_same(&rt, &[moved, moved_on], &[Ok(Moved::Yes), Ok(Moved::Yes)]);
-    assert_same(&rt, &[at_first, half], &[Some((2, 1)), Some((4, 1))]);
+    let moves = (widened, moved, moved_on);
+    assert_same(&rt, &moves, &(Ok(()), Ok(Moved::Yes), Ok(Moved::Yes)));
     let wanted = [Some((8, 5)), Some((4, 3)), Some((2, 0))];
-    assert_same(&rt, &widest, &wanted);
-    Ok(())
+    let found = (at_first, half, widest);
+    assert_same(&rt, &found, &(Some((2, 1)), Some((4, 1)), wanted));
 }
 
 /// Makes room for the bins under an allocator that refuses the request after so many, and says
@@ -119,11 +118,8 @@ fn refused_room(alloc: &Refusing<Global>, own: Global, granted: u64) -> Result<b
 #[test]
 fn bins_are_taken_out_without_memory_once_there_is_room(rt: HostRuntime) {
     let alloc = Refusing::new(rt.alloc());
-    for (granted, made) in [(0, false), (1, false), (2, true)] {
-        assert_same(
-            &rt,
-            &refused_room(&alloc, rt.alloc(), granted).expect(&rt, "memory"),
-            &made,
-        );
+    for granted in 0..3u64 {
+        let made = refused_room(&alloc, rt.alloc(), granted).expect(&rt, "memory");
+        assert_same(&rt, &(granted, made), &(granted, granted == 2));
     }
 }

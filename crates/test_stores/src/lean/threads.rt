@@ -2,19 +2,21 @@
 ghost use Rattle.std.specs.Prelude.{◌≡◌, ◌<◌, All};
 ghost use Rattle.hashkeys.specs.Limits.{most_bins};
 
+use crate::calls::{
+    KeyLedger, KeyPass, KeyRole, TEXTS, assert_all_made, assert_moved_once, assert_same, count_of,
+    value_in,
+};
 use crate::lean::maps::{
-    KeyLedger, KeyMap, KeyPass, KeyRole, Opened, Single, assert_same, count_of, open, open_quiet,
-    open_single, put, put_in_place, value_in,
+    KeyMap, Opened, Single, class_at, open, open_single, put, put_in_place, quiet,
 };
 use bin_layout::{Moved, Refused};
-use count_ledger::{Unsettled, retire_all};
 use crossbeam_utils::Backoff;
-use hashkeys::{Class, HashKey, Key, Salt};
+use hashkeys::{Class, Key, Salt};
 use std::alloc::{AllocError, Allocator, Global};
 use std::process::Abort;
 use std::sync::Wait;
-use std::test::Fail;
 use std::thread::{self, Threads};
+use test_support::settled;
 
 /// Tries until the class is moved, however often another thread has its bin.
 fn forward<R: Wait, A: Allocator + Clone>(
@@ -38,22 +40,18 @@ fn forward<R: Wait, A: Allocator + Clone>(
 }
 
 #[test]
-fn two_threads_forward_one_class_once(rt: HostRuntime) -> Result<(), Fail> {
-    let (map, ledger) = open_quiet(rt.alloc(), 16)?;
+fn two_threads_forward_one_class_once(rt: HostRuntime) {
+    let (map, ledger) = quiet(&rt, rt.alloc(), 16);
     let forward = ||
         requires ledger { map.ledger ≡ ledger.id }
         requires n { map.n ≡ 16 }
     { forward(&rt, &map, &ledger, Class::new(16, 1)) };
     let (one, other) = thread::join(&rt, forward, forward);
-    let held = map.hold(&rt, 17);
-    let class = held.bin.class();
-    held.release();
+    let class = class_at(&rt, &map, 17);
     drop(map);
     drop(ledger);
-    let both = (one?, other?);
-    assert!(rt; both == (Moved::Yes, Moved::Already) || both == (Moved::Already, Moved::Yes));
     assert_same(&rt, &class, &Class::new(32, 17));
-    Ok(())
+    assert_moved_once(&rt, one.expect(&rt, "memory"), other.expect(&rt, "memory"));
 }
 
 /// Holds and releases the bins of these hashes in turn.
@@ -64,53 +62,66 @@ fn hold_often<R: Wait, A: Allocator + Clone>(rt: &R, map: &KeyMap<A>, hashes: u3
 }
 
 #[test]
-fn many_threads_hold_few_bins(rt: HostRuntime) -> Result<(), Fail> {
-    let (map, ledger) = open_quiet(rt.alloc(), 4)?;
+fn many_threads_hold_few_bins(rt: HostRuntime) {
+    let (map, ledger) = quiet(&rt, rt.alloc(), 4);
     let hold = |_: usize| hold_often(&rt, &map, 4, 20_000);
     let done = thread::map_indices(&rt, rt.alloc(), 32, &hold);
     drop(map);
     drop(ledger);
-    assert_same(&rt, &done?.len(), &32);
-    Ok(())
+    assert_same(&rt, &done.expect(&rt, "memory").len(), &32);
 }
 
-/// Whether the bin of the hash can be held by value, and where it lies, just now.
-fn free<A: Allocator + Clone>(map: &KeyMap<A>, hash: u32) -> (bool, bool) {
-    let by_value = match map.try_hold(hash) {
+/// Whether the bin of the hash can be held by value just now.
+fn is_free<A: Allocator + Clone>(map: &KeyMap<A>, hash: u32) -> bool {
+    match map.try_hold(hash) {
         Some(held) => {
             held.release();
             true
         }
         None => false,
-    };
-    let in_place = match map.try_hold_in_place(hash) {
+    }
+}
+
+/// Whether the bin of the hash can be held where it lies just now.
+fn is_free_in_place<A: Allocator + Clone>(map: &KeyMap<A>, hash: u32) -> bool {
+    match map.try_hold_in_place(hash) {
         Some(place) => {
             place.release();
             true
         }
         None => false,
-    };
-    (by_value, in_place)
+    }
+}
+
+/// Whether the bin of the hash can be held by value, and where it lies, just now.
+fn free<A: Allocator + Clone>(map: &KeyMap<A>, hash: u32) -> (bool, bool) {
+    (is_free(map, hash), is_free_in_place(map, hash))
+}
+
+/// Holds the bin of the hash 5 where it lies. Its class, and what of it and of the bin of the hash 6 can be held
+/// meanwhile.
+fn free_beside<R: Wait, A: Allocator + Clone>(
+    rt: &R,
+    map: &KeyMap<A>,
+) -> (Class, [(bool, bool); 2]) {
+    let place = map.hold_in_place(rt, 5);
+    let class = place.class;
+    let beside = [free(map, 5), free(map, 6)];
+    place.release();
+    (class, beside)
 }
 
 #[test]
-fn a_bin_that_is_held_where_it_lies_is_nobody_elses(rt: HostRuntime) -> Result<(), Fail> {
-    let (map, ledger) = open_quiet(rt.alloc(), 4)?;
-    let place = map.hold_in_place(&rt, 5);
-    let class = place.class;
-    let beside = (free(&map, 5), free(&map, 6));
-    place.release();
+fn a_bin_that_is_held_where_it_lies_is_nobody_elses(rt: HostRuntime) {
+    let (map, ledger) = quiet(&rt, rt.alloc(), 4);
+    let (class, beside) = free_beside(&rt, &map);
     let afterwards = free(&map, 5);
     drop(map);
     drop(ledger);
+    let wanted = ([(false, false), (true, true)], (true, true));
     assert_same(&rt, &class, &Class::new(4, 1));
-    assert_same(&rt, &beside, &((false, false), (true, true)));
-    assert_same(&rt, &afterwards, &(true, true));
-    Ok(())
+    assert_same(&rt, &(beside, afterwards), &wanted);
 }
-
-/// A key of each class of 8, in the classes' order.
-const TEXTS: [&[u8]; 8] = [b"h", b"a", b"b", b"c", b"d", b"e", b"f", b"g"];
 
 /// Puts to each key, a hundred times, by value and where its bin lies in turn.
 fn put_to_all<R: Wait + Abort>(
@@ -126,8 +137,8 @@ fn put_to_all<R: Wait + Abort>(
 {
     for _round in 0..50 {
         for text in TEXTS {
-            put(rt, &alloc, map, ledger, pass, text).expect(rt, "memory");
-            put_in_place(rt, &alloc, map, ledger, pass, text).expect(rt, "memory");
+            put(rt, &alloc, map, ledger, pass, text);
+            put_in_place(rt, &alloc, map, ledger, pass, text);
         }
     }
 }
@@ -219,83 +230,67 @@ fn roles_of<R: Wait + Abort>(
     (roles, counts)
 }
 
-/// Settles, and gives the sum of all deltas.
-fn settled(
-    rt: &impl Abort,
-    ledger: KeyLedger<Global>,
-    passes: Vec<KeyPass>,
-    roles: Vec<KeyRole>,
-) -> u64
-    requires passes { All (λ p. p.ledger ≡ ledger.id) passes.items }
-    requires roles { All (λ r. r.ledger ≡ ledger.id) roles.items }
-{
-    match ledger.settle(passes, roles) {
-        Ok(total) => total,
-        Err(
-            Unsettled {
-                ledger,
-                passes,
-                roles,
-            },
-        ) => {
-            retire_all(passes);
-            drop(roles);
-            drop(ledger);
-            assert!(rt; false, "the ledger settles");
-            0
-        }
+/// How many keys there are, and the most that one bin has.
+fn sum_and_most(counts: &[usize]) -> (usize, usize) {
+    let (mut keys, mut most) = (0usize, 0usize);
+    for count in counts {
+        keys = keys.wrapping_add(*count);
+        most = most.max(*count);
     }
+    (keys, most)
 }
 
-#[test]
-fn eight_threads_post_to_eight_bins(rt: HostRuntime) -> Result<(), Fail> {
+/// Eight threads post to eight bins, of which the first moves all before it puts if it is said so. How many bins there
+/// are in the end, how many keys, the most in a bin, and the sum of all deltas.
+fn posted<R: Threads + Wait + Abort + Sync>(
+    rt: &R,
+    alloc: Global,
+    moves: bool,
+) -> (usize, (usize, usize), Option<u64>) {
     let Opened {
         map,
         ledger,
         mut passes,
-    } = open(rt.alloc(), Salt(0), 8, 8)?;
-    put_from_threads(&rt, rt.alloc(), &map, &ledger, &mut passes, false);
-    let (roles, counts) = roles_of(&rt, rt.alloc(), map);
-    let all_made = passes.iter().all(|pass| pass.made() == 800);
-    let total = settled(&rt, ledger, passes, roles);
-    assert_same(&rt, &counts.as_slice(), &[1usize; 8].as_slice());
-    assert_same(&rt, &(all_made, total), &(true, 8));
-    Ok(())
+    } = open(alloc, Salt(0), 8, 8).expect(rt, "memory");
+    put_from_threads(rt, alloc, &map, &ledger, &mut passes, moves);
+    let (roles, counts) = roles_of(rt, alloc, map);
+    assert_all_made(rt, &passes, 800);
+    let total = settled(ledger, passes, roles);
+    (counts.len(), sum_and_most(&counts), total)
 }
 
 #[test]
-fn threads_put_while_bins_are_halved(rt: HostRuntime) -> Result<(), Fail> {
-    let Opened {
-        map,
-        ledger,
-        mut passes,
-    } = open(rt.alloc(), Salt(0), 8, 8)?;
-    put_from_threads(&rt, rt.alloc(), &map, &ledger, &mut passes, true);
-    let (roles, counts) = roles_of(&rt, rt.alloc(), map);
-    let all_made = passes.iter().all(|pass| pass.made() == 800);
-    let total = settled(&rt, ledger, passes, roles);
-    let one_at_most = counts.iter().all(|count| *count <= 1);
-    assert_same(&rt, &(counts.len(), one_at_most), &(16_384, true));
-    assert_same(&rt, &(all_made, total), &(true, 8));
-    Ok(())
+fn eight_threads_post_to_eight_bins(rt: HostRuntime) {
+    let found = posted(&rt, rt.alloc(), false);
+    assert_same(&rt, &found, &(8, (8, 1), Some(8)));
 }
 
 #[test]
-fn what_is_put_where_a_bin_lies_is_in_it(rt: HostRuntime) -> Result<(), Fail> {
+fn threads_put_while_bins_are_halved(rt: HostRuntime) {
+    let found = posted(&rt, rt.alloc(), true);
+    assert_same(&rt, &found, &(16_384, (8, 1), Some(8)));
+}
+
+#[test]
+fn what_is_put_where_a_bin_lies_is_in_it(rt: HostRuntime) {
+    let key = Key::read(b"a").expect(&rt, "a key");
     let Single {
         map,
         ledger,
         mut pass,
-    } = open_single(&rt, rt.alloc(), Salt(0), 8)?;
-    let done = put_in_place(&rt, &rt.alloc(), &map, &ledger, &mut pass, b"a");
-    let key = Key::read(b"a").expect(&rt, "a key");
-    let held = map.hold(&rt, map.salt().hash_of(&key));
-    let value = value_in(&held.bin, &key);
-    held.release();
+    } = open_single(&rt, rt.alloc(), Salt(0), 8).expect(&rt, "memory");
+    put_in_place(&rt, &rt.alloc(), &map, &ledger, &mut pass, b"a");
     pass.retire();
+    let value = value_at(&rt, &map, &key);
     drop(map);
     drop(ledger);
-    done?;
     assert_same(&rt, &value, &Some(0));
-    Ok(())
+}
+
+/// The value at a key, in its bin as it is held.
+fn value_at<R: Wait, A: Allocator + Clone>(rt: &R, map: &KeyMap<A>, key: &Key) -> Option<u64> {
+    let held = map.hold(rt, map.salt().hash_of(key));
+    let value = value_in(&held.bin, key);
+    held.release();
+    value
 }

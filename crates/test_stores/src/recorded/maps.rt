@@ -1,35 +1,18 @@
 //! Maps at the program's keys, and calls on them.
-ghost use Rattle.std.specs.Prelude.{◌≡◌, ◌<◌, ◌^◌, ◌≤◌, true, [], All, IfOk, length};
-ghost use Rattle.hashkeys.specs.Classes.{IsTableSize, is_of};
-ghost use Rattle.bin_history.specs.Calls.{after};
-ghost use Rattle.count_ledger.specs.Agreement.{BinAgrees};
-ghost use Rattle.count_ledger.specs.Limits.{most_calls};
+ghost use Rattle.std.specs.Prelude.{◌≡◌, ◌<◌, ◌≤◌, [], All, IfOk};
+ghost use Rattle.hashkeys.specs.Classes.{IsTableSize};
 
-use bin_history::{Bin, Form, KeyArg, Op, Remap, Value};
-use count_ledger::{BinRole, Ledger, Pass, retire_all};
+use crate::calls::{KeyLedger, KeyPass, make, no_bases};
+use bin_history::{Form, Op};
+use count_ledger::{Ledger, retire_all};
 use generations::Generations;
-use hashkeys::{HashKey, Key, Salt};
+use hashkeys::{Class, Key, Salt};
 use std::alloc::{AllocError, Allocator};
-use std::fmt::Debug;
 use std::process::Abort;
 use std::sync::Wait;
 use test_support::Keep;
 
-/// Asserts that what was found is what is wanted. A call of it is one step of the caller, which
-/// goes on as it is.
-pub(crate) fn assert_same<T: PartialEq + Debug>(rt: &impl Abort, found: &T, wanted: &T) {
-    assert_eq!(rt; found, wanted);
-}
-
 pub(crate) type KeyMap<A> = Generations<Key, u64, Keep, A>;
-
-pub(crate) type KeyLedger<A> = Ledger<Key, u64, Keep, A>;
-
-pub(crate) type KeyPass = Pass<Key, u64, Keep>;
-
-pub(crate) type KeyRole = BinRole<Key, u64, Keep>;
-
-pub(crate) type KeyBin<A> = Bin<Key, u64, Keep, A>;
 
 /// A map without entries, its ledger, and the passes of its clients.
 pub(crate) struct Opened<A: Allocator> {
@@ -43,21 +26,6 @@ pub(crate) struct Single<A: Allocator> {
     pub(crate) map: KeyMap<A>,
     pub(crate) ledger: KeyLedger<A>,
     pub(crate) pass: KeyPass,
-}
-
-/// So many bases without pairs.
-fn no_bases<A: Allocator + Clone>(
-    alloc: A,
-    n: u32,
-) -> Result<Vec<Vec<(Key, u64), A>, A>, AllocError>
-    ensures count { IfOk result (λ bases. length bases.items ≡ n) }
-    ensures empty { IfOk result (λ bases. All (λ base. base.items ≡ []) bases.items) }
-{
-    let mut bases = Vec::with_capacity(alloc.clone()?, n as usize)?;
-    for _index in 0..n {
-        bases.push_reserved(Vec::new(alloc.clone()?));
-    }
-    Ok(bases)
 }
 
 pub(crate) fn open<A: Allocator + Clone>(
@@ -131,39 +99,44 @@ pub(crate) fn open_quiet<A: Allocator + Clone>(
     Ok((map, ledger))
 }
 
-/// Makes a call on a key of the bin's class, as the next of the pass's client.
-fn make<'a, K: HashKey, V: Value, F: Remap<K, V>, A: Allocator + Clone>(
-    alloc: &A,
-    ledger: &Ledger<K, V, F, A>,
-    pass: &mut Pass<K, V, F>,
-    bin: &'a mut Bin<K, V, F, A>,
-    role: &mut BinRole<K, V, F>,
-    key: K,
-    op: Op<V, F>,
-) -> Result<(), AllocError>
-    requires pass { pass.old.ledger ≡ ledger.now.id }
-    requires role { role.old.ledger ≡ ledger.now.id }
-    requires room { length pass.old.made < most_calls ledger.now.form ledger.now.clients }
-    requires short { length pass.old.made < 2 ^ 48 }
-    requires key { is_of K.code bin.old.salt bin.old.class key ≡ true }
-    requires agree { BinAgrees K.eq (after V.eq F.remapped F.merged) bin.old role.old }
-    ensures pass { pass.new.ledger ≡ ledger.now.id }
-    ensures role { role.new.ledger ≡ ledger.now.id }
-    ensures agree { BinAgrees K.eq (after V.eq F.remapped F.merged) bin.new role.new }
-    ensures form { bin.new.form ≡ bin.old.form }
-    ensures class { bin.new.class ≡ bin.old.class }
-    ensures salt { bin.new.salt ≡ bin.old.salt }
+/// A map without entries and its ledger, made with memory.
+pub(crate) fn quiet<A: Allocator + Clone>(
+    rt: &impl Abort,
+    alloc: A,
+    form: Form,
+    n: u32,
+) -> (KeyMap<A>, KeyLedger<A>)
+    requires { IsTableSize n }
+    ensures map { result.0.n ≡ n }
+    ensures ledger { result.0.ledger ≡ result.1.id }
 {
-    bin.lawful();
-    let hash = bin.salt().hash_of(&key);
-    let (client, ordinal) = (pass.client(), pass.made());
-    let key: KeyArg<'a, K> = KeyArg::Owned(key);
-    let (_, trace) = bin.make_on(alloc, hash, key, op, client, ordinal)?;
-    ledger.post_trace(pass, role, &trace);
-    Ok(())
+    open_quiet(alloc, form, n).expect(rt, "memory")
 }
 
-/// Puts a value at a key of the map.
+/// A map in which `a` has the value 0, and its ledger; the pass of its one client has ended.
+pub(crate) fn with_one<R: Wait + Abort, A: Allocator + Clone>(
+    rt: &R,
+    alloc: &A,
+    form: Form,
+    n: u32,
+) -> (KeyMap<A>, KeyLedger<A>)
+    requires { IsTableSize n }
+    ensures map { result.0.n ≡ n }
+    ensures ledger { result.0.ledger ≡ result.1.id }
+{
+    let own = alloc.clone().expect(rt, "memory");
+    let opened = open_single(rt, own, form, Salt(0), n);
+    let Single {
+        map,
+        ledger,
+        mut pass,
+    } = opened.expect(rt, "memory");
+    put(rt, alloc, &map, &ledger, &mut pass, b"a");
+    pass.retire();
+    (map, ledger)
+}
+
+/// Puts 0 at a key of the map.
 pub(crate) fn put<R: Wait + Abort, A: Allocator + Clone>(
     rt: &R,
     alloc: &A,
@@ -171,7 +144,7 @@ pub(crate) fn put<R: Wait + Abort, A: Allocator + Clone>(
     ledger: &KeyLedger<A>,
     pass: &mut KeyPass,
     text: &[u8],
-) -> Result<(), AllocError>
+)
     requires ledger { map.now.ledger ≡ ledger.now.id }
     requires pass { pass.old.ledger ≡ ledger.now.id }
     ensures { pass.new.ledger ≡ ledger.now.id }
@@ -184,26 +157,19 @@ pub(crate) fn put<R: Wait + Abort, A: Allocator + Clone>(
     let bin = &mut lent.bin;
     let result = make(alloc, ledger, pass, bin, &mut lent.role, key, Op::Put(0));
     held.release();
-    result
+    result.expect(rt, "memory");
 }
 
-/// How many entries a bin has, up to 9.
-pub(crate) fn count_of<A: Allocator + Clone>(bin: &KeyBin<A>) -> usize {
-    let mut walk = bin.walk();
-    for count in 0..9 {
-        if walk.next().is_none() {
-            return count;
-        }
-    }
-    9
+/// The class of the bin of the hash, as it is held.
+pub(crate) fn class_at<R: Wait, A: Allocator + Clone>(rt: &R, map: &KeyMap<A>, hash: u32) -> Class {
+    let held = map.hold(rt, hash);
+    let class = held.bin.class();
+    held.release();
+    class
 }
 
-/// The value that a bin has at a key.
-pub(crate) fn value_in<A: Allocator + Clone>(bin: &KeyBin<A>, key: &Key) -> Option<u64> {
-    bin.get(bin.salt().hash_of(key), key).copied()
-}
-
-/// Takes the bins out, and gives how many there are and whether their classes are all of this size.
+/// Takes the bins out, and gives how many bins and roles there are and whether their classes are all of this
+/// size.
 pub(crate) fn leaves_of<A: Allocator + Clone>(
     map: KeyMap<A>,
     n: u32,
@@ -212,9 +178,11 @@ pub(crate) fn leaves_of<A: Allocator + Clone>(
         return None;
     };
     let (bins, roles) = map.into_leaves(room)?;
-    Some((
-        bins.len(),
-        roles.len(),
-        bins.iter().all(|bin| bin.class().n() == n),
-    ))
+    let mut are_all = true;
+    for bin in &bins {
+        if bin.class().n() != n {
+            are_all = false;
+        }
+    }
+    Some((bins.len(), roles.len(), are_all))
 }

@@ -1,9 +1,11 @@
 //! Tables by size: which place a hash is found at, and a table that is made before its move.
-use crate::recorded::maps::{KeyMap, assert_same, open_quiet};
+use crate::calls::assert_same;
+use crate::recorded::maps::{KeyMap, quiet};
 use bin_history::Form;
 use bin_layout::{Moved, Refused};
 use hashkeys::Class;
-use std::alloc::{AllocError, Allocator, Global};
+use std::alloc::{Allocator, Global};
+use std::process::Abort;
 use std::sync::Wait;
 use test_support::Refusing;
 
@@ -25,9 +27,16 @@ fn shown<R: Wait, A: Allocator + Clone>(rt: &R, map: &KeyMap<A>) -> [(u32, u32);
     ]
 }
 
+/// Before the moves, between them and after them.
+const SHOWN: [[(u32, u32); 4]; 3] = [
+    [(1, 0); 4],
+    [(2, 0), (2, 1), (2, 0), (2, 1)],
+    [(2, 0), (4, 1), (2, 0), (4, 3)],
+];
+
 #[test]
 fn the_widest_place_of_a_hash_is_found(rt: HostRuntime) {
-    let (map, ledger) = open_quiet(rt.alloc(), Form::Recorded, 1).expect(&rt, "memory");
+    let (map, ledger) = quiet(&rt, rt.alloc(), Form::Recorded, 1);
     let before = shown(&rt, &map);
     let first = map.forward(&rt, &ledger, Class::new(1, 0));
     let between = shown(&rt, &map);
@@ -35,14 +44,9 @@ fn the_widest_place_of_a_hash_is_found(rt: HostRuntime) {
     let after = shown(&rt, &map);
     drop(map);
     drop(ledger);
-    assert_same(
-        &rt,
-        &(first.expect(&rt, "memory"), second.expect(&rt, "memory")),
-        &(Moved::Yes, Moved::Yes),
-    );
-    assert_same(&rt, &before, &[(1, 0); 4]);
-    assert_same(&rt, &between, &[(2, 0), (2, 1), (2, 0), (2, 1)]);
-    assert_same(&rt, &after, &[(2, 0), (4, 1), (2, 0), (4, 3)]);
+    let moved = [first.expect(&rt, "memory"), second.expect(&rt, "memory")];
+    assert_same(&rt, &moved, &[Moved::Yes; 2]);
+    assert_same(&rt, &[before, between, after], &SHOWN);
 }
 
 /// What a try to make a table answers, and what the move after it does.
@@ -50,8 +54,8 @@ type Widened = (Result<(), Refused>, Result<Moved, Refused>);
 
 /// Makes the table of two places under an allocator that refuses the request after so many, and
 /// then moves the one lean bin with every request refused.
-fn widened(alloc: &Refusing<Global>, granted: u64) -> Result<Widened, AllocError> {
-    let (map, ledger) = open_quiet(alloc, Form::Lean, 1)?;
+fn widened(rt: &impl Abort, alloc: &Refusing<Global>, granted: u64) -> Widened {
+    let (map, ledger) = quiet(rt, alloc, Form::Lean, 1);
     alloc.refuse_after(granted);
     let made = map.try_widen(2);
     alloc.refuse_after(0);
@@ -59,21 +63,19 @@ fn widened(alloc: &Refusing<Global>, granted: u64) -> Result<Widened, AllocError
     alloc.refuse_after(u64::MAX);
     drop(map);
     drop(ledger);
-    Ok((made, moved))
+    (made, moved)
 }
+
+const WIDENED: [(u64, Widened); 2] = [
+    (0, (Err(Refused::NoMemory), Err(Refused::NoMemory))),
+    (1, (Ok(()), Ok(Moved::Yes))),
+];
 
 #[test]
 fn a_table_that_is_there_is_not_made_again(rt: HostRuntime) {
     let alloc = Refusing::new(rt.alloc());
-    let no_memory = Refused::NoMemory;
-    assert_same(
-        &rt,
-        &widened(&alloc, 0).expect(&rt, "memory"),
-        &(Err(no_memory), Err(no_memory)),
-    );
-    assert_same(
-        &rt,
-        &widened(&alloc, 1).expect(&rt, "memory"),
-        &(Ok(()), Ok(Moved::Yes)),
-    );
+    for (granted, wanted) in &WIDENED {
+        let found = widened(&rt, &alloc, *granted);
+        assert_same(&rt, &(*granted, found), &(*granted, *wanted));
+    }
 }

@@ -1,36 +1,31 @@
 //! Threads that share one map.
 ghost use Rattle.std.specs.Prelude.{◌≡◌, All, IfOk};
 
-use crate::recorded::maps::{
-    KeyLedger, KeyMap, KeyPass, KeyRole, Opened, assert_same, count_of, open, open_quiet, put,
+use crate::calls::{
+    KeyLedger, KeyPass, KeyRole, TEXTS, assert_all_made, assert_moved_once, assert_same, count_of,
 };
+use crate::recorded::maps::{KeyMap, Opened, class_at, open, put, quiet};
 use bin_history::Form;
-use bin_layout::Moved;
 use hashkeys::{Class, Salt};
 use std::alloc::{Allocator, Global};
 use std::process::Abort;
 use std::sync::Wait;
-use std::test::Fail;
 use std::thread::{self, Threads};
 use test_support::settled;
 
 #[test]
-fn two_threads_forward_one_class_once(rt: HostRuntime) -> Result<(), Fail> {
-    let (map, ledger) = open_quiet(rt.alloc(), Form::Lean, 16)?;
+fn two_threads_forward_one_class_once(rt: HostRuntime) {
+    let (map, ledger) = quiet(&rt, rt.alloc(), Form::Lean, 16);
     let forward = ||
         requires ledger { map.ledger ≡ ledger.id }
         requires n { map.n ≡ 16 }
     { map.forward(&rt, &ledger, Class::new(16, 1)) };
     let (one, other) = thread::join(&rt, forward, forward);
-    let held = map.hold(&rt, 17);
-    let class = held.bin.class();
-    held.release();
+    let class = class_at(&rt, &map, 17);
     drop(map);
     drop(ledger);
-    let both = (one?, other?);
-    assert!(rt; both == (Moved::Yes, Moved::Already) || both == (Moved::Already, Moved::Yes));
     assert_same(&rt, &class, &Class::new(32, 17));
-    Ok(())
+    assert_moved_once(&rt, one.expect(&rt, "memory"), other.expect(&rt, "memory"));
 }
 
 /// Holds and releases the bins of these hashes in turn.
@@ -41,18 +36,14 @@ fn hold_often<R: Wait, A: Allocator + Clone>(rt: &R, map: &KeyMap<A>, hashes: u3
 }
 
 #[test]
-fn many_threads_hold_few_bins(rt: HostRuntime) -> Result<(), Fail> {
-    let (map, ledger) = open_quiet(rt.alloc(), Form::Recorded, 4)?;
+fn many_threads_hold_few_bins(rt: HostRuntime) {
+    let (map, ledger) = quiet(&rt, rt.alloc(), Form::Recorded, 4);
     let hold = |_: usize| hold_often(&rt, &map, 4, 20_000);
     let done = thread::map_indices(&rt, rt.alloc(), 32, &hold);
     drop(map);
     drop(ledger);
-    assert_same(&rt, &done?.len(), &32);
-    Ok(())
+    assert_same(&rt, &done.expect(&rt, "memory").len(), &32);
 }
-
-/// A key of each class of 8, in the classes' order.
-const TEXTS: [&[u8]; 8] = [b"h", b"a", b"b", b"c", b"d", b"e", b"f", b"g"];
 
 /// Puts to each key in turn, a hundred times.
 fn put_to_all<R: Wait + Abort>(
@@ -68,7 +59,7 @@ fn put_to_all<R: Wait + Abort>(
 {
     for _round in 0..100 {
         for text in TEXTS {
-            put(rt, &alloc, map, ledger, pass, text).expect(rt, "memory");
+            put(rt, &alloc, map, ledger, pass, text);
         }
     }
 }
@@ -114,17 +105,16 @@ fn roles_of<R: Wait + Abort>(
 }
 
 #[test]
-fn eight_threads_post_to_eight_bins(rt: HostRuntime) -> Result<(), Fail> {
+fn eight_threads_post_to_eight_bins(rt: HostRuntime) {
     let Opened {
         map,
         ledger,
         mut passes,
-    } = open(rt.alloc(), Form::Lean, Salt(0), 8, 8)?;
+    } = open(rt.alloc(), Form::Lean, Salt(0), 8, 8).expect(&rt, "memory");
     put_from_threads(&rt, rt.alloc(), &map, &ledger, &mut passes);
     let (roles, counts) = roles_of(&rt, rt.alloc(), map);
-    let all_made = passes.iter().all(|pass| pass.made() == 800);
+    assert_all_made(&rt, &passes, 800);
     let total = settled(ledger, passes, roles);
-    assert_same(&rt, &counts.as_slice(), &[1usize; 8].as_slice());
-    assert_same(&rt, &(all_made, total), &(true, Some(8)));
-    Ok(())
+    let found = (counts.as_slice(), total);
+    assert_same(&rt, &found, &([1usize; 8].as_slice(), Some(8)));
 }

@@ -1,12 +1,11 @@
 //! Tries, which wait for nobody: what they answer, and what they leave.
 ghost use Rattle.std.specs.Prelude.{◌≡◌};
 
-use crate::recorded::maps::{
-    KeyLedger, KeyMap, Single, assert_same, leaves_of, open_quiet, open_single, put, value_in,
-};
+use crate::calls::{KeyLedger, assert_same, value_in};
+use crate::recorded::maps::{KeyMap, leaves_of, quiet, with_one};
 use bin_history::Form;
 use bin_layout::{Moved, Refused};
-use hashkeys::{Class, Key, Salt};
+use hashkeys::{Class, Key};
 use std::alloc::{AllocError, Allocator, Global};
 use std::process::Abort;
 use std::sync::Wait;
@@ -56,27 +55,24 @@ fn found<R: Wait, A: Allocator + Clone>(rt: &R, map: &KeyMap<A>, key: &Key) -> (
     found
 }
 
+/// Asserts that a bin that is held or read stays, and that it is moved once it is neither.
+fn assert_stays<R: Wait + Abort>(rt: &R, alloc: Global, form: Form, key: &Key) {
+    let (map, ledger) = with_one(rt, &alloc, form, 2);
+    let before = found(rt, &map, key);
+    let answers = tried_in_turn(rt, &map, &ledger);
+    let after = found(rt, &map, key);
+    drop(map);
+    drop(ledger);
+    let busy = (Err(Refused::Busy), false);
+    assert_same(rt, &answers, &[busy, busy, (Ok(Moved::Yes), true)]);
+    assert_same(rt, &(before, after), &((2, Some(0)), (4, Some(0))));
+}
+
 #[test]
 fn a_bin_that_is_held_or_read_stays(rt: HostRuntime) {
     let key = Key::read(b"a").expect(&rt, "a key");
-    for form in [Form::Recorded, Form::Lean] {
-        let Single {
-            map,
-            ledger,
-            mut pass,
-        } = open_single(&rt, rt.alloc(), form, Salt(0), 2).expect(&rt, "memory");
-        let done = put(&rt, &rt.alloc(), &map, &ledger, &mut pass, b"a");
-        pass.retire();
-        let before = found(&rt, &map, &key);
-        let answers = tried_in_turn(&rt, &map, &ledger);
-        let after = found(&rt, &map, &key);
-        drop(map);
-        drop(ledger);
-        done.expect(&rt, "memory");
-        let busy = (Err(Refused::Busy), false);
-        assert_same(&rt, &answers, &[busy, busy, (Ok(Moved::Yes), true)]);
-        assert_same(&rt, &(before, after), &((2, Some(0)), (4, Some(0))));
-    }
+    assert_stays(&rt, rt.alloc(), Form::Recorded, &key);
+    assert_stays(&rt, rt.alloc(), Form::Lean, &key);
 }
 
 /// Tries to move each class of 2.
@@ -90,6 +86,16 @@ fn move_both<A: Allocator + Clone>(
     let low = map.try_forward(ledger, Class::new(2, 0));
     let high = map.try_forward(ledger, Class::new(2, 1));
     [low, high]
+}
+
+/// The sizes and indices of the classes of the bins of a map of two, of which the second was halved.
+const HALVED: [(u32, u32); 3] = [(2, 0), (4, 1), (4, 3)];
+
+/// Takes the bins out, and asserts that their classes are those of a map of two of which the second was
+/// halved, in walk order.
+fn assert_halved<A: Allocator + Clone>(rt: &impl Abort, alloc: Global, map: KeyMap<A>) {
+    let classes = classes_of(alloc, map).expect(rt, "memory");
+    assert_same(rt, &classes.as_slice(), &HALVED.as_slice());
 }
 
 /// Takes the bins out, and gives the sizes and indices of their classes in walk order.
@@ -107,29 +113,34 @@ fn classes_of<A: Allocator + Clone>(
     Ok(classes)
 }
 
+/// Tries to move each class of 2 while the bin of the first is held.
+fn move_round_a_held_bin<R: Wait, A: Allocator + Clone>(
+    rt: &R,
+    map: &KeyMap<A>,
+    ledger: &KeyLedger<A>,
+) -> [Result<Moved, Refused>; 2]
+    requires n { map.now.n ≡ 2 }
+    requires ledger { ledger.now.id ≡ map.now.ledger }
+{
+    let held = map.hold(rt, 0);
+    let moved = move_both(map, ledger);
+    held.release();
+    moved
+}
+
 #[test]
 fn what_is_held_is_skipped(rt: HostRuntime) {
-    let (map, ledger) = open_quiet(rt.alloc(), Form::Lean, 2).expect(&rt, "memory");
-    let held = map.hold(&rt, 0);
-    let moved = move_both(&map, &ledger);
-    held.release();
-    let classes = classes_of(rt.alloc(), map);
+    let (map, ledger) = quiet(&rt, rt.alloc(), Form::Lean, 2);
+    let moved = move_round_a_held_bin(&rt, &map, &ledger);
+    assert_halved(&rt, rt.alloc(), map);
     drop(ledger);
     assert_same(&rt, &moved, &[Err(Refused::Busy), Ok(Moved::Yes)]);
-    let wanted = [(2, 0), (4, 1), (4, 3)];
-    assert_same(
-        &rt,
-        &classes.expect(&rt, "memory").as_slice(),
-        &wanted.as_slice(),
-    );
 }
 
 #[test]
 fn what_was_skipped_is_moved_later(rt: HostRuntime) {
-    let (map, ledger) = open_quiet(rt.alloc(), Form::Recorded, 2).expect(&rt, "memory");
-    let held = map.hold(&rt, 0);
-    let _ = move_both(&map, &ledger);
-    held.release();
+    let (map, ledger) = quiet(&rt, rt.alloc(), Form::Recorded, 2);
+    let _ = move_round_a_held_bin(&rt, &map, &ledger);
     let moved = move_both(&map, &ledger);
     let leaves = leaves_of(map, 4);
     drop(ledger);
@@ -164,23 +175,14 @@ fn halved<R: Wait, A: Allocator + Clone>(
 #[test]
 fn a_bin_is_halved_or_handed_back(rt: HostRuntime) {
     let alloc = Refusing::new(rt.alloc());
-    let (map, ledger) = open_quiet(&alloc, Form::Recorded, 2).expect(&rt, "memory");
+    let (map, ledger) = quiet(&rt, &alloc, Form::Recorded, 2);
     // The wider table is granted, and what comes after it is not.
     alloc.refuse_after(1);
     let first = halved(&rt, &map, &ledger);
     alloc.refuse_after(u64::MAX);
     let second = halved(&rt, &map, &ledger);
-    let classes = classes_of(rt.alloc(), map);
+    assert_halved(&rt, rt.alloc(), map);
     drop(ledger);
-    assert_same(
-        &rt,
-        &(first, second),
-        &(Err((Refused::NoMemory, 2)), Ok(())),
-    );
-    let wanted = [(2, 0), (4, 1), (4, 3)];
-    assert_same(
-        &rt,
-        &classes.expect(&rt, "memory").as_slice(),
-        &wanted.as_slice(),
-    );
+    let refused = Err((Refused::NoMemory, 2));
+    assert_same(&rt, &(first, second), &(refused, Ok(())));
 }

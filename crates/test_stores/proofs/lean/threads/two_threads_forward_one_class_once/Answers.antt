@@ -6,8 +6,8 @@ use Rattle.atomic_table.proofs.shared.Shared.TheSendSync as the_words
 use Rattle.lean_bins.proofs.Shared.{map_sync}
 use Rattle.test_stores.proofs.lean.threads.two_threads_forward_one_class_once.Goals as goal
 
-pub open_quiet-requires : goal.open_quiet-requires
-open_quiet-requires g c = (4, omega arith, refl)
+pub quiet-map-requires : goal.quiet-map-requires
+quiet-map-requires g c = (4, omega arith, refl)
 
 pub join-one-requires-send-F : goal.join-one-requires-send-F
 join-one-requires-send-F g c κs within = search (sendable, crosses, the_words.the_sync, the_lease.the_sync, map_sync)

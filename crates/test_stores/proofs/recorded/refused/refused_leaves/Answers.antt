@@ -1,5 +1,5 @@
 use Rattle.std.proofs.Common.{refl, arith}
 use Rattle.test_stores.proofs.recorded.refused.refused_leaves.Goals as goal
 
-pub open_quiet-requires : goal.open_quiet-requires
-open_quiet-requires g c = (2, omega arith, refl)
+pub quiet-map-requires : goal.quiet-map-requires
+quiet-map-requires g c = (2, omega arith, refl)

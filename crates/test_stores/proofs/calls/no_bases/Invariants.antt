@@ -1,5 +1,5 @@
 use Rattle.std.proofs.Common.{◌≡◌, ◌≤◌, [], vec_len, vec_capacity, All}
-use Rattle.test_stores.proofs.lean.maps.no_bases.Given as goal
+use Rattle.test_stores.proofs.calls.no_bases.Given as goal
 
 abbrev pub invariant-loop-index : goal.invariant-loop-index
 invariant-loop-index g l =

@@ -2,7 +2,7 @@ use Rattle.std.proofs.Common.{◌∷◌, [], arith}
 use Rattle.bin_history.specs.Calls.{after}
 use Rattle.bin_history.proofs.Keys.{key_tells}
 use Rattle.count_ledger.proofs.Agreements.{BinAgrees-gone_on, IsLegalStep-made}
-use Rattle.test_stores.proofs.lean.maps.make.Goals as goal
+use Rattle.test_stores.proofs.calls.make.Goals as goal
 
 pub make_on-requires-clause-ordinal : goal.make_on-requires-clause-ordinal
 make_on-requires-clause-ordinal g c = λ form. omega (arith, c.requires.short, c.made-ordinal.ensures)

@@ -1,5 +1,5 @@
 use Rattle.std.proofs.Common.{refl, arith}
-use Rattle.test_stores.proofs.recorded.walks.walks_of_four.Goals as goal
+use Rattle.test_stores.proofs.recorded.walks.with_four.Goals as goal
 
 pub open_single-requires : goal.open_single-requires
 open_single-requires g c = (4, omega arith, refl)
