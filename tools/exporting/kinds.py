@@ -43,25 +43,13 @@ class Export:
 
 
 def trying(*steps, telling):
-    """Returns the body that takes these steps with the target of a client, and tells what came of the last."""
-    taken = "".join(f"    {it}\n" for it in steps)
-    return f"""\
-let Some(mut target) = client.into_box() else {{
-        return WRONG_HANDLE;
-    }};
-{taken}    *out = FacingOut::of(target);
-    {telling}"""
+    """Returns the body that asks the target of a client for the last of these steps, behind the others, and tells what came of it."""
+    return "\n    ".join([*steps[:-1], f"let tried = lend!(client, out, |target| {steps[-1]});", telling])
 
 
 def finding(looking):
     """Returns the body that looks into a closed map."""
-    return f"""\
-let Some(target) = closed.into_box() else {{
-        return WRONG_HANDLE;
-    }};
-    let status = {looking};
-    *out = FacingOut::of(target);
-    status"""
+    return f"let found = lend!(closed, out, |target| {looking});\n    status_in(found)"
 
 
 # A call of numbers, of counts, and of bytes by what it answers.
@@ -95,19 +83,19 @@ GET_COUNTS = Export(
     """\
 ensures told { IsFilled client.ptr →
         IsCountShown client.target key.now out.new.target result answer.old answer.new }""",
-    trying("let tried = try_look_count(target.as_mut(), key);", telling="tell(tried, answer)"),
+    trying("try_look_count(target, key)", telling="tell(tried, answer)"),
 )
 GET_BYTES = Export(
     """\
 ensures told { IsFilled client.ptr → IsBytesShown client.target key.now out.new.target result
         (room.old, answer.old) (room.new, answer.new) }""",
-    trying("let tried = try_look_bytes(target.as_mut(), key);", telling="tell_whole(tried, room, answer)"),
+    trying("try_look_bytes(target, key)", telling="tell_whole(tried, room, answer)"),
 )
 HAS = """\
 ensures told { IsFilled client.ptr →
         Is${Noun}Has client.target key.now out.new.target result answer.old answer.new }"""
-HAS_COUNTS = Export(HAS, trying("let tried = try_has_count(target.as_mut(), key);", telling="tell(tried, answer)"))
-HAS_BYTES = Export(HAS, trying("let tried = try_has_bytes(target.as_mut(), key);", telling="tell_length(tried, answer)"))
+HAS_COUNTS = Export(HAS, trying("try_has_count(target, key)", telling="tell(tried, answer)"))
+HAS_BYTES = Export(HAS, trying("try_has_bytes(target, key)", telling="tell_length(tried, answer)"))
 
 # What reads a closed map.
 FIND = Export(
@@ -115,14 +103,14 @@ FIND = Export(
 ensures same { IsFilled closed.ptr → out.new.target ≡ closed.target }
     ensures found { IsFilled closed.ptr →
         Is${Noun}Found closed.target $at result answer.old answer.new }""",
-    finding("closed::find_$noun(target.as_ref(), key, answer)"),
+    finding("closed::find_$noun(target, key, answer)"),
 )
 FIND_BYTES = Export(
     """\
 ensures same { IsFilled closed.ptr → out.new.target ≡ closed.target }
     ensures found { IsFilled closed.ptr → IsBytesFound closed.target key.now result
         (room.old, answer.old) (room.new, answer.new) }""",
-    finding("closed::find_bytes(target.as_ref(), key, room, answer)"),
+    finding("closed::find_bytes(target, key, room, answer)"),
 )
 
 # What changes a value by what it is.
@@ -132,7 +120,7 @@ ensures told { IsFilled client.ptr → Is${Noun}ExchangeTold client.target (give
         (given has_value value) $at out.new.target result answer.old answer.new }""",
     trying(
         "let exchange = exchange_of(has_expected, expected, has_value, value);",
-        "let tried = try_$noun(target.as_mut(), key, exchange);",
+        "try_$noun(target, key, exchange)",
         telling="tell_exchanged(tried, answer)",
     ),
     "FacingExchanged",
@@ -145,7 +133,7 @@ ensures told { IsFilled client.ptr → IsBytesExchangeTold client.target (given 
     trying(
         "let expected = given(has_expected, expected);",
         "let value = given(has_value, value);",
-        "let tried = try_bytes(target.as_mut(), key, expected, value);",
+        "try_bytes(target, key, expected, value)",
         telling="tell_exchanged_bytes(tried, room, answer)",
     ),
     "FacingExchanged",
@@ -154,7 +142,7 @@ ADD_UP_TO = Export(
     """\
 ensures told { IsFilled client.ptr → Is${Noun}AddTold client.target amount most $at
         out.new.target result answer.old answer.new }""",
-    trying("let tried = try_$noun(target.as_mut(), key, AddUpTo { amount, most });", telling="tell_added(tried, answer)"),
+    trying("try_$noun(target, key, AddUpTo { amount, most })", telling="tell_added(tried, answer)"),
 )
 
 # == Functions of headers ==

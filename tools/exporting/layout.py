@@ -34,12 +34,19 @@ def rattle_imports(path, names):
     return "".join(f"{path}{{{it}}};\n" for it in lines)
 
 
-def rattle_call(call):
-    """Returns a call that is the last line of a function."""
-    head, arguments, tail = in_parentheses(call)
+def rattle_lines(body):
+    """Returns the lines of a function with their long calls broken."""
+    return "\n".join(rattle_call(it) if "(" in it else it for it in body.split("\n"))
+
+
+def rattle_call(line):
+    """Returns a line that makes a call, with each argument in a line where they are long."""
+    head, arguments, tail = in_parentheses(line)
     if len(arguments) <= ARGUMENTS_OF_RATTLE:
-        return call
-    return f"{head}\n" + "".join(f"        {it},\n" for it in split(arguments, ", ")) + f"    {tail}"
+        return line
+    lines = ",\n        ".join(split(arguments, ", "))
+    # `rt fmt` lets no comma stand behind what a macro takes.
+    return f"{head}\n        {lines}{'' if head.endswith('!(') else ','}\n    {tail}"
 
 
 def rust_declaration(head, arguments, result):

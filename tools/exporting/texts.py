@@ -3,7 +3,7 @@ import re
 from string import Template
 
 from .kinds import EXPORT, NULL, NULL_WITH_ROOM, Function
-from .layout import c_comment, c_lines, rattle_call, rattle_comment, rattle_imports, rust_declaration
+from .layout import c_comment, c_lines, rattle_comment, rattle_imports, rattle_lines, rust_declaration
 
 # How C has what an export takes: {0} is the name of the argument, {1}_len that of its length.
 DECLARED = {"u64": "uint64_t {0}", "u32": "uint32_t {0}", "&[u8]": "const uint8_t *{0}, size_t {1}_len", "&mut [u8]": "uint8_t *{0}, size_t {1}_len"}
@@ -82,12 +82,11 @@ class CallOfKind:
         return Template(template).substitute(self.words, **more)
 
     def export(self):
-        body = self.filled(self.in_rattle.body)
         text = self.filled(
             EXPORT,
             clauses=self.filled(self.in_rattle.clauses),
             null=self.filled(NULL_WITH_ROOM if self.has_room else NULL),
-            body=body if "\n" in body else rattle_call(body),
+            body=rattle_lines(self.filled(self.in_rattle.body)),
         )
         return rattle_comment(self.call.said(self.kind.name, "export")) + text
 

@@ -15,12 +15,12 @@ ghost use Rattle.facing.specs.Targets.{IsBytesOpened};
 
 use crate::calls::{try_byte, try_has_bytes, try_look_bytes};
 use crate::closed;
-use crate::handle::{FacingHandle, FacingOut};
+use crate::handle::{FacingHandle, FacingOut, lend};
 use crate::owners::give;
 use crate::target::Target;
 use bin_history::Op;
 use facing_maps::{
-    FacingAnswer, Keys, Stage, WRONG_HANDLE, code_of, tell_bytes, tell_length, tell_whole,
+    FacingAnswer, Keys, Stage, code_of, status_in, tell_bytes, tell_length, tell_whole,
 };
 use functions::NoFunction;
 use hashkeys::Bytes;
@@ -67,11 +67,7 @@ fn call(
     ensures null { ¬ IsFilled client.ptr → (result ≡ facing_wrong_handle) × (out.new ≡ out.old)
         × (room.new ≡ room.old) × (answer.new ≡ answer.old) }
 {
-    let Some(mut target) = client.into_box() else {
-        return WRONG_HANDLE;
-    };
-    let tried = try_byte(target.as_mut(), key, op);
-    *out = FacingOut::of(target);
+    let tried = lend!(client, out, |target| try_byte(target, key, op));
     tell_bytes(tried, room, answer)
 }
 
@@ -89,11 +85,7 @@ fn ask(
     ensures null { ¬ IsFilled client.ptr →
         (result ≡ facing_wrong_handle) × (out.new ≡ out.old) × (answer.new ≡ answer.old) }
 {
-    let Some(mut target) = client.into_box() else {
-        return WRONG_HANDLE;
-    };
-    let tried = try_byte(target.as_mut(), key, op);
-    *out = FacingOut::of(target);
+    let tried = lend!(client, out, |target| try_byte(target, key, op));
     tell_length(tried, answer)
 }
 
@@ -114,11 +106,7 @@ pub extern "C" fn facing_c_bytes_try_get(
     ensures null { ¬ IsFilled client.ptr → (result ≡ facing_wrong_handle) × (out.new ≡ out.old)
         × (room.new ≡ room.old) × (answer.new ≡ answer.old) }
 {
-    let Some(mut target) = client.into_box() else {
-        return WRONG_HANDLE;
-    };
-    let tried = try_look_bytes(target.as_mut(), key);
-    *out = FacingOut::of(target);
+    let tried = lend!(client, out, |target| try_look_bytes(target, key));
     tell_whole(tried, room, answer)
 }
 
@@ -136,11 +124,7 @@ pub extern "C" fn facing_c_bytes_try_contains(
     ensures null { ¬ IsFilled client.ptr →
         (result ≡ facing_wrong_handle) × (out.new ≡ out.old) × (answer.new ≡ answer.old) }
 {
-    let Some(mut target) = client.into_box() else {
-        return WRONG_HANDLE;
-    };
-    let tried = try_has_bytes(target.as_mut(), key);
-    *out = FacingOut::of(target);
+    let tried = lend!(client, out, |target| try_has_bytes(target, key));
     tell_length(tried, answer)
 }
 
@@ -286,10 +270,10 @@ pub extern "C" fn facing_c_bytes_find(
     ensures null { ¬ IsFilled closed.ptr → (result ≡ facing_wrong_handle) × (out.new ≡ out.old)
         × (room.new ≡ room.old) × (answer.new ≡ answer.old) }
 {
-    let Some(target) = closed.into_box() else {
-        return WRONG_HANDLE;
-    };
-    let status = closed::find_bytes(target.as_ref(), key, room, answer);
-    *out = FacingOut::of(target);
-    status
+    let found = lend!(
+        closed,
+        out,
+        |target| closed::find_bytes(target, key, room, answer)
+    );
+    status_in(found)
 }

@@ -16,11 +16,11 @@ ghost use Rattle.facing.specs.Targets.{IsCountsOpened};
 
 use crate::calls::{try_count, try_has_count, try_look_count};
 use crate::closed;
-use crate::handle::{FacingHandle, FacingOut};
+use crate::handle::{FacingHandle, FacingOut, lend};
 use crate::owners::give;
 use crate::target::Target;
 use bin_history::Op;
-use facing_maps::{FacingAnswer, Keys, Merging, Stage, WRONG_HANDLE, code_of, tell};
+use facing_maps::{FacingAnswer, Keys, Merging, Stage, code_of, status_in, tell};
 use seeded_keys::Seed;
 use std::alloc::Global;
 
@@ -63,11 +63,7 @@ fn call(
     ensures null { ¬ IsFilled client.ptr →
         (result ≡ facing_wrong_handle) × (out.new ≡ out.old) × (answer.new ≡ answer.old) }
 {
-    let Some(mut target) = client.into_box() else {
-        return WRONG_HANDLE;
-    };
-    let tried = try_count(target.as_mut(), key, op);
-    *out = FacingOut::of(target);
+    let tried = lend!(client, out, |target| try_count(target, key, op));
     tell(tried, answer)
 }
 
@@ -85,11 +81,7 @@ pub extern "C" fn facing_c_counts_try_get(
     ensures null { ¬ IsFilled client.ptr →
         (result ≡ facing_wrong_handle) × (out.new ≡ out.old) × (answer.new ≡ answer.old) }
 {
-    let Some(mut target) = client.into_box() else {
-        return WRONG_HANDLE;
-    };
-    let tried = try_look_count(target.as_mut(), key);
-    *out = FacingOut::of(target);
+    let tried = lend!(client, out, |target| try_look_count(target, key));
     tell(tried, answer)
 }
 
@@ -107,11 +99,7 @@ pub extern "C" fn facing_c_counts_try_contains(
     ensures null { ¬ IsFilled client.ptr →
         (result ≡ facing_wrong_handle) × (out.new ≡ out.old) × (answer.new ≡ answer.old) }
 {
-    let Some(mut target) = client.into_box() else {
-        return WRONG_HANDLE;
-    };
-    let tried = try_has_count(target.as_mut(), key);
-    *out = FacingOut::of(target);
+    let tried = lend!(client, out, |target| try_has_count(target, key));
     tell(tried, answer)
 }
 
@@ -298,10 +286,10 @@ pub extern "C" fn facing_c_counts_find(
     ensures null { ¬ IsFilled closed.ptr →
         (result ≡ facing_wrong_handle) × (out.new ≡ out.old) × (answer.new ≡ answer.old) }
 {
-    let Some(target) = closed.into_box() else {
-        return WRONG_HANDLE;
-    };
-    let status = closed::find_count(target.as_ref(), key, answer);
-    *out = FacingOut::of(target);
-    status
+    let found = lend!(
+        closed,
+        out,
+        |target| closed::find_count(target, key, answer)
+    );
+    status_in(found)
 }

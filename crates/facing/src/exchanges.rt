@@ -1,19 +1,19 @@
 //! The exports that change a value by what it is, under one lock. They are the same for each kind of map
 //! but for its keys and values.
 ghost use Rattle.std.specs.Prelude.{◌≡◌, option_copied};
+ghost use Rattle.facing_maps.specs.Answers.{answered};
 ghost use Rattle.facing_maps.specs.Statuses.{facing_wrong_handle};
 ghost use Rattle.facing.specs.Changes.{given, IsNumberChanged, IsCountChanged, IsBytesExchanged};
 ghost use Rattle.facing.specs.Changes.{IsNumberExchangeTold, IsCountExchangeTold, IsBytesExchangeTold};
 ghost use Rattle.facing.specs.Changes.{IsNumberAddTold, IsCountAddTold};
 ghost use Rattle.facing.specs.Handles.{IsFilled};
 
-use crate::handle::{FacingHandle, FacingOut};
+use crate::handle::{FacingHandle, FacingOut, lend};
 use crate::target::Target;
 use bin_history::KeyArg;
 use facing_maps::{
     AddUpTo, ChangeOutcome, Changing, Exchange, FacingAnswer, FacingExchanged, SharedBytes,
-    WRONG_HANDLE, tell_added, tell_exchanged, tell_exchanged_bytes, try_change_on,
-    try_exchange_bytes,
+    tell_added, tell_exchanged, tell_exchanged_bytes, try_change_on, try_exchange_bytes,
 };
 
 /// A value that an export is given, or none where the number before it is 0.
@@ -32,46 +32,48 @@ fn exchange_of(has_expected: u32, expected: u64, has_value: u32, value: u64) -> 
     Exchange { expected, value }
 }
 
-/// Tries a change by the client of a map of whole numbers that this is. It waits for nobody.
-fn try_number<C: Changing<u64>>(target: &mut Target, key: u64, changing: C) -> ChangeOutcome<u64>
-    ensures { IsNumberChanged target.old (C.changes changing) key target.new result }
+/// Tries a change by the client of a map of whole numbers that this is, if it is one. It waits for nobody.
+fn try_number<C: Changing<u64>>(
+    target: &mut Target,
+    key: u64,
+    changing: C,
+) -> Option<ChangeOutcome<u64>>
+    ensures { IsNumberChanged target.old (C.changes changing) key target.new (answered result) }
 {
     match target {
         Target::Numbers(seed, stage) => stage.try_change(KeyArg::Owned(seed.mix(key)), changing),
-        Target::Bytes(_, _) => Err(WRONG_HANDLE),
-        Target::Counts(_, _) => Err(WRONG_HANDLE),
-        Target::Held(_) => Err(WRONG_HANDLE),
+        _ => None,
     }
 }
 
-/// Tries a change by the client of a map from byte strings to whole numbers that this is. It waits for
-/// nobody.
-fn try_count<C: Changing<u64>>(target: &mut Target, key: &[u8], changing: C) -> ChangeOutcome<u64>
-    ensures { IsCountChanged target.old (C.changes changing) key.now target.new result }
+/// Tries a change by the client of a map from byte strings to whole numbers that this is, if it is one. It
+/// waits for nobody.
+fn try_count<C: Changing<u64>>(
+    target: &mut Target,
+    key: &[u8],
+    changing: C,
+) -> Option<ChangeOutcome<u64>>
+    ensures { IsCountChanged target.old (C.changes changing) key.now target.new (answered result) }
 {
     match target {
         Target::Counts(keys, stage) => try_change_on(stage, keys, key, changing),
-        Target::Numbers(_, _) => Err(WRONG_HANDLE),
-        Target::Bytes(_, _) => Err(WRONG_HANDLE),
-        Target::Held(_) => Err(WRONG_HANDLE),
+        _ => None,
     }
 }
 
-/// Tries an exchange by the client of a map of byte strings that this is. It waits for nobody.
+/// Tries an exchange by the client of a map of byte strings that this is, if it is one. It waits for nobody.
 fn try_bytes(
     target: &mut Target,
     key: &[u8],
     expected: Option<&[u8]>,
     value: Option<&[u8]>,
-) -> ChangeOutcome<SharedBytes>
+) -> Option<ChangeOutcome<SharedBytes>>
     ensures { IsBytesExchanged target.old (option_copied expected.entry) (option_copied value.entry) key.now
-        target.new result }
+        target.new (answered result) }
 {
     match target {
         Target::Bytes(keys, stage) => try_exchange_bytes(stage, keys, key, expected, value),
-        Target::Numbers(_, _) => Err(WRONG_HANDLE),
-        Target::Counts(_, _) => Err(WRONG_HANDLE),
-        Target::Held(_) => Err(WRONG_HANDLE),
+        _ => None,
     }
 }
 
@@ -94,12 +96,8 @@ pub extern "C" fn facing_c_try_exchange(
     ensures null { ¬ IsFilled client.ptr →
         (result ≡ facing_wrong_handle) × (out.new ≡ out.old) × (answer.new ≡ answer.old) }
 {
-    let Some(mut target) = client.into_box() else {
-        return WRONG_HANDLE;
-    };
     let exchange = exchange_of(has_expected, expected, has_value, value);
-    let tried = try_number(target.as_mut(), key, exchange);
-    *out = FacingOut::of(target);
+    let tried = lend!(client, out, |target| try_number(target, key, exchange));
     tell_exchanged(tried, answer)
 }
 
@@ -120,11 +118,11 @@ pub extern "C" fn facing_c_try_add_up_to(
     ensures null { ¬ IsFilled client.ptr →
         (result ≡ facing_wrong_handle) × (out.new ≡ out.old) × (answer.new ≡ answer.old) }
 {
-    let Some(mut target) = client.into_box() else {
-        return WRONG_HANDLE;
-    };
-    let tried = try_number(target.as_mut(), key, AddUpTo { amount, most });
-    *out = FacingOut::of(target);
+    let tried = lend!(
+        client,
+        out,
+        |target| try_number(target, key, AddUpTo { amount, most })
+    );
     tell_added(tried, answer)
 }
 
@@ -147,12 +145,8 @@ pub extern "C" fn facing_c_counts_try_exchange(
     ensures null { ¬ IsFilled client.ptr →
         (result ≡ facing_wrong_handle) × (out.new ≡ out.old) × (answer.new ≡ answer.old) }
 {
-    let Some(mut target) = client.into_box() else {
-        return WRONG_HANDLE;
-    };
     let exchange = exchange_of(has_expected, expected, has_value, value);
-    let tried = try_count(target.as_mut(), key, exchange);
-    *out = FacingOut::of(target);
+    let tried = lend!(client, out, |target| try_count(target, key, exchange));
     tell_exchanged(tried, answer)
 }
 
@@ -173,11 +167,11 @@ pub extern "C" fn facing_c_counts_try_add_up_to(
     ensures null { ¬ IsFilled client.ptr →
         (result ≡ facing_wrong_handle) × (out.new ≡ out.old) × (answer.new ≡ answer.old) }
 {
-    let Some(mut target) = client.into_box() else {
-        return WRONG_HANDLE;
-    };
-    let tried = try_count(target.as_mut(), key, AddUpTo { amount, most });
-    *out = FacingOut::of(target);
+    let tried = lend!(
+        client,
+        out,
+        |target| try_count(target, key, AddUpTo { amount, most })
+    );
     tell_added(tried, answer)
 }
 
@@ -203,12 +197,12 @@ pub extern "C" fn facing_c_bytes_try_exchange(
     ensures null { ¬ IsFilled client.ptr → (result ≡ facing_wrong_handle) × (out.new ≡ out.old)
         × (room.new ≡ room.old) × (answer.new ≡ answer.old) }
 {
-    let Some(mut target) = client.into_box() else {
-        return WRONG_HANDLE;
-    };
     let expected = given(has_expected, expected);
     let value = given(has_value, value);
-    let tried = try_bytes(target.as_mut(), key, expected, value);
-    *out = FacingOut::of(target);
+    let tried = lend!(
+        client,
+        out,
+        |target| try_bytes(target, key, expected, value)
+    );
     tell_exchanged_bytes(tried, room, answer)
 }

@@ -5,8 +5,31 @@ ghost use Rattle.facing.specs.Handles.{handle_owns, IsFilled, thing_coded};
 
 use crate::target::Target;
 use facing_handles::RawBox;
+pub(crate) use facing_maps::answered;
 use std::alloc::Global;
 use std::marker::Model;
+
+/// What a target answers, or the status for which it does not; none, where it is of another kind than is
+/// asked.
+pub(crate) type Asked<T> = Option<Result<T, u32>>;
+
+/// Asks what a handle stands for, and gives the handle back through the room for it. Null answers none. It is
+/// no function with a closure: the kit does not check the borrows of a closure that is lent a client.
+macro_rules! lend {
+    ($handle:ident, $out:ident, |$target:ident| $asked:expr) => {
+        $crate::handle::answered(match $handle.into_box() {
+            Some(mut lent) => {
+                let $target = lent.as_mut();
+                let asked = $asked;
+                *$out = FacingOut::of(lent);
+                asked
+            }
+            None => None,
+        })
+    };
+}
+
+pub(crate) use lend;
 
 /// A handle: one pointer, which C keeps and moves, and neither copies nor reads through. It may be
 /// null, and stands for nothing then.

@@ -1,16 +1,18 @@
 //! Values of a map of byte strings that are held, and read in parts.
 ghost use Rattle.std.specs.Prelude.{◌≡◌};
+ghost use Rattle.facing_maps.specs.Answers.{answered};
+ghost use Rattle.facing_maps.specs.Stages.{status_in};
 ghost use Rattle.facing_maps.specs.Statuses.{facing_wrong_handle};
 ghost use Rattle.facing.specs.Handles.{IsFilled};
 ghost use Rattle.facing.specs.Calls.{IsHeld, IsHeldAs, IsRead};
 
 use crate::calls::try_look_bytes;
-use crate::handle::{FacingHandle, FacingOut};
+use crate::handle::{Asked, FacingHandle, FacingOut, lend};
 use crate::owners::give;
 use crate::target::Target;
 use bin_history::Reply;
 use facing_maps::{
-    CallOutcome, DONE, FacingAnswer, SharedBytes, WRONG_HANDLE, copy_into, tell_length,
+    CallOutcome, DONE, FacingAnswer, SharedBytes, copy_into, status_in, tell_length,
 };
 use std::alloc::Global;
 
@@ -54,17 +56,14 @@ pub extern "C" fn facing_c_bytes_try_hold(
     ensures null { ¬ IsFilled client.ptr → (result ≡ facing_wrong_handle) × (out.new ≡ out.old)
         × (held.new ≡ held.old) × (answer.new ≡ answer.old) }
 {
-    let Some(mut target) = client.into_box() else {
-        return WRONG_HANDLE;
-    };
-    let tried = try_look_bytes(target.as_mut(), key);
-    *out = FacingOut::of(target);
+    let tried = lend!(client, out, |target| try_look_bytes(target, key));
     hold(alloc, tried, held, answer)
 }
 
-/// Copies the bytes of the value that this is, from a place on, as far as there is room for them.
-fn read(target: &Target, from: usize, room: &mut [u8], answer: &mut FacingAnswer) -> u32
-    ensures { IsRead target.now from result (room.old, answer.old) (room.new, answer.new) }
+/// Copies the bytes of the value that this is, if it is one, from a place on, as far as there is room for
+/// them.
+fn read(target: &Target, from: usize, room: &mut [u8], answer: &mut FacingAnswer) -> Asked<()>
+    ensures { IsRead target.now from (status_in (answered result)) (room.old, answer.old) (room.new, answer.new) }
 {
     match target {
         Target::Held(value) => {
@@ -73,11 +72,9 @@ fn read(target: &Target, from: usize, room: &mut [u8], answer: &mut FacingAnswer
             if from < bytes.len() {
                 copy_into(&bytes[from..], room);
             }
-            DONE
+            Some(Ok(()))
         }
-        Target::Numbers(_, _) => WRONG_HANDLE,
-        Target::Bytes(_, _) => WRONG_HANDLE,
-        Target::Counts(_, _) => WRONG_HANDLE,
+        _ => None,
     }
 }
 
@@ -98,10 +95,5 @@ pub extern "C" fn facing_c_bytes_read(
     ensures null { ¬ IsFilled held.ptr → (result ≡ facing_wrong_handle) × (out.new ≡ out.old)
         × (room.new ≡ room.old) × (answer.new ≡ answer.old) }
 {
-    let Some(target) = held.into_box() else {
-        return WRONG_HANDLE;
-    };
-    let status = read(target.as_ref(), from, room, answer);
-    *out = FacingOut::of(target);
-    status
+    status_in(lend!(held, out, |target| read(target, from, room, answer)))
 }

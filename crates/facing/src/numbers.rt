@@ -17,11 +17,11 @@ ghost use Rattle.facing.specs.Targets.{IsNumbersOpened};
 
 use crate::calls::try_number;
 use crate::closed;
-use crate::handle::{FacingHandle, FacingOut};
+use crate::handle::{FacingHandle, FacingOut, lend};
 use crate::owners::give;
 use crate::target::Target;
 use bin_history::Op;
-use facing_maps::{FacingAnswer, Merging, Stage, WRONG_HANDLE, code_of, tell};
+use facing_maps::{FacingAnswer, Merging, Stage, code_of, status_in, tell};
 use seeded_keys::NumberSeed;
 use std::alloc::Global;
 
@@ -84,11 +84,7 @@ fn call(
     ensures null { ¬ IsFilled client.ptr →
         (result ≡ facing_wrong_handle) × (out.new ≡ out.old) × (answer.new ≡ answer.old) }
 {
-    let Some(mut target) = client.into_box() else {
-        return WRONG_HANDLE;
-    };
-    let tried = try_number(target.as_mut(), key, op);
-    *out = FacingOut::of(target);
+    let tried = lend!(client, out, |target| try_number(target, key, op));
     tell(tried, answer)
 }
 
@@ -309,10 +305,10 @@ pub extern "C" fn facing_c_find(
     ensures null { ¬ IsFilled closed.ptr →
         (result ≡ facing_wrong_handle) × (out.new ≡ out.old) × (answer.new ≡ answer.old) }
 {
-    let Some(target) = closed.into_box() else {
-        return WRONG_HANDLE;
-    };
-    let status = closed::find_number(target.as_ref(), key, answer);
-    *out = FacingOut::of(target);
-    status
+    let found = lend!(
+        closed,
+        out,
+        |target| closed::find_number(target, key, answer)
+    );
+    status_in(found)
 }

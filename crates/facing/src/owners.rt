@@ -5,10 +5,10 @@ ghost use Rattle.facing.specs.Handles.{IsFilled};
 ghost use Rattle.facing.specs.Targets.{IsReopenedFrom, IsClientOf, IsClosedAs, IsCountTold};
 ghost use Rattle.facing.specs.Targets.{IsReopeningStatus, IsClientStatus, IsAgainStatus};
 
-use crate::handle::{FacingHandle, FacingOut};
+use crate::handle::{FacingHandle, FacingOut, lend};
 use crate::maps;
 use crate::target::Target;
-use facing_maps::{DONE, FacingAnswer, NO_MEMORY, WRONG_HANDLE};
+use facing_maps::{DONE, FacingAnswer, NO_MEMORY, status_in};
 use std::alloc::Global;
 
 /// Gives a handle of the target out. It takes memory for it.
@@ -45,15 +45,10 @@ pub extern "C" fn facing_c_client(
     ensures status { IsFilled map.ptr → IsClientStatus map.target result }
     ensures null { ¬ IsFilled map.ptr → (result ≡ facing_wrong_handle) × (out.new ≡ out.old) }
 {
-    let Some(target) = map.into_box() else {
-        return WRONG_HANDLE;
-    };
-    let status = match maps::client(target.as_ref()) {
+    match lend!(map, out, |target| maps::client(target)) {
         Ok(made) => give(alloc, made, client),
         Err(status) => status,
-    };
-    *out = FacingOut::of(target);
-    status
+    }
 }
 
 /// Counts the keys: just so of a closed map, and of another as far as a look tells.
@@ -69,12 +64,7 @@ pub extern "C" fn facing_c_count(
     ensures null { ¬ IsFilled handle.ptr →
         (result ≡ facing_wrong_handle) × (out.new ≡ out.old) × (answer.new ≡ answer.old) }
 {
-    let Some(target) = handle.into_box() else {
-        return WRONG_HANDLE;
-    };
-    let status = maps::count(target.as_ref(), answer);
-    *out = FacingOut::of(target);
-    status
+    status_in(lend!(handle, out, |target| maps::count(target, answer)))
 }
 
 /// Closes the map, whose clients are all in. The handle stands for the closed map then.
@@ -84,12 +74,7 @@ pub extern "C" fn facing_c_close(map: FacingHandle, out: &mut FacingOut) -> u32
     ensures closed { IsFilled map.ptr → IsClosedAs map.target out.new.target result }
     ensures null { ¬ IsFilled map.ptr → (result ≡ facing_wrong_handle) × (out.new ≡ out.old) }
 {
-    let Some(mut target) = map.into_box() else {
-        return WRONG_HANDLE;
-    };
-    let status = maps::close(target.as_mut());
-    *out = FacingOut::of(target);
-    status
+    status_in(lend!(map, out, |target| maps::close(target)))
 }
 
 /// Opens a map with copies of the pairs of a closed one, which stays as it is.
@@ -109,15 +94,10 @@ pub extern "C" fn facing_c_reopen(
     ensures status { IsFilled closed.ptr → IsReopeningStatus closed.target clients result }
     ensures null { ¬ IsFilled closed.ptr → (result ≡ facing_wrong_handle) × (out.new ≡ out.old) }
 {
-    let Some(target) = closed.into_box() else {
-        return WRONG_HANDLE;
-    };
-    let status = match maps::reopen(target.as_ref(), clients) {
+    match lend!(closed, out, |target| maps::reopen(target, clients)) {
         Ok(made) => give(alloc, made, map),
         Err(status) => status,
-    };
-    *out = FacingOut::of(target);
-    status
+    }
 }
 
 /// Gives one more handle of a closed map out, for another thread. The first time it takes memory for the
@@ -136,15 +116,10 @@ pub extern "C" fn facing_c_again(
     ensures status { IsFilled closed.ptr → IsAgainStatus closed.target result }
     ensures null { ¬ IsFilled closed.ptr → (result ≡ facing_wrong_handle) × (out.new ≡ out.old) }
 {
-    let Some(mut target) = closed.into_box() else {
-        return WRONG_HANDLE;
-    };
-    let status = match maps::again(target.as_mut()) {
+    match lend!(closed, out, |target| maps::again(target)) {
         Ok(made) => give(alloc, made, more),
         Err(status) => status,
-    };
-    *out = FacingOut::of(target);
-    status
+    }
 }
 
 /// Lets go of what the handle stands for: a client goes back to its map.

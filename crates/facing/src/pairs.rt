@@ -1,15 +1,17 @@
 //! The exports that copy pairs out of a map, a bucket at a time.
 ghost use Rattle.std.specs.Prelude.{◌≡◌, length, take};
+ghost use Rattle.facing_maps.specs.Answers.{answered};
+ghost use Rattle.facing_maps.specs.Stages.{status_in};
 ghost use Rattle.facing_maps.specs.Statuses.{facing_wrong_handle};
 ghost use Rattle.facing.specs.Handles.{IsFilled};
 ghost use Rattle.facing.specs.Pairs.{AreNumbersTold, ArePairsTold, AreNumbersOf, AreCountsOf, AreBytesOf};
 ghost use Rattle.seeded_keys.specs.Mixing.{unmixed};
 
-use crate::handle::{FacingHandle, FacingOut};
+use crate::handle::{Asked, FacingHandle, FacingOut, lend};
 use crate::target::Target;
 use facing_maps::{
-    DONE, FacingAnswer, Heads, Laying, NO_ROOM, SeededKey, Seen, SharedBytes, WRONG_HANDLE, Whole,
-    copy_numbers, copy_pairs, total,
+    FacingAnswer, Heads, Laying, NO_ROOM, SeededKey, Seen, SharedBytes, Whole, copy_numbers,
+    copy_pairs, status_in, total,
 };
 use seeded_keys::NumberSeed;
 
@@ -29,9 +31,9 @@ fn tell_numbers(
     keys: &mut [u64],
     values: &mut [u64],
     answer: &mut FacingAnswer,
-) -> u32
+) -> Result<(), u32>
     ensures { AreNumbersTold (unmixed seed) seen (next.old, keys.old, values.old, answer.old)
-        (next.new, keys.new, values.new, answer.new) result }
+        (next.new, keys.new, values.new, answer.new) (status_in result) }
 {
     match seen {
         Ok((shown, then)) => match shown {
@@ -40,15 +42,19 @@ fn tell_numbers(
                 *next = then;
                 *answer = FacingAnswer::some(pairs.len() as u64);
                 let count = copy_numbers(pairs, seed, keys, values);
-                if count < pairs.len() { NO_ROOM } else { DONE }
+                if count < pairs.len() {
+                    Err(NO_ROOM)
+                } else {
+                    Ok(())
+                }
             }
             None => {
                 *next = then;
                 *answer = FacingAnswer::some(0);
-                DONE
+                Ok(())
             }
         },
-        Err(status) => status,
+        Err(status) => Err(status),
     }
 }
 
@@ -61,9 +67,9 @@ fn tell_pairs<V: Drop, L: Laying<V>>(
     numbers: &mut [u64],
     room: &mut [u8],
     sizes: &mut FacingSizes,
-) -> u32
+) -> Result<(), u32>
     ensures { ArePairsTold (L.number laying.now) (L.laid laying.now) seen (next.old, key_lens.old, numbers.old, room.old, sizes.old)
-        (next.new, key_lens.new, numbers.new, room.new, sizes.new) result }
+        (next.new, key_lens.new, numbers.new, room.new, sizes.new) (status_in result) }
 {
     match seen {
         Ok((shown, then)) => match shown {
@@ -75,19 +81,23 @@ fn tell_pairs<V: Drop, L: Laying<V>>(
                     bytes: total(pairs, laying),
                 };
                 let count = copy_pairs(pairs, laying, key_lens, numbers, room);
-                if count < pairs.len() { NO_ROOM } else { DONE }
+                if count < pairs.len() {
+                    Err(NO_ROOM)
+                } else {
+                    Ok(())
+                }
             }
             None => {
                 *next = then;
                 *sizes = FacingSizes { pairs: 0, bytes: 0 };
-                DONE
+                Ok(())
             }
         },
-        Err(status) => status,
+        Err(status) => Err(status),
     }
 }
 
-/// Tells the pairs of a bucket of the numbers map that this is.
+/// Tells the pairs of a bucket of the numbers map that this is, if it is one.
 fn numbers_at(
     target: &mut Target,
     at: u64,
@@ -95,17 +105,16 @@ fn numbers_at(
     keys: &mut [u64],
     values: &mut [u64],
     answer: &mut FacingAnswer,
-) -> u32
+) -> Asked<()>
     ensures { AreNumbersOf target.old at (next.old, keys.old, values.old, answer.old)
-        (next.new, keys.new, values.new, answer.new) target.new result }
+        (next.new, keys.new, values.new, answer.new) target.new (status_in (answered result)) }
 {
     match target {
         Target::Numbers(seed, stage) => {
-            tell_numbers(stage.try_visit(at), *seed, next, keys, values, answer)
+            let seen = stage.try_visit(at)?;
+            Some(tell_numbers(seen, *seed, next, keys, values, answer))
         }
-        Target::Bytes(_, _) => WRONG_HANDLE,
-        Target::Counts(_, _) => WRONG_HANDLE,
-        Target::Held(_) => WRONG_HANDLE,
+        _ => None,
     }
 }
 
@@ -131,15 +140,15 @@ pub extern "C" fn facing_c_try_pairs(
         × (values.new ≡ values.old)
         × (answer.new ≡ answer.old) }
 {
-    let Some(mut target) = any.into_box() else {
-        return WRONG_HANDLE;
-    };
-    let status = numbers_at(target.as_mut(), at, next, keys, values, answer);
-    *out = FacingOut::of(target);
-    status
+    let told = lend!(
+        any,
+        out,
+        |target| numbers_at(target, at, next, keys, values, answer)
+    );
+    status_in(told)
 }
 
-/// Tells the pairs of a bucket of the bytes map that this is, of values what `laying` copies.
+/// Tells the pairs of a bucket of the bytes map that this is, if it is one, of values what `laying` copies.
 fn bytes_at<L: Laying<SharedBytes>>(
     target: &mut Target,
     laying: &L,
@@ -149,23 +158,16 @@ fn bytes_at<L: Laying<SharedBytes>>(
     value_lens: &mut [u64],
     room: &mut [u8],
     sizes: &mut FacingSizes,
-) -> u32
+) -> Asked<()>
     ensures { AreBytesOf (L.number laying.now) (L.laid laying.now) target.old at (next.old, key_lens.old, value_lens.old, room.old, sizes.old)
-        (next.new, key_lens.new, value_lens.new, room.new, sizes.new) target.new result }
+        (next.new, key_lens.new, value_lens.new, room.new, sizes.new) target.new (status_in (answered result)) }
 {
     match target {
-        Target::Bytes(_, stage) => tell_pairs(
-            stage.try_visit(at),
-            laying,
-            next,
-            key_lens,
-            value_lens,
-            room,
-            sizes,
-        ),
-        Target::Numbers(_, _) => WRONG_HANDLE,
-        Target::Counts(_, _) => WRONG_HANDLE,
-        Target::Held(_) => WRONG_HANDLE,
+        Target::Bytes(_, stage) => {
+            let seen = stage.try_visit(at)?;
+            Some(tell_pairs(seen, laying, next, key_lens, value_lens, room, sizes))
+        }
+        _ => None,
     }
 }
 
@@ -193,21 +195,10 @@ pub extern "C" fn facing_c_bytes_try_pairs(
         × (room.new ≡ room.old)
         × (sizes.new ≡ sizes.old) }
 {
-    let Some(mut target) = any.into_box() else {
-        return WRONG_HANDLE;
-    };
-    let status = bytes_at(
-        target.as_mut(),
-        &Whole,
-        at,
-        next,
-        key_lens,
-        value_lens,
-        room,
-        sizes,
-    );
-    *out = FacingOut::of(target);
-    status
+    let told = lend!(any, out, |target| {
+        bytes_at(target, &Whole, at, next, key_lens, value_lens, room, sizes)
+    });
+    status_in(told)
 }
 
 /// Tries to copy the keys of the bucket at this place, as `facing_c_bytes_try_pairs` copies pairs, and of
@@ -235,25 +226,14 @@ pub extern "C" fn facing_c_bytes_try_heads(
         × (room.new ≡ room.old)
         × (sizes.new ≡ sizes.old) }
 {
-    let Some(mut target) = any.into_box() else {
-        return WRONG_HANDLE;
-    };
     let heads = Heads(most);
-    let status = bytes_at(
-        target.as_mut(),
-        &heads,
-        at,
-        next,
-        key_lens,
-        value_lens,
-        room,
-        sizes,
-    );
-    *out = FacingOut::of(target);
-    status
+    let told = lend!(any, out, |target| {
+        bytes_at(target, &heads, at, next, key_lens, value_lens, room, sizes)
+    });
+    status_in(told)
 }
 
-/// Tells the pairs of a bucket of the counts map that this is.
+/// Tells the pairs of a bucket of the counts map that this is, if it is one.
 fn counts_at(
     target: &mut Target,
     at: u64,
@@ -262,23 +242,16 @@ fn counts_at(
     values: &mut [u64],
     room: &mut [u8],
     sizes: &mut FacingSizes,
-) -> u32
+) -> Asked<()>
     ensures { AreCountsOf target.old at (next.old, key_lens.old, values.old, room.old, sizes.old)
-        (next.new, key_lens.new, values.new, room.new, sizes.new) target.new result }
+        (next.new, key_lens.new, values.new, room.new, sizes.new) target.new (status_in (answered result)) }
 {
     match target {
-        Target::Counts(_, stage) => tell_pairs(
-            stage.try_visit(at),
-            &Whole,
-            next,
-            key_lens,
-            values,
-            room,
-            sizes,
-        ),
-        Target::Numbers(_, _) => WRONG_HANDLE,
-        Target::Bytes(_, _) => WRONG_HANDLE,
-        Target::Held(_) => WRONG_HANDLE,
+        Target::Counts(_, stage) => {
+            let seen = stage.try_visit(at)?;
+            Some(tell_pairs(seen, &Whole, next, key_lens, values, room, sizes))
+        }
+        _ => None,
     }
 }
 
@@ -306,10 +279,8 @@ pub extern "C" fn facing_c_counts_try_pairs(
         × (room.new ≡ room.old)
         × (sizes.new ≡ sizes.old) }
 {
-    let Some(mut target) = any.into_box() else {
-        return WRONG_HANDLE;
-    };
-    let status = counts_at(target.as_mut(), at, next, key_lens, values, room, sizes);
-    *out = FacingOut::of(target);
-    status
+    let told = lend!(any, out, |target| {
+        counts_at(target, at, next, key_lens, values, room, sizes)
+    });
+    status_in(told)
 }

@@ -6,7 +6,7 @@ use Rattle.chm.specs.declared.fault.Fault.{Fault}
 use Rattle.chm.specs.declared.fault.Fault.TheVariants.{NoMemory, BadCapacity, BadClients}
 use Rattle.chm.specs.declared.fault.Fault.TheVariants.{PassFull, NoClient, PassMissing, BinMissing}
 use Rattle.facing_maps.specs.Statuses.{facing_bad_capacity, facing_bad_clients, facing_bin_missing, facing_busy, facing_client_full}
-use Rattle.facing_maps.specs.Statuses.{facing_client_out, facing_done, facing_no_client, facing_no_memory}
+use Rattle.facing_maps.specs.Statuses.{facing_client_out, facing_done, facing_no_client, facing_no_memory, facing_wrong_handle}
 use Rattle.facing_maps.specs.declared.status.FacingAnswer.{FacingAnswer}
 
 -- the status of a refusal
@@ -18,6 +18,11 @@ code_of BadClients = facing_bad_clients
 code_of PassMissing = facing_client_out
 code_of BinMissing = facing_bin_missing
 code_of NoClient = facing_no_client
+
+-- what was answered; what stands for something else answers nothing, and is a wrong handle
+abbrev pub answered : {T : Type 0} → Option (Result T ℕ) → Result T ℕ
+answered (Some answer) = answer
+answered None = Err facing_wrong_handle
 
 -- what came of a call that was to be tried: its reply, or why it was refused, or nothing where another was in its way;
 -- or the status for which it was not tried

@@ -1,6 +1,7 @@
 //! Calls of clients of maps from bytes to bytes.
 ghost use Rattle.std.specs.Prelude.{◌≡◌, ◌≤◌, IfOk, option_copied};
 ghost use Rattle.bin_history.specs.Ops.{call_on};
+ghost use Rattle.facing_maps.specs.Answers.{answered};
 ghost use Rattle.facing_maps.specs.Calls.{IsCalled, IsTried};
 ghost use Rattle.facing_maps.specs.Changes.{exchange, length_in, longest_in, IsChanged, IsChangeTried, IsOrStays};
 ghost use Rattle.facing_maps.specs.Functions.{no_value};
@@ -12,7 +13,7 @@ use crate::keys::{Keys, SeededKey};
 use crate::seeded::try_at;
 use crate::shared::SharedBytes;
 use crate::stage::Stage;
-use crate::status::{CallOutcome, MOST_BYTES, MOST_VALUE, NO_MEMORY, TOO_LONG, WRONG_HANDLE};
+use crate::status::{CallOutcome, MOST_BYTES, MOST_VALUE, NO_MEMORY, TOO_LONG};
 use bin_history::Op;
 use clients::OwnedClient;
 use functions::NoFunction;
@@ -82,25 +83,22 @@ fn try_bytes_at(
     }
 }
 
-/// Tries a call on the key of these bytes, with copies of these values, of the client that this is.
-/// It waits for nobody.
+/// Tries a call on the key of these bytes, with copies of these values, of the client that this is, if
+/// it is one. It waits for nobody.
 pub fn try_bytes(
     stage: &mut Stage<SeededKey, SharedBytes, NoFunction>,
     keys: &mut Keys,
     key: &[u8],
     op: Op<Bytes<'_>, NoFunction>,
-) -> CallOutcome<SharedBytes>
+) -> Option<CallOutcome<SharedBytes>>
     ensures called { IsCalled same_key same_bytes no_value no_value
         (AreAllowed key.now (longest op.entry)) (IsRefusalOf key.now (longest op.entry)) stage.old
-        (call_on (key_of keys.old key.now) op.entry) stage.new result }
+        (call_on (key_of keys.old key.now) op.entry) stage.new (answered result) }
     ensures seed { keys.new ≡ keys.old }
 {
     match stage {
-        Stage::Client(client) => try_bytes_at(client, keys, key, op),
-        Stage::Map(_) => Err(WRONG_HANDLE),
-        Stage::CloseFailed(_) => Err(WRONG_HANDLE),
-        Stage::Closed(_) => Err(WRONG_HANDLE),
-        Stage::Gone => Err(WRONG_HANDLE),
+        Stage::Client(client) => Some(try_bytes_at(client, keys, key, op)),
+        _ => None,
     }
 }
 
@@ -151,27 +149,24 @@ fn try_exchange_at(
 }
 
 /// Tries to give the key of these bytes a copy of this value, or none, where it has the value that is
-/// expected, or none, by the client that this is. It waits for nobody.
+/// expected, or none, by the client that this is, if it is one. It waits for nobody.
 pub fn try_exchange_bytes(
     stage: &mut Stage<SeededKey, SharedBytes, NoFunction>,
     keys: &mut Keys,
     key: &[u8],
     expected: Option<&[u8]>,
     value: Option<&[u8]>,
-) -> ChangeOutcome<SharedBytes>
+) -> Option<ChangeOutcome<SharedBytes>>
     ensures changed { IsChanged same_key same_bytes no_value no_value
         (AreAllowed key.now (longest_in (option_copied expected.entry) (option_copied value.entry)))
         (IsRefusalOf key.now (longest_in (option_copied expected.entry) (option_copied value.entry)))
         (λ seen made. IsOrStays
         (exchange same_bytes (option_copied expected.entry) (option_copied value.entry) seen) made)
-        stage.old (key_of keys.old key.now) stage.new result }
+        stage.old (key_of keys.old key.now) stage.new (answered result) }
     ensures seed { keys.new ≡ keys.old }
 {
     match stage {
-        Stage::Client(client) => try_exchange_at(client, keys, key, expected, value),
-        Stage::Map(_) => Err(WRONG_HANDLE),
-        Stage::CloseFailed(_) => Err(WRONG_HANDLE),
-        Stage::Closed(_) => Err(WRONG_HANDLE),
-        Stage::Gone => Err(WRONG_HANDLE),
+        Stage::Client(client) => Some(try_exchange_at(client, keys, key, expected, value)),
+        _ => None,
     }
 }

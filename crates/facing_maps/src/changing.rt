@@ -2,13 +2,14 @@
 ghost use Rattle.std.specs.Prelude.{◌≡◌, ◌≤◌, ⊤, length, option_copied, IfSome, IfNone};
 ghost use Rattle.bin_history.specs.Ops.{key_in};
 ghost use Rattle.chm.specs.Updates.{IsUpdate};
+ghost use Rattle.facing_maps.specs.Answers.{answered};
 ghost use Rattle.facing_maps.specs.Changes.{IsChanged, IsChangeTried};
 ghost use Rattle.facing_maps.specs.Keys.{key_of, same_key, IsRefusal};
 ghost use Rattle.facing_maps.specs.Statuses.{facing_longest};
 
 use crate::keys::{Keys, SeededKey};
 use crate::stage::Stage;
-use crate::status::{MOST_BYTES, NO_MEMORY, TOO_LONG, WRONG_HANDLE};
+use crate::status::{MOST_BYTES, NO_MEMORY, TOO_LONG};
 use bin_history::{KeyArg, Remap, Value};
 use chm::Fault;
 use clients::{Change, OwnedClient};
@@ -58,21 +59,18 @@ fn try_change_with<K: HashKey, V: Value, F: Remap<K, V>, C: Changing<V>>(
 }
 
 impl<K: HashKey, V: Value, F: Remap<K, V>> Stage<K, V, F> {
-    /// Tries a change on this key, by the client that this is. It waits for nobody.
+    /// Tries a change on this key, by the client that this is, if it is one. It waits for nobody.
     pub fn try_change<C: Changing<V>>(
         &mut self,
         key: KeyArg<'_, K>,
         changing: C,
-    ) -> ChangeOutcome<V>
+    ) -> Option<ChangeOutcome<V>>
         ensures { IsChanged K.eq V.eq F.remapped F.merged ⊤ (λ _. ⊥) (C.changes changing) self.old
-            (key_in key.entry) self.new result }
+            (key_in key.entry) self.new (answered result) }
     {
         match self {
-            Stage::Client(client) => Ok(try_change_with(client, key, changing)),
-            Stage::Map(_) => Err(WRONG_HANDLE),
-            Stage::CloseFailed(_) => Err(WRONG_HANDLE),
-            Stage::Closed(_) => Err(WRONG_HANDLE),
-            Stage::Gone => Err(WRONG_HANDLE),
+            Stage::Client(client) => Some(Ok(try_change_with(client, key, changing))),
+            _ => None,
         }
     }
 }
@@ -103,23 +101,21 @@ pub(crate) fn try_change_at<V: Value, F: Remap<SeededKey, V>, C: Changing<V>>(
     }
 }
 
-/// Tries a change on the key of these bytes, by the client that this is. It waits for nobody.
+/// Tries a change on the key of these bytes, by the client that this is, if it is one. It waits for
+/// nobody.
 pub fn try_change_on<V: Value, F: Remap<SeededKey, V>, C: Changing<V>>(
     stage: &mut Stage<SeededKey, V, F>,
     keys: &mut Keys,
     key: &[u8],
     changing: C,
-) -> ChangeOutcome<V>
+) -> Option<ChangeOutcome<V>>
     ensures changed { IsChanged same_key V.eq F.remapped F.merged
         (length key.now ≤ facing_longest) (IsRefusal (length key.now)) (C.changes changing) stage.old
-        (key_of keys.old key.now) stage.new result }
+        (key_of keys.old key.now) stage.new (answered result) }
     ensures seed { keys.new ≡ keys.old }
 {
     match stage {
-        Stage::Client(client) => try_change_at(client, keys, key, changing),
-        Stage::Map(_) => Err(WRONG_HANDLE),
-        Stage::CloseFailed(_) => Err(WRONG_HANDLE),
-        Stage::Closed(_) => Err(WRONG_HANDLE),
-        Stage::Gone => Err(WRONG_HANDLE),
+        Stage::Client(client) => Some(try_change_at(client, keys, key, changing)),
+        _ => None,
     }
 }

@@ -34,5 +34,6 @@ pub use stage::Stage;
 pub use status::{
     BAD_CAPACITY, BAD_CLIENTS, BAD_PLACE, BIN_MISSING, BUSY, CLIENT_FULL, CLIENT_OUT, CallOutcome,
     DONE, FacingAnswer, MOST_BYTES, MOST_VALUE, NO_CLIENT, NO_MEMORY, NO_ROOM, TOO_LONG,
-    WRONG_HANDLE, code_of, show_whole, tell, tell_bytes, tell_length, tell_whole,
+    WRONG_HANDLE, answered, code_of, show_whole, status_in, tell, tell_bytes, tell_length,
+    tell_whole,
 };

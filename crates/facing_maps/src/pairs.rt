@@ -1,6 +1,7 @@
 //! Pairs that are copied out of a bucket.
 ghost use Rattle.std.specs.Prelude.{◌≡◌, ◌≤◌, ◌<◌, ◌+◌, ◌++◌, true, false, length, take, drop, min};
 ghost use Rattle.bin_history.specs.Calls.{after};
+ghost use Rattle.facing_maps.specs.Answers.{answered};
 ghost use Rattle.facing_maps.specs.Pairs.{AreNumbers, AreCopied, bytes_of, IsSeen, IsClosedSeen, IsLiveSeen};
 ghost use Rattle.seeded_keys.specs.Mixing.{unmixed};
 
@@ -8,7 +9,7 @@ use crate::closed::ClosedMap;
 use crate::keys::SeededKey;
 use crate::laying::Laying;
 use crate::stage::Stage;
-use crate::status::{BUSY, NO_MEMORY, WRONG_HANDLE, code_of};
+use crate::status::{BUSY, NO_MEMORY, code_of};
 use bin_history::{Remap, Value};
 use chm::{END_OF_WALK, Quiet, Visit};
 use clients::OwnedClient;
@@ -99,17 +100,15 @@ fn visit_closed<K: HashKey, V: Value, F: Remap<K, V>>(
 
 impl<K: HashKey, V: Value, F: Remap<K, V>> Stage<K, V, F> {
     /// Tries to show the entries of the bucket at this place: of a closed map the bucket with this
-    /// number, and of a map whose client this is the one that has the hash of this number. It waits
-    /// for nobody, and takes memory for the copies.
-    pub fn try_visit(&mut self, at: u64) -> Seen<K, V>
-        ensures { IsSeen K.eq K.code (after V.eq F.remapped F.merged) self.old at self.new result }
+    /// number, and of a map whose client this is the one that has the hash of this number; of anything
+    /// else none. It waits for nobody, and takes memory for the copies.
+    pub fn try_visit(&mut self, at: u64) -> Option<Seen<K, V>>
+        ensures { IsSeen K.eq K.code (after V.eq F.remapped F.merged) self.old at self.new (answered result) }
     {
         match self {
-            Stage::Client(client) => try_visit_of(client, at),
-            Stage::Closed(closed) => visit_closed(closed, at),
-            Stage::Map(_) => Err(WRONG_HANDLE),
-            Stage::CloseFailed(_) => Err(WRONG_HANDLE),
-            Stage::Gone => Err(WRONG_HANDLE),
+            Stage::Client(client) => Some(try_visit_of(client, at)),
+            Stage::Closed(closed) => Some(visit_closed(closed, at)),
+            _ => None,
         }
     }
 }

@@ -5,13 +5,14 @@ ghost use Rattle.bin_history.specs.Calls.{after};
 ghost use Rattle.bin_history.specs.Ops.{call_on};
 ghost use Rattle.bin_history.specs.Sure.{IsNeverRefused};
 ghost use Rattle.bin_history.specs.declared.call.Reply.TheVariants.{Value, Truth};
+ghost use Rattle.facing_maps.specs.Answers.{answered};
 ghost use Rattle.facing_maps.specs.Calls.{IsCalled, IsTried, IsLooked, IsLook, IsFound};
 ghost use Rattle.facing_maps.specs.Keys.{key_of, same_key, code_in, IsRefusal, IsTooLong};
 ghost use Rattle.facing_maps.specs.Statuses.{facing_longest};
 
 use crate::keys::{Keys, SeededKey};
 use crate::stage::Stage;
-use crate::status::{CallOutcome, MOST_BYTES, NO_MEMORY, TOO_LONG, WRONG_HANDLE};
+use crate::status::{CallOutcome, MOST_BYTES, NO_MEMORY, TOO_LONG};
 use bin_history::{Exact, KeyArg, Op, Remap, Reply, Value};
 use chm::Fault;
 use clients::OwnedClient;
@@ -96,88 +97,75 @@ fn try_has_at<V: Value, F: Remap<SeededKey, V>>(
     }
 }
 
-/// Tries a call on the key of these bytes, of the client that this is. It waits for nobody.
+/// Tries a call on the key of these bytes, of the client that this is, if it is one. It waits for
+/// nobody.
 pub fn try_on<V: Value, F: Remap<SeededKey, V>>(
     stage: &mut Stage<SeededKey, V, F>,
     keys: &mut Keys,
     key: &[u8],
     op: Op<V, F>,
-) -> CallOutcome<V>
+) -> Option<CallOutcome<V>>
     ensures called { IsCalled same_key V.eq F.remapped F.merged
         (length key.now ≤ facing_longest) (IsRefusal (length key.now)) stage.old
-        (call_on (key_of keys.old key.now) op) stage.new result }
+        (call_on (key_of keys.old key.now) op) stage.new (answered result) }
     ensures seed { keys.new ≡ keys.old }
 {
     match stage {
-        Stage::Client(client) => try_at(client, keys, key, op),
-        Stage::Map(_) => Err(WRONG_HANDLE),
-        Stage::CloseFailed(_) => Err(WRONG_HANDLE),
-        Stage::Closed(_) => Err(WRONG_HANDLE),
-        Stage::Gone => Err(WRONG_HANDLE),
+        Stage::Client(client) => Some(try_at(client, keys, key, op)),
+        _ => None,
     }
 }
 
-/// Tries to look at the value at the key of these bytes, by the client that this is. No key is made
-/// and it waits for nobody.
+/// Tries to look at the value at the key of these bytes, by the client that this is, if it is one. No
+/// key is made and it waits for nobody.
 pub fn try_look<V: Value, F: Remap<SeededKey, V>>(
     stage: &mut Stage<SeededKey, V, F>,
     keys: &Keys,
     key: &[u8],
-) -> CallOutcome<V>
+) -> Option<CallOutcome<V>>
     ensures { IsLooked same_key (after V.eq F.remapped F.merged) (IsNeverRefused V.is_infallible)
         Value (length key.now ≤ facing_longest) (IsTooLong (length key.now)) stage.old
-        (key_of keys.now key.now) stage.new result }
+        (key_of keys.now key.now) stage.new (answered result) }
 {
     match stage {
-        Stage::Client(client) => try_look_at(client, keys, key),
-        Stage::Map(_) => Err(WRONG_HANDLE),
-        Stage::CloseFailed(_) => Err(WRONG_HANDLE),
-        Stage::Closed(_) => Err(WRONG_HANDLE),
-        Stage::Gone => Err(WRONG_HANDLE),
+        Stage::Client(client) => Some(try_look_at(client, keys, key)),
+        _ => None,
     }
 }
 
-/// Tries to look whether the key of these bytes has a value, by the client that this is. No key is
-/// made and it waits for nobody.
+/// Tries to look whether the key of these bytes has a value, by the client that this is, if it is one.
+/// No key is made and it waits for nobody.
 pub fn try_has<V: Value, F: Remap<SeededKey, V>>(
     stage: &mut Stage<SeededKey, V, F>,
     keys: &Keys,
     key: &[u8],
-) -> CallOutcome<V>
+) -> Option<CallOutcome<V>>
     ensures { IsLooked same_key (after V.eq F.remapped F.merged) ⊤ (λ v. Truth (is_some v))
         (length key.now ≤ facing_longest) (IsTooLong (length key.now)) stage.old
-        (key_of keys.now key.now)
-        stage.new result }
+        (key_of keys.now key.now) stage.new (answered result) }
 {
     match stage {
-        Stage::Client(client) => try_has_at(client, keys, key),
-        Stage::Map(_) => Err(WRONG_HANDLE),
-        Stage::CloseFailed(_) => Err(WRONG_HANDLE),
-        Stage::Closed(_) => Err(WRONG_HANDLE),
-        Stage::Gone => Err(WRONG_HANDLE),
+        Stage::Client(client) => Some(try_has_at(client, keys, key)),
+        _ => None,
     }
 }
 
-/// The value at the key of these bytes, in the closed map that this is. No key is made.
+/// The value at the key of these bytes, in the closed map that this is, if it is one. No key is made.
 pub fn find<'a, V: Value, F: Remap<SeededKey, V>>(
     stage: &'a Stage<SeededKey, V, F>,
     keys: &Keys,
     key: &[u8],
-) -> Result<Option<&'a V>, u32>
+) -> Option<Result<Option<&'a V>, u32>>
     ensures { IsFound same_key (length key.now ≤ facing_longest) (IsTooLong (length key.now))
-        stage.now
-        (key_of keys.now key.now) result }
+        stage.now (key_of keys.now key.now) (answered result) }
 {
     match stage {
         Stage::Closed(closed) => {
             if key.len() > MOST_BYTES {
-                return Err(TOO_LONG);
+                return Some(Err(TOO_LONG));
             }
-            Ok(closed.get_as(keys.query(key)))
+            Some(Ok(closed.get_as(keys.query(key))))
         }
-        Stage::Map(_) => Err(WRONG_HANDLE),
-        Stage::Client(_) => Err(WRONG_HANDLE),
-        Stage::CloseFailed(_) => Err(WRONG_HANDLE),
-        Stage::Gone => Err(WRONG_HANDLE),
+        _ => None,
     }
 }

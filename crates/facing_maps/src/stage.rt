@@ -7,12 +7,13 @@ ghost use Rattle.chm.specs.Headline.{entries_of};
 ghost use Rattle.chm.specs.Limits.{most_pairs};
 ghost use Rattle.chm.specs.Opened.{IsLimited};
 ghost use Rattle.chm.specs.Refusals.{IsCapacityOf};
+ghost use Rattle.facing_maps.specs.Answers.{answered};
 ghost use Rattle.facing_maps.specs.Stages.{IsOpened, IsReopenedFrom, IsClientOf, IsMadeOr, status_in};
 ghost use Rattle.facing_maps.specs.Stages.{IsReopeningStatus, IsClientStatus, IsCloseOf, IsClosedAs};
 ghost use Rattle.facing_maps.specs.Stages.{IsCounted, IsAgainStatus};
 
 use crate::closed::ClosedMap;
-use crate::status::{DONE, NO_MEMORY, WRONG_HANDLE, code_of};
+use crate::status::{NO_MEMORY, code_of};
 use bin_history::{Remap, Value};
 use chm::{Fault, Quiet};
 use clients::{OwnedClient, SharedMap, SharedNotClosed, Unshared};
@@ -59,61 +60,56 @@ impl<K: HashKey, V: Value, F: Remap<K, V>> Stage<K, V, F> {
     }
 
     /// A map that begins with copies of the pairs of the closed map that this is, which stays as it
-    /// is.
-    pub fn reopen(&self, clients: u32) -> Result<Stage<K, V, F>, u32>
-        ensures made { IsMadeOr (IsReopenedFrom K.eq K.code self.now clients) result }
-        ensures status { IsReopeningStatus self.now clients (status_in result) }
+    /// is; none, where this is no closed map.
+    pub fn reopen(&self, clients: u32) -> Option<Result<Stage<K, V, F>, u32>>
+        ensures made { IsMadeOr (IsReopenedFrom K.eq K.code self.now clients) (answered result) }
+        ensures status { IsReopeningStatus self.now clients (status_in (answered result)) }
     {
         match self {
             Stage::Closed(closed) => match Stage::reopened(closed.quiet(), clients) {
-                Ok(stage) => Ok(stage),
-                Err(fault) => Err(code_of(fault)),
+                Ok(stage) => Some(Ok(stage)),
+                Err(fault) => Some(Err(code_of(fault))),
             },
-            Stage::Map(_) => Err(WRONG_HANDLE),
-            Stage::Client(_) => Err(WRONG_HANDLE),
-            Stage::CloseFailed(_) => Err(WRONG_HANDLE),
-            Stage::Gone => Err(WRONG_HANDLE),
+            _ => None,
         }
     }
 
-    /// A client of the map that this is, which was in.
-    pub fn client(&self) -> Result<Stage<K, V, F>, u32>
-        ensures made { IsMadeOr (IsClientOf self.now) result }
-        ensures status { IsClientStatus self.now (status_in result) }
+    /// A client of the open map that this is, which was in; none, where this is no open map.
+    pub fn client(&self) -> Option<Result<Stage<K, V, F>, u32>>
+        ensures made { IsMadeOr (IsClientOf self.now) (answered result) }
+        ensures status { IsClientStatus self.now (status_in (answered result)) }
     {
         match self {
             Stage::Map(shared) => match shared.client() {
-                Ok(client) => Ok(Stage::Client(client)),
-                Err(fault) => Err(code_of(fault)),
+                Ok(client) => Some(Ok(Stage::Client(client))),
+                Err(fault) => Some(Err(code_of(fault))),
             },
-            Stage::Client(_) => Err(WRONG_HANDLE),
-            Stage::CloseFailed(_) => Err(WRONG_HANDLE),
-            Stage::Closed(_) => Err(WRONG_HANDLE),
-            Stage::Gone => Err(WRONG_HANDLE),
+            _ => None,
         }
     }
 
-    /// The number of keys: just so of a closed map, and of another as far as a look tells.
-    pub fn count(&self) -> Result<u64, u32>
-        ensures { IsCounted self.now result }
+    /// The number of keys: just so of a closed map, of another as far as a look tells, and none where
+    /// the map ended.
+    pub fn count(&self) -> Option<Result<u64, u32>>
+        ensures { IsCounted self.now (answered result) }
     {
         match self {
-            Stage::Map(shared) => Ok(shared.map().mapping_count()),
-            Stage::Client(client) => Ok(client.map().mapping_count()),
-            Stage::CloseFailed(unshared) => Ok(unshared.map().mapping_count()),
-            Stage::Closed(closed) => Ok(closed.quiet().mapping_count()),
-            Stage::Gone => Err(WRONG_HANDLE),
+            Stage::Map(shared) => Some(Ok(shared.map().mapping_count())),
+            Stage::Client(client) => Some(Ok(client.map().mapping_count())),
+            Stage::CloseFailed(unshared) => Some(Ok(unshared.map().mapping_count())),
+            Stage::Closed(closed) => Some(Ok(closed.quiet().mapping_count())),
+            Stage::Gone => None,
         }
     }
 
     /// Closes a map that nobody shares any more.
-    fn close_unshared(unshared: Unshared<K, V, F, Global>) -> (Stage<K, V, F>, u32)
-        ensures { IsCloseOf K.eq K.code (after V.eq F.remapped F.merged) unshared.map result.0 result.1 }
+    fn close_unshared(unshared: Unshared<K, V, F, Global>) -> (Stage<K, V, F>, Result<(), u32>)
+        ensures { IsCloseOf K.eq K.code (after V.eq F.remapped F.merged) unshared.map result.0 (status_in result.1) }
     {
         match unshared.close() {
             Ok(quiet) => {
                 quiet.one_order();
-                (Stage::Closed(ClosedMap::new(quiet)), DONE)
+                (Stage::Closed(ClosedMap::new(quiet)), Ok(()))
             }
             Err(refused) => {
                 let SharedNotClosed {
@@ -122,16 +118,16 @@ impl<K: HashKey, V: Value, F: Remap<K, V>> Stage<K, V, F> {
                     unshared,
                 } = refused;
                 match unshared {
-                    Some(unshared) => (Stage::CloseFailed(unshared), code_of(fault)),
-                    None => (Stage::Gone, code_of(fault)),
+                    Some(unshared) => (Stage::CloseFailed(unshared), Err(code_of(fault))),
+                    None => (Stage::Gone, Err(code_of(fault))),
                 }
             }
         }
     }
 
     /// Closes a shared map.
-    fn close_shared(shared: SharedMap<K, V, F, Global>) -> (Stage<K, V, F>, u32)
-        ensures { IsCloseOf K.eq K.code (after V.eq F.remapped F.merged) shared result.0 result.1 }
+    fn close_shared(shared: SharedMap<K, V, F, Global>) -> (Stage<K, V, F>, Result<(), u32>)
+        ensures { IsCloseOf K.eq K.code (after V.eq F.remapped F.merged) shared result.0 (status_in result.1) }
     {
         match shared.unshare() {
             Ok(unshared) => Stage::close_unshared(unshared),
@@ -142,61 +138,67 @@ impl<K: HashKey, V: Value, F: Remap<K, V>> Stage<K, V, F> {
                     unshared: _,
                 } = refused;
                 match shared {
-                    Some(shared) => (Stage::Map(shared), code_of(fault)),
+                    Some(shared) => (Stage::Map(shared), Err(code_of(fault))),
                     None => unreachable!(),
                 }
             }
         }
     }
 
-    /// What this is once its map was to be closed.
-    fn closed(self) -> (Stage<K, V, F>, u32)
-        ensures { IsClosedAs K.eq K.code (after V.eq F.remapped F.merged) self result.0 result.1 }
+    /// What this is once its map was to be closed, and whether it was; none, where this is no map that
+    /// can be closed.
+    fn closed(self) -> (Stage<K, V, F>, Option<Result<(), u32>>)
+        ensures { IsClosedAs K.eq K.code (after V.eq F.remapped F.merged) self
+            result.0 (status_in (answered result.1)) }
     {
         match self {
-            Stage::Map(shared) => Stage::close_shared(shared),
-            Stage::CloseFailed(unshared) => Stage::close_unshared(unshared),
-            Stage::Client(client) => (Stage::Client(client), WRONG_HANDLE),
-            Stage::Closed(closed) => (Stage::Closed(closed), WRONG_HANDLE),
-            Stage::Gone => (Stage::Gone, WRONG_HANDLE),
+            Stage::Map(shared) => {
+                let (then, done) = Stage::close_shared(shared);
+                (then, Some(done))
+            }
+            Stage::CloseFailed(unshared) => {
+                let (then, done) = Stage::close_unshared(unshared);
+                (then, Some(done))
+            }
+            other => (other, None),
         }
     }
 
-    /// Closes the map that this is, in its place. It waits for nobody.
-    pub fn close(&mut self) -> u32
-        ensures { IsClosedAs K.eq K.code (after V.eq F.remapped F.merged) self.old self.new result }
+    /// Closes the map that this is, in its place. It waits for nobody. It answers whether it was closed;
+    /// none, where this is no map that can be closed.
+    pub fn close(&mut self) -> Option<Result<(), u32>>
+        ensures { IsClosedAs K.eq K.code (after V.eq F.remapped F.merged) self.old
+            self.new (status_in (answered result)) }
     {
-        let (then, status) = mem::replace(self, Stage::Gone).closed();
+        let (then, done) = mem::replace(self, Stage::Gone).closed();
         *self = then;
-        status
+        done
     }
 
-    /// This, and one more owner of the closed map that it is.
-    fn into_two(self) -> (Stage<K, V, F>, Result<Stage<K, V, F>, u32>)
+    /// This, and one more owner of the closed map that it is; none, where it is no closed map.
+    fn into_two(self) -> (Stage<K, V, F>, Option<Result<Stage<K, V, F>, u32>>)
         ensures same { result.0 ≡ self }
-        ensures again { IsMadeOr (λ again. again ≡ self) result.1 }
-        ensures status { IsAgainStatus self (status_in result.1) }
+        ensures again { IsMadeOr (λ again. again ≡ self) (answered result.1) }
+        ensures status { IsAgainStatus self (status_in (answered result.1)) }
     {
         match self {
             Stage::Closed(closed) => {
                 let (own, more) = closed.into_two();
                 match more {
-                    Some(more) => (Stage::Closed(own), Ok(Stage::Closed(more))),
-                    None => (Stage::Closed(own), Err(NO_MEMORY)),
+                    Some(more) => (Stage::Closed(own), Some(Ok(Stage::Closed(more)))),
+                    None => (Stage::Closed(own), Some(Err(NO_MEMORY))),
                 }
             }
-            Stage::Map(shared) => (Stage::Map(shared), Err(WRONG_HANDLE)),
-            Stage::CloseFailed(unshared) => (Stage::CloseFailed(unshared), Err(WRONG_HANDLE)),
-            Stage::Client(client) => (Stage::Client(client), Err(WRONG_HANDLE)),
-            Stage::Gone => (Stage::Gone, Err(WRONG_HANDLE)),
+            other => (other, None),
         }
     }
 
-    /// One more owner of the closed map that this is. The first one takes memory.
-    pub fn again(&mut self) -> Result<Stage<K, V, F>, u32>
+    /// One more owner of the closed map that this is; none, where it is no closed map. The first one takes
+    /// memory.
+    pub fn again(&mut self) -> Option<Result<Stage<K, V, F>, u32>>
         ensures same { self.new ≡ self.old }
-        ensures again { IsMadeOr (λ again. again ≡ self.old) result }
-        ensures status { IsAgainStatus self.old (status_in result) }
+        ensures again { IsMadeOr (λ again. again ≡ self.old) (answered result) }
+        ensures status { IsAgainStatus self.old (status_in (answered result)) }
     {
         let (then, more) = mem::replace(self, Stage::Gone).into_two();
         *self = then;

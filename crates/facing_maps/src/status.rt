@@ -1,8 +1,9 @@
 //! What exports answer.
 ghost use Rattle.std.specs.Prelude.{◌≡◌, length};
 ghost use Rattle.bin_history.specs.declared.call.Reply.TheVariants.{Truth};
-ghost use Rattle.facing_maps.specs.Answers.{code_of, status_of, found_by, reply_by, answer_by};
+ghost use Rattle.facing_maps.specs.Answers.{answered, code_of, status_of, found_by, reply_by, answer_by};
 ghost use Rattle.facing_maps.specs.Rooms.{copied, reply_room, room_of, IsWhole, IsShownWhole};
+ghost use Rattle.facing_maps.specs.Stages.{status_in};
 
 use crate::copying::copy_into;
 use crate::shared::SharedBytes;
@@ -106,6 +107,27 @@ pub fn code_of(fault: Fault) -> u32
     }
 }
 
+/// What was answered. What stands for something else than was asked for answers nothing, and is a wrong
+/// handle.
+pub fn answered<T>(asked: Option<Result<T, u32>>) -> Result<T, u32>
+    ensures { result ≡ answered asked }
+{
+    match asked {
+        Some(answer) => answer,
+        None => Err(WRONG_HANDLE),
+    }
+}
+
+/// The status of what was done, or the one for which it was not.
+pub fn status_in(done: Result<(), u32>) -> u32
+    ensures { result ≡ status_in done }
+{
+    match done {
+        Ok(()) => DONE,
+        Err(status) => status,
+    }
+}
+
 /// Tells what came of a call on a number: its status, and its answer. Where it was not made, the
 /// answer is as it was.
 pub fn tell(tried: CallOutcome<u64>, answer: &mut FacingAnswer) -> u32
@@ -139,17 +161,21 @@ fn show(value: &SharedBytes, room: &mut [u8], answer: &mut FacingAnswer)
 
 /// Shows a value that finds room, and how many bytes it has; where it finds none the room is as it
 /// was.
-pub fn show_whole(value: &SharedBytes, room: &mut [u8], answer: &mut FacingAnswer) -> u32
-    ensures whole { IsWhole value.now room.old room.new result }
+pub fn show_whole(
+    value: &SharedBytes,
+    room: &mut [u8],
+    answer: &mut FacingAnswer,
+) -> Result<(), u32>
+    ensures whole { IsWhole value.now room.old room.new (status_in result) }
     ensures answer { answer.new ≡ record { found = 1; value = length value.now } }
 {
     let bytes = value.bytes();
     *answer = FacingAnswer::some(bytes.len() as u64);
     if bytes.len() > room.len() {
-        return NO_ROOM;
+        return Err(NO_ROOM);
     }
     copy_into(bytes, room);
-    DONE
+    Ok(())
 }
 
 /// Shows a reply.
@@ -219,7 +245,7 @@ pub fn tell_whole(
     ensures answer { answer.new ≡ answer_by length tried answer.old }
 {
     match tried {
-        Ok(Some(Ok(Reply::Value(Some(value))))) => show_whole(&value, room, answer),
+        Ok(Some(Ok(Reply::Value(Some(value))))) => status_in(show_whole(&value, room, answer)),
         others => tell_length(others, answer),
     }
 }
