@@ -1,0 +1,6 @@
+pub mod Evicted
+mod Gets
+mod Got
+mod LastPut
+mod Opened
+mod Seen
