@@ -1,9 +1,11 @@
 //! A concurrent hash map, in one import: the map and its clients, keys and functions ready to use,
-//! bulk operations on a closed map, and on one that others call meanwhile.
+//! a bounded cache, bulk operations on a closed map, and on one that others call meanwhile.
 #![tactic(auto)]
 
 /// Bulk operations on a closed map.
 pub use bulk_tasks as bulk;
+/// A bounded cache that many threads call at once.
+pub use caches::{Cache, CacheClient, CacheCounts, CacheEntry};
 pub use clients::{
     About, Add, AsKey, Boxed, ByValue, ByteString, Bytes, Call, Change, Class, Client, ClientFault,
     ClientOf, Computed, Cursor, Entries, Exact, Fault, Form, Greatest, HashKey, Holder, Key,
