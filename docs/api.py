@@ -34,6 +34,7 @@ CLOSED = ("quiet.rt", "single.rt", "taken.rt", "reopen.rt")
 PARTS = (
     ("clients", "The library", (), ()),
     ("sets", "Sets (`facingberyl::SharedSet`)", (), ()),
+    ("caches", "A bounded cache (`facingberyl::Cache`)", (), ()),
     ("text_maps", "Maps for text from outside (`facingberyl::TextMap`)", (), ()),
     ("bulk_tasks", "Bulk operations (`facingberyl::bulk`)", ("operations.rt", "reducing.rt", "searching.rt", "acting.rt", "plan.rt", "traits.rt", "batches.rt"), ()),
     ("steal_pool", "What a bulk operation calls before each leaf (`facingberyl::bulk::Gate`)", ("gate.rt",), ()),

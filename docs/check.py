@@ -60,6 +60,7 @@ EXAMPLES = {
     "crates/live_maps/src/*.rt": "crates/test_live/src/*.rt",
     "crates/text_maps/src/*.rt": "crates/test_text/src/*.rt",
     "crates/sets/src/*.rt": "crates/test_text/src/*.rt",
+    "crates/caches/src/*.rt": "crates/test_caches/src/*.rt",
 }
 
 

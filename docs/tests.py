@@ -36,6 +36,7 @@ THINGS = (
     ("codes, hashes, salts", "known_codes_spreads_hashes_and_slots", "numbers_have_known_codes"),
     ("seeds: known codes, and keys that collide without one", "codes_under_a_seed_are_known", "keys_that_share_a_plain_code_differ_under_a_seed"),
     ("a set", "a_key_is_inserted_and_removed_once"),
+    ("a bounded cache: what a get returns, deadlines, which entries go and where to, the bound", "a_get_returns_what_the_last_put_left", "an_entry_is_there_before_its_deadline_alone", "the_entry_that_was_not_used_goes", "each_entry_is_left_or_was_handed_over_once", "clients_at_work_keep_the_bound", "clients_that_come_and_go_move_one_hand", "the_hit_rate_is_within_two_points_of_an_exact_lru"),
     ("maps for text from outside: calls by queries, seeds, closing and opening again", "each_call_takes_the_query_of_a_text", "texts_that_differ_are_other_keys", "two_maps_draw_two_seeds", "a_map_has_the_seed_that_its_source_gives", "a_map_is_opened_again_with_its_texts_and_its_seed", "a_map_with_a_client_out_comes_back_with_its_seed"),
     ("keys of bytes, of which the short ones lie in themselves", "up_to_eighteen_bytes_lie_inline", "clones_of_long_keys_alone_take_memory", "keys_are_equal_to_those_of_the_same_bytes_alone"),
     ("the functions `Add`, `Greatest`, `Set`", "functions_merge"),
