@@ -114,7 +114,9 @@ def huge_requests(program):
         too_long = Error("ERR string exceeds maximum allowed size (proto-max-bulk-len)")
         must(it.call("SET", "huge", long) == OK and it.call("GET", "huge") == long, "the longest request is not taken")
         with Connection(server.port) as other:
-            other.send(packed("SET", "huge", long + b"x"))
+            # (the server may close before all is sent; its reply is there to be read all the same)
+            with contextlib.suppress(Closed):
+                other.send(packed("SET", "huge", long + b"x"))
             must(other.reply() == Error(PROTOCOL + "invalid bulk length") and other.is_closed(), "a longer request is taken")
         must(it.call("STRLEN", "huge") == len(long), "a request that is refused was run")
         key = b"k" * 65536
@@ -125,7 +127,8 @@ def huge_requests(program):
         must(it.call("MGET", *[key] * 15) == [b"1"] * 15, "a request of a megabyte is not taken")
         many = ["x"] * 100000
         must(it.call("EXISTS", *many) == 0 and it.call("DEL", key, "huge") == 2, "a request of 100,000 words is not taken")
-        it.send(b"*1048576\r\n" + b"$1\r\nx\r\n" * 160000)
+        with contextlib.suppress(Closed):
+            it.send(b"*1048576\r\n" + b"$1\r\nx\r\n" * 160000)
         must(it.reply() == Error(PROTOCOL + "invalid bulk length") and it.is_closed(), "a larger request is taken")
 
 
