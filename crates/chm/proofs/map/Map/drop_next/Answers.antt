@@ -252,7 +252,9 @@ pub returns-in_err-key-clause-kept : goal.returns-in_err-key-clause-kept
 returns-in_err-key-clause-kept g c = λ p start x. IfOk-from_err c.from_residual.result _ c.from_residual.ensures.0
 
 pub returns-in_err-call_by_value-clause-settled : goal.returns-in_err-call_by_value-clause-settled
-returns-in_err-call_by_value-clause-settled g c = λ p start x. IfOk-from_err c.from_residual-in_err-call_by_value.result _ c.from_residual-in_err-call_by_value.ensures.0
+returns-in_err-call_by_value-clause-settled g c =
+    λ p start x. IfOk-from_err c.from_residual-in_err-call_by_value.result _ c.from_residual-in_err-call_by_value.ensures.0
 
 pub returns-in_err-call_by_value-clause-kept : goal.returns-in_err-call_by_value-clause-kept
-returns-in_err-call_by_value-clause-kept g c = λ p start x. IfOk-from_err c.from_residual-in_err-call_by_value.result _ c.from_residual-in_err-call_by_value.ensures.0
+returns-in_err-call_by_value-clause-kept g c =
+    λ p start x. IfOk-from_err c.from_residual-in_err-call_by_value.result _ c.from_residual-in_err-call_by_value.ensures.0

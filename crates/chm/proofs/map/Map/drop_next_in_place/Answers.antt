@@ -247,7 +247,9 @@ pub returns-in_err-key-clause-kept : goal.returns-in_err-key-clause-kept
 returns-in_err-key-clause-kept g c = λ p start x. IfOk-from_err c.from_residual.result _ c.from_residual.ensures.0
 
 pub returns-in_err-call_in_place-clause-settled : goal.returns-in_err-call_in_place-clause-settled
-returns-in_err-call_in_place-clause-settled g c = λ p start x. IfOk-from_err c.from_residual-in_err-call_in_place.result _ c.from_residual-in_err-call_in_place.ensures.0
+returns-in_err-call_in_place-clause-settled g c =
+    λ p start x. IfOk-from_err c.from_residual-in_err-call_in_place.result _ c.from_residual-in_err-call_in_place.ensures.0
 
 pub returns-in_err-call_in_place-clause-kept : goal.returns-in_err-call_in_place-clause-kept
-returns-in_err-call_in_place-clause-kept g c = λ p start x. IfOk-from_err c.from_residual-in_err-call_in_place.result _ c.from_residual-in_err-call_in_place.ensures.0
+returns-in_err-call_in_place-clause-kept g c =
+    λ p start x. IfOk-from_err c.from_residual-in_err-call_in_place.result _ c.from_residual-in_err-call_in_place.ensures.0
