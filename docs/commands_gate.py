@@ -1,4 +1,5 @@
 """Tests of bin/test, tools/try_edits and .ci/run: the first two with wrong words, the gate over stubs of its parts."""
+import glob
 import os
 import re
 import shutil
@@ -61,7 +62,7 @@ class Gate:
             self.write(f"{path}.says", says)
         os.chmod(f"{top}/bin/rt", 0o755)
         shutil.copy(f"{TOP}/tools/gate_times.csv", f"{top}/tools/gate_times.csv")
-        os.makedirs(f"{top}/.git")
+        os.makedirs(f"{top}/.git/tmp")
         self.write("crates/low/src/lib.rt", "#[test]\n")
         self.write("crates/mapcli/out/mapcli", "")
         for build in BUILDS:
@@ -79,7 +80,7 @@ class Gate:
         return ran.returncode, output.splitlines()
 
     def begun(self, *words):
-        environment = {**os.environ, "CI": "true", "PATH": f"{self.top}/bin:{os.environ['PATH']}"}
+        environment = {**os.environ, "CI": "true", "PATH": f"{self.top}/bin:{os.environ['PATH']}", "TMPDIR": f"{self.top}/.git/tmp"}
         how = {"cwd": "/", "env": environment, "stdin": subprocess.DEVNULL, "stdout": subprocess.PIPE, "stderr": subprocess.STDOUT}
         return subprocess.Popen([f"{self.top}/.ci/run", *words], text=True, start_new_session=True, **how)
 
@@ -90,20 +91,26 @@ class Gate:
             self.write(it, "")
         with self.begun() as ran:
             for _ in range(600):
-                if os.path.exists(f"{self.top}/{path}.began"):
+                if self.has_begun(path):
                     break
                 time.sleep(0.1)
             began = time.monotonic()
             os.killpg(ran.pid, number)
             output, _ = ran.communicate(timeout=60)
-        for it in (*marks, f"{path}.began"):
+        for it in marks:
             os.remove(f"{self.top}/{it}")
+        if os.path.exists(f"{self.top}/{path}.began"):
+            os.remove(f"{self.top}/{path}.began")
         return ran.returncode, output.splitlines(), time.monotonic() - began
+
+    def has_begun(self, path):
+        """Returns whether a part waits, in its place or in the copy that a part beside the others works on."""
+        return glob.glob(f"{self.top}/{path}.began") or glob.glob(f"{self.top}/.git/tmp/gate-*/top/{path}.began")
 
     def has_builds(self):
         """Returns whether each build that was kept is in its place, and nothing lies aside."""
         texts = [self.read(f"crates/low/out/{it}") for it in BUILDS]
-        return texts == list(BUILDS) and not os.path.exists(f"{self.top}/.git/gate-aside")
+        return texts == list(BUILDS) and not os.path.exists(f"{self.top}/.git/gate-aside") and not os.listdir(f"{self.top}/.git/tmp")
 
     def read(self, path):
         try:
