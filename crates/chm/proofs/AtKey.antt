@@ -11,7 +11,7 @@ use Rattle.bin_history.specs.declared.form.Form.TheVariants.{Lean}
 use Rattle.count_ledger.specs.Limits.{most_calls}
 use Rattle.count_ledger.specs.Views.{LedgerView, PassView}
 use Rattle.chm.specs.AtKey.{IsCallAtKey}
-use Rattle.chm.specs.Given.{IsGive, IsGiven, IsModified, IsModify, MayBeAbsent}
+use Rattle.chm.specs.Given.{IsBackOrUsed, IsGive, IsGiven, IsModified, IsModify, MayBeAbsent}
 use Rattle.chm.specs.Headline.{IsAnsweredAs, IsCalled}
 use Rattle.chm.specs.Refusals.{IsOfCall}
 use Rattle.chm.specs.Sure.{IsMadeOrFull}
@@ -142,7 +142,7 @@ module _ {K V F : Type 0} (same : K → K → Bool) (same_value : V → V → Bo
     abbrev pub IsGivenCall : Result T (NotMade D) → Type 0
     IsGivenCall result = IsCallAtKey (λ l o n answer. IsGiven same same_value remapped merged post l key o n answer)
         (λ l o e. (e.fault ≡ NoMemory) × (l.form ≡ Lean → (e.given ≡ Some given)
-        × MayBeAbsent same same_value remapped merged l key o))
+        × MayBeAbsent same same_value remapped merged l key o) × IsBackOrUsed post given e.given)
         (λ e. (e.fault ≡ PassFull) × (e.given ≡ Some given)) ledger old new result
 
     pub give_of : (result : Result T (NotMade D)) → IsGivenCall result
@@ -158,13 +158,14 @@ module _ {K V F : Type 0} (same : K → K → Bool) (same_value : V → V → Bo
       back = tt;
       sure = λ lean none. absurd none;
       full_back = tt;
+      kept = tt;
     }
     give_of (Err e) is = go is.failed where
       go : (IsWithin ledger old × ((e.fault ≡ NoMemory) × (ledger.form ≡ Lean → (e.given ≡ Some given)
-          × MayBeAbsent same same_value remapped merged ledger key old)))
+          × MayBeAbsent same same_value remapped merged ledger key old) × IsBackOrUsed post given e.given))
           ⊎ ((most_calls ledger.form ledger.clients ≤ length old.made) × ((e.fault ≡ PassFull) × (e.given ≡ Some given)))
           → IsGive same same_value remapped merged post ledger key given old new (Err e)
-      go (inl (within, (out, back))) = record {
+      go (inl (within, (out, back, kept))) = record {
         made = tt;
         refused = is.same;
         full = (
@@ -175,6 +176,7 @@ module _ {K V F : Type 0} (same : K → K → Bool) (same_value : V → V → Bo
         back = λ lean. (back lean).0;
         sure = λ lean _. (back lean).1;
         full_back = λ full. absurd (are_two (sym out ∙ full));
+        kept = kept;
       }
       go (inr (most, (full, back))) = record {
         made = tt;
@@ -184,4 +186,5 @@ module _ {K V F : Type 0} (same : K → K → Bool) (same_value : V → V → Bo
         back = λ lean. back;
         sure = λ lean out. absurd (are_two (sym out ∙ full));
         full_back = λ _. back;
+        kept = inl back;
       }

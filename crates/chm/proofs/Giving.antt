@@ -1,6 +1,6 @@
 -- Calls by a function that is lent or given the value at a key.
 use Rattle.std.proofs.Common.{◌≡◌, ℕ, Bool, true, false, Option, Some, None, MatchOption, is_some, IfSome, Result, Ok, Err}
-use Rattle.std.proofs.Common.{OnErr, List, refl, sym, ap, subst, ◌∙◌}
+use Rattle.std.proofs.Common.{OnErr, inl, inr, List, refl, sym, ap, subst, ◌∙◌}
 use Rattle.hashkeys.specs.Classes.{is_of}
 use Rattle.bin_history.specs.Calls.{after, key_of, reply}
 use Rattle.bin_history.specs.Entries.{lookup}
@@ -16,7 +16,7 @@ use Rattle.bin_history.specs.declared.call.Reply.{Reply}
 use Rattle.bin_history.specs.declared.call.Reply.TheVariants.{Truth, Value}
 use Rattle.count_ledger.specs.Fronts.{IsFront}
 use Rattle.count_ledger.specs.Views.{LedgerView, PassView}
-use Rattle.chm.specs.Given.{IsGive, IsGiven, IsModified, MayBeAbsent}
+use Rattle.chm.specs.Given.{IsBackOrUsed, IsGive, IsGiven, IsModified, MayBeAbsent}
 use Rattle.chm.specs.Headline.{IsCalled}
 use Rattle.chm.specs.Histories.{IsCalledOn, IsMet}
 use Rattle.chm.specs.declared.calls.not_made.NotMade.{NotMade}
@@ -133,6 +133,10 @@ module _ {K V F T D : Type 0} (same : K → K → Bool) (same_value : V → V �
     (merged : F → V → V → Option V) (post want : Option V → Option V × T → Type 0) (ledger : LedgerView K V) (key : K)
     (given : D) (old new : PassView K V F)
     (tells : (before : Option V) (r : Option V × T) → post before r → want before r) where
+  back_map : (back : Option D) → IsBackOrUsed post given back → IsBackOrUsed want given back
+  back_map back (inl is) = inl is
+  back_map back (inr (none, before, r, said)) = inr (none, before, r, tells before r said)
+
   -- what is said of the function in other words
   pub give_map : (result : Result T (NotMade D))
       → IsGive same same_value remapped merged post ledger key given old new result
@@ -147,6 +151,7 @@ module _ {K V F T D : Type 0} (same : K → K → Bool) (same_value : V → V �
         back = tt;
         sure = λ lean none. absurd none;
         full_back = tt;
+        kept = tt;
       }
   give_map (Err e) give = record {
     made = tt;
@@ -156,6 +161,7 @@ module _ {K V F T D : Type 0} (same : K → K → Bool) (same_value : V → V �
     back = give.back;
     sure = give.sure;
     full_back = give.full_back;
+    kept = back_map e.given give.kept;
   }
 
   pub try_give_map : (tried : Option (Result T (NotMade D)))

@@ -1,5 +1,5 @@
 -- Values that a function is lent or given where they lie, by calls.
-use Rattle.std.specs.Prelude.{◌≡◌, ◌≤◌, ◌↔◌, Bool, true, false, Option, Some, None, MatchOption, List, length}
+use Rattle.std.specs.Prelude.{◌≡◌, ◌⊎◌, ◌≤◌, ◌↔◌, Bool, true, false, Option, Some, None, MatchOption, List, length}
 use Rattle.std.specs.Prelude.{Result, IfOk, IfErr, IsErrAnd, IsErrOf, OnErr}
 use Rattle.std.specs.Borrow.{Bor}
 use Rattle.bin_history.specs.Calls.{after}
@@ -51,6 +51,11 @@ abbrev pub LeavesMerged : {V : Type 0} → (V → V → Option V → Type 0) →
 LeavesMerged post value None r = r ≡ (Some value, false)
 LeavesMerged post value (Some before) r = (r.1 ≡ true) × post before value r.0
 
+-- what was given comes back; or the function was given it and some value, or none, and returned, and nothing comes back
+abbrev pub IsBackOrUsed : {V T D : Type 0} → (Option V → Option V × T → Type 0) → D → Option D → Type 0
+IsBackOrUsed {V} {T} post given back = (back ≡ Some given)
+    ⊎ ((back ≡ None) × (before : Option V) × (r : Option V × T) × post before r)
+
 module _ {K V F : Type 0} (same_key : K → K → Bool) (same_value : V → V → Bool) (remapped : F → K → Option V → Option V)
     (merged : F → V → V → Option V) where
   -- the pass made one call more: where the key had no value, a `contains_key`; else the function, which was lent the value
@@ -87,7 +92,8 @@ module _ {K V F : Type 0} (same_key : K → K → Bool) (same_value : V → V �
     pub sure : ledger.form ≡ Lean → IsMadeOrFull result
 
   -- the value at a key was given to a function, or the call was refused, and the pass is as it was; what was given with the
-  -- key comes back, but where a recorded map was out of memory. A lean map is out of memory only where the key has no value
+  -- key comes back, but where a recorded map was out of memory once the function had returned. A lean map is out of memory
+  -- only where the key has no value
   pub record IsGive {T D : Type 0} (post : Option V → Option V × T → Type 0) (ledger : LedgerView K V) (key : K) (given : D)
       (old new : PassView K V F) (result : Result T (NotMade D)) : Type 0 where
     pub made : IfOk result (IsGiven post ledger key old new)
@@ -97,3 +103,4 @@ module _ {K V F : Type 0} (same_key : K → K → Bool) (same_value : V → V �
     pub back : IfErr result (λ e. ledger.form ≡ Lean → e.given ≡ Some given)
     pub sure : ledger.form ≡ Lean → IsErrAnd result (λ e. e.fault ≡ NoMemory) → MayBeAbsent ledger key old
     pub full_back : IfErr result (λ e. e.fault ≡ PassFull → e.given ≡ Some given)
+    pub kept : IfErr result (λ e. IsBackOrUsed post given e.given)

@@ -13,7 +13,7 @@
 //!
 //! `PassFull` before the function is called, and `NoMemory`. The map and the pass are as they were. What
 //! was given beside the key comes back, the function too, and so was not called; but of a recorded map
-//! that was out of memory after it had called the function nothing comes back.
+//! that was out of memory once the new value was made nothing comes back.
 ghost use Rattle.std.specs.Prelude.{◌≡◌, Some};
 ghost use Rattle.chm.specs.Given.{IsGive, LeavesByChange, LeavesMerged, put_where_none};
 ghost use Rattle.chm.specs.Updates.{IsWithin};

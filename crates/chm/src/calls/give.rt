@@ -85,7 +85,7 @@ where
 {
     ghost use Rattle.std.specs.Prelude.{◌≡◌, ◌<◌, ◌≤◌, Option, Some, length};
     ghost use Rattle.bin_history.specs.declared.form.Form.TheVariants.{Lean};
-    ghost use Rattle.chm.specs.Given.{IsGiven, MayBeAbsent};
+    ghost use Rattle.chm.specs.Given.{IsBackOrUsed, IsGiven, MayBeAbsent};
     ghost use Rattle.chm.specs.Updates.{IsWithin};
     ghost use Rattle.chm.specs.declared.fault.Fault.TheVariants.{NoMemory};
 
@@ -103,7 +103,8 @@ where
 
     ghost fails = { λ w ledger old e. (e.fault ≡ NoMemory)
         × (ledger.form ≡ Lean → (e.given ≡ Some w.given)
-        × MayBeAbsent K.eq V.eq F.remapped F.merged ledger (Q.stands_for w.query) old) };
+        × MayBeAbsent K.eq V.eq F.remapped F.merged ledger (Q.stands_for w.query) old)
+        × IsBackOrUsed (G.post w.f w.given) w.given e.given };
 
     #[inline(always)]
     fn hash(&self, salt: Salt) -> u32 {

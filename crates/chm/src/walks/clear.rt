@@ -40,7 +40,7 @@ impl<K: HashKey, V: Value, F: Remap<K, V>, A: Allocator + Clone> Map<K, V, F, A>
         ensures own_left { self.now.ledger.clients ≡ 1 →
             OnErr result (HasOwnLeft K.eq K.code self.now.ledger pass.new) }
         ensures sure { self.now.ledger.form ≡ Lean → IsNeverRefused K.is_infallible →
-            IsNeverRefused V.is_infallible → IsMadeOrFull result }
+            IsMadeOrFull result }
         ensures faults { IfErr result IsOfCall }
     {
         let mut none = |_key: &K, _value: &V|

@@ -52,7 +52,7 @@ impl<K: HashKey, V: Value, F: Remap<K, V>, A: Allocator + Clone> Map<K, V, F, A>
         ensures callable { G.IsAlwaysCallable keeps.new }
         ensures n { cursor.new.n ≡ cursor.old.n }
         ensures sure { self.now.ledger.form ≡ Lean → IsNeverRefused K.is_infallible →
-            IsNeverRefused V.is_infallible → IsMadeOrFull result }
+            IsMadeOrFull result }
         ensures faults { IfErr result IsOfCall }
     {
         match &self.bins.kind {
@@ -116,7 +116,7 @@ impl<K: HashKey, V: Value, F: Remap<K, V>, A: Allocator + Clone> Map<K, V, F, A>
         ensures n { cursor.new.n ≡ cursor.old.n }
         ensures ended { cursor.old.next ≡ None → IsOk result }
         ensures sure { self.now.ledger.form ≡ Lean → IsNeverRefused K.is_infallible →
-            IsNeverRefused V.is_infallible → IfErr result (λ e. e.fault ≡ Fault.PassFull) }
+            IfErr result (λ e. e.fault ≡ Fault.PassFull) }
         ensures faults { IfErr result (λ e. IsOfCall e.fault) }
     {
         let Some(next) = cursor.next else {
@@ -151,7 +151,7 @@ impl<K: HashKey, V: Value, F: Remap<K, V>, A: Allocator + Clone> Map<K, V, F, A>
         ensures removed { HasRemoved pass.old pass.new }
         ensures callable { G.IsAlwaysCallable keeps.new }
         ensures sure { self.now.ledger.form ≡ Lean → IsNeverRefused K.is_infallible →
-            IsNeverRefused V.is_infallible → IsMadeOrFull result }
+            IsMadeOrFull result }
         ensures faults { IfErr result IsOfCall }
     {
         let mut cursor = start;
@@ -187,7 +187,7 @@ impl<K: HashKey, V: Value, F: Remap<K, V>, A: Allocator + Clone> Map<K, V, F, A>
         ensures removed { HasRemoved pass.old pass.new }
         ensures callable { G.IsAlwaysCallable keeps.new }
         ensures sure { self.now.ledger.form ≡ Lean → IsNeverRefused K.is_infallible →
-            IsNeverRefused V.is_infallible → IfErr result (λ e. e.fault ≡ Fault.PassFull) }
+            IfErr result (λ e. e.fault ≡ Fault.PassFull) }
         ensures faults { IfErr result (λ e. IsOfCall e.fault) }
     {
         let before = pass.made();
@@ -233,7 +233,7 @@ impl<K: HashKey, V: Value, F: Remap<K, V>, A: Allocator + Clone> Map<K, V, F, A>
         ensures removed { HasRemoved pass.old pass.new }
         ensures callable { G.IsAlwaysCallable keeps.new }
         ensures sure { self.now.ledger.form ≡ Lean → IsNeverRefused K.is_infallible →
-            IsNeverRefused V.is_infallible → IfErr result (λ e. e.fault ≡ Fault.PassFull) }
+            IfErr result (λ e. e.fault ≡ Fault.PassFull) }
         ensures faults { IfErr result (λ e. IsOfCall e.fault) }
     {
         self.retain_from(rt, pass, self.cursor(), keeps)

@@ -55,9 +55,9 @@ returns-in_err-retain_from-clause-full g c = λ is.
     let fault = rw is at c.from_residual.ensures.1 in (stopped.stopped.full (sym fault)).1
 
 pub returns-in_err-retain_from-clause-sure : goal.returns-in_err-retain_from-clause-sure
-returns-in_err-retain_from-clause-sure g c = λ lean keys values.
+returns-in_err-retain_from-clause-sure g c = λ lean keys.
     IsMadeOrFull-of c.from_residual.result _ c.from_residual.ensures.1
-    (c.in_err-retain_from.ensures.sure lean keys values)
+    (c.in_err-retain_from.ensures.sure lean keys)
 
 pub retain_from-requires-clause-begun : goal.retain_from-requires-clause-begun
 retain_from-requires-clause-begun g c = c.opening_cursor.ensures.begun [] refl

@@ -85,6 +85,6 @@ returns-in_err-retain_class-clause-stopped g c =
     IfErr-of P c.from_residual.result _ c.from_residual.ensures.1 (at _ c.in_err-retain_class.ensures.stopped.0)
 
 pub returns-in_err-retain_class-clause-sure : goal.returns-in_err-retain_class-clause-sure
-returns-in_err-retain_class-clause-sure g c = λ lean keys values.
+returns-in_err-retain_class-clause-sure g c = λ lean keys.
     IsMadeOrFull-of c.from_residual.result _ c.from_residual.ensures.1
-    (c.in_err-retain_class.ensures.sure lean keys values)
+    (c.in_err-retain_class.ensures.sure lean keys)

@@ -1,4 +1,4 @@
-use Rattle.std.proofs.Common.{◌≡◌, ap, refl, sym, subst, ◌∙◌}
+use Rattle.std.proofs.Common.{◌≡◌, inl, inr, ap, refl, sym, subst, ◌∙◌}
 use Rattle.hashkeys.specs.Classes.{covers}
 use Rattle.bin_history.specs.Ops.{call_on}
 use Rattle.bin_history.specs.Readiness.{call_to}
@@ -20,4 +20,15 @@ returns-clause-done g c =
     (subst (λ b. goal.G-post g c.args.self.f c.args.self.given b (left, answer)) c.in-Ok.ensures.value c.f-left.ensures) c.in-Ok-call_by_value.ensures.called
 
 pub returns-in_default-clause-fails : goal.returns-in_default-clause-fails
-returns-in_default-clause-fails g c = (refl, λ lean. absurd (recorded_is_not_lean (sym c.requires.recorded ∙ lean)))
+returns-in_default-clause-fails g c = (
+  refl,
+  λ lean. absurd (recorded_is_not_lean (sym c.requires.recorded ∙ lean)),
+  inl refl,
+)
+
+pub returns-in_default-call_by_value-clause-fails : goal.returns-in_default-call_by_value-clause-fails
+returns-in_default-call_by_value-clause-fails g c = (
+  refl,
+  λ lean. absurd (recorded_is_not_lean (sym c.requires.recorded ∙ lean)),
+  inr (refl, _, _, c.f-left.ensures),
+)

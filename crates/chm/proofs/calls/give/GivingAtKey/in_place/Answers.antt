@@ -1,4 +1,4 @@
-use Rattle.std.proofs.Common.{◌≡◌, [], ◌∷◌, refl, sym, ap, subst, ◌∙◌}
+use Rattle.std.proofs.Common.{◌≡◌, inl, [], ◌∷◌, refl, sym, ap, subst, ◌∙◌}
 use Rattle.std.proofs.lemmas.Bool.{false≢true}
 use Rattle.hashkeys.specs.Classes.{covers}
 use Rattle.hashkeys.specs.Hashing.{hash_of}
@@ -181,4 +181,5 @@ returns-in_default-clause-fails g c =
             c.args.map.now.ledger key c.args.pass.now (as_bin c.args.bin_slot.now.entries) front on is_front met
             (λ some. false≢true (c.in_default.ensures.succeeds some)),
       ),
+      inl refl,
     )
