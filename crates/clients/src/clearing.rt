@@ -54,7 +54,7 @@ impl<H: Holder<K, V, F, A>, K: HashKey, V: Value, F: Remap<K, V>, A: Allocator +
         ensures own_left { self.old.map.ledger.clients ≡ 1 →
             OnErr result (HasOwnLeft K.eq K.code self.old.map.ledger self.new.pass) }
         ensures sure { self.old.map.ledger.form ≡ Lean → IsNeverRefused K.is_infallible →
-            IsNeverRefused V.is_infallible → IsMadeOrFull result }
+            IsMadeOrFull result }
         ensures faults { IfErr result IsOfCall }
         ensures map { self.new.map ≡ self.old.map }
     {

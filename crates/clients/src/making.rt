@@ -98,7 +98,7 @@ impl<H: Holder<K, V, F, A>, K: HashKey, V: Value, F: Remap<K, V>, A: Allocator +
     ///
     /// `PassFull` before the function is called, and `NoMemory`. The map and the client are as they were.
     /// The value and the function come back, and the function was not called; but nothing comes back of a
-    /// recorded map that was out of memory after it had called the function.
+    /// recorded map that was out of memory once the new value was made.
     pub fn merge_as<R: Wait, Q: MakesKey<K, A>, G: FnOnce(V, V) -> Option<V>>(
         &mut self,
         rt: &R,

@@ -86,6 +86,7 @@ impl<H: Holder<K, V, F, A>, K: HashKey, V: Value, F: Remap<K, V>, A: Allocator +
     pub fn glance<R: Wait>(&self, rt: &R, key: &K) -> Result<Option<V>, Fault>
         ensures shown { IfOk result
             (IsShown K.eq K.code (after V.eq F.remapped F.merged) self.now.map key.now) }
+        ensures sure { IsNeverRefused V.is_infallible → IsOk result }
         ensures faults { IfErr result (λ fault. fault ≡ Fault.NoMemory) }
     {
         self.holder.map().glance(rt, key)
@@ -107,6 +108,7 @@ impl<H: Holder<K, V, F, A>, K: HashKey, V: Value, F: Remap<K, V>, A: Allocator +
         ensures shown { IfOk result
             (IsShown K.eq K.code (after V.eq F.remapped F.merged) self.now.map
             (Q.stands_for query)) }
+        ensures sure { IsNeverRefused V.is_infallible → IsOk result }
         ensures faults { IfErr result (λ fault. fault ≡ Fault.NoMemory) }
     {
         self.holder.map().glance_as(rt, query)

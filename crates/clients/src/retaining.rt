@@ -57,7 +57,7 @@ impl<H: Holder<K, V, F, A>, K: HashKey, V: Value, F: Remap<K, V>, A: Allocator +
             length self.new.pass.made ≡ length self.old.pass.made + e.removed) }
         ensures removed { HasRemoved self.old.pass self.new.pass }
         ensures sure { self.old.map.ledger.form ≡ Lean → IsNeverRefused K.is_infallible →
-            IsNeverRefused V.is_infallible → IfErr result (λ e. e.fault ≡ Fault.PassFull) }
+            IfErr result (λ e. e.fault ≡ Fault.PassFull) }
         ensures faults { IfErr result (λ e. IsOfCall e.fault) }
         ensures map { self.new.map ≡ self.old.map }
     {
@@ -120,7 +120,7 @@ impl<H: Holder<K, V, F, A>, K: HashKey, V: Value, F: Remap<K, V>, A: Allocator +
         ensures n { cursor.new.n ≡ cursor.old.n }
         ensures ended { cursor.old.next ≡ None → IsOk result }
         ensures sure { self.old.map.ledger.form ≡ Lean → IsNeverRefused K.is_infallible →
-            IsNeverRefused V.is_infallible → IfErr result (λ e. e.fault ≡ Fault.PassFull) }
+            IfErr result (λ e. e.fault ≡ Fault.PassFull) }
         ensures faults { IfErr result (λ e. IsOfCall e.fault) }
         ensures map { self.new.map ≡ self.old.map }
     {
