@@ -1,5 +1,6 @@
 -- What a client does that puts many pairs.
-use Rattle.std.specs.Prelude.{◌≡◌, ◌↔◌, Bool, true, Option, List, [], ◌∷◌, ◌++◌}
+use Rattle.std.specs.Prelude.{◌≡◌, Bool, Option, Some, List, [], ◌∷◌, Result, MatchResult}
+use Rattle.std.specs.Iterator.{Drains, YieldsThen}
 use Rattle.bin_history.specs.declared.call.Call.TheVariants.{Put}
 use Rattle.bin_history.specs.declared.call.Reply.{Reply}
 use Rattle.count_ledger.specs.Views.{LedgerView, PassView}
@@ -13,7 +14,9 @@ module _ {K V F : Type 0} (same_key : K → K → Bool) (same_value : V → V �
   ArePut ledger (e ∷ es) old new = (mid : PassView K V F) × (reply : Reply V)
       × IsCalled same_key same_value remapped merged ledger (Put e.0 e.1) old mid reply × ArePut ledger es mid new
 
-  -- the first of the pairs were put: all of them where `all` is true, and else not all
-  abbrev pub HasPut : LedgerView K V → List (K × V) → PassView K V F → PassView K V F → Bool → Type 0
-  HasPut ledger pairs old new all = (done left : List (K × V)) × (done ++ left ≡ pairs)
-      × ArePut ledger done old new × ((all ≡ true) ↔ (left ≡ []))
+  -- what the pairs became gave these first, and they were put: all that there were, or all before one whose put failed
+  abbrev pub HasPut : {I T E : Type 0} → (I → T → Type 0) → (T → Option (K × V) → T → Type 0) → LedgerView K V → I →
+      PassView K V F → PassView K V F → Result (Unit {0}) E → Type 0
+  HasPut {I} {T} becomes steps ledger pairs old new result = (it : T) × (xs : List (K × V)) × becomes pairs it
+      × ArePut ledger xs old new
+      × MatchResult result (λ _. Drains steps it xs) (λ _. (x : K × V) × (rest : T) × YieldsThen steps it xs (Some x) rest)

@@ -15,6 +15,8 @@ mod closed;
 #[cfg(test)]
 mod examples;
 #[cfg(test)]
+mod filling;
+#[cfg(test)]
 mod finding;
 #[cfg(test)]
 mod in_place;

@@ -1,16 +1,12 @@
-use Rattle.std.proofs.Common.{◌≡◌, Bool}
-use Rattle.std.specs.Vec.Iter.{into_iter_items}
-use Rattle.clients.specs.Filled.{HasPut}
+use Rattle.std.proofs.Common.{◌≡◌}
+use Rattle.clients.specs.Filled.{ArePut}
 use Rattle.clients.proofs.client.ClientOf.put_all.Given as goal
 
--- what becomes of the pairs that are left becomes of all, from the first pass on
+-- the pairs so far have been put
 abbrev pub invariant-loop-key : goal.invariant-loop-key
 invariant-loop-key g l =
     (goal.iterator-loop-key g).can_next l.key-iterator
     × (goal.iterator-loop-key g).is_finite l.key-iterator
     × (l.self.map ≡ l.initial.self.map)
-    × ((end : _) (all : Bool)
-    → HasPut g.K.PartialEq.eq g.V.PartialEq.eq g.F.Remap.remapped g.F.Remap.merged l.self.map.ledger
-    (into_iter_items l.key-iterator) l.self.pass end all
-    → HasPut g.K.PartialEq.eq g.V.PartialEq.eq g.F.Remap.remapped g.F.Remap.merged l.initial.self.map.ledger
-    l.fn.pairs.items l.initial.self.pass end all)
+    × ArePut g.K.PartialEq.eq g.V.PartialEq.eq g.F.Remap.remapped g.F.Remap.merged l.initial.self.map.ledger l.yielded
+    l.initial.self.pass l.self.pass
