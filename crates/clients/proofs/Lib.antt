@@ -10,6 +10,7 @@ mod Whole
 mod Walked
 mod Kept
 mod Made
+mod Replacements
 mod Replies
 pub mod Tallies
 pub mod Crossing

@@ -1,5 +1,5 @@
 -- Puts of many pairs, one more at a time.
-use Rattle.std.proofs.Common.{◌≡◌, Bool, Option, List, [], ◌∷◌, ◌++◌, Result, Ok, Err, MatchResult, IsErrAnd, refl, subst}
+use Rattle.std.proofs.Common.{Bool, Option, List, [], ◌∷◌, ◌++◌, Result, Ok, Err, MatchResult, IsErrAnd, refl, subst}
 use Rattle.bin_history.specs.declared.call.Call.TheVariants.{Put}
 use Rattle.bin_history.specs.declared.call.Reply.{Reply}
 use Rattle.count_ledger.specs.Views.{LedgerView, PassView}

@@ -7,5 +7,6 @@ pub mod Folds
 pub mod Filled
 pub mod Found
 pub mod Inserted
+pub mod Replaced
 pub mod Stats
 pub mod Clients

@@ -11,8 +11,8 @@ pub use clients::{
     ClientOf, Computed, Cursor, Entries, Exact, Fault, Form, Greatest, HashKey, Holder, Key,
     KeyArg, Lent, Letter, ListOf, Loan, MOST_BINS, MOST_CALLS, MOST_CLIENTS, MOST_LEAN_CALLS,
     MOST_LEAN_CLIENTS, MakesKey, Map, Moment, NoFunction, NotClosed, NotClosedWith, NotMade,
-    NotRetained, Op, Opened, Owned, OwnedClient, OwnedPass, Pass, Quiet, Remap, Reply, Roster,
-    Salt, Seat, Set, Shared, SharedMap, SharedNotClosed, Sharing, ShownEntries, ShownQuiet,
+    NotReplaced, NotRetained, Op, Opened, Owned, OwnedClient, OwnedPass, Pass, Quiet, Remap, Reply,
+    Roster, Salt, Seat, Set, Shared, SharedMap, SharedNotClosed, Sharing, ShownEntries, ShownQuiet,
     Started, Stats, Team, TeamNotClosed, Text, Unshared, Update, Value, Visit, Work, Worked,
     Working, retire_all,
 };

@@ -41,6 +41,8 @@ mod printing;
 #[cfg(test)]
 mod refused;
 #[cfg(test)]
+mod replacing;
+#[cfg(test)]
 mod retains;
 #[cfg(test)]
 mod shown;

@@ -1,4 +1,4 @@
-use Rattle.std.proofs.Common.{◌≡◌, subst, sym, ◌∙◌}
+use Rattle.std.proofs.Common.{subst, sym, ◌∙◌}
 use Rattle.bin_history.specs.declared.call.Call.TheVariants.{Put}
 use Rattle.bin_history.specs.declared.call.Reply.TheVariants.{Value}
 use Rattle.count_ledger.specs.Views.{PassView}

@@ -1,0 +1,23 @@
+use Rattle.std.proofs.Common.{inl, inr, refl, ap}
+use Rattle.chm.specs.Visits.{VisitView}
+use Rattle.clients.proofs.replacing.replace_next.Goals as goal
+
+pub returns-in-Ok-clause-next : goal.returns-in-Ok-clause-next
+returns-in-Ok-clause-next g c =
+    let visited = rw c.in-Ok-Some.field-0-is at c.in-Ok-Some.ensures.visit in
+    let same = ap (λ (v : VisitView _ _). v.entries) c.visit.view_is in (
+      c.in-Ok-Some.visit,
+      c.visit_next.new.pass,
+      visited,
+      rw same at c.in-Ok.ensures.replaced,
+      λ shown come. rw c.in-Ok-Some.field-0-is at (c.in-Ok-Some.ensures.come shown come),
+    )
+
+pub returns-in-Err-replace_among-clause-stopped : goal.returns-in-Err-replace_among-clause-stopped
+returns-in-Err-replace_among-clause-stopped g c =
+    let visited = rw c.in-Ok-Some.field-0-is at c.in-Ok-Some.ensures.visit in
+    let same = ap (λ (v : VisitView _ _). v.entries) c.visit.view_is in
+    inr (c.in-Ok-Some.visit, c.visit_next.new.pass, visited, rw same at c.in-Err-replace_among.ensures.stopped)
+
+pub returns-in-Err-clause-stopped : goal.returns-in-Err-clause-stopped
+returns-in-Err-clause-stopped g c = inl (c.in-Err.ensures.faults, refl, c.visit_next.ensures.seen)
