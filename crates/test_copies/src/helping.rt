@@ -1,30 +1,26 @@
 //! A call that helps with a move.
 ghost use Rattle.std.specs.Prelude.{◌≡◌};
 
-use crate::asserts::{assert_same, numbered};
-use crate::waiting::{Event, Paired, WAIT};
-use bin_history::{Form, Remap, Reply, Value};
+use crate::asserts::{assert_same, bin_of_32, numbered};
+use crate::away::Away;
+use crate::steps::{Steps, count_after_two};
+use crate::waiting::{Event, Paired, WAIT, put_copy};
+use bin_history::{Form, Reply, Value};
 use chm::Map;
 use count_ledger::Pass;
-use hashkeys::{Key, Salt};
+use hashkeys::Key;
 use std::alloc::Global;
 use std::process::Abort;
 use std::sync::Wait;
 use std::sync::atomic::AtomicU64;
 use std::sync::atomic::Ordering::SeqCst;
-use std::thread::{self, Threads};
-use test_maps::{close, open};
-
-/// The bin of a key in a table of 32 bins, under the salt 0.
-fn bin_of(key: &Key) -> u32 {
-    Salt(0).hash_of(key) % 32
-}
+use std::thread::Threads;
 
 /// A key of the first of 32 bins.
 fn key_of_bin_0(rt: &impl Abort) -> Key {
     for number in 0..1000u32 {
         let key = numbered(rt, number);
-        if bin_of(&key) == 0 {
+        if bin_of_32(&key) == 0 {
             return key;
         }
     }
@@ -38,7 +34,7 @@ fn numbers_of_24(rt: &impl Abort) -> [u32; 24] {
     let mut count = 0usize;
     let mut low = 0u32;
     for number in 0..100u32 {
-        let bin = bin_of(&numbered(rt, number));
+        let bin = bin_of_32(&numbered(rt, number));
         if bin > 0 && count < 24 {
             numbers[count] = number;
             count += 1;
@@ -54,13 +50,11 @@ fn numbers_of_24(rt: &impl Abort) -> [u32; 24] {
 
 /// Puts copies of a value at the first 23 of these keys, which are told to wait where they are
 /// copied from then on, and the last value at the 24th: a table of 32 bins grows then.
-fn put_24<R: Wait + Abort, V: Value, F: Remap<Key, V>>(
+fn put_24<R: Wait + Abort, V: Value>(
     rt: &R,
-    map: &Map<Key, V, F, Global>,
-    pass: &mut Pass<Key, V, F>,
-    value: &V,
-    last: &V,
-    told: &AtomicU64,
+    map: &Map<Key, V, Away, Global>,
+    pass: &mut Pass<Key, V, Away>,
+    steps: &MovesAndHelps<'_, V>,
 )
     requires pass { pass.old.ledger ≡ map.now.ledger.id }
     ensures { pass.new.ledger ≡ map.now.ledger.id }
@@ -69,44 +63,59 @@ fn put_24<R: Wait + Abort, V: Value, F: Remap<Key, V>>(
     for number in numbers_of_24(rt) {
         count = count.saturating_add(1);
         let source = if count < 24 {
-            value
+            steps.value
         } else {
-            told.store(WAIT, SeqCst);
-            last
+            steps.told.store(WAIT, SeqCst);
+            steps.last
         };
-        let copy = source.clone().expect(rt, "memory");
-        let reply = map.put(rt, pass, numbered(rt, number), copy);
-        assert!(rt; reply == Ok(Reply::Value(None)));
+        put_copy(rt, map, pass, number, source);
     }
 }
 
-/// Client 0 puts keys until the table of a recorded map grows. The first copy that the move makes
-/// of a value waits for a second one. Client 1 then makes a call on the first bin, which was moved before. Answers
-/// how many keys there are.
-fn call_while_another_moves<
-    R: Threads + Wait + Abort + Sync,
-    V: Value + Send + Sync,
-    F: Remap<Key, V> + Send + Sync,
->(rt: &R, alloc: Global, value: &V, last: &V, event: &Event, told: &AtomicU64) -> u64 {
-    let (map, mut passes) = open::<Key, V, F, Global>(alloc, Form::Recorded, 32, 2).expect(
-        rt, "a map",
-    );
-    let work = |number: usize, pass: &mut Pass<Key, V, F>|
-        requires pass { pass.now.ledger ≡ map.ledger.id }
-        ensures { pass.exit.now.ledger ≡ map.ledger.id }
-    {
-        if number == 0 {
-            put_24(rt, &map, pass, value, last, told);
+/// Client 0 puts keys until the table of a recorded map of 32 bins grows. The first copy that the move
+/// makes of a value waits for a second one. Client 1 then makes a call on the first bin, which was moved
+/// before.
+#[derive(Drop)]
+struct MovesAndHelps<'e, V> {
+    value: &'e V,
+    last: &'e V,
+    event: &'e Event,
+    told: &'e AtomicU64,
+}
+
+impl<'e, V: Value> Steps<Key, V, Away, Global> for MovesAndHelps<'e, V> {
+    type Told = ();
+
+    fn take<R: Wait + Abort>(
+        &self,
+        rt: &R,
+        map: &Map<Key, V, Away, Global>,
+        pass: &mut Pass<Key, V, Away>,
+    ) {
+        if pass.client() == 0 {
+            put_24(rt, map, pass, self);
         } else {
-            event.wait(1);
+            self.event.wait(1);
             let reply = map.contains_key(rt, pass, key_of_bin_0(rt));
             assert!(rt; reply == Ok(Reply::Truth(false)));
         }
+    }
+}
+
+/// Lets the two clients work on a recorded map, and answers how many keys there are.
+fn call_while_another_moves<'e, R: Threads + Wait + Abort + Sync, V: Value + Send + Sync>(
+    rt: &R,
+    alloc: Global,
+    (value, last): (&'e V, &'e V),
+    (event, told): (&'e Event, &'e AtomicU64),
+) -> u64 {
+    let steps = MovesAndHelps {
+        value,
+        last,
+        event,
+        told,
     };
-    thread::for_each_mut(rt, &mut passes, 2, &work);
-    close(map, passes)
-        .expect(rt, "a closed map")
-        .mapping_count()
+    count_after_two(rt, alloc, Form::Recorded, 32, &steps)
 }
 
 #[test]
@@ -118,13 +127,11 @@ fn a_call_helps_with_a_stride(rt: HostRuntime) {
     let quiet = AtomicU64::new(0);
     let value = Paired::new(&event, &told);
     let last = Paired::new(&event, &quiet);
-    let keys = call_while_another_moves::<HostRuntime, Paired, ()>(
+    let keys = call_while_another_moves::<HostRuntime, Paired>(
         &rt,
         rt.alloc(),
-        &value,
-        &last,
-        &event,
-        &told,
+        (&value, &last),
+        (&event, &told),
     );
     assert_same(&rt, &(event.given_up(), keys), &(0, 24));
 }

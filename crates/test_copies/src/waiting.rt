@@ -1,8 +1,11 @@
 //! Functions and copies that wait for another thread while a bin is held or read.
-ghost use Rattle.std.specs.Prelude.{◌≡◌, All};
+ghost use Rattle.std.specs.Prelude.{◌≡◌};
 
-use crate::asserts::{assert_same, key};
-use bin_history::{Exact, Form, Remap, Reply};
+use crate::asserts::{assert_same, key, numbered};
+use crate::away::Away;
+use crate::steps::{Steps, begin, count_after_two, run};
+use crate::words::reply_word;
+use bin_history::{Exact, Form, Remap, Reply, Value};
 use chm::{Fault, Map};
 use count_ledger::Pass;
 use crossbeam_utils::Backoff;
@@ -13,7 +16,7 @@ use std::sync::Wait;
 use std::sync::atomic::AtomicU64;
 use std::sync::atomic::Ordering::SeqCst;
 use std::thread::{self, Threads};
-use test_maps::{BOTH, close, open};
+use test_maps::{BOTH, Single, close_single};
 
 /// What threads wait for: how often it has been done, and how many waits for it were given up.
 #[derive(Drop)]
@@ -93,36 +96,48 @@ impl<'a> Remap<Key, u64> for OneAfter<'a> {
     }
 }
 
+/// Computes at `a`, which has no value, with a function that gives it the value 1.
+pub(crate) fn compute_at_a<R: Wait + Abort, F: Remap<Key, u64>>(
+    rt: &R,
+    map: &Map<Key, u64, F, Global>,
+    pass: &mut Pass<Key, u64, F>,
+    function: &F,
+)
+    requires { pass.old.ledger ≡ map.now.ledger.id }
+    ensures { pass.new.ledger ≡ map.now.ledger.id }
+{
+    let function = function.clone().expect(rt, "memory");
+    let reply = map.compute(rt, pass, key(rt, b"a"), function);
+    assert_same(rt, &reply_word(reply), &"1");
+}
+
 /// Client 0 computes at a key with a function that waits until client 1 has put another one, which
 /// client 1 does once the function was asked.
-fn compute_while_another_puts<R: Threads + Wait + Abort + Sync, F: Remap<Key, u64> + Send + Sync>(
-    rt: &R,
-    alloc: Global,
-    form: Form,
-    function: &F,
-    both: (&Event, &Event),
-) -> u64 {
-    let (asked, event) = both;
-    let (map, mut passes) = open::<Key, u64, F, Global>(alloc, form, 16, 2).expect(rt, "a map");
-    let work = |number: usize, pass: &mut Pass<Key, u64, F>|
-        requires pass { pass.now.ledger ≡ map.ledger.id }
-        ensures { pass.exit.now.ledger ≡ map.ledger.id }
-    {
-        if number == 0 {
-            let function = function.clone().expect(rt, "memory");
-            let reply = map.compute(rt, pass, key(rt, b"a"), function);
-            assert!(rt; reply == Ok(Reply::Value(Some(1))));
+#[derive(Drop)]
+struct ComputesAndPuts<'e, F> {
+    function: &'e F,
+    asked: &'e Event,
+    event: &'e Event,
+}
+
+impl<'e, F: Remap<Key, u64>> Steps<Key, u64, F, Global> for ComputesAndPuts<'e, F> {
+    type Told = ();
+
+    fn take<R: Wait + Abort>(
+        &self,
+        rt: &R,
+        map: &Map<Key, u64, F, Global>,
+        pass: &mut Pass<Key, u64, F>,
+    ) {
+        if pass.client() == 0 {
+            compute_at_a(rt, map, pass, self.function);
         } else {
-            asked.wait(1);
+            self.asked.wait(1);
             let reply = map.put(rt, pass, key(rt, b"Aa"), 1);
-            event.done();
-            assert!(rt; reply == Ok(Reply::Value(None)));
+            self.event.done();
+            assert_same(rt, &reply_word(reply), &"none");
         }
-    };
-    thread::for_each_mut(rt, &mut passes, 2, &work);
-    close(map, passes)
-        .expect(rt, "a closed map")
-        .mapping_count()
+    }
 }
 
 #[test]
@@ -133,8 +148,12 @@ fn a_function_waits_for_a_put_on_another_bin(rt: HostRuntime) {
             asked: &asked,
             event: &event,
         };
-        let both = (&asked, &event);
-        let count = compute_while_another_puts(&rt, rt.alloc(), form, &function, both);
+        let steps = ComputesAndPuts {
+            function: &function,
+            asked: &asked,
+            event: &event,
+        };
+        let count = count_after_two(&rt, rt.alloc(), form, 16, &steps);
         assert_same(
             &rt,
             &(asked.given_up(), event.given_up(), count),
@@ -206,101 +225,145 @@ impl<'a> Eq for Paired<'a> {
     ghost laws = { point_equiv };
 }
 
-impl<'a> Remap<Key, Paired<'a>> for () {
-    ghost use Rattle.std.specs.Prelude.{None};
-
-    ghost remapped = { λ f k v. None };
-
-    ghost merged = { λ f old given. None };
-
-    fn remap(
-        &self,
-        _key: &Key,
-        _value: Option<&Paired<'a>>,
-    ) -> Result<Option<Paired<'a>>, AllocError> {
-        Ok(None)
-    }
-
-    fn merge(
-        &self,
-        _old: &Paired<'a>,
-        _given: &Paired<'a>,
-    ) -> Result<Option<Paired<'a>>, AllocError> {
-        Ok(None)
-    }
-}
-
-/// Gives the key `a` this value by the one pass of the map, and says whether it had none.
-fn put_a<'a, R: Wait + Abort>(
+/// Gives the key of a number, which has none, a copy of a value.
+pub(crate) fn put_copy<R: Wait + Abort, V: Value>(
     rt: &R,
-    map: &Map<Key, Paired<'a>, (), Global>,
-    passes: &mut Vec<Pass<Key, Paired<'a>, ()>>,
-    value: Paired<'a>,
-) -> bool
-    requires { All (λ p. p.ledger ≡ map.now.ledger.id) passes.old.items }
-    ensures { All (λ p. p.ledger ≡ map.now.ledger.id) passes.new.items }
+    map: &Map<Key, V, Away, Global>,
+    pass: &mut Pass<Key, V, Away>,
+    number: u32,
+    value: &V,
+)
+    requires { pass.old.ledger ≡ map.now.ledger.id }
+    ensures { pass.new.ledger ≡ map.now.ledger.id }
 {
-    assert!(rt; passes.len() == 1);
-    map.put(rt, &mut passes[0], key(rt, b"a"), value) == Ok(Reply::Value(None))
+    let copy = value.clone().expect(rt, "memory");
+    let reply = map.put(rt, pass, numbered(rt, number), copy);
+    assert!(rt; reply == Ok(Reply::Value(None)));
 }
 
-/// Glances at a value of a recorded map in two threads at once. Answers what both found, how many waits were given
-/// up, and how many keys there are.
-fn glance_together<R: Threads + Wait + Abort + Sync>(
+/// Gives the key `a` a copy of a value, and says whether it had none.
+pub(crate) fn put_a<R: Wait + Abort, V: Value>(
     rt: &R,
-    alloc: Global,
-) -> ((bool, bool), u64, u64) {
-    let event = Event::new();
-    let told = AtomicU64::new(0);
-    let (map, mut passes) = open::<Key, Paired, (), Global>(alloc, Form::Recorded, 16, 1).expect(
-        rt, "a map",
-    );
-    let value = Paired::new(&event, &told);
-    let put = put_a(rt, &map, &mut passes, value);
-    told.store(WAIT, SeqCst);
+    map: &Map<Key, V, Away, Global>,
+    pass: &mut Pass<Key, V, Away>,
+    value: &V,
+) -> bool
+    requires { pass.old.ledger ≡ map.now.ledger.id }
+    ensures { pass.new.ledger ≡ map.now.ledger.id }
+{
+    let copy = value.clone().expect(rt, "memory");
+    map.put(rt, pass, key(rt, b"a"), copy) == Ok(Reply::Value(None))
+}
+
+/// The put of a copy of a value at `a`.
+#[derive(Drop)]
+struct PutsA<'e, V> {
+    value: &'e V,
+}
+
+impl<'e, V: Value> Steps<Key, V, Away, Global> for PutsA<'e, V> {
+    /// Whether `a` had no value.
+    type Told = bool;
+
+    fn take<R: Wait + Abort>(
+        &self,
+        rt: &R,
+        map: &Map<Key, V, Away, Global>,
+        pass: &mut Pass<Key, V, Away>,
+    ) -> bool {
+        put_a(rt, map, pass, self.value)
+    }
+}
+
+/// Glances at `a` in two threads at once. Answers whether each found a value.
+fn glance_twice<R: Threads + Wait + Abort + Sync, V: Value + Send + Sync>(
+    rt: &R,
+    map: &Map<Key, V, Away, Global>,
+) -> (bool, bool) {
     let glance = || matches!(map.glance(rt, &key(rt, b"a")), Ok(Some(_)));
     let both = thread::join(rt, glance, glance);
+    both
+}
+
+/// Puts a value at `a` in a recorded map, and glances at it in two threads at once, while its copies are
+/// told to wait. Answers whether `a` had no value, what both glances found, and how many keys there are.
+fn glance_together<R: Threads + Wait + Abort + Sync, V: Value + Send + Sync>(
+    rt: &R,
+    alloc: Global,
+    value: &V,
+    told: &AtomicU64,
+) -> (bool, (bool, bool), u64) {
+    let (put, Single { map, pass, place }) = begin(rt, alloc, Form::Recorded, 16, &PutsA { value });
+    told.store(WAIT, SeqCst);
+    let both = glance_twice(rt, &map);
     told.store(0, SeqCst);
-    let keys = close(map, passes)
-        .expect(rt, "a closed map")
-        .mapping_count();
-    assert!(rt; put);
-    (both, event.given_up(), keys)
+    let closed = close_single(map, pass, place).expect(rt, "a closed map");
+    (put, both, closed.mapping_count())
 }
 
 #[test]
 fn two_glances_copy_one_value_at_once(rt: HostRuntime) {
-    let told = glance_together(&rt, rt.alloc());
-    assert_same(&rt, &told, &((true, true), 0, 1));
+    let event = Event::new();
+    let told = AtomicU64::new(0);
+    let value = Paired::new(&event, &told);
+    let found = glance_together(&rt, rt.alloc(), &value, &told);
+    assert_same(
+        &rt,
+        &(found, event.given_up()),
+        &((true, (true, true), 1), 0),
+    );
 }
 
-/// Glances at a value whose copies are refused, and again once they are not. Answers whether each
-/// glance found it.
-fn glance_in_vain<R: Wait + Abort>(
+/// The put of a value at `a`, a glance at it while its copies are refused, and another one once they are
+/// not.
+#[derive(Drop)]
+struct GlancesInVain<'e, V> {
+    value: &'e V,
+    told: &'e AtomicU64,
+}
+
+impl<'e, V: Value> Steps<Key, V, Away, Global> for GlancesInVain<'e, V> {
+    /// Whether `a` had no value, the first glance failed for want of memory, and the second one found
+    /// the value.
+    type Told = [bool; 3];
+
+    fn take<R: Wait + Abort>(
+        &self,
+        rt: &R,
+        map: &Map<Key, V, Away, Global>,
+        pass: &mut Pass<Key, V, Away>,
+    ) -> [bool; 3] {
+        let put = put_a(rt, map, pass, self.value);
+        self.told.store(REFUSE, SeqCst);
+        let refused = matches!(map.glance(rt, &key(rt, b"a")), Err(Fault::NoMemory));
+        self.told.store(0, SeqCst);
+        let again = matches!(map.glance(rt, &key(rt, b"a")), Ok(Some(_)));
+        [put, refused, again]
+    }
+}
+
+/// What is found in a map of the form, and how many keys there are.
+fn glance_in_vain<R: Wait + Abort, V: Value>(
     rt: &R,
     alloc: Global,
     form: Form,
-) -> (Result<bool, Fault>, Result<bool, Fault>) {
-    let event = Event::new();
-    let told = AtomicU64::new(0);
-    let (map, mut passes) = open::<Key, Paired, (), Global>(alloc, form, 16, 1).expect(rt, "a map");
-    let value = Paired::new(&event, &told);
-    let put = put_a(rt, &map, &mut passes, value);
-    told.store(REFUSE, SeqCst);
-    let refused = map.glance(rt, &key(rt, b"a")).map(|shown| shown.is_some());
-    told.store(0, SeqCst);
-    let again = map.glance(rt, &key(rt, b"a")).map(|shown| shown.is_some());
-    let keys = close(map, passes)
-        .expect(rt, "a closed map")
-        .mapping_count();
-    assert_same(rt, &(put, keys), &(true, 1));
-    (refused, again)
+    steps: &GlancesInVain<'_, V>,
+) -> ([bool; 3], u64) {
+    let (found, closed) = run(rt, alloc, form, 16, steps);
+    (found, closed.mapping_count())
 }
 
 #[test]
 fn a_glance_whose_copy_is_refused_leaves_the_bin(rt: HostRuntime) {
+    let event = Event::new();
+    let told = AtomicU64::new(0);
+    let value = Paired::new(&event, &told);
+    let steps = GlancesInVain {
+        value: &value,
+        told: &told,
+    };
     for form in BOTH {
-        let told = glance_in_vain(&rt, rt.alloc(), form);
-        assert!(rt; told == (Err(Fault::NoMemory), Ok(true)));
+        let found = glance_in_vain(&rt, rt.alloc(), form, &steps);
+        assert_same(&rt, &found, &([true; 3], 1));
     }
 }

@@ -1,5 +1,5 @@
 use Rattle.std.proofs.Common.{◌≡◌}
 use Rattle.test_copies.proofs.lent.change_often.Given as goal
 
-abbrev pub invariant-loop-kind : goal.invariant-loop-kind
-invariant-loop-kind g l = l.pass.ledger ≡ l.map.ledger.id
+abbrev pub invariant-loop-row : goal.invariant-loop-row
+invariant-loop-row g l = l.pass.ledger ≡ l.map.ledger.id
