@@ -16,7 +16,6 @@ ghost use Rattle.chm.specs.Updates.{IsWithin};
 ghost use Rattle.chm.specs.Views.{bins_of};
 
 use crate::map::Map;
-use crate::resize::moving::CallEffect;
 use crate::resize::policy::Growth;
 use bin_history::{Bin, Remap, Value};
 use bin_store::{Held, StoreKind};
@@ -133,7 +132,7 @@ impl<K: HashKey, V: Value, F: Remap<K, V>, A: Allocator + Clone> Map<K, V, F, A>
         pass: &mut Pass<K, V, F>,
         hash: u32,
         work: W,
-    ) -> Result<(W::Answer, CallEffect), W::Failure>
+    ) -> Result<(W::Answer, Class, Growth), W::Failure>
         requires may { W.may work self.now.ledger pass.old }
         requires pass { pass.old.ledger ≡ self.now.ledger.id }
         requires hash { hash ≡ hash_by K.code self.now.ledger.salt (W.key work) }
@@ -149,7 +148,7 @@ impl<K: HashKey, V: Value, F: Remap<K, V>, A: Allocator + Clone> Map<K, V, F, A>
         let done = work.in_place(self, pass, guard.inner.value(), class, hash);
         guard.release();
         match done {
-            Ok((answer, growth)) => Ok((answer, CallEffect::of(class, pass, growth))),
+            Ok((answer, growth)) => Ok((answer, class, growth)),
             Err(failure) => Err(failure),
         }
     }
@@ -164,7 +163,7 @@ impl<K: HashKey, V: Value, F: Remap<K, V>, A: Allocator + Clone> Map<K, V, F, A>
         pass: &mut Pass<K, V, F>,
         hash: u32,
         work: W,
-    ) -> Result<(W::Answer, CallEffect), W::Failure>
+    ) -> Result<(W::Answer, Class, Growth), W::Failure>
         requires may { W.may work self.now.ledger pass.old }
         requires recorded { self.now.ledger.form ≡ Recorded }
         requires pass { pass.old.ledger ≡ self.now.ledger.id }
@@ -185,7 +184,7 @@ impl<K: HashKey, V: Value, F: Remap<K, V>, A: Allocator + Clone> Map<K, V, F, A>
         let done = work.by_value(self, pass, bin, &mut lent.role, hash);
         held.release();
         match done {
-            Ok((answer, growth)) => Ok((answer, CallEffect::of(class, pass, growth))),
+            Ok((answer, growth)) => Ok((answer, class, growth)),
             Err(failure) => Err(failure),
         }
     }
@@ -197,7 +196,7 @@ impl<K: HashKey, V: Value, F: Remap<K, V>, A: Allocator + Clone> Map<K, V, F, A>
         rt: &R,
         pass: &mut Pass<K, V, F>,
         work: W,
-    ) -> Result<(W::Answer, CallEffect), W::Failure>
+    ) -> Result<(W::Answer, Class, Growth), W::Failure>
         requires may { W.may work self.now.ledger pass.old }
         requires pass { pass.old.ledger ≡ self.now.ledger.id }
         ensures done { IfOk result (λ r. W.does work self.now.ledger pass.old pass.new r.0) }
@@ -225,7 +224,7 @@ impl<K: HashKey, V: Value, F: Remap<K, V>, A: Allocator + Clone> Map<K, V, F, A>
         &self,
         pass: &mut Pass<K, V, F>,
         work: W,
-    ) -> Option<Result<(W::Answer, CallEffect), W::Failure>>
+    ) -> Option<Result<(W::Answer, Class, Growth), W::Failure>>
         requires may { W.may work self.now.ledger pass.old }
         requires pass { pass.old.ledger ≡ self.now.ledger.id }
         ensures done { IfSome result (λ done. IfOk done
@@ -266,8 +265,8 @@ impl<K: HashKey, V: Value, F: Remap<K, V>, A: Allocator + Clone> Map<K, V, F, A>
             return Err(work.refuse());
         }
         match self.at_key(rt, pass, work) {
-            Ok((answer, effect)) => {
-                self.after_call(&effect);
+            Ok((answer, class, growth)) => {
+                self.after_call(pass, class, growth);
                 Ok(answer)
             }
             Err(failure) => Err(failure),
@@ -294,8 +293,8 @@ impl<K: HashKey, V: Value, F: Remap<K, V>, A: Allocator + Clone> Map<K, V, F, A>
             return Some(Err(work.refuse()));
         }
         match self.try_at_key(pass, work)? {
-            Ok((answer, effect)) => {
-                self.after_call(&effect);
+            Ok((answer, class, growth)) => {
+                self.after_call(pass, class, growth);
                 Some(Ok(answer))
             }
             Err(failure) => Some(Err(failure)),

@@ -146,7 +146,7 @@ impl<K: HashKey, V: Value, F: Remap<K, V>, A: Allocator + Clone> Map<K, V, F, A>
             result }
     {
         match self.at_key(rt, pass, Viewing { query, f }) {
-            Ok((answer, _)) => answer,
+            Ok((answer, _, _)) => answer,
             Err(never) => match never {},
         }
     }
@@ -197,7 +197,7 @@ impl<K: HashKey, V: Value, F: Remap<K, V>, A: Allocator + Clone> Map<K, V, F, A>
         ensures busy { IfNone result (pass.new ≡ pass.old) }
     {
         match self.try_at_key(pass, Viewing { query, f })? {
-            Ok((answer, _)) => Some(answer),
+            Ok((answer, _, _)) => Some(answer),
             Err(never) => match never {},
         }
     }

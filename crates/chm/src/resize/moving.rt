@@ -1,10 +1,8 @@
 //! What calls do for the table once their own work is done. It waits for nobody, and what fails here
 //! fails no call.
-ghost use Rattle.std.specs.Prelude.{◌≡◌, ◌≤◌, ◌<◌, ◌^◌, Some, None, cond};
+ghost use Rattle.std.specs.Prelude.{◌≡◌, ◌≤◌, ◌<◌, ◌^◌};
 ghost use Rattle.hashkeys.specs.Classes.{IsTableSize};
 ghost use Rattle.hashkeys.specs.Limits.{most_exponent};
-ghost use Rattle.bin_history.specs.Deltas.{sum_of_deltas};
-ghost use Rattle.count_ledger.specs.Words.{word_of};
 ghost use Rattle.chm.specs.Sizes.{most_bins_of};
 ghost use Rattle.transfer.specs.Views.{IsUnfinished};
 
@@ -18,52 +16,20 @@ use hashkeys::{Class, HashKey};
 use std::alloc::Allocator;
 use transfer::{Finish, Mover, Range};
 
-/// What a call met, whose it was, and its client's balance where it made its key present; and whether
-/// its bin is crowded since.
-// One struct for one function: when each kind of call did this work itself, it was not inlined.
-#[derive(Drop)]
-pub(crate) struct CallEffect {
-    pub(crate) class: Class,
-    pub(crate) client: u32,
-    pub(crate) grown: Option<u64>,
-    pub(crate) crowded: bool,
-}
-
-impl CallEffect {
-    /// What a call met on the bin of this class, whose it was, and its client's balance where it made its
-    /// key present; and whether the bin is crowded since.
-    #[inline(always)]
-    pub(crate) fn of<K, V, F>(class: Class, pass: &Pass<K, V, F>, growth: Growth) -> CallEffect
-        ensures balance { result.grown
-            ≡ cond growth.grew (Some (word_of (sum_of_deltas pass.now.made))) None }
-        ensures crowded { result.crowded ≡ growth.crowded }
-    {
-        let grown = if growth.grew {
-            Some(pass.balance())
-        } else {
-            None
-        };
-        CallEffect {
-            class,
-            client: pass.client(),
-            grown,
-            crowded: growth.crowded,
-        }
-    }
-}
-
 impl<K: HashKey, V: Value, F: Remap<K, V>, A: Allocator + Clone> Map<K, V, F, A> {
-    /// Does a call's part for the table: it moves a bin that the table has outgrown, helps a move that
-    /// is ready with one stride, and opens a move where the table is full. Most calls have nothing to
-    /// do: they look at the resize word alone.
+    /// Does a call's part for the table, by the class of the bin that the call met and what it did to the
+    /// keys there: it moves a bin that the table has outgrown, helps a move that is ready with one stride,
+    /// and opens a move where the table is full. Most calls have nothing to do: they look at the resize word
+    /// alone.
+    // One function for all calls: when each kind of call did this work itself, it was not inlined.
     #[inline(always)]
-    pub(crate) fn after_call(&self, effect: &CallEffect) {
+    pub(crate) fn after_call(&self, pass: &Pass<K, V, F>, class: Class, growth: Growth) {
         let table = self.resizer.table();
-        if !table.is_settled_for(effect.class) {
-            self.catch_up(table, effect.class, effect.client);
+        if !table.is_settled_for(class) {
+            self.catch_up(table, class, pass.client());
         }
-        if let Some(balance) = effect.grown {
-            self.look_whether_full(table, effect.client, balance, effect.crowded);
+        if growth.grew {
+            self.look_whether_full(table, pass, growth.crowded);
         }
     }
 
@@ -81,14 +47,14 @@ impl<K: HashKey, V: Value, F: Remap<K, V>, A: Allocator + Clone> Map<K, V, F, A>
         }
     }
 
-    /// Opens a move where the table is full, if it is the client's turn to look, which has this balance,
-    /// or the call's bin is crowded.
+    /// Opens a move where the table is full, if it is the client's turn to look, by its balance, or the
+    /// call's bin is crowded.
     #[inline(never)]
-    fn look_whether_full(&self, table: ResizeState, client: u32, balance: u64, crowded: bool)
+    fn look_whether_full(&self, table: ResizeState, pass: &Pass<K, V, F>, crowded: bool)
         requires table { table.exponent ≤ most_exponent }
     {
-        if is_due(self.form(), table.n(), balance, crowded) {
-            self.grow_if_full(table, client);
+        if is_due(self.form(), table.n(), pass.balance(), crowded) {
+            self.grow_if_full(table, pass.client());
         }
     }
 
