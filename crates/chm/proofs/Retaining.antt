@@ -1,6 +1,6 @@
 -- What a retain asks, what it removes, and what it keeps.
 use Rattle.std.proofs.Common.{◌≡◌, ◌≢◌, ℕ, suc, ◌+◌, ◌<◌, ◌≤◌, Bool, true, false, cond, filter, Option, List, []}
-use Rattle.std.proofs.Common.{◌∷◌, ◌++◌, length, drop, take, refl, sym, ap, subst, ◌∙◌}
+use Rattle.std.proofs.Common.{◌∷◌, ◌++◌, ◌↔◌, inl, inr, length, drop, take, refl, sym, ap, subst, ◌∙◌}
 use Rattle.std.proofs.Common.{arith, append_assoc, length-append}
 use Rattle.std.specs.Borrow.{Bor}
 use Rattle.std.specs.List.{AllZip, FoldsTo}
@@ -18,6 +18,7 @@ use Rattle.count_ledger.specs.Fronts.{HasSeenMore}
 use Rattle.count_ledger.specs.Limits.{most_calls}
 use Rattle.count_ledger.specs.Views.{LedgerView, PassView}
 use Rattle.chm.specs.Cleared.{AreCleared, HasLeft, HasMade, HasRemovedIn, IsRemoval}
+use Rattle.chm.specs.Refusals.{IsOfCall}
 use Rattle.chm.specs.Retained.{AreRetained, HasAsked, HasKept, HasKeptAll, HasStopped, IsAsked}
 use Rattle.chm.specs.Retained.{IsFoundBehind, IsRemovalOf, IsRetainedIn, IsSettled, IsStoppedBy, SaysAt}
 use Rattle.chm.specs.Retained.{kept_of, removed_of}
@@ -47,6 +48,14 @@ full≢memory is = false≢true (sym (ap is_full is))
 
 memory≢full : NoMemory ≡ PassFull → ⊥
 memory≢full is = false≢true (ap is_full is)
+
+-- what stops a retain or a clear is told as a full pass where the pass is full, and only there
+pub full_if_full : {Q R : Type 0} (fault : Fault) (most made : ℕ) → IsOfCall fault
+    → (fault ≡ PassFull → Q × (most ≤ made)) → (fault ≡ NoMemory → (made < most) × R)
+    → (fault ≡ PassFull) ↔ (most ≤ made)
+full_if_full fault most made (inl memory) full within =
+    (λ is. (full is).1, λ le. (let less = (within memory).0 in absurd (omega (arith, le, less))))
+full_if_full fault most made (inr so) full within = (λ is. (full is).1, λ le. so)
 
 module _ {G K V : Type 0} (step : G → Bor K → Bor V → Bool → G → Type 0) where
   asked-stays : (most n : ℕ) → n < most → (p q : G) (es : List (K × V)) → HasKeptAll step p es q →

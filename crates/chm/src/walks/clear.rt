@@ -1,5 +1,5 @@
 //! Emptying a map, bin by bin in walk order.
-ghost use Rattle.std.specs.Prelude.{◌≡◌, ◌≤◌, false, length, IfErr, IsErrOf, OnOk, OnErr};
+ghost use Rattle.std.specs.Prelude.{◌≡◌, ◌≤◌, ◌↔◌, false, length, IfErr, OnOk, OnErr};
 ghost use Rattle.bin_history.specs.Calls.{after};
 ghost use Rattle.bin_history.specs.Sure.{IsNeverRefused};
 ghost use Rattle.bin_history.specs.declared.form.Form.TheVariants.{Lean};
@@ -33,8 +33,8 @@ impl<K: HashKey, V: Value, F: Remap<K, V>, A: Allocator + Clone> Map<K, V, F, A>
         ensures emptied { self.now.ledger.clients ≡ 1 →
             OnOk result (IsEmptied K.eq K.code self.now.n self.now.ledger pass.new) }
         ensures removed { HasRemoved pass.old pass.new }
-        ensures full { IsErrOf result Fault.PassFull →
-            most_calls self.now.ledger.form self.now.ledger.clients ≤ length pass.new.made }
+        ensures full { IfErr result (λ fault. (fault ≡ Fault.PassFull) ↔
+            (most_calls self.now.ledger.form self.now.ledger.clients ≤ length pass.new.made)) }
         ensures left { OnErr result
             (HasLeft K.eq K.code (after V.eq F.remapped F.merged) self.now.ledger pass.new) }
         ensures own_left { self.now.ledger.clients ≡ 1 →

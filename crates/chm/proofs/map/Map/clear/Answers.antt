@@ -1,4 +1,4 @@
-use Rattle.std.proofs.Common.{◌≡◌, ℕ, [], refl, sym, subst, arith}
+use Rattle.std.proofs.Common.{◌≡◌, ℕ, [], refl, subst, arith}
 use Rattle.std.proofs.lemmas.Bool.{true≢false}
 use Rattle.std.proofs.lemmas.Result.{on_err_weaker}
 use Rattle.bin_history.specs.Calls.{after}
@@ -6,8 +6,8 @@ use Rattle.bin_layout.specs.Walks.{IsWalk}
 use Rattle.bin_history.proofs.Keys.{key_tells}
 use Rattle.chm.proofs.Clearing.{emptied, own_left}
 use Rattle.chm.proofs.InPlace.{OnErr-of}
-use Rattle.chm.proofs.Retaining.{cleared_by, left_of}
-use Rattle.chm.proofs.Sure.{IsMadeOrFull-of}
+use Rattle.chm.proofs.Retaining.{cleared_by, full_if_full, left_of}
+use Rattle.chm.proofs.Sure.{IfErr-of, IsMadeOrFull-of}
 use Rattle.chm.proofs.map.Map.clear.Goals as goal
 
 pub returns-clause-cleared : goal.returns-clause-cleared
@@ -50,9 +50,10 @@ returns-in_err-retain_from-clause-own_left g c = λ one.
     c.retain_from.new.pass one) (returns-in_err-retain_from-clause-left g c)
 
 pub returns-in_err-retain_from-clause-full : goal.returns-in_err-retain_from-clause-full
-returns-in_err-retain_from-clause-full g c = λ is.
+returns-in_err-retain_from-clause-full g c =
     let (classes, next, come, j, mid, are, (class, first, stopped)) = c.in_err-retain_from.ensures.stopped in
-    let fault = rw is at c.from_residual.ensures.1 in (stopped.stopped.full (sym fault)).1
+    IfErr-of _ c.from_residual.result _ c.from_residual.ensures.1
+    (full_if_full _ _ _ c.in_err-retain_from.ensures.faults stopped.stopped.full stopped.stopped.memory)
 
 pub returns-in_err-retain_from-clause-sure : goal.returns-in_err-retain_from-clause-sure
 returns-in_err-retain_from-clause-sure g c = λ lean keys.
