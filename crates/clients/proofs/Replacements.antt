@@ -1,18 +1,22 @@
 -- Values that are changed one after the other.
-use Rattle.std.proofs.Common.{◌≡◌, ℕ, ◌+◌, ◌<◌, ◌≤◌, ◌↔◌, Bool, Option, List, [], ◌∷◌, ◌++◌}
-use Rattle.std.proofs.Common.{Ok, IsErrOf}
-use Rattle.std.proofs.Common.{refl, rules, subst, arith}
+use Rattle.std.proofs.Common.{◌≡◌, ℕ, ◌+◌, ◌<◌, ◌≤◌, ◌↔◌, Bool, Option, Some, None, List, [], ◌∷◌, ◌++◌}
+use Rattle.std.proofs.Common.{Ok, Err, IsErrOf, IsSomeAnd}
+use Rattle.std.proofs.Common.{refl, ap, rules, subst, arith}
 use Rattle.std.specs.Borrow.{Bor}
+use Rattle.hashkeys.specs.Classes.{ClassView}
 use Rattle.bin_history.specs.declared.form.Form.{Form}
 use Rattle.count_ledger.specs.Limits.{most_calls}
 use Rattle.count_ledger.specs.Views.{LedgerView, PassView}
 use Rattle.count_ledger.proofs.Posted.{most_calls_le}
+use Rattle.part_walks.specs.Parts.{HasComeTo}
 use Rattle.chm.specs.Updates.{IsUpdated}
-use Rattle.chm.specs.Visits.{VisitView}
+use Rattle.chm.specs.Visits.{VisitView, classes_of_visits}
 use Rattle.chm.specs.declared.calls.update.Change.{Change}
 use Rattle.chm.specs.declared.calls.update.Change.TheVariants.{Keep, Set}
 use Rattle.chm.specs.declared.fault.Fault.{Fault}
-use Rattle.clients.specs.Replaced.{AreReplaced, AreReplacedIn, IsCounted, IsReplacedAt, IsVisited, Replaces}
+use Rattle.chm.specs.declared.fault.Fault.TheVariants.{PassFull}
+use Rattle.clients.specs.Replaced.{AreReplaced, AreReplacedIn, HasStopped, IsCounted, IsReplacedAt, IsStopped, IsVisited}
+use Rattle.clients.specs.Replaced.{Replaces}
 
 -- nothing is set where what stays is kept
 pub sets-none : {V : Type 0} (value : V) → Set value ≡ Keep → ⊥
@@ -62,6 +66,30 @@ module _ {G K V F : Type 0} (step : G → Bor K → Bor V → V → G → Type 0
     )
     AreReplacedIn-push (x ∷ vs) v p j q old mid seen new (s, i, w, first, its, others) visited are =
         (s, i, w, first, its, AreReplacedIn-push vs v i j q w mid seen new others visited are)
+
+    -- it stopped where a walk had come to
+    pub stopped-at : (fault : Fault) (f : G) (old : PassView K V F) (count n : ℕ) (next : Option ClassView)
+        (vs : List (VisitView K V)) (j : G × ℕ) (mid new : PassView K V F) → HasComeTo n next (classes_of_visits vs)
+        → AreReplacedIn step same_key code same_value remapped merged ledger vs (f, 0) old j mid
+        → IsSomeAnd next (λ c. HasStopped step same_key code same_value remapped merged ledger fault c j mid count new)
+        → IsStopped step same_key code same_value remapped merged ledger fault f old count new
+    stopped-at fault f old count n (Some c) vs j mid new come are stopped = (n, c, vs, j, mid, come, are, stopped)
+    stopped-at fault f old count n None vs j mid new come are stopped = absurd stopped
+
+-- what is next, of a walk that is not at its end
+pub next-of : {X : Type 0} {P : X → Type 0} (next : Option X) → (next ≡ None → ⊥) → ((x : X) → P x) → IsSomeAnd next P
+next-of (Some x) goes_on each = each x
+next-of None goes_on each = absurd (goes_on refl)
+
+-- the same of what is next
+pub next-with : {X : Type 0} {P Q : X → Type 0} (next : Option X) → IsSomeAnd next P → ((x : X) → P x → Q x)
+    → IsSomeAnd next Q
+next-with (Some x) p each = each x p
+next-with None p each = absurd p
+
+-- a refusal of a full pass, and no other
+pub full-of : {T : Type 0} (fault : Fault) (P : Type 0) → IsErrOf {T = T} (Err fault) PassFull ↔ P → (fault ≡ PassFull) ↔ P
+full-of fault P iff = (λ full. iff.0 (ap Err full), λ p. (let e = iff.1 p in search (rules, e)))
 
 -- one more than a count of calls fits
 pub count-fits : (form : Form) (clients count made : ℕ) → count ≤ made → (most_calls form clients ≤ made → ⊥)

@@ -1,5 +1,5 @@
 -- What a client does that changes the values of all keys by a function.
-use Rattle.std.specs.Prelude.{◌≡◌, ℕ, ◌+◌, ◌≤◌, ◌⊎◌, Bool, true, false, cond, Option, Some, None, List, [], ◌∷◌, ◌++◌, length}
+use Rattle.std.specs.Prelude.{◌≡◌, ℕ, ◌+◌, ◌≤◌, ◌↔◌, ◌⊎◌, Bool, true, false, cond, Option, Some, None, List, [], ◌∷◌, ◌++◌, length}
 use Rattle.std.specs.Borrow.{Bor}
 use Rattle.hashkeys.specs.Classes.{ClassView}
 use Rattle.bin_history.specs.Calls.{after}
@@ -8,7 +8,7 @@ use Rattle.count_ledger.specs.Fronts.{HasSeen, HasSeenMore}
 use Rattle.count_ledger.specs.Limits.{most_calls}
 use Rattle.count_ledger.specs.Views.{LedgerView, PassView}
 use Rattle.bin_layout.specs.Walks.{IsWalk}
-use Rattle.chm.specs.Cursors.{HasComeTo}
+use Rattle.part_walks.specs.Parts.{HasComeTo, IsFirstOf}
 use Rattle.chm.specs.Updates.{IsUpdated}
 use Rattle.chm.specs.Visits.{VisitView, IsVisit, classes_of_visits}
 use Rattle.chm.specs.declared.calls.update.Change.{Change}
@@ -46,12 +46,13 @@ module _ {G K V : Type 0} (step : G → Bor K → Bor V → V → G → Type 0) 
     AreReplaced (e ∷ es) p old q new = (j : G × ℕ) × (mid : PassView K V F) × IsReplacedAt e.0 p old j mid
         × AreReplaced es j mid q new
 
-    -- it stopped at one of them, when so many values had been replaced; in a lean map only because the pass was full
+    -- it stopped at one of them, when so many values had been replaced: because the pass was full, or for want of memory, and
+    -- never for that in a lean map
     abbrev pub HasStoppedAmong : List (K × V) → Fault → G × ℕ → PassView K V F → ℕ → PassView K V F → Type 0
     HasStoppedAmong entries fault p old count new =
         (done : List (K × V)) × (next : K × V) × (left : List (K × V)) × (last : G)
         × (entries ≡ done ++ next ∷ left) × AreReplaced done p old (last, count) new
-        × (fault ≡ PassFull → most_calls ledger.form ledger.clients ≤ length new.made)
+        × ((fault ≡ PassFull) ↔ (most_calls ledger.form ledger.clients ≤ length new.made))
         × (ledger.form ≡ Lean → fault ≡ PassFull)
 
 module _ {K V F : Type 0} (same_key : K → K → Bool) (code : K → ℕ) (same_value : V → V → Bool)
@@ -76,14 +77,15 @@ module _ {G K V F : Type 0} (step : G → Bor K → Bor V → V → G → Type 0
   IsReplaced f old count new = (n : ℕ) × (visits : List (VisitView K V)) × (last : G)
       × IsWalk n (classes_of_visits visits) × AreReplacedIn visits (f, 0) old (last, count) new
 
-  -- it stopped at a bin that could not be shown, or at one of its keys
-  abbrev pub HasStopped : Fault → G × ℕ → PassView K V F → ℕ → PassView K V F → Type 0
-  HasStopped fault p old count new = ((fault ≡ NoMemory) × (count ≡ p.1) × HasSeenMore old new)
-      ⊎ ((v : VisitView K V) × (seen : PassView K V F) × IsVisited same_key code same_value remapped merged ledger v old seen
+  -- a walk that was to go on at a class stopped at the first bin of it, which could not be shown, or at one of its keys
+  abbrev pub HasStopped : Fault → ClassView → G × ℕ → PassView K V F → ℕ → PassView K V F → Type 0
+  HasStopped fault next p old count new = ((fault ≡ NoMemory) × (count ≡ p.1) × HasSeenMore old new)
+      ⊎ ((v : VisitView K V) × (seen : PassView K V F) × IsFirstOf next v.class
+      × IsVisited same_key code same_value remapped merged ledger v old seen
       × HasStoppedAmong step same_key same_value remapped merged ledger v.entries fault p seen count new)
 
-  -- so many values were replaced, and then it stopped
+  -- so many values were replaced in bins of a walk, and then it stopped at the bin that was next
   abbrev pub IsStopped : Fault → G → PassView K V F → ℕ → PassView K V F → Type 0
-  IsStopped fault f old count new = (n : ℕ) × (next : Option ClassView) × (visits : List (VisitView K V)) × (j : G × ℕ)
-      × (mid : PassView K V F) × HasComeTo n next (classes_of_visits visits) × AreReplacedIn visits (f, 0) old j mid
-      × HasStopped fault j mid count new
+  IsStopped fault f old count new = (n : ℕ) × (next : ClassView) × (visits : List (VisitView K V)) × (j : G × ℕ)
+      × (mid : PassView K V F) × HasComeTo n (Some next) (classes_of_visits visits) × AreReplacedIn visits (f, 0) old j mid
+      × HasStopped fault next j mid count new

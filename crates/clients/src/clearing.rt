@@ -1,5 +1,5 @@
 //! A client empties the map.
-ghost use Rattle.std.specs.Prelude.{◌≡◌, ◌≤◌, length, IfErr, IsErrOf, OnOk, OnErr};
+ghost use Rattle.std.specs.Prelude.{◌≡◌, ◌≤◌, ◌↔◌, length, IfErr, OnOk, OnErr};
 ghost use Rattle.bin_history.specs.Calls.{after};
 ghost use Rattle.bin_history.specs.Sure.{IsNeverRefused};
 ghost use Rattle.bin_history.specs.declared.form.Form.TheVariants.{Lean};
@@ -46,8 +46,8 @@ impl<H: Holder<K, V, F, A>, K: HashKey, V: Value, F: Remap<K, V>, A: Allocator +
             (IsEmptied K.eq K.code self.old.map.n self.old.map.ledger
             self.new.pass) }
         ensures removed { HasRemoved self.old.pass self.new.pass }
-        ensures full { IsErrOf result Fault.PassFull →
-            most_calls self.old.map.ledger.form self.old.map.ledger.clients ≤ length self.new.pass.made }
+        ensures full { IfErr result (λ fault. (fault ≡ Fault.PassFull) ↔
+            (most_calls self.old.map.ledger.form self.old.map.ledger.clients ≤ length self.new.pass.made)) }
         ensures left { OnErr result
             (HasLeft K.eq K.code (after V.eq F.remapped F.merged) self.old.map.ledger
             self.new.pass) }

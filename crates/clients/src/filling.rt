@@ -1,5 +1,5 @@
 //! A client puts many pairs.
-ghost use Rattle.std.specs.Prelude.{◌≡◌, ◌≤◌, length, IfErr, IsErrOf};
+ghost use Rattle.std.specs.Prelude.{◌≡◌, ◌≤◌, ◌↔◌, length, IfErr};
 ghost use Rattle.std.specs.Iterator.{IsFinite};
 ghost use Rattle.chm.specs.Refusals.{IsOfCall};
 ghost use Rattle.count_ledger.specs.Limits.{most_calls};
@@ -44,8 +44,8 @@ impl<H: Holder<K, V, F, A>, K: HashKey, V: Value, F: Remap<K, V>, A: Allocator +
             I.IntoIter.can_next it × IsFinite (I.IntoIter.remaining it) }
         ensures put { HasPut K.eq V.eq F.remapped F.merged I.into_iter_gives I.IntoIter.next_gives
             self.old.map.ledger pairs self.old.pass self.new.pass result }
-        ensures full { IsErrOf result Fault.PassFull →
-            most_calls self.old.map.ledger.form self.old.map.ledger.clients ≤ length self.new.pass.made }
+        ensures full { IfErr result (λ fault. (fault ≡ Fault.PassFull) ↔
+            (most_calls self.old.map.ledger.form self.old.map.ledger.clients ≤ length self.new.pass.made)) }
         ensures faults { IfErr result IsOfCall }
         ensures map { self.new.map ≡ self.old.map }
     {

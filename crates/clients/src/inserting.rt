@@ -78,10 +78,10 @@ impl<H: Holder<K, V, F, A>, K: HashKey, V: Value, F: Remap<K, V>, A: Allocator +
     F,
     A,
 > {
-    /// Returns a copy of the value at the key. Where there is none, it puts the value that the function
-    /// makes, and returns a copy of that. The function is called only where the key has no value; else it
-    /// is dropped. The key is given by a reference to one, or by what makes one, such as a slice; it is
-    /// made only where the map has no entry of it.
+    /// Returns a copy of the value at the key, after it has put the value that the function makes where
+    /// there was none. The function is called only where the key has no value; else it is dropped. The
+    /// key is given by a reference to one, or by what makes one, such as a slice; it is made only where
+    /// the map has no entry of it.
     ///
     /// It is one call: a put of what the key has then. It locks the key's bucket, for which it waits and
     /// which stays locked while the function runs, and takes time linear in the keys of the bucket. A

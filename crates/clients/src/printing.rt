@@ -1,9 +1,9 @@
 //! What a client sees of a map, to be printed.
-ghost use Rattle.std.specs.Prelude.{◌≡◌, ◌<◌, ◌^◌, IfOk, IfErr};
+ghost use Rattle.std.specs.Prelude.{◌≡◌, ◌<◌, ◌^◌, All, IfOk, IfErr};
 ghost use Rattle.bin_history.specs.Calls.{after};
 ghost use Rattle.bin_history.specs.Entries.{HasDistinctKeys};
 ghost use Rattle.count_ledger.specs.Fronts.{HasSeenMore};
-ghost use Rattle.chm.specs.Visits.{AreVisits, shown_by};
+ghost use Rattle.chm.specs.Visits.{AreVisits, IsOwn, shown_by};
 
 use crate::client::ClientOf;
 use crate::holder::Holder;
@@ -57,6 +57,8 @@ impl<H: Holder<K, V, F, A>, K: HashKey, V: Value, F: Remap<K, V>, A: Allocator +
             self.old.map.ledger
             self.old.pass s.visits.items self.new.pass) }
         ensures distinct { IfOk result (λ s. HasDistinctKeys K.eq (shown_by s.visits.items)) }
+        ensures own { self.old.map.ledger.clients ≡ 1 → IfOk result
+            (λ s. All (IsOwn K.eq K.code self.old.map.ledger self.old.pass) s.visits.items) }
         ensures seen { HasSeenMore self.old.pass self.new.pass }
         ensures faults { IfErr result (λ fault. fault ≡ Fault.NoMemory) }
         ensures map { self.new.map ≡ self.old.map }

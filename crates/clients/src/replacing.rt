@@ -1,6 +1,6 @@
 //! A client changes the values of all keys by a function.
-ghost use Rattle.std.specs.Prelude.{◌≡◌, ◌≤◌, ◌++◌, ◌∷◌, [], None, List, length};
-ghost use Rattle.std.specs.Prelude.{IfOk, IfErr, IfSome, IfNone, IsErrOf, OnErr, option_copied};
+ghost use Rattle.std.specs.Prelude.{◌≡◌, ◌≤◌, ◌↔◌, ◌++◌, ◌∷◌, [], None, List, length};
+ghost use Rattle.std.specs.Prelude.{IfOk, IfErr, IfSome, IfNone, IsSomeAnd, OnErr, option_copied};
 ghost use Rattle.bin_history.specs.declared.form.Form.TheVariants.{Lean};
 ghost use Rattle.count_ledger.specs.Limits.{most_calls};
 ghost use Rattle.count_ledger.specs.Views.{PassView};
@@ -94,8 +94,8 @@ where
     ensures ledger { pass.new.ledger ≡ pass.old.ledger }
     ensures client { pass.new.client ≡ pass.old.client }
     ensures refused { OnErr result (pass.new ≡ pass.old) }
-    ensures full { IsErrOf result Fault.PassFull →
-        most_calls map.now.ledger.form map.now.ledger.clients ≤ length pass.new.made }
+    ensures full { IfErr result (λ fault. (fault ≡ Fault.PassFull) ↔
+        (most_calls map.now.ledger.form map.now.ledger.clients ≤ length pass.new.made)) }
     ensures sure { map.now.ledger.form ≡ Lean → IsMadeOrFull result }
     ensures faults { IfErr result IsOfCall }
 {
@@ -199,8 +199,9 @@ where
     ensures ledger { pass.new.ledger ≡ pass.old.ledger }
     ensures client { pass.new.client ≡ pass.old.client }
     ensures n { cursor.new.n ≡ cursor.old.n }
-    ensures stopped { IfErr result (λ e. HasStopped G.step K.eq K.code V.eq F.remapped F.merged
-        map.now.ledger e.fault (f, count) pass.old e.replaced pass.new) }
+    ensures stopped { IfErr result (λ e. IsSomeAnd cursor.old.next (λ next.
+        HasStopped G.step K.eq K.code V.eq F.remapped F.merged
+        map.now.ledger e.fault next (f, count) pass.old e.replaced pass.new)) }
     ensures faults { IfErr result (λ e. IsOfCall e.fault) }
 {
     match map.visit_next(rt, pass, cursor) {
@@ -264,15 +265,16 @@ impl<H: Holder<K, V, F, A>, K: HashKey, V: Value, F: Remap<K, V>, A: Allocator +
     A,
 > {
     /// Replaces the value at each key that a walk finds, bucket by bucket, by what the function returns
-    /// for the key and the value that is there when its turn comes: that is a put in the order of calls.
-    /// A key that was removed since the walk came by is left out, by a `contains_key`. Returns how many
-    /// values it replaced. Others may put new keys into buckets that were left, and change values between
-    /// two calls.
+    /// for the key and the value that is there when its turn comes. Each is one call, a put in the order
+    /// of calls; where the key was removed since the walk came by, it is a `contains_key`, and the
+    /// function is not called. Returns how many values it replaced. Others may put new keys into buckets
+    /// that were left, and change values between two calls.
     ///
-    /// It waits for each bucket and each key in turn. A key's bucket is locked while the function runs: a
-    /// function that takes long keeps other clients out of the bucket, and one that calls the map, by
-    /// whatever client, deadlocks where its key is of the same bucket. It allocates copies of the entries
-    /// of one bucket at a time; a recorded map copies the key and the values for each call's record too.
+    /// It waits for each bucket and each key in turn, and takes time linear in the buckets and, for each
+    /// key, in the keys of its bucket. A key's bucket is locked while the function runs: a function that
+    /// takes long keeps other clients out of the bucket, and one that calls the map, by whatever client,
+    /// deadlocks where its key is of the same bucket. It allocates copies of the entries of one bucket at
+    /// a time; a recorded map copies the key and the values for each call's record too.
     ///
     ///     client.put(rt, 1, 5)?;
     ///     assert_eq!(client.replace_all(rt, |_key: &u64, value: &u64| value.wrapping_add(1))?, 1);

@@ -5,6 +5,7 @@ ghost use Rattle.std.specs.List.{FoldsTo};
 ghost use Rattle.bin_history.specs.Calls.{after};
 ghost use Rattle.count_ledger.specs.Fronts.{HasSeen, HasSeenMore};
 ghost use Rattle.count_ledger.specs.Views.{PassView};
+ghost use Rattle.part_walks.specs.Parts.{IsFirstOf};
 ghost use Rattle.chm.specs.Cursors.{AreShown, HasCome, IsUsedAt, list_of};
 ghost use Rattle.chm.specs.Numbered.{HasComeAt, IsEnd};
 ghost use Rattle.chm.specs.Visits.{IsVisit, VisitView};
@@ -59,6 +60,8 @@ impl<H: Holder<K, V, F, A>, K: HashKey, V: Value, F: Remap<K, V>, A: Allocator +
         ensures visit { IfOk result (λ v. IfSome v (λ v.
             HasSeen K.eq (after V.eq F.remapped F.merged) self.old.map.ledger self.old.pass self.new.pass
             × IsVisit K.eq K.code self.old.map.ledger self.new.pass.seen v)) }
+        ensures first { IfOk result (λ v. IfSome v (λ v.
+            IsSomeAnd cursor.old.next (λ next. IsFirstOf next v.class))) }
         ensures come { (shown : List (VisitView K V)) → HasCome cursor.old shown →
             IfOk result (λ v. HasCome cursor.new (shown ++ list_of v)) }
         ensures shown { (start : PassView K V F) (shown : List (VisitView K V)) →
@@ -94,6 +97,8 @@ impl<H: Holder<K, V, F, A>, K: HashKey, V: Value, F: Remap<K, V>, A: Allocator +
         ensures visit { IfSome result (λ tried. IfOk tried (λ v. IfSome v (λ v.
             HasSeen K.eq (after V.eq F.remapped F.merged) self.old.map.ledger self.old.pass self.new.pass
             × IsVisit K.eq K.code self.old.map.ledger self.new.pass.seen v))) }
+        ensures first { IfSome result (λ tried. IfOk tried (λ v. IfSome v (λ v.
+            IsSomeAnd cursor.old.next (λ next. IsFirstOf next v.class)))) }
         ensures come { (shown : List (VisitView K V)) → HasCome cursor.old shown →
             IfSome result (λ tried. IfOk tried (λ v. HasCome cursor.new (shown ++ list_of v))) }
         ensures shown { (start : PassView K V F) (shown : List (VisitView K V)) →

@@ -1,4 +1,4 @@
-use Rattle.std.proofs.Common.{◌++◌, List, Err, sym, ap, ◌∙◌, subst, append_assoc}
+use Rattle.std.proofs.Common.{◌++◌, List, sym, ap, ◌∙◌, subst, append_assoc}
 use Rattle.count_ledger.specs.Views.{PassView}
 use Rattle.std.specs.Vec.Iter.{into_iter_items}
 use Rattle.clients.specs.Replaced.{AreReplaced}
@@ -34,6 +34,6 @@ returns-in-Err-clause-stopped g c =
       subst (λ (p : PassView _ _ _). AreReplaced (goal.G-step g) g.K.PartialEq.eq g.V.PartialEq.eq g.F.Remap.remapped
           g.F.Remap.merged c.args.map.now.ledger c.loop-key.yielded (c.args.f, c.args.count) c.args.pass.now
           (c.loop-key.left, c.loop-key.replaced) p) (sym c.in-Err.ensures.refused) so.are,
-      λ full. c.in-Err.ensures.full (ap Err full),
+      c.in-Err.ensures.full,
       c.in-Err.ensures.sure,
     )

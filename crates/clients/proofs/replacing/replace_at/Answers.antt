@@ -1,7 +1,7 @@
 use Rattle.std.proofs.Common.{◌+◌, Bool, cond, inl, inr, Err, Option, None, sym, ap, arith, subst}
 use Rattle.chm.specs.declared.calls.update.Change.TheVariants.{Set}
 use Rattle.clients.specs.Replaced.{Replaces}
-use Rattle.clients.proofs.Replacements.{count-fits, made-within, sets-none, updated-so}
+use Rattle.clients.proofs.Replacements.{count-fits, full-of, made-within, sets-none, updated-so}
 use Rattle.clients.proofs.replacing.replace_at.Goals as goal
 
 pub overflow_add-result : goal.overflow_add-result
@@ -40,3 +40,7 @@ returns-in-Err-clause-sure g c = λ lean.
           absurd (sets-none value told.0)
       | inr full ↦ full
     ]
+
+pub returns-in-Err-clause-full : goal.returns-in-Err-clause-full
+returns-in-Err-clause-full g c =
+    rw (c.in-Err.ensures.refused) (full-of _ _ c.in-Err.ensures.full)

@@ -3,7 +3,7 @@ use Rattle.count_ledger.specs.Views.{PassView}
 use Rattle.chm.specs.Cursors.{HasComeTo}
 use Rattle.chm.specs.Visits.{classes_of_visits}
 use Rattle.clients.specs.Replaced.{AreReplacedIn}
-use Rattle.clients.proofs.Replacements.{AreReplacedIn-push}
+use Rattle.clients.proofs.Replacements.{AreReplacedIn-push, stopped-at}
 use Rattle.clients.proofs.replacing.replace_walk.Goals as goal
 
 pub loop-init : goal.loop-init
@@ -52,13 +52,8 @@ returns-in-Ok-None-clause-replaced g c =
 
 pub returns-in-Err-clause-stopped : goal.returns-in-Err-clause-stopped
 returns-in-Err-clause-stopped g c =
-    let (visits, come, are) = c.loop.invariant.are in (
-      c.loop.cursor.n,
-      c.loop.cursor.next,
-      visits,
-      (c.loop.left, c.loop.replaced),
-      c.loop.pass,
-      come,
-      are,
-      c.in-Err.ensures.stopped,
-    )
+    let (visits, come, are) = c.loop.invariant.are in
+    stopped-at (goal.G-step g) g.K.PartialEq.eq g.V.PartialEq.eq g.F.Remap.remapped g.F.Remap.merged c.args.map.now.ledger
+    g.K.HashKey.code c.in-Err.error.fault c.args.f c.args.pass.now c.in-Err.error.replaced c.loop.cursor.n
+    c.loop.cursor.next visits (c.loop.left, c.loop.replaced) c.loop.pass c.replace_next.new.pass come are
+    c.in-Err.ensures.stopped

@@ -19,3 +19,9 @@ returns-clause-left g c =
     let map_is : c.map.result.now ≡ c.args.self.now.map = search rules in
     let left = g.met.H.Seat.Seat.pass_is c.self.inside.seat c.clear.new.pass in
     rw (left) (rw (map_is) at c.clear.ensures.left)
+
+pub returns-clause-full : goal.returns-clause-full
+returns-clause-full g c =
+    let map_is : c.map.result.now ≡ c.args.self.now.map = search rules in
+    let left = g.met.H.Seat.Seat.pass_is c.self.inside.seat c.clear.new.pass in
+    rw (left) (rw (map_is) at c.clear.ensures.full)

@@ -4,8 +4,10 @@ use Rattle.bin_history.specs.declared.call.Reply.TheVariants.{Value}
 use Rattle.count_ledger.specs.Views.{PassView}
 use Rattle.chm.specs.Headline.{IsCalled}
 use Rattle.chm.specs.Views.{MapView}
+use Rattle.chm.proofs.Sure.{IfErr-of}
 use Rattle.clients.specs.Filled.{ArePut}
 use Rattle.clients.proofs.ManyPuts.{ArePut-push, fails-of}
+use Rattle.clients.proofs.Replacements.{full-of}
 use Rattle.clients.proofs.client.ClientOf.put_all.Goals as goal
 
 pub returns-in_err-put-clause-put : goal.returns-in_err-put-clause-put
@@ -53,3 +55,9 @@ loop-key-preserved g c =
           m.ledger (Put c.in-Some.key c.in-Some.value) c.loop-key.self.pass c.put.new.self.pass (Value c.in_ok-put.field-0))
           same c.in_ok-put.ensures.answered.called),
     )
+
+pub returns-in_err-put-clause-full : goal.returns-in_err-put-clause-full
+returns-in_err-put-clause-full g c =
+    let (can, finite, same, puts) = c.loop-key.invariant in
+    IfErr-of _ c.from_residual.result _ c.from_residual.ensures.1
+    (rw (c.in_err-put.ensures.answered.refused) (rw same at (full-of _ _ c.in_err-put.ensures.answered.full)))
