@@ -52,3 +52,5 @@ mod slices;
 mod teams;
 #[cfg(test)]
 mod updates;
+#[cfg(test)]
+mod whole;
