@@ -144,7 +144,8 @@ class Call:
 
     def __init__(self, path, lines, index):
         self.name = re.search(r"fn (\w+)", lines[index])[1]
-        head = head_of((sources.heads_of(self.name, "\n".join(lines[index:])) or [""])[0])
+        rest = "\n".join(lines[index:])
+        head = head_of((sources.heads_of(self.name, rest) or [rest])[0])
         signature, answer = signature_of(head)
         parts = sections(comment_before(lines, index))
         clauses = re.findall(r"(?m)^\s*ensures\*? (\w+) \{", head)
