@@ -39,7 +39,7 @@ module _ {K V : Type 0} where
   taken_from_append key None (Some y) xs ys = refl
   taken_from_append key (Some x) (Some y) xs ys = refl
 
-  taken_append : (rs ss : List (RecordView K (CacheEntry V) NoFunction)) → taken_by (rs ++ ss) ≡ taken_by rs ++ taken_by ss
+  pub taken_append : (rs ss : List (RecordView K (CacheEntry V) NoFunction)) → taken_by (rs ++ ss) ≡ taken_by rs ++ taken_by ss
   taken_append [] ss = refl
   taken_append (r ∷ rs) ss = ap (λ (l : List (K × V)). taken_from (key_of r.call) r.before r.after l) (taken_append rs ss)
       ∙ taken_from_append (key_of r.call) r.before r.after (taken_by rs) (taken_by ss)

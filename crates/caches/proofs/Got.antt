@@ -1,16 +1,18 @@
 -- A get, as a call that lends its entry.
-use Rattle.std.proofs.Common.{◌≡◌, ◌⊎◌, inl, inr, ℕ, Bool, Option, Some, None, Result, Ok, Err, IfErr, IfOk, IsErr, IsSomeAnd}
-use Rattle.std.proofs.Common.{IsErrOf, OnErr, false, refl, ap, rules, subst, sym, ◌∙◌}
+use Rattle.std.proofs.Common.{◌≡◌, ◌⊎◌, inl, inr, ℕ, Bool, Option, Some, None, Result, Ok, Err, IfErr, IfOk, IsErr, IsOk, IsSomeAnd}
+use Rattle.std.proofs.Common.{IsErrOf, OnErr, false, refl, ap, subst, sym, ◌∙◌}
 use Rattle.std.proofs.lemmas.Bool.{false≢true}
 use Rattle.std.proofs.lemmas.Result.{IfErr-at_err}
 use Rattle.bin_history.specs.declared.call.Call.{Call}
 use Rattle.bin_history.specs.declared.call.Call.TheVariants.{Put}
 use Rattle.bin_history.specs.declared.call.Reply.{Reply}
 use Rattle.bin_history.specs.declared.call.Reply.TheVariants.{Truth, Value}
+use Rattle.caches.proofs.Full.{fault_of, memory≢full}
 use Rattle.caches.specs.Caches.{IsCalledOn, IsFound, IsGot, IsNotCopied, no_value}
 use Rattle.caches.specs.Entries.{live_value, same_entry, used_at}
 use Rattle.caches.specs.declared.entry.CacheEntry.{CacheEntry}
 use Rattle.chm.specs.Given.{IsModified, IsModify}
+use Rattle.chm.specs.Sure.{IsMadeOrFull}
 use Rattle.chm.specs.declared.fault.Fault.{Fault}
 use Rattle.chm.specs.declared.fault.Fault.TheVariants.{NoMemory, PassFull}
 use Rattle.count_ledger.specs.Views.{LedgerView, PassView}
@@ -21,13 +23,6 @@ pub record IsUsedBy {V X : Type 0} (time : ℕ) (before : CacheEntry V) (answer 
   pub value : IfOk answer (λ value. value ≡ live_value time (Some before))
   pub entry : IfOk answer (λ value. left ≡ used_at time before)
   pub same : OnErr answer (left ≡ before)
-
-memory≢full : NoMemory ≡ PassFull → ⊥
-memory≢full is = search (rules, is)
-
--- the fault of an error, whatever it was that failed
-fault_of : {T : Type 0} (fault wanted : Fault) → IsErrOf {T = T} (Err fault) wanted → fault ≡ wanted
-fault_of fault wanted is = IfErr-at_err (λ (f : Fault). fault ≡ f) is refl
 
 same_fault : {T U : Type 0} (fault wanted : Fault) → IsErrOf {T = T} (Err fault) wanted → IsErrOf {T = U} (Err fault) wanted
 same_fault {T} {U} fault wanted is = ap Err (fault_of {T = T} fault wanted is)
@@ -127,6 +122,18 @@ module _ {K V X : Type 0} (same_key : K → K → Bool) (same_value : V → V �
     );
     faults = modify.faults;
   }
+
+  -- where no copy fails
+  pub got_sure : (used : Option (Result (Option V) X)) (result : Result (Option V) Fault) → HasTried (Ok used)
+      → OnErr result (IsSomeAnd used IsErr)
+      → ((before : CacheEntry V) (answer : Result (Option V) X) (put : CacheEntry V) → left before answer put → IsOk answer)
+      → IsMadeOrFull result
+  got_sure used (Ok value) modify short never = tt
+  got_sure None (Err fault) modify short never = absurd short
+  got_sure (Some (Ok value)) (Err fault) modify short never = absurd (false≢true short)
+  got_sure (Some (Err error)) (Err fault) modify short never =
+      let (call, reply, called, (before, put, call_is, reply_is, did)) = modify.modified in
+      absurd (false≢true (never before (Err error) put did))
 
   -- a get, by what came of the copy; the pass is then as it was after the call
   pub got_of : (used : Option (Result (Option V) X)) (result : Result (Option V) Fault)

@@ -1,4 +1,6 @@
+mod Counting
 pub mod Evicted
+mod Full
 mod Gets
 mod Got
 mod LastPut

@@ -8,7 +8,9 @@ use Rattle.bin_history.specs.declared.call.Call.{Call}
 use Rattle.bin_history.specs.declared.call.Call.TheVariants.{Contains, Put, Remove}
 use Rattle.bin_history.specs.declared.call.Reply.{Reply}
 use Rattle.bin_history.specs.declared.call.Reply.TheVariants.{Truth, Value}
-use Rattle.caches.specs.Entries.{live_value, same_entry, used_at}
+use Rattle.caches.specs.Counted.{with_evictions}
+use Rattle.caches.specs.Entries.{is_live, live_value, same_entry, used_at}
+use Rattle.caches.specs.declared.counts.CacheCounts.{CacheCounts}
 use Rattle.caches.specs.declared.entry.CacheEntry.{CacheEntry}
 use Rattle.chm.specs.Cleared.{HasMade}
 use Rattle.chm.specs.Headline.{IsCalled}
@@ -79,6 +81,35 @@ pub record HasEvicted {G K V : Type 0} (step : G → K → V → Unit {0} → G 
   pub nothing : All PutsNothing calls
   pub made : HasMade calls old new
   pub handed : FoldsTo (IsHanded step) f (taken_by calls) g
+
+-- what a call that takes ended entries alone away may leave at its key: nothing where the entry that was there had ended, or
+-- what was there
+abbrev pub LeavesLive : {V : Type 0} → ℕ → Option (CacheEntry V) → Option (CacheEntry V) → Type 0
+LeavesLive time None None = Unit {0}
+LeavesLive time None (Some y) = ⊥
+LeavesLive time (Some x) None = is_live time x ≡ false
+LeavesLive time (Some x) (Some y) = y ≡ x
+
+-- the pass made some calls more, each of which is such a one, and has then seen more; each entry that they took away is
+-- counted
+pub record HasCounted {K V : Type 0} (Is : RecordView K (CacheEntry V) NoFunction → Type 0) (counts then : CacheCounts)
+    (old new : PassView K (CacheEntry V) NoFunction) : Type 0 where
+  pub calls : List (RecordView K (CacheEntry V) NoFunction)
+  pub each : All Is calls
+  pub made : HasMade calls old new
+  pub counted : then ≡ with_evictions (taken_by calls) counts
+
+-- the client has made all the calls that it may
+abbrev pub HasMadeAll : {K V : Type 0} → LedgerView K (CacheEntry V) → PassView K (CacheEntry V) NoFunction → Type 0
+HasMadeAll ledger pass = most_calls ledger.form ledger.clients ≤ length pass.made
+
+-- any call
+abbrev pub IsAny : {K V : Type 0} → RecordView K (CacheEntry V) NoFunction → Type 0
+IsAny r = Unit {0}
+
+-- a call that takes ended entries alone away, and leaves the others as they are
+abbrev pub IsOfEnded : {K V : Type 0} → ℕ → RecordView K (CacheEntry V) NoFunction → Type 0
+IsOfEnded time r = LeavesLive time r.before r.after
 
 module _ {K V : Type 0} (same_key : K → K → Bool) (same_value : V → V → Bool) where
   -- the pass made the call, which found what all calls before it left at the key

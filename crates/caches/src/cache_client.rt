@@ -1,12 +1,12 @@
 //! A client of a cache.
-ghost use Rattle.std.specs.Prelude.{◌≡◌, ◌⊎◌, ◌≤◌, None, Ok, Some, IfErr, IfOk, IsErr, IsErrOf, IsSomeAnd};
-ghost use Rattle.std.specs.Prelude.{OnErr, false, is_some, length};
+ghost use Rattle.std.specs.Prelude.{◌≡◌, ◌⊎◌, ◌↔◌, None, Ok, Some, IfErr, IfOk, IsErr, IsErrOf, IsSomeAnd};
+ghost use Rattle.std.specs.Prelude.{OnErr, false, is_some};
 ghost use Rattle.bin_history.specs.declared.form.Form.TheVariants.{Lean};
-ghost use Rattle.caches.specs.Caches.{HasEvicted, IsGot, IsPut, IsTaken};
+ghost use Rattle.bin_history.specs.Sure.{IsNeverRefused};
+ghost use Rattle.caches.specs.Caches.{HasCounted, HasEvicted, HasMadeAll, IsAny, IsGot, IsPut, IsTaken};
 ghost use Rattle.caches.specs.Counted.{with_get};
 ghost use Rattle.chm.specs.Refusals.{IsOfCall};
 ghost use Rattle.chm.specs.Sure.{IsMadeOrFull};
-ghost use Rattle.count_ledger.specs.Limits.{most_calls};
 
 use crate::counts::CacheCounts;
 use crate::entry::CacheEntry;
@@ -43,7 +43,10 @@ impl<K: HashKey, V: Value, A: Allocator + Clone> CacheClient<K, V, A> {
         ensures got { IsGot K.eq V.eq self.old.client.map.ledger key.now time self.old.client.pass
             self.new.client.pass result }
         ensures counted { IfOk result (λ value. self.new.counts ≡ with_get (is_some value) self.old.counts) }
+        ensures uncounted { OnErr result (self.new.counts ≡ self.old.counts) }
+        ensures sure { self.old.client.map.ledger.form ≡ Lean → IsNeverRefused V.is_infallible → IsMadeOrFull result }
         ensures map { self.new.client.map ≡ self.old.client.map }
+        ensures most { self.new.most ≡ self.old.most }
     {
         let used = self
             .client
@@ -70,7 +73,10 @@ impl<K: HashKey, V: Value, A: Allocator + Clone> CacheClient<K, V, A> {
         ensures got { IsGot K.eq V.eq self.old.client.map.ledger (Q.stands_for query) time self.old.client.pass
             self.new.client.pass result }
         ensures counted { IfOk result (λ value. self.new.counts ≡ with_get (is_some value) self.old.counts) }
+        ensures uncounted { OnErr result (self.new.counts ≡ self.old.counts) }
+        ensures sure { IsNeverRefused V.is_infallible → IsMadeOrFull result }
         ensures map { self.new.client.map ≡ self.old.client.map }
+        ensures most { self.new.most ≡ self.old.most }
     {
         let used = self
             .client
@@ -78,13 +84,15 @@ impl<K: HashKey, V: Value, A: Allocator + Clone> CacheClient<K, V, A> {
         self.count_get(used)
     }
 
-    /// CacheCounts what a get found, and returns it.
+    /// Counts what a get found, and returns it.
     fn count_get(&mut self, used: Option<Result<Option<V>, AllocError>>) -> Result<Option<V>, Fault>
         ensures value { IfOk result (λ value. (used ≡ Some (Ok value))
             ⊎ ((used ≡ None) × (value ≡ None))) }
         ensures copied { OnErr result (IsSomeAnd used IsErr) }
         ensures faults { IfErr result (λ fault. fault ≡ Fault.NoMemory) }
         ensures counted { IfOk result (λ value. self.new.counts ≡ with_get (is_some value) self.old.counts) }
+        ensures uncounted { OnErr result (self.new.counts ≡ self.old.counts) }
+        ensures most { self.new.most ≡ self.old.most }
         ensures client { self.new.client ≡ self.old.client }
         ensures pass { self.new.client.pass ≡ self.old.client.pass }
     {
@@ -131,8 +139,13 @@ impl<K: HashKey, V: Value, A: Allocator + Clone> CacheClient<K, V, A> {
             self.new.client.pass) }
         ensures refused { OnErr result (HasEvicted E.step evicted.old evicted.new self.old.client.pass
             self.new.client.pass) }
+        ensures counted { HasCounted IsAny self.old.counts self.new.counts self.old.client.pass self.new.client.pass }
+        ensures full { IsErrOf result Fault.PassFull → HasMadeAll self.new.client.map.ledger self.new.client.pass }
+        ensures stops { HasMadeAll self.old.client.map.ledger self.old.client.pass → IsErrOf result Fault.PassFull
+            × (self.new.client.pass ≡ self.old.client.pass) × (evicted.new ≡ evicted.old) }
         ensures faults { IfErr result IsOfCall }
         ensures map { self.new.client.map ≡ self.old.client.map }
+        ensures most { self.new.most ≡ self.old.most }
     {
         self.make_room(rt, &key, time, evicted)?;
         let entry = CacheEntry {
@@ -158,10 +171,12 @@ impl<K: HashKey, V: Value, A: Allocator + Clone> CacheClient<K, V, A> {
         ensures taken { IfOk result (IsTaken K.eq V.eq self.old.client.map.ledger key.now time self.old.client.pass
             self.new.client.pass) }
         ensures refused { OnErr result (self.new.client.pass ≡ self.old.client.pass) }
-        ensures full { IsErrOf result Fault.PassFull → most_calls self.old.client.map.ledger.form
-            self.old.client.map.ledger.clients ≤ length self.old.client.pass.made }
+        ensures full { IsErrOf result Fault.PassFull ↔ HasMadeAll self.old.client.map.ledger self.old.client.pass }
         ensures sure { self.old.client.map.ledger.form ≡ Lean → IsMadeOrFull result }
+        ensures faults { IfErr result IsOfCall }
+        ensures counts { self.new.counts ≡ self.old.counts }
         ensures map { self.new.client.map ≡ self.old.client.map }
+        ensures most { self.new.most ≡ self.old.most }
     {
         let before = self.client.remove(rt, key)?;
         Ok(CacheEntry::live_value(before, time))

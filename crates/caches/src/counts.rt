@@ -1,6 +1,6 @@
 //! What the calls of a client came to.
 ghost use Rattle.std.specs.Prelude.{◌≡◌, ◌+◌, ◌-◌, ◌^◌, min};
-ghost use Rattle.caches.specs.Counted.{one_more, with_get};
+ghost use Rattle.caches.specs.Counted.{with_eviction, with_get};
 
 /// How many gets found a value, how many found none, and how many entries were evicted. Each count stays at
 /// 2^64 - 1 once it is there.
@@ -44,7 +44,7 @@ impl CacheCounts {
 
     /// With one more entry that was evicted.
     pub(crate) fn with_eviction(self) -> CacheCounts
-        ensures { result ≡ record self { evictions = one_more self.evictions } }
+        ensures { result ≡ with_eviction self }
     {
         CacheCounts {
             evictions: self.evictions.saturating_add(1),

@@ -1,5 +1,6 @@
 //! What a cache keeps of a key.
-ghost use Rattle.std.specs.Prelude.{◌≡◌, IfOk, OnErr, Some};
+ghost use Rattle.std.specs.Prelude.{◌≡◌, IfOk, IsOk, OnErr, Some};
+ghost use Rattle.bin_history.specs.Sure.{IsNeverRefused};
 ghost use Rattle.caches.specs.Entries.{is_live, live_value, used_at};
 
 use clients::{Exact, Value};
@@ -60,6 +61,7 @@ impl<V: Value> CacheEntry<V> {
         ensures value { IfOk result (λ value. value ≡ live_value time (Some self.old)) }
         ensures entry { IfOk result (λ value. self.new ≡ used_at time self.old) }
         ensures same { OnErr result (self.new ≡ self.old) }
+        ensures sure { IsNeverRefused V.is_infallible → IsOk result }
     {
         if !self.is_live(time) {
             return Ok(None);

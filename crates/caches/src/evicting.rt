@@ -1,6 +1,9 @@
 //! A client of a cache moves the hand of the clock, and evicts entries.
-ghost use Rattle.std.specs.Prelude.{◌≡◌, IfErr};
-ghost use Rattle.caches.specs.Caches.{HasEvicted, LeavesOrTakes, gone_of};
+ghost use Rattle.std.specs.Prelude.{◌≡◌, ℕ, IfErr, IfOk, IsErrOf};
+ghost use Rattle.caches.specs.Caches.{HasCounted, HasEvicted, HasMadeAll, IsAny, IsOfEnded, LeavesLive, LeavesOrTakes};
+ghost use Rattle.caches.specs.Caches.{gone_of};
+ghost use Rattle.caches.specs.Counted.{if_gone, only_evictions};
+ghost use Rattle.caches.specs.Entries.{is_live};
 ghost use Rattle.chm.specs.Refusals.{IsOfCall};
 ghost use Rattle.count_ledger.specs.Fronts.{HasSeenMore};
 
@@ -33,6 +36,7 @@ impl<V: Value> CacheEntry<V> {
     ) -> (Option<CacheEntry<V>>, Option<V>)
         ensures left { LeavesOrTakes entry result.0 }
         ensures gone { result.1 ≡ gone_of entry result.0 }
+        ensures live { spared ≡ Spared.Live → LeavesLive time entry result.0 }
     {
         match entry {
             Some(entry) => {
@@ -46,7 +50,10 @@ impl<V: Value> CacheEntry<V> {
         }
     }
 
-    fn stays(&self, spared: Spared, time: u64) -> bool {
+    /// Whether the entry stays where it is passed.
+    fn stays(&self, spared: Spared, time: u64) -> bool
+        ensures live { spared ≡ Spared.Live → result ≡ is_live time self.now }
+    {
         let spares = match spared {
             Spared::Used => self.used,
             Spared::Live => true,
@@ -64,6 +71,7 @@ impl<V: Value> CacheEntry<V> {
     fn passed(self, spared: Spared) -> CacheEntry<V>
         ensures value { result.value ≡ self.value }
         ensures deadline { result.deadline ≡ self.deadline }
+        ensures live { spared ≡ Spared.Live → result ≡ self }
     {
         CacheEntry {
             used: self.used && spared == Spared::Live,
@@ -99,7 +107,7 @@ impl<K: HashKey, A: Allocator> Seen<K, A> {
 
     /// The keys, if there was a bucket.
     fn into_keys(self, was_left: bool) -> Result<Option<Vec<K, A>>, Fault>
-        ensures faults { IfErr result IsOfCall }
+        ensures faults { IfErr result (λ fault. fault ≡ Fault.NoMemory) }
     {
         let Seen {
             keys,
@@ -114,6 +122,17 @@ impl<K: HashKey, A: Allocator> Seen<K, A> {
     }
 }
 
+/// The number, or one more where an entry is gone.
+fn more_if(number: u64, is_gone: bool) -> u64
+    ensures { only_evictions result ≡ if_gone is_gone (only_evictions number) }
+{
+    if is_gone {
+        number.saturating_add(1)
+    } else {
+        number
+    }
+}
+
 /// The keys of the next bucket of a walk that a pass would not leave as they are; none at the end.
 fn keys_of_next<K: HashKey, V: Value, A: Allocator + Clone, R: Wait>(
     rt: &R,
@@ -124,7 +143,7 @@ fn keys_of_next<K: HashKey, V: Value, A: Allocator + Clone, R: Wait>(
     time: u64,
 ) -> Result<Option<Vec<K, A>>, Fault>
     ensures seen { HasSeenMore client.old.pass client.new.pass }
-    ensures faults { IfErr result IsOfCall }
+    ensures faults { IfErr result (λ fault. fault ≡ Fault.NoMemory) }
     ensures map { client.new.map ≡ client.old.map }
 {
     let mut seen = Seen {
@@ -140,7 +159,7 @@ fn keys_of_next<K: HashKey, V: Value, A: Allocator + Clone, R: Wait>(
 
 impl<K: HashKey, V: Value, A: Allocator + Clone> CacheClient<K, V, A> {
     /// Evicts entries until there are no more than so many.
-    #[tactic(auto, using(crate::proofs::Evicted::evictions))]
+    #[tactic(auto, using(crate::proofs::Counting::counts))]
     pub(crate) fn evict_to<R: Wait, E: FnMut(K, V)>(
         &mut self,
         rt: &R,
@@ -150,9 +169,12 @@ impl<K: HashKey, V: Value, A: Allocator + Clone> CacheClient<K, V, A> {
     ) -> Result<(), Fault>
         requires callable { E.IsAlwaysCallable evicted.old }
         ensures evicted { HasEvicted E.step evicted.old evicted.new self.old.client.pass self.new.client.pass }
+        ensures counted { HasCounted IsAny self.old.counts self.new.counts self.old.client.pass self.new.client.pass }
+        ensures full { IsErrOf result Fault.PassFull → HasMadeAll self.new.client.map.ledger self.new.client.pass }
         ensures faults { IfErr result IsOfCall }
         ensures callable { E.IsAlwaysCallable evicted.new }
         ensures map { self.new.client.map ≡ self.old.client.map }
+        ensures most { self.new.most ≡ self.old.most }
     {
         let mut spared = 0u64;
         for _ in rt.forever() {
@@ -176,9 +198,14 @@ impl<K: HashKey, V: Value, A: Allocator + Clone> CacheClient<K, V, A> {
     ) -> Result<(), Fault>
         requires callable { E.IsAlwaysCallable evicted.old }
         ensures evicted { HasEvicted E.step evicted.old evicted.new self.old.client.pass self.new.client.pass }
+        ensures counted { HasCounted IsAny self.old.counts self.new.counts self.old.client.pass self.new.client.pass }
+        ensures full { IsErrOf result Fault.PassFull → HasMadeAll self.new.client.map.ledger self.new.client.pass }
+        ensures stops { HasMadeAll self.old.client.map.ledger self.old.client.pass → IsErrOf result Fault.PassFull
+            × (self.new.client.pass ≡ self.old.client.pass) × (evicted.new ≡ evicted.old) }
         ensures faults { IfErr result IsOfCall }
         ensures callable { E.IsAlwaysCallable evicted.new }
         ensures map { self.new.client.map ≡ self.old.client.map }
+        ensures most { self.new.most ≡ self.old.most }
     {
         if self.client.contains_key(rt, key)? {
             return Ok(());
@@ -196,7 +223,9 @@ impl<K: HashKey, V: Value, A: Allocator + Clone> CacheClient<K, V, A> {
     )
         requires callable { E.IsAlwaysCallable evicted.old }
         ensures evicted { HasEvicted E.step evicted.old evicted.new self.old.client.pass self.new.client.pass }
+        ensures counted { HasCounted IsAny self.old.counts self.new.counts self.old.client.pass self.new.client.pass }
         ensures map { self.new.client.map ≡ self.old.client.map }
+        ensures most { self.new.most ≡ self.old.most }
     {
         if has_added {
             let _ = self.evict_to(rt, self.most, time, evicted);
@@ -206,8 +235,10 @@ impl<K: HashKey, V: Value, A: Allocator + Clone> CacheClient<K, V, A> {
     /// Moves the hand over a bucket, and returns its keys.
     fn keys_at_hand<R: Wait>(&mut self, rt: &R, time: u64) -> Result<Vec<K, A>, Fault>
         ensures seen { HasSeenMore self.old.client.pass self.new.client.pass }
-        ensures faults { IfErr result IsOfCall }
+        ensures faults { IfErr result (λ fault. fault ≡ Fault.NoMemory) }
+        ensures counts { self.new.counts ≡ self.old.counts }
         ensures map { self.new.client.map ≡ self.old.client.map }
+        ensures most { self.new.most ≡ self.old.most }
     {
         let alloc: A = self.alloc.clone()?;
         let again: A = self.alloc.clone()?;
@@ -224,7 +255,7 @@ impl<K: HashKey, V: Value, A: Allocator + Clone> CacheClient<K, V, A> {
 
     /// Passes the entries of a bucket until so many were evicted, and returns how many were spared. So many were spared
     /// before.
-    #[tactic(auto, using(crate::proofs::Evicted::evictions))]
+    #[tactic(auto, using(crate::proofs::Counting::counts))]
     fn pass_all<R: Wait, E: FnMut(K, V)>(
         &mut self,
         rt: &R,
@@ -236,9 +267,12 @@ impl<K: HashKey, V: Value, A: Allocator + Clone> CacheClient<K, V, A> {
     ) -> Result<u64, Fault>
         requires callable { E.IsAlwaysCallable evicted.old }
         ensures evicted { HasEvicted E.step evicted.old evicted.new self.old.client.pass self.new.client.pass }
+        ensures counted { HasCounted IsAny self.old.counts self.new.counts self.old.client.pass self.new.client.pass }
+        ensures full { IsErrOf result Fault.PassFull → HasMadeAll self.new.client.map.ledger self.new.client.pass }
         ensures faults { IfErr result IsOfCall }
         ensures callable { E.IsAlwaysCallable evicted.new }
         ensures map { self.new.client.map ≡ self.old.client.map }
+        ensures most { self.new.most ≡ self.old.most }
     {
         let mut gone = 0u64;
         let mut spared = 0u64;
@@ -271,9 +305,16 @@ impl<K: HashKey, V: Value, A: Allocator + Clone> CacheClient<K, V, A> {
     ) -> Result<bool, Fault>
         requires callable { E.IsAlwaysCallable evicted.old }
         ensures evicted { HasEvicted E.step evicted.old evicted.new self.old.client.pass self.new.client.pass }
+        ensures counted { HasCounted IsAny self.old.counts self.new.counts self.old.client.pass self.new.client.pass }
+        ensures live { spared ≡ Spared.Live → HasCounted (IsOfEnded time) self.old.counts self.new.counts
+            self.old.client.pass self.new.client.pass }
+        ensures told { spared ≡ Spared.Live → IfOk result (λ is_gone. (n : ℕ) → HasCounted (IsOfEnded time)
+            (only_evictions n) (if_gone is_gone (only_evictions n)) self.old.client.pass self.new.client.pass) }
+        ensures full { IsErrOf result Fault.PassFull → HasMadeAll self.new.client.map.ledger self.new.client.pass }
         ensures faults { IfErr result IsOfCall }
         ensures callable { E.IsAlwaysCallable evicted.new }
         ensures map { self.new.client.map ≡ self.old.client.map }
+        ensures most { self.new.most ≡ self.old.most }
     {
         let passed = self.client.update_owned(
             rt,
@@ -302,7 +343,7 @@ impl<K: HashKey, V: Value, A: Allocator + Clone> CacheClient<K, V, A> {
     /// # Errors
     ///
     /// `PassFull` where the client has made all the calls that it may, and `NoMemory`. What was removed before is gone.
-    #[tactic(auto, using(crate::proofs::Evicted::evictions))]
+    #[tactic(auto, using(crate::proofs::Counting::counts))]
     pub fn remove_ended<R: Wait, E: FnMut(K, V)>(
         &mut self,
         rt: &R,
@@ -311,8 +352,14 @@ impl<K: HashKey, V: Value, A: Allocator + Clone> CacheClient<K, V, A> {
     ) -> Result<u64, Fault>
         requires callable { E.IsAlwaysCallable evicted.old }
         ensures evicted { HasEvicted E.step evicted.old evicted.new self.old.client.pass self.new.client.pass }
+        ensures counted { HasCounted (IsOfEnded time) self.old.counts self.new.counts self.old.client.pass
+            self.new.client.pass }
+        ensures count { IfOk result (λ n. HasCounted (IsOfEnded time) (only_evictions 0) (only_evictions n)
+            self.old.client.pass self.new.client.pass) }
+        ensures full { IsErrOf result Fault.PassFull → HasMadeAll self.new.client.map.ledger self.new.client.pass }
         ensures faults { IfErr result IsOfCall }
         ensures map { self.new.client.map ≡ self.old.client.map }
+        ensures most { self.new.most ≡ self.old.most }
     {
         let mut gone = 0u64;
         let mut hand = self.client.cursor();
@@ -330,9 +377,8 @@ impl<K: HashKey, V: Value, A: Allocator + Clone> CacheClient<K, V, A> {
                 break;
             };
             for key in keys {
-                if self.pass(rt, key, Spared::Live, time, evicted)? {
-                    gone = gone.saturating_add(1);
-                }
+                let is_gone = self.pass(rt, key, Spared::Live, time, evicted)?;
+                gone = more_if(gone, is_gone);
             }
         }
         Ok(gone)
