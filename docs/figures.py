@@ -1,4 +1,4 @@
-"""Writes the tables of docs/SPEED.md from bench/measured/proved.csv and bulk.csv, and prints how our map compares with the others.
+"""Writes the tables of docs/SPEED.md from bench/measured/calls.csv and bulk.csv, and prints how our map compares with the others.
 
 usage: python3 docs/figures.py
 
@@ -11,7 +11,7 @@ from decimal import ROUND_HALF_UP, Decimal
 import sources
 
 PATH = "docs/SPEED.md"
-DATA = "bench/measured/proved.csv"
+DATA = "bench/measured/calls.csv"
 BULK = "bench/measured/bulk.csv"
 THREADS, MODES, KEYS = "4", ("get", "mix", "merge"), ("16", "20000", "1000000")
 OWN = "facingberyl"
