@@ -9,15 +9,17 @@ mod call_examples;
 #[cfg(test)]
 mod calls;
 #[cfg(test)]
+mod closed;
+#[cfg(test)]
 mod cursors;
 #[cfg(test)]
 mod examples;
 #[cfg(test)]
-mod filling;
-#[cfg(test)]
 mod growth;
 #[cfg(test)]
 mod lent_examples;
+#[cfg(test)]
+mod lines;
 #[cfg(test)]
 mod live_examples;
 #[cfg(test)]
@@ -41,6 +43,8 @@ mod opening;
 #[cfg(test)]
 mod part_steps;
 #[cfg(test)]
+mod plays;
+#[cfg(test)]
 mod printed;
 #[cfg(test)]
 mod reading;
@@ -55,6 +59,8 @@ mod rosters;
 #[cfg(test)]
 mod rows;
 #[cfg(test)]
+mod runs;
+#[cfg(test)]
 mod shown;
 #[cfg(test)]
 mod sizes;
@@ -68,3 +74,5 @@ mod trying;
 mod updating;
 #[cfg(test)]
 mod viewing;
+#[cfg(test)]
+mod walking;

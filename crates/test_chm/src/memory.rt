@@ -2,29 +2,53 @@
 //! empty one.
 ghost use Rattle.std.specs.Prelude.{◌≡◌};
 
-use crate::maps::{KeyMap, KeyPass, assert_same, key, put_new, put_texts};
-use bin_history::{Form, Reply};
+use crate::lines::{DONE, Found, Words, found, small};
+use crate::maps::{KeyMap, KeyPass, key, put_new};
+use crate::runs::run;
+use bin_history::Reply;
 use chm::Fault;
 use hashkeys::Key;
 use std::alloc::{Allocator, Global};
 use std::process::Abort;
 use std::sync::Wait;
-use test_maps::{Single, close_single, numbered_text, open_single};
+use test_maps::numbered_text;
 use test_support::{Plus, Refusing};
 
+/// So many calls of the kind that the first word says. Answers how many of them replied as they should.
+pub(crate) fn ask<R: Wait + Abort, A: Allocator + Clone>(
+    rt: &R,
+    switch: &Refusing<Global>,
+    map: &KeyMap<A>,
+    pass: &mut KeyPass,
+    words: &Words<'_>,
+) -> Found<'static>
+    requires { pass.old.ledger ≡ map.now.ledger.id }
+    ensures { pass.new.ledger ≡ map.now.ledger.id }
+{
+    let times = small(rt, words[1]);
+    match words[0] {
+        "put_alone" => found(put_alone(rt, map, pass, times)),
+        "call_often" => found(call_often(rt, map, pass, times)),
+        "put_again" => found(put_again(rt, switch, map, pass, times)),
+        _ => {
+            put_twins(rt, map, pass, times);
+            DONE
+        }
+    }
+}
 /// Gets, puts and merges at a key that is there, in turn, three calls a time. Answers how many
 /// times all three replied the value as it should be.
 fn call_often<R: Wait + Abort, A: Allocator + Clone>(
     rt: &R,
     map: &KeyMap<A>,
     pass: &mut KeyPass,
-    times: u64,
+    times: u32,
 ) -> u64
     requires { pass.old.ledger ≡ map.now.ledger.id }
     ensures { pass.new.ledger ≡ map.now.ledger.id }
 {
     let mut right = 0u64;
-    for time in 0..times {
+    for time in 0..u64::from(times) {
         let got = map.get(rt, pass, key(rt, b"a"));
         let put = map.put(rt, pass, key(rt, b"a"), time);
         let merged = map.merge(rt, pass, key(rt, b"a"), 1, Plus(Some(0)));
@@ -67,7 +91,7 @@ fn put_alone<R: Wait + Abort, A: Allocator + Clone>(
     rt: &R,
     map: &KeyMap<A>,
     pass: &mut KeyPass,
-    times: u64,
+    times: u32,
 ) -> u64
     requires { pass.old.ledger ≡ map.now.ledger.id }
     ensures { pass.new.ledger ≡ map.now.ledger.id }
@@ -118,36 +142,23 @@ fn put_again<R: Wait + Abort, A: Allocator + Clone>(
     right
 }
 
-/// Takes the only key of a lean map away and puts it again, makes calls on it, and then takes keys away
-/// and puts them again beside others. Answers how many of each replied as they should, whether one of
-/// the first two kinds asked for memory, and how many keys there are.
-fn asked_for<R: Wait + Abort, A: Allocator + Clone>(
-    rt: &R,
-    switch: &Refusing<Global>,
-    alloc: A,
-) -> ([u64; 3], bool, u64) {
-    let Single {
-        map,
-        mut pass,
-        place,
-    } = open_single(alloc, Form::Lean, 4096).expect(rt, "a map");
-    put_texts(rt, &map, &mut pass, &[(b"a", 0)]);
-    switch.refuse_after(0);
-    let alone = put_alone(rt, &map, &mut pass, 10_000);
-    let called = call_often(rt, &map, &mut pass, 100_000);
-    let asked = switch.has_refused();
-    switch.refuse_after(u64::MAX);
-    put_twins(rt, &map, &mut pass, 1000);
-    let again = put_again(rt, switch, &map, &mut pass, 10);
-    let keys = close_single(map, pass, place)
-        .expect(rt, "a closed map")
-        .mapping_count();
-    ([alone, called, again], asked, keys)
-}
-
 #[test]
 fn calls_on_a_lean_map_ask_for_memory_for_new_keys_alone(rt: HostRuntime) {
-    let alloc = Refusing::new(rt.alloc());
-    let told = asked_for(&rt, &alloc, &alloc);
-    assert_same(&rt, &told, &([10_000, 100_000, 10_000], false, 2001));
+    // The only key is taken away and put again, and calls are made on it; then keys are taken away and put
+    // again beside others.
+    run(
+        &rt,
+        rt.alloc(),
+        "open lean 4096 1
+        put a 0 = none
+        grant 0
+        put_alone 10000 = 10000
+        call_often 100000 = 100000
+        refused = false
+        grant max
+        put_twins 1000
+        put_again 10 = 10000
+        close
+        keys = 2001",
+    );
 }
