@@ -1,6 +1,6 @@
 //! What lines of a script find in a closed map.
 use crate::lines::{
-    DONE, Found, Words, cut, form_word, found, number, small, truth, wanted_of, words_of,
+    DONE, Found, Words, cut, form_word, number, small, told, truth, wanted_of, words_of,
 };
 use crate::maps::{KeyQuiet, assert_entries, assert_pairs, assert_same, numbered, of_one_hash};
 use bin_history::Call;
@@ -33,11 +33,11 @@ fn look<A: Allocator + Clone>(
     match words[0] {
         "" => DONE,
         "form" => form_word(closed.form()),
-        "salt" => found(u64::from(closed.salt().0)),
-        "bins" => found(closed.bins().len() as u64),
+        "salt" => told(u64::from(closed.salt().0)),
+        "bins" => told(closed.bins().len() as u64),
         "more_bins" => truth(closed.bins().len() as u64 > number(rt, words[1])),
-        "keys" => found(closed.mapping_count()),
-        "records" => found(records_of(closed)),
+        "keys" => told(closed.mapping_count()),
+        "records" => told(records_of(closed)),
         _ => look_into(rt, closed, words),
     }
 }
@@ -54,14 +54,14 @@ fn look_into<A: Allocator + Clone>(
             assert_entries(rt, closed.entries(), &words[1..]);
             DONE
         }
-        "entries" => found(closed.entries().count() as u64),
-        "sum" => found(sum_of(closed)),
-        "numbers" => found(numbers_of(rt, closed)),
-        "twins" => found(twins_of(rt, closed, number(rt, words[1]) as usize)),
-        "full_bins" => found(full_bins(closed)),
-        "others" => found(others(rt, closed, small(rt, words[1]))),
+        "entries" => told(closed.entries().count() as u64),
+        "sum" => told(sum_of(closed)),
+        "numbers" => told(numbers_of(rt, closed)),
+        "twins" => told(twins_of(rt, closed, number(rt, words[1]) as usize)),
+        "full_bins" => told(full_bins(closed)),
+        "others" => told(others(rt, closed, small(rt, words[1]))),
         // the records of the recorded bin of slot 1, over these pairs
-        "slot_1" => found(slot_1(rt, closed, &words[1..])),
+        "slot_1" => told(slot_1(rt, closed, &words[1..])),
         "record" => record(rt, closed, number(rt, words[1]) as usize),
         _ => {
             assert!(rt; false, "a line of a closed map");

@@ -97,7 +97,7 @@ fn numbers(rt: &impl Abort, first: &str, second: &str, third: &str) -> [u64; 3] 
 }
 
 /// A number that is found.
-pub(crate) fn found(number: u64) -> Found<'static> {
+pub(crate) fn told(number: u64) -> Found<'static> {
     ("", [number, 0, 0])
 }
 
@@ -107,7 +107,7 @@ pub(crate) fn truth(truth: bool) -> Found<'static> {
 
 pub(crate) fn value(value: Option<u64>) -> Found<'static> {
     match value {
-        Some(value) => found(value),
+        Some(value) => told(value),
         None => ("none", [0; 3]),
     }
 }

@@ -2,7 +2,7 @@
 //! empty one.
 ghost use Rattle.std.specs.Prelude.{◌≡◌};
 
-use crate::lines::{DONE, Found, Words, found, small};
+use crate::lines::{DONE, Found, Words, small, told};
 use crate::maps::{KeyMap, KeyPass, key, put_new};
 use crate::runs::run;
 use bin_history::Reply;
@@ -27,9 +27,9 @@ pub(crate) fn ask<R: Wait + Abort, A: Allocator + Clone>(
 {
     let times = small(rt, words[1]);
     match words[0] {
-        "put_alone" => found(put_alone(rt, map, pass, times)),
-        "call_often" => found(call_often(rt, map, pass, times)),
-        "put_again" => found(put_again(rt, switch, map, pass, times)),
+        "put_alone" => told(put_alone(rt, map, pass, times)),
+        "call_often" => told(call_often(rt, map, pass, times)),
+        "put_again" => told(put_again(rt, switch, map, pass, times)),
         _ => {
             put_twins(rt, map, pass, times);
             DONE

@@ -2,7 +2,7 @@
 ghost use Rattle.std.specs.Prelude.{◌≡◌, OnErr};
 
 use crate::maps::assert_same;
-use crate::modifying::{Word, WordMap, WordPass, add, word};
+use crate::modifying::{Word, WordMap, WordPass, add, word_of};
 use crate::plays::{Play, played};
 use bin_history::Form;
 use chm::Map;
@@ -32,7 +32,7 @@ impl<'a, A: Allocator + Copy> Play<Word<A>, u64, Plus, A> for AddAtLast<'a, A> {
         pass: &mut WordPass<A>,
         _others: &mut Vec<WordPass<A>, A>,
     ) -> (u64, bool) {
-        let at = word(rt, self.alloc, "one");
+        let at = word_of(rt, self.alloc, "one");
         add_at_last(rt, self.switch, map, pass, &at)
     }
 }
@@ -169,7 +169,7 @@ impl<A: Allocator + Copy> Play<Word<A>, u64, Plus, A> for Trying<A> {
         pass: &mut WordPass<A>,
         others: &mut Vec<WordPass<A>, A>,
     ) -> (Tried, Option<u64>) {
-        let at = word(rt, self.0, "one");
+        let at = word_of(rt, self.0, "one");
         let put = map.put_as(rt, pass, at.bytes(), 5);
         assert_same(rt, &put.ok(), &Some(None));
         if others.len() == 1 {

@@ -2,7 +2,7 @@
 //! leaves in both forms, and what is left where requests are refused.
 ghost use Rattle.std.specs.Prelude.{◌≡◌, OnErr};
 
-use crate::lines::{Found, Words, cut, found, optional, refusal, value, wanted_of, words_of};
+use crate::lines::{Found, Words, cut, optional, refusal, told, value, wanted_of, words_of};
 use crate::maps::assert_same;
 use crate::plays::{Play, played};
 use crate::updating::change_to;
@@ -111,7 +111,7 @@ fn merge<R: Wait, A: Allocator + Clone>(
     ensures { pass.new.ledger ≡ map.now.ledger.id }
 {
     match map.merge_as(rt, pass, word.bytes(), value, less) {
-        Ok(true) => found(1),
+        Ok(true) => told(1),
         Ok(false) => ("none", [0; 3]),
         Err(error) => (
             refusal(error.fault),
@@ -206,7 +206,7 @@ fn act<R: Wait + Abort, A: Allocator + Clone>(
 }
 
 /// A key of its own memory.
-pub(crate) fn word<A: Allocator>(rt: &impl Abort, alloc: A, text: &str) -> Word<A> {
+pub(crate) fn word_of<A: Allocator>(rt: &impl Abort, alloc: A, text: &str) -> Word<A> {
     ByteString::new(text.as_bytes().to_vec(alloc).expect(rt, "memory"))
 }
 
@@ -258,7 +258,7 @@ fn follow<R: Wait + Abort, A: Allocator + Copy>(
     let (switch, alloc) = memory;
     for line in lines.lines() {
         let words = words_of(rt, cut(line, "=").0, "");
-        let at = word(rt, alloc, words[0]);
+        let at = word_of(rt, alloc, words[0]);
         switch.refuse_after(granted);
         let found = act(rt, map, pass, &at, &words);
         switch.refuse_after(u64::MAX);

@@ -1,7 +1,7 @@
 //! Walks, glances, look-ups by what stands for a key, and clears.
 ghost use Rattle.std.specs.Prelude.{◌≡◌};
 
-use crate::lines::{Found, Words, found, number, reply_or_fault, small};
+use crate::lines::{Found, Words, number, reply_or_fault, small, told};
 use crate::maps::{KeyMap, KeyPass, assert_pairs, key};
 use crate::runs::{run, run_rows};
 use bin_history::Form;
@@ -91,7 +91,7 @@ pub(crate) fn show_among<R: Wait + Abort, A: Allocator + Clone>(
     let visit = visits.get(place).expect(rt, "a bucket");
     let wanted = (key(rt, words[2].as_bytes()), number(rt, words[3]));
     assert!(rt; visit.entries.contains(&wanted));
-    found(visit.entries.len() as u64)
+    told(visit.entries.len() as u64)
 }
 
 /// The index of the bucket that has the hash of the number, and the number behind it.

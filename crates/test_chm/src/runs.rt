@@ -27,7 +27,7 @@ lean";
 /// The row of a run, after how many requests one is refused where the script says `@`, where the map is
 /// opened again and where pairs are taken out, and memory.
 #[derive(Clone, Copy)]
-pub(crate) struct Run<'a> {
+pub(crate) struct Turn<'a> {
     row: &'a str,
     turn: u64,
     memory: Global,
@@ -84,7 +84,7 @@ fn live<R: Wait + Abort, A: Allocator + Clone>(
     rt: &R,
     switch: &Refusing<Global>,
     opened: KeyOpened<A>,
-    run: Run<'_>,
+    run: Turn<'_>,
     text: (&str, bool),
 ) -> (KeyQuiet<A>, bool)
     requires { All (λ p. p.ledger ≡ opened.0.ledger.id) opened.1.items }
@@ -120,7 +120,7 @@ pub(crate) fn live_alone<R: Wait + Abort>(
     requires { All (λ p. p.ledger ≡ opened.0.ledger.id) opened.1.items }
 {
     let (lines, row) = script;
-    let run = Run {
+    let run = Turn {
         row,
         turn: u64::MAX,
         memory,
@@ -151,7 +151,7 @@ fn reopen_at_last<A: Allocator + Clone>(
     rt: &impl Abort,
     switch: &Refusing<Global>,
     closed: &KeyQuiet<A>,
-    run: Run<'_>,
+    run: Turn<'_>,
     line: &str,
 ) -> (KeyOpened<A>, bool)
     ensures { All (λ p. p.ledger ≡ result.0.0.ledger.id) result.0.1.items }
@@ -176,7 +176,7 @@ fn take_at_last<A: Allocator + Clone>(
     rt: &impl Abort,
     switch: &Refusing<Global>,
     closed: KeyQuiet<A>,
-    run: Run<'_>,
+    run: Turn<'_>,
     (line, left): (&str, &str),
 ) -> bool {
     switch.refuse_after(run.turn);
@@ -201,7 +201,7 @@ fn assert_taken(
     rt: &impl Abort,
     pairs: &[(Key, u64)],
     fault: Option<Fault>,
-    run: Run<'_>,
+    run: Turn<'_>,
     line: &str,
     refused: bool,
 ) {
@@ -227,7 +227,7 @@ fn run_on<R: Wait + Abort, A: Allocator + Clone>(
     rt: &R,
     (switch, alloc): (&Refusing<Global>, A),
     script: &str,
-    run: Run<'_>,
+    run: Turn<'_>,
 ) -> bool {
     let (opening, all) = cut(script, "\n");
     let (lives, taking) = cut(all, "take");
@@ -254,7 +254,7 @@ fn live_again<R: Wait + Abort, A: Allocator + Clone>(
     rt: &R,
     switch: &Refusing<Global>,
     first: &KeyQuiet<A>,
-    run: Run<'_>,
+    run: Turn<'_>,
     (again, taking): (&str, &str),
 ) -> bool {
     let (reopening, lines) = cut(again, "\n");
@@ -275,7 +275,7 @@ pub(crate) fn run_turn<R: Wait + Abort>(
     (row, turn): (&str, u64),
 ) -> bool {
     let alloc = Refusing::new(memory);
-    run_on(rt, (&alloc, &alloc), script, Run { row, turn, memory })
+    run_on(rt, (&alloc, &alloc), script, Turn { row, turn, memory })
 }
 
 /// Runs a script that has no words for those of a row.

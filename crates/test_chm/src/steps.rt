@@ -2,8 +2,8 @@
 ghost use Rattle.std.specs.Prelude.{◌≡◌, All};
 
 use crate::lines::{
-    DONE, Found, Words, cut, done_or_fault, form_word, found, number, numbers_or_fault, optional,
-    reply_or_fault, small, truth, value, value_or_fault, wanted_of, words_of,
+    DONE, Found, Words, cut, done_or_fault, form_word, number, numbers_or_fault, optional,
+    reply_or_fault, small, told, truth, value, value_or_fault, wanted_of, words_of,
 };
 use crate::maps::{
     KeyMap, KeyPass, assert_same, count_all, count_numbers, get_often, key, put_and_get,
@@ -60,7 +60,7 @@ fn do_line<R: Wait + Abort, A: Allocator + Clone>(
             stage.client = number(rt, words[1]) as usize;
             DONE
         }
-        "count_all" => found(count_all(rt, map, passes)),
+        "count_all" => told(count_all(rt, map, passes)),
         "turns" => {
             put_in_turns(rt, map, passes, small(rt, words[1]), small(rt, words[2]));
             DONE
@@ -85,12 +85,12 @@ fn tell<R: Wait + Abort, A: Allocator + Clone>(
     ensures { pass.new.ledger ≡ map.now.ledger.id }
 {
     match words[0] {
-        "made" => found(pass.made()),
-        "balance" => found(map.balance(pass)),
-        "client" => found(u64::from(pass.client())),
+        "made" => told(pass.made()),
+        "balance" => told(map.balance(pass)),
+        "client" => told(u64::from(pass.client())),
         "form" => form_word(map.form()),
-        "clients" => found(u64::from(map.clients())),
-        "count" => found(map.mapping_count()),
+        "clients" => told(u64::from(map.clients())),
+        "count" => told(map.mapping_count()),
         "refused" => truth(switch.has_refused()),
         "grant" => {
             switch.refuse_after(granted(rt, stage, words[1]));
@@ -131,7 +131,7 @@ fn do_much<R: Wait + Abort, A: Allocator + Clone>(
         // keys of one hash, of so many blocks, from this number to that one
         "twins" => put_of_one_hash(rt, map, pass, words),
         "fill" => fill(rt, map, pass, words[1], small(rt, words[2])),
-        "found" => return found(count_numbers(rt, map, pass)),
+        "found" => return told(count_numbers(rt, map, pass)),
         "put_alone" | "call_often" | "put_twins" | "put_again" => {
             return ask(rt, switch, map, pass, words);
         }
@@ -156,8 +156,8 @@ fn read<R: Wait + Abort, A: Allocator + Clone>(
         "view" => value(map.view(rt, pass, &key_of(rt, words), own)),
         // buckets, entries, and the sum of their values
         "walk" => numbers_or_fault(walked(rt, map, pass)),
-        "walk_entries" => found(walked(rt, map, pass).expect(rt, "memory")[1]),
-        "classes" => found(classes(rt, map, pass)),
+        "walk_entries" => told(walked(rt, map, pass).expect(rt, "memory")[1]),
+        "classes" => told(classes(rt, map, pass)),
         "bucket" => show_bucket(rt, map, pass, words),
         "among" => show_among(rt, map, pass, words),
         "at" => step_at(rt, map, pass, number(rt, words[1])),

@@ -1,7 +1,7 @@
 //! Steps by a cursor, and retains: what a line of a script does with them.
 ghost use Rattle.std.specs.Prelude.{◌≡◌};
 
-use crate::lines::{DONE, Found, Words, found, number, refusal, small};
+use crate::lines::{DONE, Found, Words, number, refusal, small, told};
 use crate::maps::{KeyMap, KeyPass, assert_pairs, assert_same, count_in, sum_in};
 use crate::steps::make;
 use bin_history::Form;
@@ -217,7 +217,7 @@ fn visit<R: Wait, A: Allocator + Clone>(
     ensures { pass.new.ledger ≡ map.now.ledger.id }
 {
     match map.visit_next(rt, pass, cursor) {
-        Ok(Some(visit)) => found(visit.entries.len() as u64),
+        Ok(Some(visit)) => told(visit.entries.len() as u64),
         Ok(None) => ("none", [0; 3]),
         Err(fault) => (refusal(fault), [0; 3]),
     }
