@@ -107,9 +107,10 @@ pub(crate) fn step_at<R: Wait + Abort, A: Allocator + Clone>(
     let tried = map
         .try_visit_at(pass, number)
         .expect(rt, "a bucket that nobody locks");
-    match tried.expect(rt, "memory") {
-        (Some(visit), next) => ("", [u64::from(visit.class.index()), next, 0]),
-        (None, next) => ("none", [next, 0, 0]),
+    let (shown, next) = tried.expect(rt, "memory");
+    match shown {
+        Some(visit) => ("", [u64::from(visit.class.index()), next, 0]),
+        None => ("none", [next, 0, 0]),
     }
 }
 
