@@ -15,6 +15,8 @@ mod cursors;
 #[cfg(test)]
 mod examples;
 #[cfg(test)]
+mod filling_given;
+#[cfg(test)]
 mod growth;
 #[cfg(test)]
 mod lent_examples;
@@ -50,6 +52,8 @@ mod printed;
 mod reading;
 #[cfg(test)]
 mod refused;
+#[cfg(test)]
+mod refused_parts;
 #[cfg(test)]
 mod retaining;
 #[cfg(test)]
