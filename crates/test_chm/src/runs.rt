@@ -2,12 +2,10 @@
 //! `close` are lines of the closed map; behind `reopen` steps of the clients of the map that is opened with
 //! its pairs, and behind another `close` lines of that one; and at `take` the pairs of both are taken out.
 //! A close, a reopening or a taking that is refused is made again, with all requests granted.
-ghost use Rattle.std.specs.Prelude.{◌≡◌, All};
+ghost use Rattle.std.specs.Prelude.{◌≡◌, All, IfOk};
 
 use crate::closed::look_at;
-use crate::lines::{
-    Words, cut, done_or_fault, number, number_or_0, refusal, small, wanted_of, words_of,
-};
+use crate::lines::{Words, cut, done_or_fault, number, refusal, small, wanted_of, words_of};
 use crate::maps::{KeyMap, KeyOpened, KeyPass, KeyQuiet, assert_pairs, assert_same};
 use crate::steps::follow;
 use crate::walking::Stage;
@@ -47,8 +45,12 @@ pub(crate) fn open_by<A: Allocator + Clone>(
     } else {
         number(rt, words[2]) as usize
     };
-    let salt = Salt(number_or_0(rt, words[4]) as u32);
-    open_salted(alloc, form, salt, capacity, small(rt, words[3])).expect(rt, "a map")
+    let salt = if words[4] == "" {
+        0
+    } else {
+        small(rt, words[4])
+    };
+    open_salted(alloc, form, Salt(salt), capacity, small(rt, words[3])).expect(rt, "a map")
 }
 
 pub(crate) fn form_of(word: &str) -> Form {
