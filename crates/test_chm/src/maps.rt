@@ -3,7 +3,7 @@ ghost use Rattle.std.specs.Prelude.{◌≡◌, All};
 
 use crate::lines::{Words, number, number_or_0, small};
 use bin_history::Reply;
-use chm::{Entries, Map, Opened, Quiet};
+use chm::{Entries, Fault, Map, Opened, Quiet};
 use count_ledger::Pass;
 use hashkeys::Key;
 use std::alloc::Allocator;
@@ -43,6 +43,20 @@ pub(crate) fn of_one_hash(rt: &impl Abort, blocks: usize, number: u32) -> Key {
     key(rt, &text[..2 * blocks])
 }
 
+/// Whether a call replied this value, or none.
+pub(crate) fn has_replied(made: Result<Reply<u64>, Fault>, wanted: Option<u64>) -> bool {
+    made == Ok(Reply::Value(wanted))
+}
+
+fn assert_reply(rt: &impl Abort, made: Result<Reply<u64>, Fault>, wanted: Option<u64>) {
+    assert!(rt; has_replied(made, wanted));
+}
+
+/// Whether all of these hold.
+pub(crate) fn all(told: &[bool]) -> bool {
+    !told.contains(&false)
+}
+
 /// How many keys the passes of all clients count.
 pub(crate) fn count_all<A: Allocator + Clone>(
     rt: &impl Abort,
@@ -67,7 +81,7 @@ pub(crate) fn put_new<R: Wait + Abort, A: Allocator + Clone>(
     requires { pass.old.ledger ≡ map.now.ledger.id }
     ensures { pass.new.ledger ≡ map.now.ledger.id }
 {
-    assert!(rt; map.put(rt, pass, key, value) == Ok(Reply::Value(None)));
+    assert_reply(rt, map.put(rt, pass, key, value), None);
 }
 
 /// Puts a value at the key of this text, which has none.
@@ -134,7 +148,7 @@ pub(crate) fn put_and_get<R: Wait + Abort, A: Allocator + Clone>(
     for number in 0..count {
         put_numbers(rt, map, pass, number, 1);
         let reply = map.get(rt, pass, numbered(rt, number));
-        assert!(rt; reply == Ok(Reply::Value(Some(u64::from(number)))));
+        assert_reply(rt, reply, Some(u64::from(number)));
     }
 }
 
@@ -173,7 +187,7 @@ pub(crate) fn count_numbers<R: Wait + Abort, A: Allocator + Clone>(
     let mut found = 0u64;
     for number in 0..100u32 {
         let reply = map.get(rt, pass, numbered(rt, number));
-        if reply == Ok(Reply::Value(Some(u64::from(number)))) {
+        if has_replied(reply, Some(u64::from(number))) {
             found = found.wrapping_add(1);
         }
     }
@@ -193,7 +207,7 @@ pub(crate) fn get_often<R: Wait + Abort, A: Allocator + Clone>(
 {
     for _time in 0..times {
         let reply = map.get(rt, pass, key(rt, b"a"));
-        assert!(rt; reply == Ok(Reply::Value(Some(wanted))));
+        assert_reply(rt, reply, Some(wanted));
     }
 }
 

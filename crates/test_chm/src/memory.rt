@@ -3,7 +3,7 @@
 ghost use Rattle.std.specs.Prelude.{◌≡◌};
 
 use crate::lines::{DONE, Found, Words, small, told};
-use crate::maps::{KeyMap, KeyPass, key, put_new};
+use crate::maps::{KeyMap, KeyPass, all, has_replied, key, put_new};
 use crate::runs::run;
 use bin_history::Reply;
 use chm::Fault;
@@ -36,6 +36,11 @@ pub(crate) fn ask<R: Wait + Abort, A: Allocator + Clone>(
         }
     }
 }
+
+fn is_refused(made: Result<Reply<u64>, Fault>) -> bool {
+    made == Err(Fault::NoMemory)
+}
+
 /// Gets, puts and merges at a key that is there, in turn, three calls a time. Answers how many
 /// times all three replied the value as it should be.
 fn call_often<R: Wait + Abort, A: Allocator + Clone>(
@@ -52,8 +57,11 @@ fn call_often<R: Wait + Abort, A: Allocator + Clone>(
         let got = map.get(rt, pass, key(rt, b"a"));
         let put = map.put(rt, pass, key(rt, b"a"), time);
         let merged = map.merge(rt, pass, key(rt, b"a"), 1, Plus(Some(0)));
-        let next = Ok(Reply::Value(Some(time.wrapping_add(1))));
-        if got == put && merged == next {
+        if all(&[
+            has_replied(got, Some(time)),
+            has_replied(put, Some(time)),
+            has_replied(merged, Some(time.wrapping_add(1))),
+        ]) {
             right = right.wrapping_add(1);
         }
     }
@@ -100,7 +108,7 @@ fn put_alone<R: Wait + Abort, A: Allocator + Clone>(
     for _time in 0..times {
         let removed = map.remove(rt, pass, key(rt, b"a"));
         let put = map.put(rt, pass, key(rt, b"a"), 0);
-        if removed == Ok(Reply::Value(Some(0))) && put == Ok(Reply::Value(None)) {
+        if all(&[has_replied(removed, Some(0)), has_replied(put, None)]) {
             right = right.wrapping_add(1);
         }
     }
@@ -130,11 +138,12 @@ fn put_again<R: Wait + Abort, A: Allocator + Clone>(
         switch.refuse_after(1);
         let put = map.put(rt, pass, twin(rt, *b"BB", number), value);
         let once = !switch.has_refused();
-        if removed == Ok(Reply::Value(Some(value)))
-            && refused == Err(Fault::NoMemory)
-            && put == Ok(Reply::Value(None))
-            && once
-        {
+        if all(&[
+            has_replied(removed, Some(value)),
+            is_refused(refused),
+            has_replied(put, None),
+            once,
+        ]) {
             right = right.wrapping_add(1);
         }
     }
