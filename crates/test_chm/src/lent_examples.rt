@@ -3,8 +3,9 @@
 ghost use Rattle.std.specs.Prelude.{◌≡◌, OnErr};
 ghost use Rattle.bin_history.specs.declared.form.Form.TheVariants.{Lean};
 
+use crate::call_examples::returns;
 use crate::examples::{NumberPass, Numbers, Plus};
-use crate::maps::assert_same;
+use crate::maps::{all, assert_same};
 use crate::plays::{Play, played};
 use bin_history::{Form, Reply};
 use chm::{Change, Fault, Map};
@@ -17,61 +18,60 @@ use std::sync::Wait;
 use test_maps::BOTH;
 use test_support::Keep;
 
-fn modify<R: Wait + Abort>(rt: &R, map: &Numbers, pass: &mut NumberPass) -> bool
+fn modify<R: Wait>(rt: &R, map: &Numbers, pass: &mut NumberPass) -> bool
     requires { pass.old.ledger ≡ map.now.ledger.id }
     ensures { pass.new.ledger ≡ map.now.ledger.id }
 {
-    map.put(rt, pass, 1, 5).expect(rt, "memory");
-    let set = map
-        .modify(rt, pass, &1, |value| replace(value, 6))
-        .expect(rt, "memory")
-        == Some(5);
-    let after = map.get(rt, pass, 1).expect(rt, "memory") == Reply::Value(Some(6));
-    let none = map
-        .modify(rt, pass, &2, |value| *value = 7)
-        .expect(rt, "memory")
-        == None;
-    map.put(rt, pass, 1, 5).expect(rt, "memory");
-    let tried = map.try_modify(pass, &1, |value| replace(value, 6)) == Some(Ok(Some(5)));
-    map.remove(rt, pass, 1).expect(rt, "memory");
-    set && after && none && tried
+    all(&[
+        returns(map.put(rt, pass, 1, 5), Reply::Value(None)),
+        returns(map.modify(rt, pass, &1, |value| replace(value, 6)), Some(5)),
+        returns(map.get(rt, pass, 1), Reply::Value(Some(6))),
+        returns(map.modify(rt, pass, &2, |value| *value = 7), None),
+        returns(map.put(rt, pass, 1, 5), Reply::Value(Some(6))),
+        map.try_modify(pass, &1, |value| replace(value, 6)) == Some(Ok(Some(5))),
+        returns(map.remove(rt, pass, 1), Reply::Value(Some(6))),
+    ])
 }
 
-fn modify_or_insert<R: Wait + Abort>(
-    rt: &R,
-    map: &Numbers,
-    pass: &mut NumberPass,
-) -> Result<bool, Fault>
+fn modify_or_insert<R: Wait>(rt: &R, map: &Numbers, pass: &mut NumberPass) -> bool
     requires { pass.old.ledger ≡ map.now.ledger.id }
     ensures { pass.new.ledger ≡ map.now.ledger.id }
 {
-    let made = map.modify_or_insert(rt, pass, &1, 10, |value| replace(value, 11))? == 10;
-    let modified = map.modify_or_insert(rt, pass, &1, 10, |value| replace(value, 12))? == 11;
-    let after = map.get(rt, pass, 1).expect(rt, "memory") == Reply::Value(Some(12));
-    map.remove(rt, pass, 1).expect(rt, "memory");
-    let tried = map
-        .try_modify_or_insert(pass, &1, 10, |value| *value)
-        .is_some();
-    let put = map.remove(rt, pass, 1).expect(rt, "memory") == Reply::Value(Some(10));
-    Ok(made && modified && after && tried && put)
+    all(&[
+        returns(
+            map.modify_or_insert(rt, pass, &1, 10, |value| replace(value, 11)),
+            10,
+        ),
+        returns(
+            map.modify_or_insert(rt, pass, &1, 10, |value| replace(value, 12)),
+            11,
+        ),
+        returns(map.get(rt, pass, 1), Reply::Value(Some(12))),
+        returns(map.remove(rt, pass, 1), Reply::Value(Some(12))),
+        map.try_modify_or_insert(pass, &1, 10, |value| *value)
+            .is_some(),
+        returns(map.remove(rt, pass, 1), Reply::Value(Some(10))),
+    ])
 }
 
-fn update_owned<R: Wait + Abort>(
-    rt: &R,
-    map: &Numbers,
-    pass: &mut NumberPass,
-) -> Result<bool, Fault>
+fn update_owned<R: Wait>(rt: &R, map: &Numbers, pass: &mut NumberPass) -> bool
     requires { pass.old.ledger ≡ map.now.ledger.id }
     ensures { pass.new.ledger ≡ map.now.ledger.id }
 {
-    let set = map.update_owned(rt, pass, &1, |value| (Some(5), value))? == None;
-    let removed = map.update_owned(rt, pass, &1, |value| (None, value))? == Some(5);
-    let after = map.get(rt, pass, 1).expect(rt, "memory") == Reply::Value(None);
-    let tried = map
-        .try_update_owned(pass, &1, |value| (Some(5), value))
-        .is_some();
-    let put = map.remove(rt, pass, 1).expect(rt, "memory") == Reply::Value(Some(5));
-    Ok(set && removed && after && tried && put)
+    all(&[
+        returns(
+            map.update_owned(rt, pass, &1, |value| (Some(5), value)),
+            None,
+        ),
+        returns(
+            map.update_owned(rt, pass, &1, |value| (None, value)),
+            Some(5),
+        ),
+        returns(map.get(rt, pass, 1), Reply::Value(None)),
+        map.try_update_owned(pass, &1, |value| (Some(5), value))
+            .is_some(),
+        returns(map.remove(rt, pass, 1), Reply::Value(Some(5))),
+    ])
 }
 
 /// Takes the value out of a place. Fails with 7 where there is none.
@@ -87,22 +87,19 @@ fn taken(place: &mut Option<u64>) -> Result<u64, u64>
     }
 }
 
-fn update_or_keep<R: Wait + Abort>(
-    rt: &R,
-    map: &Numbers,
-    pass: &mut NumberPass,
-) -> Result<bool, Fault>
+fn update_or_keep<R: Wait>(rt: &R, map: &Numbers, pass: &mut NumberPass) -> bool
     requires { pass.old.ledger ≡ map.now.ledger.id }
     ensures { pass.new.ledger ≡ map.now.ledger.id }
 {
-    let failed = map.update_or_keep(rt, pass, &1, taken)? == Err(7);
-    map.put(rt, pass, 1, 5).expect(rt, "memory");
-    let taken_out = map.update_or_keep(rt, pass, &1, taken)? == Ok(5);
-    let after = map.get(rt, pass, 1).expect(rt, "memory") == Reply::Value(None);
-    map.put(rt, pass, 1, 5).expect(rt, "memory");
-    let tried = map.try_update_or_keep(pass, &1, taken).is_some();
-    let removed = map.get(rt, pass, 1).expect(rt, "memory") == Reply::Value(None);
-    Ok(failed && taken_out && after && tried && removed)
+    all(&[
+        returns(map.update_or_keep(rt, pass, &1, taken), Err(7)),
+        returns(map.put(rt, pass, 1, 5), Reply::Value(None)),
+        returns(map.update_or_keep(rt, pass, &1, taken), Ok(5)),
+        returns(map.get(rt, pass, 1), Reply::Value(None)),
+        returns(map.put(rt, pass, 1, 5), Reply::Value(None)),
+        map.try_update_or_keep(pass, &1, taken).is_some(),
+        returns(map.get(rt, pass, 1), Reply::Value(None)),
+    ])
 }
 
 /// Runs the examples of each kind.
@@ -121,9 +118,9 @@ impl Play<u64, u64, Plus, Global> for Lent {
     ) -> [bool; 4] {
         [
             modify(rt, map, pass),
-            modify_or_insert(rt, map, pass) == Ok(true),
-            update_owned(rt, map, pass) == Ok(true),
-            update_or_keep(rt, map, pass) == Ok(true),
+            modify_or_insert(rt, map, pass),
+            update_owned(rt, map, pass),
+            update_or_keep(rt, map, pass),
         ]
     }
 }
@@ -141,72 +138,102 @@ type Words = Map<Bytes<'static>, u64, Keep, Global>;
 
 type WordPass = Pass<Bytes<'static>, u64, Keep>;
 
-fn puts<R: Wait + Abort>(rt: &R, map: &Words, pass: &mut WordPass) -> Result<bool, Fault>
+fn puts<R: Wait>(rt: &R, map: &Words, pass: &mut WordPass) -> bool
     requires form { map.now.ledger.form ≡ Lean }
     requires pass { pass.old.ledger ≡ map.now.ledger.id }
     ensures { pass.new.ledger ≡ map.now.ledger.id }
 {
-    let put = map.put_as(rt, pass, b"one".as_slice(), 5)? == None;
-    let again = map.put_as(rt, pass, b"one".as_slice(), 6)? == Some(5);
-    map.remove_as(rt, pass, b"one".as_slice())
-        .expect(rt, "memory");
-    let set = map.put_if_absent_as(rt, pass, b"one".as_slice(), 5)? == None;
-    let left_over = map.put_if_absent_as(rt, pass, b"one".as_slice(), 6)? == Some(6);
-    let after = map.get_as(rt, pass, b"one".as_slice()).expect(rt, "memory")
-        == Reply::Value(Some(5));
-    map.remove_as(rt, pass, b"one".as_slice())
-        .expect(rt, "memory");
-    Ok(put && again && set && left_over && after)
+    all(&[
+        returns(map.put_as(rt, pass, b"one".as_slice(), 5), None),
+        returns(map.put_as(rt, pass, b"one".as_slice(), 6), Some(5)),
+        returns(
+            map.remove_as(rt, pass, b"one".as_slice()),
+            Reply::Value(Some(6)),
+        ),
+        returns(map.put_if_absent_as(rt, pass, b"one".as_slice(), 5), None),
+        returns(
+            map.put_if_absent_as(rt, pass, b"one".as_slice(), 6),
+            Some(6),
+        ),
+        returns(
+            map.get_as(rt, pass, b"one".as_slice()),
+            Reply::Value(Some(5)),
+        ),
+        returns(
+            map.remove_as(rt, pass, b"one".as_slice()),
+            Reply::Value(Some(5)),
+        ),
+    ])
 }
 
-fn merge_as<R: Wait + Abort>(rt: &R, map: &Words, pass: &mut WordPass) -> Result<bool, Fault>
+fn merge_as<R: Wait>(rt: &R, map: &Words, pass: &mut WordPass) -> bool
     requires form { map.now.ledger.form ≡ Lean }
     requires pass { pass.old.ledger ≡ map.now.ledger.id }
     ensures { pass.new.ledger ≡ map.now.ledger.id }
 {
-    let set = map.merge_as(
-        rt,
-        pass,
-        b"one".as_slice(),
-        5,
-        |old, new| Some(old.min(new)),
-    )? == false;
-    let merged = map.merge_as(
-        rt,
-        pass,
-        b"one".as_slice(),
-        3,
-        |old, new| Some(old.min(new)),
-    )? == true;
-    let after = map.get_as(rt, pass, b"one".as_slice()).expect(rt, "memory")
-        == Reply::Value(Some(3));
-    map.remove_as(rt, pass, b"one".as_slice())
-        .expect(rt, "memory");
-    Ok(set && merged && after)
+    let set = returns(
+        map.merge_as(
+            rt,
+            pass,
+            b"one".as_slice(),
+            5,
+            |old, new| Some(old.min(new)),
+        ),
+        false,
+    );
+    let merged = returns(
+        map.merge_as(
+            rt,
+            pass,
+            b"one".as_slice(),
+            3,
+            |old, new| Some(old.min(new)),
+        ),
+        true,
+    );
+    all(&[
+        set,
+        merged,
+        returns(
+            map.get_as(rt, pass, b"one".as_slice()),
+            Reply::Value(Some(3)),
+        ),
+        returns(
+            map.remove_as(rt, pass, b"one".as_slice()),
+            Reply::Value(Some(3)),
+        ),
+    ])
 }
 
-fn changes<R: Wait + Abort>(rt: &R, map: &Words, pass: &mut WordPass) -> Result<bool, Fault>
+fn changes<R: Wait>(rt: &R, map: &Words, pass: &mut WordPass) -> Result<bool, Fault>
     requires form { map.now.ledger.form ≡ Lean }
     requires pass { pass.old.ledger ≡ map.now.ledger.id }
     ensures { pass.new.ledger ≡ map.now.ledger.id }
 {
     map.put_as(rt, pass, b"one".as_slice(), 5)?;
-    let set = map.update_as(
-        rt,
-        pass,
-        b"one".as_slice(),
-        |v| (Change::Set(6), v.copied()),
-    )? == Some(5);
-    let after = map.get_as(rt, pass, b"one".as_slice()).expect(rt, "memory")
-        == Reply::Value(Some(6));
-    map.put(rt, pass, Bytes(b"one"), 5).expect(rt, "memory");
-    let modified = map
-        .modify_as(rt, pass, b"one".as_slice(), |value| replace(value, 6))
-        .expect(rt, "memory")
-        == Some(5);
-    map.remove_as(rt, pass, b"one".as_slice())
-        .expect(rt, "memory");
-    Ok(set && after && modified)
+    let set = returns(
+        map.update_as(
+            rt,
+            pass,
+            b"one".as_slice(),
+            |v| (Change::Set(6), v.copied()),
+        ),
+        Some(5),
+    );
+    let after = returns(
+        map.get_as(rt, pass, b"one".as_slice()),
+        Reply::Value(Some(6)),
+    );
+    map.put(rt, pass, Bytes(b"one"), 5)?;
+    let modified = returns(
+        map.modify_as(rt, pass, b"one".as_slice(), |value| replace(value, 6)),
+        Some(5),
+    );
+    let removed = returns(
+        map.remove_as(rt, pass, b"one".as_slice()),
+        Reply::Value(Some(6)),
+    );
+    Ok(all(&[set, after, modified, removed]))
 }
 
 /// Runs the examples of each kind on a lean map.
@@ -227,8 +254,8 @@ impl Play<Bytes<'static>, u64, Keep, Global> for ByBytes {
             return [false; 3];
         }
         [
-            puts(rt, map, pass) == Ok(true),
-            merge_as(rt, map, pass) == Ok(true),
+            puts(rt, map, pass),
+            merge_as(rt, map, pass),
             changes(rt, map, pass) == Ok(true),
         ]
     }

@@ -1,8 +1,9 @@
 //! The examples of views, updates, cursors and retains, each as it stands with its call.
 ghost use Rattle.std.specs.Prelude.{◌≡◌};
 
+use crate::call_examples::returns;
 use crate::examples::{NumberPass, Numbers, Plus};
-use crate::maps::assert_same;
+use crate::maps::{all, assert_same};
 use crate::plays::{Play, played};
 use bin_history::{KeyArg, Reply};
 use chm::{Change, PartWalk, Taker};
@@ -21,39 +22,40 @@ fn view<R: Wait + Abort>(rt: &R, map: &Numbers, pass: &mut NumberPass) -> bool
     tried && seen
 }
 
-fn update<R: Wait + Abort>(rt: &R, map: &Numbers, pass: &mut NumberPass) -> bool
+fn update<R: Wait>(rt: &R, map: &Numbers, pass: &mut NumberPass) -> bool
     requires { pass.old.ledger ≡ map.now.ledger.id }
     ensures { pass.new.ledger ≡ map.now.ledger.id }
 {
-    let set = map
-        .update(rt, pass, 1, |value| (Change::Set(6), value.copied()))
-        .expect(rt, "memory")
-        == Some(5);
-    let after = map.get(rt, pass, 1).expect(rt, "memory") == Reply::Value(Some(6));
-    set && after
+    all(&[
+        returns(
+            map.update(rt, pass, 1, |value| (Change::Set(6), value.copied())),
+            Some(5),
+        ),
+        returns(map.get(rt, pass, 1), Reply::Value(Some(6))),
+    ])
 }
 
-fn update_lent<R: Wait + Abort>(rt: &R, map: &Numbers, pass: &mut NumberPass) -> bool
+fn update_lent<R: Wait>(rt: &R, map: &Numbers, pass: &mut NumberPass) -> bool
     requires { pass.old.ledger ≡ map.now.ledger.id }
     ensures { pass.new.ledger ≡ map.now.ledger.id }
 {
-    let removed = map
-        .update_lent(rt, pass, &1, |value| (Change::Remove, value.copied()))
-        .expect(rt, "memory")
-        == Some(5);
-    let kept = map
-        .update_on(
+    let removed = returns(
+        map.update_lent(rt, pass, &1, |value| (Change::Remove, value.copied())),
+        Some(5),
+    );
+    let kept = returns(
+        map.update_on(
             rt,
             pass,
             KeyArg::Borrowed(&1),
             |value| (Change::Keep, value.copied()),
-        )
-        .expect(rt, "memory")
-        == None;
+        ),
+        None,
+    );
     let given = KeyArg::Owned(1);
     let put = map.try_update(pass, given, |value| (Change::Set(5), value.copied()))
         == Some(Ok(None));
-    removed && kept && put
+    all(&[removed, kept, put])
 }
 
 fn visit_next<R: Wait + Abort>(rt: &R, map: &Numbers, pass: &mut NumberPass) -> bool
@@ -115,12 +117,12 @@ fn retain<R: Wait + Abort>(rt: &R, map: &Numbers, pass: &mut NumberPass) -> bool
     requires { pass.old.ledger ≡ map.now.ledger.id }
     ensures { pass.new.ledger ≡ map.now.ledger.id }
 {
-    let removed = map
-        .retain(rt, pass, &mut |_key: &u64, value: &u64| *value > 5)
-        .expect(rt, "memory")
-        == 1;
-    let gone = map.get(rt, pass, 1).expect(rt, "memory") == Reply::Value(None);
-    map.put(rt, pass, 1, 6).expect(rt, "memory");
+    let removed = returns(
+        map.retain(rt, pass, &mut |_key: &u64, value: &u64| *value > 5),
+        1,
+    );
+    let gone = returns(map.get(rt, pass, 1), Reply::Value(None));
+    let put = returns(map.put(rt, pass, 1, 6), Reply::Value(None));
     let mut cursor = map.cursor();
     let some = map
         .retain_next(
@@ -130,8 +132,8 @@ fn retain<R: Wait + Abort>(rt: &R, map: &Numbers, pass: &mut NumberPass) -> bool
             &mut |_key: &u64, value: &u64| *value > 5,
         )
         .expect(rt, "memory");
-    let kept = map.get(rt, pass, 1).expect(rt, "memory") == Reply::Value(Some(6));
-    removed && gone && some == Some(0) && kept
+    let kept = returns(map.get(rt, pass, 1), Reply::Value(Some(6)));
+    all(&[removed, gone, put, some == Some(0), kept])
 }
 
 /// Runs the example of this number on a map without entries; all but the first begin with a put of 5
