@@ -17,6 +17,8 @@ mod examples;
 #[cfg(test)]
 mod filling_given;
 #[cfg(test)]
+mod given;
+#[cfg(test)]
 mod growth;
 #[cfg(test)]
 mod lent_examples;

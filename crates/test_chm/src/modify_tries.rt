@@ -1,8 +1,8 @@
 //! Functions that are lent or given a value, where requests are refused and where their bucket is locked.
 ghost use Rattle.std.specs.Prelude.{◌≡◌, OnErr};
 
+use crate::given::{Word, WordMap, WordPass, add, word_of};
 use crate::maps::assert_same;
-use crate::modifying::{Word, WordMap, WordPass, add, word_of};
 use crate::plays::{Play, played};
 use bin_history::Form;
 use chm::Map;
@@ -50,7 +50,7 @@ fn add_at_last<R: Wait + Abort, A: Allocator + Clone>(
     let mut kept = true;
     for granted in 0..20u64 {
         switch.refuse_after(granted);
-        let (word, numbers) = add(rt, map, pass, at, 1);
+        let (word, numbers) = add(rt, map, pass, at, 1, false);
         switch.refuse_after(u64::MAX);
         let value = map.look_up(rt, pass, at).expect(rt, "a value");
         if word == "" {
@@ -59,7 +59,7 @@ fn add_at_last<R: Wait + Abort, A: Allocator + Clone>(
                 kept && numbers == [101, 0, 0] && value == Some(101),
             );
         }
-        let back = numbers == [1, 0, 0] || map.form() == Form::Recorded;
+        let back = numbers == [1, 0, 100] || map.form() == Form::Recorded;
         kept = kept && word == "no-memory" && value.is_none() && back;
     }
     (20, false)
