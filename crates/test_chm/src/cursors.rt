@@ -15,7 +15,7 @@ fn a_client_calls_between_two_steps_of_its_walk(rt: HostRuntime) {
         put a 2 = none
         step visit 16 1 q 1 a 2
         rest = 14 0
-        at_end",
+        at_end = true",
         BOTH_FORMS,
     );
 }

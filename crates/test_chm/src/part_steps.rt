@@ -29,7 +29,7 @@ fn a_walk_goes_in_the_order_of_the_table_of_its_beginning(rt: HostRuntime) {
         step $1 8 0 Aa 300
         step $1 8 1 q 1 a 20
         empty_steps $1 8 2 8
-        at_end
+        at_end = true
         close
         keys = $2",
         WAYS,
@@ -49,7 +49,7 @@ fn a_bucket_that_was_not_moved_is_met_by_its_parts(rt: HostRuntime) {
         cursor
         step $1 2 0
         step $1 2 1 a 20
-        at_end
+        at_end = true
         close
         keys = $2",
         "recorded visit 1
@@ -79,7 +79,7 @@ fn a_cursor_of_a_wider_table_meets_each_bucket_by_its_parts(rt: HostRuntime) {
         empty_steps $1 64 34 49
         step $1 64 49 q 1
         empty_steps $1 64 50 64
-        at_end
+        at_end = true
         close
         keys = $2",
         WAYS,
@@ -112,7 +112,7 @@ fn a_cursor_of_a_narrower_table_meets_what_its_buckets_became(rt: HostRuntime) {
         step $1 16 11
         step $1 16 7
         step $1 16 15
-        at_end
+        at_end = true
         close
         keys = $2",
         WAYS,

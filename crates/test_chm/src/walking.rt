@@ -1,7 +1,7 @@
 //! Steps by a cursor, and retains: what a line of a script does with them.
 ghost use Rattle.std.specs.Prelude.{◌≡◌};
 
-use crate::lines::{DONE, Found, Words, number, refusal, small, told};
+use crate::lines::{DONE, Found, Words, number, refusal, small, told, truth};
 use crate::maps::{KeyMap, KeyPass, assert_pairs, assert_same, count_in, sum_in};
 use crate::steps::make;
 use bin_history::Form;
@@ -60,7 +60,7 @@ pub(crate) fn go<R: Wait + Abort, A: Allocator + Clone>(
         }
         // each of the next steps, from the class of this index on to that one, shows an empty bucket
         "empty_steps" => empty_steps(rt, map, pass, &mut stage.cursor, words),
-        "at_end" => assert!(rt; stage.cursor.is_at_end()),
+        "at_end" => return truth(stage.cursor.is_at_end()),
         _ => return go_on(rt, map, pass, stage, words),
     }
     DONE
