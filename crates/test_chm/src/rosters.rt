@@ -63,21 +63,33 @@ fn is_empty(map: &Numbers, roster: &mut NumberRoster) -> bool
     }
 }
 
+/// Both clients join. Tells their numbers, how many passes were taken and how many clients there are, and
+/// whether the roster is empty then.
+fn two_join(
+    rt: &impl Abort,
+    map: &Numbers,
+    roster: &mut NumberRoster,
+) -> ((u32, u32), (u32, u32), bool)
+    requires { roster.old.ledger ≡ map.now.ledger.id }
+{
+    let first = map.join(roster).expect(rt, "a pass");
+    let second = map.join(roster).expect(rt, "a pass");
+    let clients = (first.client(), second.client());
+    let taken = (roster.taken(), roster.clients());
+    let empty = is_empty(map, roster);
+    first.retire();
+    second.retire();
+    (clients, taken, empty)
+}
+
 #[test]
 fn a_roster_gives_each_client_its_pass_once(rt: HostRuntime) {
     let (map, mut roster): NumbersStarted = Map::lean_with(rt.alloc(), 16, 2, Salt(0)).expect(
         &rt, "a map",
     );
-    let first = map.join(&mut roster).expect(&rt, "a pass");
-    let second = map.join(&mut roster).expect(&rt, "a pass");
-    let clients = (first.client(), second.client());
-    let taken = (roster.taken(), roster.clients());
-    let empty = is_empty(&map, &mut roster);
-    let bytes = size_of::<NumberRoster>();
-    first.retire();
-    second.retire();
-    assert_same(&rt, &(clients, taken), &((0, 1), (2, 2)));
-    assert!(rt; empty && bytes == 8);
+    let told = two_join(&rt, &map, &mut roster);
+    assert_same(&rt, &told, &((0, 1), (2, 2), true));
+    assert_same(&rt, &size_of::<NumberRoster>(), &8);
 }
 
 /// A client that comes and puts 5 at 1.
