@@ -198,7 +198,7 @@ fn run<R: Wait + Abort>(rt: &R, map: &Numbers, pass: &mut NumberPass, number: u6
     }
 }
 
-/// Runs the 22 examples, each begun without a value at 1. Answers which is the first that is not as
+/// Runs the 22 examples, each begun without a value at 1. Returns which is the first that is not as
 /// it says.
 pub(crate) fn first_wrong<R: Wait + Abort>(
     rt: &R,

@@ -14,7 +14,7 @@ use std::sync::Wait;
 use test_maps::numbered_text;
 use test_support::{Plus, Refusing};
 
-/// So many calls of the kind that the first word says. Answers how many of them replied as they should.
+/// So many calls of the kind that the first word says. Returns how many of them replied as they should.
 pub(crate) fn ask<R: Wait + Abort, A: Allocator + Clone>(
     rt: &R,
     switch: &Refusing<Global>,
@@ -41,7 +41,7 @@ fn is_refused(made: Result<Reply<u64>, Fault>) -> bool {
     made == Err(Fault::NoMemory)
 }
 
-/// Gets, puts and merges at a key that is there, in turn, three calls a time. Answers how many
+/// Gets, puts and merges at a key that is there, in turn, three calls a time. Returns how many
 /// times all three replied the value as it should be.
 fn call_often<R: Wait + Abort, A: Allocator + Clone>(
     rt: &R,
@@ -93,7 +93,7 @@ fn put_twins<R: Wait + Abort, A: Allocator + Clone>(
     }
 }
 
-/// Takes the only key of a map away and puts it into its empty bucket again, so many times. Answers how
+/// Takes the only key of a map away and puts it into its empty bucket again, so many times. Returns how
 /// often both replied as they should.
 fn put_alone<R: Wait + Abort, A: Allocator + Clone>(
     rt: &R,
@@ -116,7 +116,7 @@ fn put_alone<R: Wait + Abort, A: Allocator + Clone>(
 }
 
 /// Takes a thousand keys away and puts them again beside another of their bucket, one after the other,
-/// so many times. Answers how often the remove asked for no memory, a put was refused without memory,
+/// so many times. Returns how often the remove asked for no memory, a put was refused without memory,
 /// and one that was granted one request was made.
 fn put_again<R: Wait + Abort, A: Allocator + Clone>(
     rt: &R,

@@ -32,7 +32,7 @@ fn told_and_heard<R: Wait + Abort>(
     got && shown
 }
 
-/// Runs the example with two clients. Answers whether it is as it says, how many calls each client
+/// Runs the example with two clients. Returns whether it is as it says, how many calls each client
 /// made, and how many keys there are.
 fn hand_over<R: Wait + Abort>(rt: &R, alloc: Global, form: Form) -> (bool, [u64; 2], u64) {
     let Single {

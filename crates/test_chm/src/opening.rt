@@ -129,7 +129,7 @@ fn close_early<R: Wait + Abort, A: Allocator + Clone>(
     }
 }
 
-/// Closes a map of two clients, in vain while a pass is missing. Answers how many keys the passes
+/// Closes a map of two clients, in vain while a pass is missing. Returns how many keys the passes
 /// count.
 fn close_twice<R: Wait + Abort, A: Allocator + Clone>(rt: &R, alloc: A, form: Form) -> u64 {
     let Single {

@@ -27,7 +27,7 @@ pub(crate) trait Play<K: HashKey, V: Value, F: Remap<K, V>, A: Allocator + Clone
         requires others { All (λ p. p.ledger ≡ map.now.ledger.id) others.old.items };
 }
 
-/// Makes a map of 16 buckets for so many clients, and lets them do what they do. Answers what they tell.
+/// Makes a map of 16 buckets for so many clients, and lets them do what they do. Returns what they tell.
 pub(crate) fn played<
     R: Wait + Abort,
     K: HashKey,

@@ -61,7 +61,7 @@ pub(crate) fn form_of(word: &str) -> Form {
     }
 }
 
-/// Closes a map, and once more where the first close is refused. Answers what refused it.
+/// Closes a map, and once more where the first close is refused. Returns what refused it.
 fn close_at_last<A: Allocator + Clone>(
     rt: &impl Abort,
     switch: &Refusing<Global>,
@@ -81,7 +81,7 @@ fn close_at_last<A: Allocator + Clone>(
     }
 }
 
-/// Goes the steps before `close`, closes the map, and looks at it. Answers whether a request was refused.
+/// Goes the steps before `close`, closes the map, and looks at it. Returns whether a request was refused.
 fn live<R: Wait + Abort, A: Allocator + Clone>(
     rt: &R,
     switch: &Refusing<Global>,
@@ -147,7 +147,7 @@ fn reopen<A: Allocator + Clone>(
     }
 }
 
-/// Opens a map with the pairs of a closed one, and once more where that is refused. Answers whether a
+/// Opens a map with the pairs of a closed one, and once more where that is refused. Returns whether a
 /// request was refused.
 fn reopen_at_last<A: Allocator + Clone>(
     rt: &impl Abort,
@@ -172,7 +172,7 @@ fn reopen_at_last<A: Allocator + Clone>(
     (opened, refused)
 }
 
-/// Takes the pairs out of a closed map, and once more where that is refused: then it is as it was. Answers
+/// Takes the pairs out of a closed map, and once more where that is refused: then it is as it was. Returns
 /// whether a request was refused.
 fn take_at_last<A: Allocator + Clone>(
     rt: &impl Abort,
@@ -224,7 +224,7 @@ fn assert_taken(
     assert_same(rt, &(run.row, found), &(run.row, wanted));
 }
 
-/// Runs a script. Answers whether a request was refused.
+/// Runs a script. Returns whether a request was refused.
 fn run_on<R: Wait + Abort, A: Allocator + Clone>(
     rt: &R,
     (switch, alloc): (&Refusing<Global>, A),
@@ -250,7 +250,7 @@ fn run_on<R: Wait + Abort, A: Allocator + Clone>(
     take_at_last(rt, switch, first, run, (taking, left)) || refused
 }
 
-/// Opens a map with the pairs of a closed one, goes its steps, closes it, and takes its pairs out. Answers
+/// Opens a map with the pairs of a closed one, goes its steps, closes it, and takes its pairs out. Returns
 /// whether a request was refused.
 fn live_again<R: Wait + Abort, A: Allocator + Clone>(
     rt: &R,
@@ -269,7 +269,7 @@ fn live_again<R: Wait + Abort, A: Allocator + Clone>(
 }
 
 /// Runs a script with a row. Its number is after how many requests one is refused where the script says so.
-/// Answers whether it was.
+/// Returns whether it was.
 pub(crate) fn run_turn<R: Wait + Abort>(
     rt: &R,
     memory: Global,
@@ -294,7 +294,7 @@ pub(crate) fn run_rows<R: Wait + Abort>(rt: &R, memory: Global, script: &str, ro
     }
 }
 
-/// Runs a script with each request refused in turn, from the one of this number on. Answers how many
+/// Runs a script with each request refused in turn, from the one of this number on. Returns how many
 /// requests there are.
 pub(crate) fn requests_of<R: Wait + Abort>(
     rt: &R,

@@ -268,7 +268,7 @@ fn retain_next<R: Wait, A: Allocator + Clone>(
     map.retain_next(rt, pass, cursor, &mut keeps)
 }
 
-/// Drops all entries but those of a value above this one in the buckets that are left of a walk. Answers
+/// Drops all entries but those of a value above this one in the buckets that are left of a walk. Returns
 /// how many steps there were, and how many entries they removed by what they return; or the fault.
 fn drop_rest<R: Wait, A: Allocator + Clone>(
     rt: &R,
@@ -295,7 +295,7 @@ fn drop_rest<R: Wait, A: Allocator + Clone>(
     unreachable!()
 }
 
-/// Retains the entries whose values are above this one. Answers how many are removed.
+/// Retains the entries whose values are above this one. Returns how many are removed.
 pub(crate) fn keep_above<R: Wait, A: Allocator + Clone>(
     rt: &R,
     map: &KeyMap<A>,
@@ -309,7 +309,7 @@ pub(crate) fn keep_above<R: Wait, A: Allocator + Clone>(
     retained(map.retain(rt, pass, &mut keeps), 0, false)
 }
 
-/// Removes every second entry for which the function is called, the first among them. Answers how many
+/// Removes every second entry for which the function is called, the first among them. Returns how many
 /// were removed, how often the function was called, and whether each call was for the entry behind that of
 /// the call before.
 pub(crate) fn every_second<R: Wait, A: Allocator + Clone>(
