@@ -54,7 +54,7 @@ fn look_into<A: Allocator + Clone>(
             assert_entries(rt, closed.entries(), &words[1..]);
             DONE
         }
-        "entries" => told(closed.entries().count() as u64),
+        "entries" => told(entries_of(closed)),
         "sum" => told(sum_of(closed)),
         "numbers" => told(numbers_of(rt, closed)),
         "twins" => told(twins_of(rt, closed, number(rt, words[1]) as usize)),
@@ -79,6 +79,15 @@ fn records_of<A: Allocator + Clone>(closed: &KeyQuiet<A>) -> u64 {
         }
     }
     total
+}
+
+/// How many entries there are.
+fn entries_of<A: Allocator + Clone>(closed: &KeyQuiet<A>) -> u64 {
+    let mut count = 0u64;
+    for _entry in closed.entries() {
+        count = count.saturating_add(1);
+    }
+    count
 }
 
 /// The sum of the values.

@@ -51,9 +51,9 @@ fn ended_put(made: Result<Option<u64>, NotMade<u64>>) -> Outcome {
 fn ended_both<G: Drop>(made: Result<Option<u64>, NotMade<(u64, G)>>) -> Outcome {
     match made {
         Ok(found) => Ok(found),
-        Err(error) => match error.given {
-            Some((value, _function)) => Err((error.fault, Some(value))),
-            None => Err((error.fault, None)),
+        Err(NotMade { fault, given }) => match given {
+            Some((value, _function)) => Err((fault, Some(value))),
+            None => Err((fault, None)),
         },
     }
 }

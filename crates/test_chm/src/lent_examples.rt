@@ -27,10 +27,18 @@ fn modify<R: Wait>(rt: &R, map: &Numbers, pass: &mut NumberPass) -> bool
         returns(map.modify(rt, pass, &1, |value| replace(value, 6)), Some(5)),
         returns(map.get(rt, pass, 1), Reply::Value(Some(6))),
         returns(map.modify(rt, pass, &2, |value| *value = 7), None),
-        returns(map.put(rt, pass, 1, 5), Reply::Value(Some(6))),
-        map.try_modify(pass, &1, |value| replace(value, 6)) == Some(Ok(Some(5))),
-        returns(map.remove(rt, pass, 1), Reply::Value(Some(6))),
     ])
+}
+
+/// After a modify, with 6 at 1.
+fn try_modify<R: Wait>(rt: &R, map: &Numbers, pass: &mut NumberPass) -> bool
+    requires { pass.old.ledger ≡ map.now.ledger.id }
+    ensures { pass.new.ledger ≡ map.now.ledger.id }
+{
+    let put = returns(map.put(rt, pass, 1, 5), Reply::Value(Some(6)));
+    let tried = map.try_modify(pass, &1, |value| replace(value, 6)) == Some(Ok(Some(5)));
+    let removed = returns(map.remove(rt, pass, 1), Reply::Value(Some(6)));
+    all(&[put, tried, removed])
 }
 
 fn modify_or_insert<R: Wait>(rt: &R, map: &Numbers, pass: &mut NumberPass) -> bool
@@ -96,10 +104,18 @@ fn update_or_keep<R: Wait>(rt: &R, map: &Numbers, pass: &mut NumberPass) -> bool
         returns(map.put(rt, pass, 1, 5), Reply::Value(None)),
         returns(map.update_or_keep(rt, pass, &1, taken), Ok(5)),
         returns(map.get(rt, pass, 1), Reply::Value(None)),
-        returns(map.put(rt, pass, 1, 5), Reply::Value(None)),
-        map.try_update_or_keep(pass, &1, taken).is_some(),
-        returns(map.get(rt, pass, 1), Reply::Value(None)),
     ])
+}
+
+/// After an update, with nothing at 1.
+fn try_update_or_keep<R: Wait>(rt: &R, map: &Numbers, pass: &mut NumberPass) -> bool
+    requires { pass.old.ledger ≡ map.now.ledger.id }
+    ensures { pass.new.ledger ≡ map.now.ledger.id }
+{
+    let put = returns(map.put(rt, pass, 1, 5), Reply::Value(None));
+    let tried = map.try_update_or_keep(pass, &1, taken).is_some();
+    let after = returns(map.get(rt, pass, 1), Reply::Value(None));
+    all(&[put, tried, after])
 }
 
 /// Runs the examples of each kind.
@@ -107,7 +123,7 @@ fn update_or_keep<R: Wait>(rt: &R, map: &Numbers, pass: &mut NumberPass) -> bool
 struct Lent;
 
 impl Play<u64, u64, Plus, Global> for Lent {
-    type Told = [bool; 4];
+    type Told = [bool; 6];
 
     fn play<R: Wait + Abort>(
         &self,
@@ -115,12 +131,14 @@ impl Play<u64, u64, Plus, Global> for Lent {
         map: &Numbers,
         pass: &mut NumberPass,
         _others: &mut Vec<NumberPass, Global>,
-    ) -> [bool; 4] {
+    ) -> [bool; 6] {
         [
             modify(rt, map, pass),
+            try_modify(rt, map, pass),
             modify_or_insert(rt, map, pass),
             update_owned(rt, map, pass),
             update_or_keep(rt, map, pass),
+            try_update_or_keep(rt, map, pass),
         ]
     }
 }
@@ -129,7 +147,7 @@ impl Play<u64, u64, Plus, Global> for Lent {
 fn each_example_of_a_value_that_is_lent_is_as_it_says(rt: HostRuntime) {
     for form in BOTH {
         let right = played(&rt, rt.alloc(), (form, 1), &Lent);
-        assert_same(&rt, &(form, right), &(form, [true; 4]));
+        assert_same(&rt, &(form, right), &(form, [true; 6]));
     }
 }
 

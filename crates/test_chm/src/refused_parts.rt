@@ -184,6 +184,7 @@ const CALLS: &str = "one add 1 = no-memory 1 0 100
 fn what_was_given_comes_back_unless_it_was_used(rt: HostRuntime) {
     for form in BOTH {
         for line in CALLS.lines() {
+            let wanted = (wanted_of(&rt, line, "", false), 0);
             let alloc = Refusing::new(rt.alloc());
             let making = MakeAtLast {
                 switch: &alloc,
@@ -191,7 +192,6 @@ fn what_was_given_comes_back_unless_it_was_used(rt: HostRuntime) {
                 line,
             };
             let found = played(&rt, &alloc, (form, 1), &making);
-            let wanted = (wanted_of(&rt, line, "", false), 0);
             assert_same(&rt, &(form, line, found), &(form, line, wanted));
         }
     }
