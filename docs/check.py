@@ -260,8 +260,11 @@ def squeezed(code):
 
 
 def forms_of(line):
-    """Returns the forms in which a test may have a line of an example: an assertion is a comparison there, or the other way."""
+    """Returns the forms in which a test may have a line of an example: an assertion is a comparison there, or the other way; and a
+    comparison of what a call returns may be made by `returns(CALL, VALUE)`."""
     yield squeezed(line).rstrip(",")
+    if compared := re.fullmatch(r"(.*)\? == (.*)", line.strip()):
+        yield squeezed(f"returns({compared[1]}, {compared[2]})")
     if asserted := re.fullmatch(r"assert_eq!\((.*)\);?", line.strip()):
         for comma in re.finditer(", ", asserted[1]):
             yield squeezed(f"{asserted[1][:comma.start()]} == {asserted[1][comma.end():]}")

@@ -60,25 +60,32 @@ pub(crate) type NumberPass = Pass<u64, u64, Plus>;
 /// Such a map, closed.
 pub(crate) type NumberQuiet = Quiet<u64, u64, Plus, Global>;
 
-fn new(alloc: Global) -> Result<bool, Fault> {
-    let (map, passes): Opened<u64, u64, Plus, Global> = Map::new(alloc, 16, 4)?;
+fn new(rt: &impl Abort, alloc: Global) -> bool {
+    let (map, passes): Opened<u64, u64, Plus, Global> = Map::new(alloc, 16, 4).expect(rt, "memory");
     let told = map.clients() == 4 && passes.len() == 4;
     retire_all(passes);
-    Ok(told)
+    told
 }
 
-fn with_salt(alloc: Global) -> Result<bool, Fault> {
-    let (map, passes): Opened<u64, u64, Plus, Global> = Map::with_salt(alloc, 16, 4, Salt(7))?;
+fn with_salt(rt: &impl Abort, alloc: Global) -> bool {
+    let (map, passes): Opened<u64, u64, Plus, Global> = Map::with_salt(
+        alloc,
+        16,
+        4,
+        Salt(7),
+    ).expect(rt, "memory");
     let told = map.salt() == Salt(7);
     retire_all(passes);
-    Ok(told)
+    told
 }
 
-fn lean(alloc: Global) -> Result<bool, Fault> {
-    let (map, passes): Opened<u64, u64, Plus, Global> = Map::lean(alloc, 16, 4, Salt(0))?;
+fn lean(rt: &impl Abort, alloc: Global) -> bool {
+    let (map, passes): Opened<u64, u64, Plus, Global> = Map::lean(alloc, 16, 4, Salt(0)).expect(
+        rt, "memory",
+    );
     let told = map.form() == Form::Lean;
     retire_all(passes);
-    Ok(told)
+    told
 }
 
 fn close(map: Numbers, passes: Vec<NumberPass, Global>) -> Result<NumberQuiet, Fault>
@@ -104,16 +111,20 @@ impl Sharing<u64, u64, Plus, Global> for AddOne {
 }
 
 /// Whether the answers come in order and the sum is right.
-fn are_added<R: Threads + Wait + Sync>(
+fn are_added<R: Threads + Wait + Abort + Sync>(
     rt: &R,
     map: &Numbers,
     passes: &mut Vec<NumberPass, Global>,
-) -> Result<bool, Fault>
+) -> bool
     requires { All (λ p. p.ledger ≡ map.now.ledger.id) passes.old.items }
     ensures { All (λ p. p.ledger ≡ map.now.ledger.id) passes.new.items }
 {
-    let answered = map.share(rt, passes, &AddOne)?.as_slice() == [0, 1, 2, 3].as_slice();
-    Ok(answered && map.glance(rt, &1)? == Some(4))
+    let answered = map
+        .share(rt, passes, &AddOne)
+        .expect(rt, "memory")
+        .as_slice()
+        == [0, 1, 2, 3].as_slice();
+    answered && map.glance(rt, &1).expect(rt, "memory") == Some(4)
 }
 
 /// Closes a map that is asked for nothing more.
@@ -127,12 +138,12 @@ fn close_or_give_up<R: Wait>(
     map.close(passes).map_err(|refused| refused.give_up())
 }
 
-fn share<R: Threads + Wait + Abort + Sync>(rt: &R, alloc: Global) -> Result<bool, Fault> {
+fn share<R: Threads + Wait + Abort + Sync>(rt: &R, alloc: Global) -> bool {
     let (map, mut passes): Opened<u64, u64, Plus, Global> = open(alloc, Form::Lean, 16, 4).expect(
         rt, "a map",
     );
     let told = are_added(rt, &map, &mut passes);
-    drop(close_or_give_up(rt, map, passes)?);
+    drop(close_or_give_up(rt, map, passes).expect(rt, "a closed map"));
     told
 }
 
@@ -156,18 +167,18 @@ fn entries(quiet: &NumberQuiet) -> bool {
     first && pairs.next().is_none()
 }
 
-fn reopen(quiet: &NumberQuiet) -> Result<bool, Fault> {
-    let (map, passes) = quiet.reopen(2)?;
+fn reopen(rt: &impl Abort, quiet: &NumberQuiet) -> bool {
+    let (map, passes) = quiet.reopen(2).expect(rt, "memory");
     let told = map.clients() == 2 && map.mapping_count() == 1;
     retire_all(passes);
-    Ok(told)
+    told
 }
 
-fn reopen_with(quiet: &NumberQuiet) -> Result<bool, Fault> {
-    let (map, passes) = quiet.reopen_with(2, Salt(7))?;
+fn reopen_with(rt: &impl Abort, quiet: &NumberQuiet) -> bool {
+    let (map, passes) = quiet.reopen_with(2, Salt(7)).expect(rt, "memory");
     let told = map.salt() == Salt(7);
     retire_all(passes);
-    Ok(told)
+    told
 }
 
 fn into_entries(quiet: NumberQuiet) -> bool {
@@ -178,7 +189,7 @@ fn into_entries(quiet: NumberQuiet) -> bool {
 }
 
 /// The closed map of the examples of calls, which has 5 at 1, and the number of one that was wrong.
-fn closed<R: Wait + Abort>(rt: &R, alloc: Global) -> Result<(NumberQuiet, Option<u64>), Fault> {
+fn closed<R: Wait + Abort>(rt: &R, alloc: Global) -> (NumberQuiet, Option<u64>) {
     let Single {
         map,
         mut pass,
@@ -187,32 +198,38 @@ fn closed<R: Wait + Abort>(rt: &R, alloc: Global) -> Result<(NumberQuiet, Option
     let wrong = first_wrong(rt, &map, &mut pass);
     let _ = map.put(rt, &mut pass, 1, 5);
     put_back(&map, pass, &mut place);
-    Ok((close(map, place)?, wrong))
+    (close(map, place).expect(rt, "a closed map"), wrong)
 }
 
 #[test]
 fn each_example_of_a_call_is_as_it_says(rt: HostRuntime) {
-    let (quiet, wrong) = closed(&rt, rt.alloc()).expect(&rt, "memory");
+    let (quiet, wrong) = closed(&rt, rt.alloc());
     drop(quiet);
     assert_same(&rt, &wrong, &None);
 }
 
 #[test]
 fn each_example_of_opening_and_sharing_is_as_it_says(rt: HostRuntime) {
-    let told = [new(rt.alloc()), with_salt(rt.alloc()), lean(rt.alloc())];
-    assert!(rt; told == [Ok(true), Ok(true), Ok(true)]);
-    assert!(rt; share(&rt, rt.alloc()) == Ok(true));
-    assert!(rt; mapping_count_all(&rt, rt.alloc()));
+    let told = [
+        new(&rt, rt.alloc()),
+        with_salt(&rt, rt.alloc()),
+        lean(&rt, rt.alloc()),
+        share(&rt, rt.alloc()),
+        mapping_count_all(&rt, rt.alloc()),
+    ];
+    assert_same(&rt, &told, &[true; 5]);
 }
 
 #[test]
 fn each_example_of_a_closed_map_is_as_it_says(rt: HostRuntime) {
-    let (quiet, _) = closed(&rt, rt.alloc()).expect(&rt, "memory");
-    let has_five = quiet_get(&quiet);
-    let has_one = quiet.mapping_count() == 1;
-    let shows_five = entries(&quiet);
-    let reopened = [reopen(&quiet), reopen_with(&quiet)];
-    let gives_five = into_entries(quiet);
-    assert!(rt; has_five && has_one && shows_five && gives_five);
-    assert!(rt; reopened == [Ok(true), Ok(true)]);
+    let (quiet, _) = closed(&rt, rt.alloc());
+    let told = [
+        quiet_get(&quiet),
+        quiet.mapping_count() == 1,
+        entries(&quiet),
+        reopen(&rt, &quiet),
+        reopen_with(&rt, &quiet),
+        into_entries(quiet),
+    ];
+    assert_same(&rt, &told, &[true; 6]);
 }

@@ -9,15 +9,21 @@ mod call_examples;
 #[cfg(test)]
 mod calls;
 #[cfg(test)]
+mod closed;
+#[cfg(test)]
 mod cursors;
 #[cfg(test)]
 mod examples;
 #[cfg(test)]
-mod filling;
+mod filling_given;
+#[cfg(test)]
+mod given;
 #[cfg(test)]
 mod growth;
 #[cfg(test)]
 mod lent_examples;
+#[cfg(test)]
+mod lines;
 #[cfg(test)]
 mod live_examples;
 #[cfg(test)]
@@ -41,11 +47,15 @@ mod opening;
 #[cfg(test)]
 mod part_steps;
 #[cfg(test)]
+mod plays;
+#[cfg(test)]
 mod printed;
 #[cfg(test)]
 mod reading;
 #[cfg(test)]
 mod refused;
+#[cfg(test)]
+mod refused_parts;
 #[cfg(test)]
 mod retaining;
 #[cfg(test)]
@@ -54,6 +64,8 @@ mod retains;
 mod rosters;
 #[cfg(test)]
 mod rows;
+#[cfg(test)]
+mod runs;
 #[cfg(test)]
 mod shown;
 #[cfg(test)]
@@ -68,3 +80,5 @@ mod trying;
 mod updating;
 #[cfg(test)]
 mod viewing;
+#[cfg(test)]
+mod walking;

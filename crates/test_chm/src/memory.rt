@@ -2,34 +2,66 @@
 //! empty one.
 ghost use Rattle.std.specs.Prelude.{◌≡◌};
 
-use crate::maps::{KeyMap, KeyPass, assert_same, key, put_new, put_texts};
-use bin_history::{Form, Reply};
+use crate::lines::{DONE, Found, Words, small, told};
+use crate::maps::{KeyMap, KeyPass, all, has_replied, key, put_new};
+use crate::runs::run;
+use bin_history::Reply;
 use chm::Fault;
 use hashkeys::Key;
 use std::alloc::{Allocator, Global};
 use std::process::Abort;
 use std::sync::Wait;
-use test_maps::{Single, close_single, numbered_text, open_single};
+use test_maps::numbered_text;
 use test_support::{Plus, Refusing};
 
-/// Gets, puts and merges at a key that is there, in turn, three calls a time. Answers how many
+/// So many calls of the kind that the first word says. Returns how many of them replied as they should.
+pub(crate) fn ask<R: Wait + Abort, A: Allocator + Clone>(
+    rt: &R,
+    switch: &Refusing<Global>,
+    map: &KeyMap<A>,
+    pass: &mut KeyPass,
+    words: &Words<'_>,
+) -> Found<'static>
+    requires { pass.old.ledger ≡ map.now.ledger.id }
+    ensures { pass.new.ledger ≡ map.now.ledger.id }
+{
+    let times = small(rt, words[1]);
+    match words[0] {
+        "put_alone" => told(put_alone(rt, map, pass, times)),
+        "call_often" => told(call_often(rt, map, pass, times)),
+        "put_again" => told(put_again(rt, switch, map, pass, times)),
+        _ => {
+            put_twins(rt, map, pass, times);
+            DONE
+        }
+    }
+}
+
+fn is_refused(made: Result<Reply<u64>, Fault>) -> bool {
+    made == Err(Fault::NoMemory)
+}
+
+/// Gets, puts and merges at a key that is there, in turn, three calls a time. Returns how many
 /// times all three replied the value as it should be.
 fn call_often<R: Wait + Abort, A: Allocator + Clone>(
     rt: &R,
     map: &KeyMap<A>,
     pass: &mut KeyPass,
-    times: u64,
+    times: u32,
 ) -> u64
     requires { pass.old.ledger ≡ map.now.ledger.id }
     ensures { pass.new.ledger ≡ map.now.ledger.id }
 {
     let mut right = 0u64;
-    for time in 0..times {
+    for time in 0..u64::from(times) {
         let got = map.get(rt, pass, key(rt, b"a"));
         let put = map.put(rt, pass, key(rt, b"a"), time);
         let merged = map.merge(rt, pass, key(rt, b"a"), 1, Plus(Some(0)));
-        let next = Ok(Reply::Value(Some(time.wrapping_add(1))));
-        if got == put && merged == next {
+        if all(&[
+            has_replied(got, Some(time)),
+            has_replied(put, Some(time)),
+            has_replied(merged, Some(time.wrapping_add(1))),
+        ]) {
             right = right.wrapping_add(1);
         }
     }
@@ -61,13 +93,13 @@ fn put_twins<R: Wait + Abort, A: Allocator + Clone>(
     }
 }
 
-/// Takes the only key of a map away and puts it into its empty bucket again, so many times. Answers how
+/// Takes the only key of a map away and puts it into its empty bucket again, so many times. Returns how
 /// often both replied as they should.
 fn put_alone<R: Wait + Abort, A: Allocator + Clone>(
     rt: &R,
     map: &KeyMap<A>,
     pass: &mut KeyPass,
-    times: u64,
+    times: u32,
 ) -> u64
     requires { pass.old.ledger ≡ map.now.ledger.id }
     ensures { pass.new.ledger ≡ map.now.ledger.id }
@@ -76,7 +108,7 @@ fn put_alone<R: Wait + Abort, A: Allocator + Clone>(
     for _time in 0..times {
         let removed = map.remove(rt, pass, key(rt, b"a"));
         let put = map.put(rt, pass, key(rt, b"a"), 0);
-        if removed == Ok(Reply::Value(Some(0))) && put == Ok(Reply::Value(None)) {
+        if all(&[has_replied(removed, Some(0)), has_replied(put, None)]) {
             right = right.wrapping_add(1);
         }
     }
@@ -84,7 +116,7 @@ fn put_alone<R: Wait + Abort, A: Allocator + Clone>(
 }
 
 /// Takes a thousand keys away and puts them again beside another of their bucket, one after the other,
-/// so many times. Answers how often the remove asked for no memory, a put was refused without memory,
+/// so many times. Returns how often the remove asked for no memory, a put was refused without memory,
 /// and one that was granted one request was made.
 fn put_again<R: Wait + Abort, A: Allocator + Clone>(
     rt: &R,
@@ -106,11 +138,12 @@ fn put_again<R: Wait + Abort, A: Allocator + Clone>(
         switch.refuse_after(1);
         let put = map.put(rt, pass, twin(rt, *b"BB", number), value);
         let once = !switch.has_refused();
-        if removed == Ok(Reply::Value(Some(value)))
-            && refused == Err(Fault::NoMemory)
-            && put == Ok(Reply::Value(None))
-            && once
-        {
+        if all(&[
+            has_replied(removed, Some(value)),
+            is_refused(refused),
+            has_replied(put, None),
+            once,
+        ]) {
             right = right.wrapping_add(1);
         }
     }
@@ -118,36 +151,23 @@ fn put_again<R: Wait + Abort, A: Allocator + Clone>(
     right
 }
 
-/// Takes the only key of a lean map away and puts it again, makes calls on it, and then takes keys away
-/// and puts them again beside others. Answers how many of each replied as they should, whether one of
-/// the first two kinds asked for memory, and how many keys there are.
-fn asked_for<R: Wait + Abort, A: Allocator + Clone>(
-    rt: &R,
-    switch: &Refusing<Global>,
-    alloc: A,
-) -> ([u64; 3], bool, u64) {
-    let Single {
-        map,
-        mut pass,
-        place,
-    } = open_single(alloc, Form::Lean, 4096).expect(rt, "a map");
-    put_texts(rt, &map, &mut pass, &[(b"a", 0)]);
-    switch.refuse_after(0);
-    let alone = put_alone(rt, &map, &mut pass, 10_000);
-    let called = call_often(rt, &map, &mut pass, 100_000);
-    let asked = switch.has_refused();
-    switch.refuse_after(u64::MAX);
-    put_twins(rt, &map, &mut pass, 1000);
-    let again = put_again(rt, switch, &map, &mut pass, 10);
-    let keys = close_single(map, pass, place)
-        .expect(rt, "a closed map")
-        .mapping_count();
-    ([alone, called, again], asked, keys)
-}
-
 #[test]
 fn calls_on_a_lean_map_ask_for_memory_for_new_keys_alone(rt: HostRuntime) {
-    let alloc = Refusing::new(rt.alloc());
-    let told = asked_for(&rt, &alloc, &alloc);
-    assert_same(&rt, &told, &([10_000, 100_000, 10_000], false, 2001));
+    // The only key is taken away and put again, and calls are made on it; then keys are taken away and put
+    // again beside others.
+    run(
+        &rt,
+        rt.alloc(),
+        "open lean 4096 1
+        put a 0 = none
+        grant 0
+        put_alone 10000 = 10000
+        call_often 100000 = 100000
+        refused = false
+        grant max
+        put_twins 1000
+        put_again 10 = 10000
+        close
+        keys = 2001",
+    );
 }

@@ -1,81 +1,109 @@
 //! How maps are opened and closed.
 ghost use Rattle.std.specs.Prelude.{◌≡◌, All};
 
-use crate::maps::{
-    KeyMap, KeyPass, assert_entries, assert_same, count_all, filled, opening_fault, put_texts,
-};
+use crate::closed::look_at;
+use crate::lines::{done_or_fault, small, wanted_of, words_of};
+use crate::maps::{KeyMap, KeyOpened, KeyPass, assert_same, count_all, put_text};
+use crate::runs::{BOTH_FORMS, form_of, run, run_rows};
 use bin_history::Form;
-use chm::{Fault, NotClosed, Opened};
-use hashkeys::Key;
+use chm::{Fault, NotClosed};
+use count_ledger::retire_all;
 use std::alloc::{Allocator, Global};
 use std::process::Abort;
 use std::sync::Wait;
 use test_maps::{BOTH, Single, close, open, put_back, take_pass};
-use test_support::{Plus, Refusing};
+use test_support::Refusing;
 
-/// A map of the default capacity for three clients: its form, its clients, its passes and, closed,
-/// its form and its bins.
-fn of_three<R: Wait + Abort>(
-    rt: &R,
-    alloc: Global,
+/// What making a map is refused with.
+pub(crate) fn opening_fault<A: Allocator + Clone>(
+    alloc: A,
     form: Form,
-) -> ((Form, u32, usize), (Form, usize)) {
-    let (map, passes): Opened<Key, u64, Plus, Global> = open(
-        alloc,
-        form,
-        KeyMap::<Global>::DEFAULT_CAPACITY,
-        3,
-    ).expect(rt, "a map");
-    let told = (map.form(), map.clients(), passes.len());
-    let closed = close(map, passes).expect(rt, "a closed map");
-    (told, (closed.form(), closed.bins().len()))
+    capacity: usize,
+    clients: u32,
+) -> Option<Fault> {
+    let opened: Result<KeyOpened<A>, Fault> = open(alloc, form, capacity, clients);
+    match opened {
+        Ok((map, passes)) => {
+            retire_all(passes);
+            drop(map);
+            None
+        }
+        Err(fault) => Some(fault),
+    }
+}
+
+/// Asserts what making a map of each line is refused with: a form, a capacity and a number of clients.
+/// What is refused asks for no memory.
+fn assert_openings(rt: &impl Abort, memory: Global, lines: &str) {
+    for line in lines.lines() {
+        let words = words_of(rt, line, "");
+        let alloc = Refusing::new(memory);
+        let form = form_of(words[0]);
+        let fault = opening_fault(
+            &alloc,
+            form,
+            small(rt, words[1]) as usize,
+            small(rt, words[2]),
+        );
+        let asked = fault.is_some() && alloc.requests() > 0;
+        let found = (line, done_or_fault(fault), asked);
+        assert_same(rt, &found, &(line, wanted_of(rt, line, "", false), false));
+    }
 }
 
 #[test]
 fn capacity_and_clients_have_their_limits(rt: HostRuntime) {
-    let rows = [
-        (1, 1, None),
-        (4096, 32, None),
-        (0, 1, Some(Fault::BadCapacity)),
-        (0, 0, Some(Fault::BadCapacity)),
-        (16, 0, Some(Fault::BadClients)),
-    ];
-    for form in BOTH {
-        for (capacity, clients, fault) in rows {
-            let found = opening_fault(rt.alloc(), form, capacity, clients);
-            assert_same(&rt, &found, &fault);
-        }
-        let most = match form {
-            Form::Recorded => 32,
-            Form::Lean => 65_536,
-        };
-        let past = opening_fault(rt.alloc(), form, 16, most + 1);
-        assert_same(&rt, &past, &Some(Fault::BadClients));
-        let told = of_three(&rt, rt.alloc(), form);
-        assert_same(&rt, &told, &((form, 3, 3), (form, 16)));
-    }
+    assert_openings(
+        &rt,
+        rt.alloc(),
+        "recorded 1 1
+        recorded 4096 32
+        recorded 0 1 = bad-capacity
+        recorded 0 0 = bad-capacity
+        recorded 16 0 = bad-clients
+        recorded 16 33 = bad-clients
+        lean 1 1
+        lean 4096 32
+        lean 0 1 = bad-capacity
+        lean 0 0 = bad-capacity
+        lean 16 0 = bad-clients
+        lean 16 65537 = bad-clients",
+    );
+    // a map of the default capacity for three clients
+    run_rows(
+        &rt,
+        rt.alloc(),
+        "open $0 default 3
+        form = $0
+        clients = 3
+        count_all = 0
+        close
+        form = $0
+        bins = 16",
+        BOTH_FORMS,
+    );
 }
 
 #[test]
 fn a_capacity_past_the_most_asks_for_no_memory(rt: HostRuntime) {
-    for (form, capacity) in [(Form::Recorded, 4097), (Form::Lean, 67_108_865)] {
-        let alloc = Refusing::new(rt.alloc());
-        let fault = opening_fault(&alloc, form, capacity, 1);
-        assert_same(
-            &rt,
-            &(fault, alloc.requests()),
-            &(Some(Fault::BadCapacity), 0),
-        );
-    }
+    assert_openings(
+        &rt,
+        rt.alloc(),
+        "recorded 4097 1 = bad-capacity
+        lean 67108865 1 = bad-capacity",
+    );
 }
 
 #[test]
 fn a_lean_map_opens_with_a_million_bins(rt: HostRuntime) {
-    let closed = filled(&rt, rt.alloc(), Form::Lean, 1_048_576, 3);
-    assert_same(
+    run(
         &rt,
-        &(closed.bins().len(), closed.mapping_count()),
-        &(1_048_576, 3),
+        rt.alloc(),
+        "open lean 1048576 1
+        numbers 0 3
+        close
+        bins = 1048576
+        keys = 3",
     );
 }
 
@@ -101,20 +129,20 @@ fn close_early<R: Wait + Abort, A: Allocator + Clone>(
     }
 }
 
-/// Closes a map of two clients, in vain while a pass is missing. Answers how many keys the passes
+/// Closes a map of two clients, in vain while a pass is missing. Returns how many keys the passes
 /// count.
-fn close_twice<R: Wait + Abort>(rt: &R, alloc: Global, form: Form) -> u64 {
+fn close_twice<R: Wait + Abort, A: Allocator + Clone>(rt: &R, alloc: A, form: Form) -> u64 {
     let Single {
         map,
         mut pass,
         place,
     } = take_pass(open(alloc, form, 16, 2).expect(rt, "a map")).expect(rt, "a pass");
-    put_texts(rt, &map, &mut pass, &[(b"a", 1)]);
+    put_text(rt, &map, &mut pass, b"a", 1);
     let (map, mut passes) = close_early(rt, map, place);
     put_back(&map, pass, &mut passes);
     let count = count_all(rt, &map, &mut passes);
     let closed = close(map, passes).expect(rt, "a closed map");
-    assert_entries(rt, closed.entries(), &[(b"a", 1)]);
+    look_at(rt, &closed, ("pairs a 1", ""), false);
     count
 }
 

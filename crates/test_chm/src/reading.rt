@@ -1,219 +1,294 @@
-//! Walks, glances and clears.
-ghost use Rattle.std.specs.Prelude.{◌≡◌, All};
+//! Walks, glances, look-ups by what stands for a key, and clears.
+ghost use Rattle.std.specs.Prelude.{◌≡◌};
 
-use crate::maps::{
-    KeyQuiet, assert_entries, assert_pairs, assert_same, key, put_numbers, put_texts, room,
-};
-use crate::steps::{Act, Found, Kind, NONE, Row, left_by};
-use bin_history::{Form, Reply};
-use chm::{Opened, Visit};
-use hashkeys::{Key, Salt};
-use std::alloc::{Allocator, Global};
+use crate::lines::{Found, Words, number, reply_or_fault, small, told};
+use crate::maps::{KeyMap, KeyPass, assert_pairs, key};
+use crate::runs::{run, run_rows};
+use bin_history::Form;
+use chm::Fault;
+use std::alloc::Allocator;
 use std::process::Abort;
 use std::sync::Wait;
-use test_maps::{BOTH, Single, close, close_single, open_salted, open_single, take_pass};
-use test_support::Plus;
 
-/// The keys of four bins of 16.
-const FOUR: [(&[u8], u64); 4] = [(b"q", 1), (b"a", 2), (b"Aa", 3), (b"zzzzzz", 4)];
-
-/// The last of these keys in a recorded map. A lean one of 16 bins grows with the fourth key, so it has
-/// the others alone.
-fn last_of(form: Form) -> &'static [(&'static [u8], u64)] {
-    match form {
-        Form::Recorded => &FOUR[3..],
-        Form::Lean => &[],
-    }
-}
-
-/// Sixteen visits, one for each class, of which the first shows `Aa`, the second these pairs, and the
-/// last the others.
-fn assert_walk<A: Allocator>(
-    rt: &impl Abort,
-    visits: &[Visit<Key, u64, A>],
-    second: &[(&[u8], u64)],
-    last: &[(&[u8], u64)],
-) {
-    assert_same(rt, &visits.len(), &16);
-    for (visit, index) in visits.iter().zip(0..16u32) {
-        assert_same(rt, &(visit.class.n(), visit.class.index()), &(16, index));
-        match index {
-            0 => assert_pairs(rt, &visit.entries, &[(b"Aa", 3)]),
-            1 => assert_pairs(rt, &visit.entries, second),
-            15 => assert_pairs(rt, &visit.entries, last),
-            _ => assert!(rt; visit.entries.is_empty()),
+/// How many buckets and entries a walk shows, and the sum of their values.
+pub(crate) fn walked<R: Wait, A: Allocator + Clone>(
+    rt: &R,
+    map: &KeyMap<A>,
+    pass: &mut KeyPass,
+) -> Result<[u64; 3], Fault>
+    requires { pass.old.ledger ≡ map.now.ledger.id }
+    ensures { pass.new.ledger ≡ map.now.ledger.id }
+{
+    let visits = map.walk(rt, pass)?;
+    let mut entries = 0u64;
+    let mut sum = 0u64;
+    for visit in &visits {
+        for (_key, value) in &visit.entries {
+            entries = entries.saturating_add(1);
+            sum = sum.saturating_add(*value);
         }
     }
+    Ok([visits.len() as u64, entries, sum])
 }
 
-/// Walks before and after a key is taken away and put again.
-fn walk_twice<R: Wait + Abort>(rt: &R, alloc: Global, form: Form) {
-    let Single {
-        map,
-        mut pass,
-        place,
-    } = open_single(alloc, form, 16).expect(rt, "a map");
-    put_texts(rt, &map, &mut pass, &FOUR[..3]);
-    put_texts(rt, &map, &mut pass, last_of(form));
-    let before = map.walk(rt, &mut pass);
-    let removed = map.remove(rt, &mut pass, key(rt, b"q"));
-    put_texts(rt, &map, &mut pass, &[(b"q", 5)]);
-    let after = map.walk(rt, &mut pass);
-    let closed = close_single(map, pass, place).expect(rt, "a closed map");
-    let keys = 3u64.wrapping_add(last_of(form).len() as u64);
-    assert_same(rt, &closed.mapping_count(), &keys);
-    drop(closed);
-    assert!(rt; removed == Ok(Reply::Value(Some(1))));
-    let last = last_of(form);
-    assert_walk(
-        rt,
-        &before.expect(rt, "memory"),
-        &[(b"q", 1), (b"a", 2)],
-        last,
-    );
-    assert_walk(
-        rt,
-        &after.expect(rt, "memory"),
-        &[(b"a", 2), (b"q", 5)],
-        last,
-    );
+/// How many visits of a walk are, each in its turn, of the class of as many as there are visits.
+pub(crate) fn classes<R: Wait + Abort, A: Allocator + Clone>(
+    rt: &R,
+    map: &KeyMap<A>,
+    pass: &mut KeyPass,
+) -> u64
+    requires { pass.old.ledger ≡ map.now.ledger.id }
+    ensures { pass.new.ledger ≡ map.now.ledger.id }
+{
+    let visits = map.walk(rt, pass).expect(rt, "memory");
+    let mut index = 0u32;
+    for visit in &visits {
+        if visit.class.index() == index && visit.class.n() as usize == visits.len() {
+            index = index.saturating_add(1);
+        }
+    }
+    u64::from(index)
 }
+
+/// The class of the visit of a walk of the place that the first word says, which shows the entries of the
+/// other words.
+pub(crate) fn show_bucket<R: Wait + Abort, A: Allocator + Clone>(
+    rt: &R,
+    map: &KeyMap<A>,
+    pass: &mut KeyPass,
+    words: &Words<'_>,
+) -> Found<'static>
+    requires { pass.old.ledger ≡ map.now.ledger.id }
+    ensures { pass.new.ledger ≡ map.now.ledger.id }
+{
+    let visits = map.walk(rt, pass).expect(rt, "memory");
+    let place = small(rt, words[1]) as usize;
+    let visit = visits.get(place).expect(rt, "a bucket");
+    assert_pairs(rt, &visit.entries, &words[2..]);
+    (
+        "",
+        [
+            u64::from(visit.class.n()),
+            u64::from(visit.class.index()),
+            0,
+        ],
+    )
+}
+
+/// How many entries the visit of a walk of the place that the first word says shows, among which is the pair
+/// of the other two.
+pub(crate) fn show_among<R: Wait + Abort, A: Allocator + Clone>(
+    rt: &R,
+    map: &KeyMap<A>,
+    pass: &mut KeyPass,
+    words: &Words<'_>,
+) -> Found<'static>
+    requires { pass.old.ledger ≡ map.now.ledger.id }
+    ensures { pass.new.ledger ≡ map.now.ledger.id }
+{
+    let visits = map.walk(rt, pass).expect(rt, "memory");
+    let place = small(rt, words[1]) as usize;
+    let visit = visits.get(place).expect(rt, "a bucket");
+    let wanted = (key(rt, words[2].as_bytes()), number(rt, words[3]));
+    assert!(rt; visit.entries.contains(&wanted));
+    told(visit.entries.len() as u64)
+}
+
+/// The index of the bucket that has the hash of the number, and the number behind it.
+pub(crate) fn step_at<R: Wait + Abort, A: Allocator + Clone>(
+    rt: &R,
+    map: &KeyMap<A>,
+    pass: &mut KeyPass,
+    number: u64,
+) -> Found<'static>
+    requires { pass.old.ledger ≡ map.now.ledger.id }
+    ensures { pass.new.ledger ≡ map.now.ledger.id }
+{
+    let tried = map
+        .try_visit_at(pass, number)
+        .expect(rt, "a bucket that nobody locks");
+    let (shown, next) = tried.expect(rt, "memory");
+    match shown {
+        Some(visit) => ("", [u64::from(visit.class.index()), next, 0]),
+        None => ("none", [next, 0, 0]),
+    }
+}
+
+/// A call by what stands for its key, in a lean map.
+pub(crate) fn look_up_by<R: Wait + Abort, A: Allocator + Clone>(
+    rt: &R,
+    map: &KeyMap<A>,
+    pass: &mut KeyPass,
+    words: &Words<'_>,
+) -> Found<'static>
+    requires { pass.old.ledger ≡ map.now.ledger.id }
+    ensures { pass.new.ledger ≡ map.now.ledger.id }
+{
+    if map.form() != Form::Lean {
+        return ("recorded", [0; 3]);
+    }
+    let at = key(rt, words[1].as_bytes());
+    reply_or_fault(match words[0] {
+        "get_as" => map.get_as(rt, pass, &at),
+        "contains_as" => map.contains_as(rt, pass, &at),
+        _ => map.remove_as(rt, pass, &at),
+    })
+}
+
+/// A recorded map of four keys of four buckets, one of which is taken away and put again.
+const RECORDED: &str = "open recorded 16 1
+    put q 1 = none
+    put a 2 = none
+    put Aa 3 = none
+    put zzzzzz 4 = none
+    classes = 16
+    walk = 16 4 10
+    bucket 0 Aa 3 = 16 0
+    bucket 1 q 1 a 2 = 16 1
+    bucket 15 zzzzzz 4 = 16 15
+    remove q = 1
+    put q 5 = none
+    classes = 16
+    walk = 16 4 14
+    bucket 0 Aa 3 = 16 0
+    bucket 1 a 2 q 5 = 16 1
+    bucket 15 zzzzzz 4 = 16 15
+    close
+    keys = 4";
+
+/// The same in a lean map of three keys: it would grow with the fourth.
+const LEAN: &str = "open lean 16 1
+    put q 1 = none
+    put a 2 = none
+    put Aa 3 = none
+    classes = 16
+    walk = 16 3 6
+    bucket 0 Aa 3 = 16 0
+    bucket 1 q 1 a 2 = 16 1
+    bucket 15 = 16 15
+    remove q = 1
+    put q 5 = none
+    classes = 16
+    walk = 16 3 10
+    bucket 0 Aa 3 = 16 0
+    bucket 1 a 2 q 5 = 16 1
+    bucket 15 = 16 15
+    close
+    keys = 3";
 
 #[test]
 fn a_walk_shows_each_bin_in_turn(rt: HostRuntime) {
-    for form in BOTH {
-        walk_twice(&rt, rt.alloc(), form);
-    }
+    run(&rt, rt.alloc(), RECORDED);
+    run(&rt, rt.alloc(), LEAN);
 }
 
-/// The closed map of one client that puts the four keys in 16 bins, and then so many others.
-fn four_and_more<R: Wait + Abort>(
-    rt: &R,
-    alloc: Global,
-    form: Form,
-    salt: Salt,
-    more: u32,
-) -> KeyQuiet<Global> {
-    let Single {
-        map,
-        mut pass,
-        place,
-    } = take_pass(open_salted(alloc, form, salt, 16, 1).expect(rt, "a map")).expect(rt, "a pass");
-    put_texts(rt, &map, &mut pass, &FOUR);
-    put_numbers(rt, &map, &mut pass, 0, more);
-    close_single(map, pass, place).expect(rt, "a closed map")
-}
+/// Four keys, in a map that is opened again with them under the salt 1, and in one of 32 buckets that has
+/// others too.
+const FOUR: &str = "open $0 16 1 $1
+    put q 1 = none
+    put a 2 = none
+    put Aa 3 = none
+    put zzzzzz 4 = none
+    close
+    form = $0
+    salt = $1
+    bins = $2
+    pairs $3 $4 $5 $6 $7 $8 $9 $10
+    reopen 1 $11
+    close
+    form = $0
+    salt = 1
+    bins = $2
+    pairs $12 $13 $14 $15 $16 $17 $18 $19";
 
-/// The four keys in walk order, in this many bins of the form under this salt.
-fn assert_four(
-    rt: &impl Abort,
-    closed: &KeyQuiet<Global>,
-    wanted: (Form, Salt, usize),
-    pairs: &[(&[u8], u64)],
-) {
-    let found = (closed.form(), closed.salt(), closed.bins().len());
-    assert_same(rt, &found, &wanted);
-    assert_entries(rt, closed.entries(), pairs);
-}
-
-/// A map that was just opened again, closed again.
-fn again<R: Wait + Abort>(rt: &R, opened: Opened<Key, u64, Plus, Global>) -> KeyQuiet<Global>
-    requires { All (λ p. p.ledger ≡ opened.0.ledger.id) opened.1.items }
-{
-    let (map, passes) = opened;
-    close(map, passes).expect(rt, "a closed map")
-}
-
-/// The walk order of 16 bins, and of 32.
-const OF_16: [(&[u8], u64); 4] = [(b"Aa", 3), (b"q", 1), (b"a", 2), (b"zzzzzz", 4)];
-
-const OF_32: [(&[u8], u64); 4] = [(b"Aa", 3), (b"a", 2), (b"q", 1), (b"zzzzzz", 4)];
-
-/// The walk order of 16 bins, and of 32, under the salt 1.
-const SALTED_16: [(&[u8], u64); 4] = [(b"q", 1), (b"a", 2), (b"Aa", 3), (b"zzzzzz", 4)];
-
-const SALTED_32: [(&[u8], u64); 4] = [(b"a", 2), (b"q", 1), (b"Aa", 3), (b"zzzzzz", 4)];
-
-/// The walk order under the salt 1 of a table that opens with 32 bins.
-const SALTED_OF_32: [(&[u8], u64); 4] = [(b"a", 2), (b"Aa", 3), (b"q", 1), (b"zzzzzz", 4)];
-
-/// Four keys in walk order.
-type Order = [(&'static [u8], u64); 4];
-
-/// A form, how many bins a map of 16 has with the four keys, and opened again with them, and three walk
-/// orders: of the first one, of the first one under the salt 1, and of the second one under it. A lean
-/// table has grown.
-type WithFour = (Form, usize, Order, Order, Order);
-
-const WITH_FOUR: [WithFour; 2] = [
-    (Form::Recorded, 16, OF_16, SALTED_16, SALTED_16),
-    (Form::Lean, 32, OF_32, SALTED_32, SALTED_OF_32),
-];
-
-/// Asserts the walk orders of the four keys in so many bins under a salt, in a map that is opened again
-/// with them under the salt 1, and in one of 32 bins that has others too.
-fn assert_orders<R: Wait + Abort>(
-    rt: &R,
-    alloc: Global,
-    (form, bins, salt): (Form, usize, Salt),
-    [first, second, wider]: [&Order; 3],
-) {
-    let closed = four_and_more(rt, alloc, form, salt, 0);
-    assert_four(rt, &closed, (form, salt, bins), first.as_slice());
-    let opened = if salt == Salt(1) {
-        again(rt, closed.reopen(1).expect(rt, "a map"))
-    } else {
-        again(rt, closed.reopen_with(1, Salt(1)).expect(rt, "a map"))
-    };
-    assert_four(rt, &opened, (form, Salt(1), bins), second.as_slice());
-    let grown = four_and_more(rt, alloc, form, salt, room(form));
-    assert_four(rt, &grown, (form, salt, 32), wider.as_slice());
-}
+/// The four keys and so many others, in 32 buckets.
+const FOUR_AND_MORE: &str = "open $0 16 1 $1
+    put q 1 = none
+    put a 2 = none
+    put Aa 3 = none
+    put zzzzzz 4 = none
+    numbers 0 $2
+    close
+    form = $0
+    salt = $1
+    bins = 32
+    pairs $3 $4 $5 $6 $7 $8 $9 $10";
 
 #[test]
 fn a_walk_shows_four_keys_in_order(rt: HostRuntime) {
-    for (form, bins, in_order, _salted, opened) in WITH_FOUR {
-        let orders = [&in_order, &opened, &OF_32];
-        assert_orders(&rt, rt.alloc(), (form, bins, Salt(0)), orders);
-    }
+    // A lean table has grown to 32 buckets, and opens again with 32.
+    run_rows(
+        &rt,
+        rt.alloc(),
+        FOUR,
+        "recorded 0 16 Aa 3 q 1 a 2 zzzzzz 4 1 q 1 a 2 Aa 3 zzzzzz 4
+        lean 0 32 Aa 3 a 2 q 1 zzzzzz 4 1 a 2 Aa 3 q 1 zzzzzz 4",
+    );
+    run_rows(
+        &rt,
+        rt.alloc(),
+        FOUR_AND_MORE,
+        "recorded 0 8 Aa 3 a 2 q 1 zzzzzz 4
+        lean 0 0 Aa 3 a 2 q 1 zzzzzz 4",
+    );
 }
 
 #[test]
 fn four_keys_stand_in_the_walk_order_of_a_salt(rt: HostRuntime) {
-    for (form, bins, _in_order, salted, opened) in WITH_FOUR {
-        let orders = [&salted, &opened, &SALTED_32];
-        assert_orders(&rt, rt.alloc(), (form, bins, Salt(1)), orders);
-    }
+    // Opened again without a salt, a map has the one that it had.
+    run_rows(
+        &rt,
+        rt.alloc(),
+        FOUR,
+        "recorded 1 16 q 1 a 2 Aa 3 zzzzzz 4 same q 1 a 2 Aa 3 zzzzzz 4
+        lean 1 32 a 2 q 1 Aa 3 zzzzzz 4 same a 2 Aa 3 q 1 zzzzzz 4",
+    );
+    run_rows(
+        &rt,
+        rt.alloc(),
+        FOUR_AND_MORE,
+        "recorded 1 8 a 2 q 1 Aa 3 zzzzzz 4
+        lean 1 0 a 2 q 1 Aa 3 zzzzzz 4",
+    );
 }
 
 #[test]
 fn a_glance_shows_the_value_before_and_after_a_move(rt: HostRuntime) {
-    for (form, more, calls) in [(Form::Recorded, 11, 12), (Form::Lean, 3, 4)] {
-        let rows: [Row; 7] = [
-            (0, Act::Glance(b"a"), NONE),
-            (0, Act::Make(b"a", Kind::Put(7)), NONE),
-            (0, Act::Glance(b"a"), Found::Value(Some(7))),
-            (0, Act::PutNumbers(0, more), Found::Done),
-            (0, Act::Glance(b"a"), Found::Value(Some(7))),
-            (0, Act::Glance(b"q"), NONE),
-            (0, Act::Made, Found::Number(calls)),
-        ];
-        let (bins, _, _) = left_by(&rt, rt.alloc(), (form, 16, 1), &rows, &[(b"a", 7)]);
-        assert_same(&rt, &bins, &32);
-    }
+    run_rows(
+        &rt,
+        rt.alloc(),
+        "open $0 16 1
+        glance a = none
+        put a 7 = none
+        glance a = 7
+        numbers 0 $1
+        glance a = 7
+        glance q = none
+        made = $2
+        close
+        bins = 32
+        pairs a 7",
+        "recorded 11 12
+        lean 3 4",
+    );
 }
 
 #[test]
 fn a_clear_removes_each_entry_by_a_call(rt: HostRuntime) {
-    let rows: [Row; 5] = [
-        (0, Act::Make(b"a", Kind::Put(1)), NONE),
-        (0, Act::Make(b"q", Kind::Put(2)), NONE),
-        (0, Act::Make(b"Aa", Kind::Put(3)), NONE),
-        (0, Act::Clear, Found::Done),
-        (0, Act::Made, Found::Number(6)),
-    ];
-    for (form, wanted) in [(Form::Recorded, 6), (Form::Lean, 0)] {
-        let (_, keys, records) = left_by(&rt, rt.alloc(), (form, 16, 1), &rows, &[]);
-        assert_same(&rt, &(keys, records), &(0, wanted));
-    }
+    run_rows(
+        &rt,
+        rt.alloc(),
+        "open $0 16 1
+        put a 1 = none
+        put q 2 = none
+        put Aa 3 = none
+        clear
+        made = 6
+        close
+        keys = 0
+        records = $1
+        pairs",
+        "recorded 6
+        lean 0",
+    );
 }

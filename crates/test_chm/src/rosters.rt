@@ -3,10 +3,10 @@ ghost use Rattle.std.specs.Prelude.{◌≡◌, All, IfOk, IfSome};
 
 use crate::examples::{NumberPass, NumberQuiet, Numbers, Plus};
 use crate::maps::assert_same;
-use crate::steps::{Act, Found, Kind, NONE, Row, left_by};
-use bin_history::{Form, Reply};
+use crate::plays::{Play, played};
+use crate::runs::run;
+use bin_history::Reply;
 use chm::{Fault, Map, Moment, NotClosedWith, Roster, Started};
-use count_ledger::retire_all;
 use hashkeys::Salt;
 use std::alloc::Global;
 use std::process::Abort;
@@ -23,22 +23,29 @@ type NumberRoster = Roster<u64, u64, Plus>;
 fn two_clients_of_one_lane_count_each_its_own(rt: HostRuntime) {
     // Clients 0 and 32 count in one lane: the first adds two keys, the other adds one and takes one of
     // the first's away.
-    let rows: [Row; 11] = [
-        (0, Act::Client, Found::Number(0)),
-        (32, Act::Client, Found::Number(32)),
-        (0, Act::Make(b"a", Kind::Put(5)), NONE),
-        (0, Act::Make(b"q", Kind::Put(5)), NONE),
-        (0, Act::Make(b"q", Kind::Put(6)), Found::Value(Some(5))),
-        (32, Act::Make(b"Aa", Kind::Put(5)), NONE),
-        (32, Act::Make(b"a", Kind::Remove), Found::Value(Some(5))),
-        (32, Act::Make(b"q", Kind::Get), Found::Value(Some(6))),
-        (0, Act::Balance, Found::Number(2)),
-        (32, Act::Balance, Found::Number(0)),
-        (0, Act::Count, Found::Number(2)),
-    ];
-    let pairs: [(&[u8], u64); 2] = [(b"Aa", 5), (b"q", 6)];
-    let (_, keys, _) = left_by(&rt, rt.alloc(), (Form::Lean, 16, 33), &rows, &pairs);
-    assert_same(&rt, &keys, &2);
+    run(
+        &rt,
+        rt.alloc(),
+        "open lean 16 33
+        client = 0
+        as 32
+        client = 32
+        as 0
+        put a 5 = none
+        put q 5 = none
+        put q 6 = 5
+        as 32
+        put Aa 5 = none
+        remove a = 5
+        get q = 6
+        balance = 0
+        as 0
+        balance = 2
+        count = 2
+        close
+        keys = 2
+        pairs Aa 5 q 6",
+    );
 }
 
 /// Whether the roster has no pass left.
@@ -56,21 +63,33 @@ fn is_empty(map: &Numbers, roster: &mut NumberRoster) -> bool
     }
 }
 
+/// Both clients join. Tells their numbers, how many passes were taken and how many clients there are, and
+/// whether the roster is empty then.
+fn two_join(
+    rt: &impl Abort,
+    map: &Numbers,
+    roster: &mut NumberRoster,
+) -> ((u32, u32), (u32, u32), bool)
+    requires { roster.old.ledger ≡ map.now.ledger.id }
+{
+    let first = map.join(roster).expect(rt, "a pass");
+    let second = map.join(roster).expect(rt, "a pass");
+    let clients = (first.client(), second.client());
+    let taken = (roster.taken(), roster.clients());
+    let empty = is_empty(map, roster);
+    first.retire();
+    second.retire();
+    (clients, taken, empty)
+}
+
 #[test]
 fn a_roster_gives_each_client_its_pass_once(rt: HostRuntime) {
     let (map, mut roster): NumbersStarted = Map::lean_with(rt.alloc(), 16, 2, Salt(0)).expect(
         &rt, "a map",
     );
-    let first = map.join(&mut roster).expect(&rt, "a pass");
-    let second = map.join(&mut roster).expect(&rt, "a pass");
-    let clients = (first.client(), second.client());
-    let taken = (roster.taken(), roster.clients());
-    let empty = is_empty(&map, &mut roster);
-    let bytes = size_of::<NumberRoster>();
-    first.retire();
-    second.retire();
-    assert_same(&rt, &(clients, taken), &((0, 1), (2, 2)));
-    assert!(rt; empty && bytes == 8);
+    let told = two_join(&rt, &map, &mut roster);
+    assert_same(&rt, &told, &((0, 1), (2, 2), true));
+    assert_same(&rt, &size_of::<NumberRoster>(), &8);
 }
 
 /// A client that comes and puts 5 at 1.
@@ -220,25 +239,39 @@ fn too_many_clients_ask_for_no_memory(rt: HostRuntime) {
     }
 }
 
-/// The first client puts, both learn of each other, and the second gets.
-fn all_learn<R: Wait>(rt: &R, map: &Numbers, passes: &mut [NumberPass]) -> Result<bool, Fault>
+/// The first of these clients puts, both learn of each other, and the second gets.
+fn all_learn<R: Wait + Abort>(rt: &R, map: &Numbers, passes: &mut [NumberPass]) -> bool
     requires { All (λ p. p.ledger ≡ map.now.ledger.id) passes.old }
 {
-    if passes.len() < 2 {
-        return Ok(false);
-    }
-    map.put(rt, &mut passes[0], 1, 5)?;
+    assert!(rt; passes.len() == 2);
+    map.put(rt, &mut passes[0], 1, 5).expect(rt, "memory");
     map.learn_all(passes);
-    Ok(map.get(rt, &mut passes[1], 1)? == Reply::Value(Some(5)))
+    map.get(rt, &mut passes[1], 1).expect(rt, "memory") == Reply::Value(Some(5))
+}
+
+/// Whether the two other clients learn.
+#[derive(Drop)]
+struct AllLearn;
+
+impl Play<u64, u64, Plus, Global> for AllLearn {
+    type Told = bool;
+
+    fn play<R: Wait + Abort>(
+        &self,
+        rt: &R,
+        map: &Numbers,
+        _pass: &mut NumberPass,
+        others: &mut Vec<NumberPass, Global>,
+    ) -> bool {
+        all_learn(rt, map, others)
+    }
 }
 
 #[test]
 fn all_clients_learn_what_one_put(rt: HostRuntime) {
     for form in BOTH {
-        let (map, mut passes) = open(rt.alloc(), form, 16, 2).expect(&rt, "a map");
-        let right = all_learn(&rt, &map, &mut passes);
-        assert!(rt; right == Ok(true));
-        retire_all(passes);
+        let right = played(&rt, rt.alloc(), (form, 3), &AllLearn);
+        assert_same(&rt, &(form, right), &(form, true));
     }
 }
 

@@ -1,7 +1,7 @@
 //! What maps show of themselves, and loops over closed ones.
-use crate::examples::{NumberQuiet, Plus};
+use crate::examples::NumberQuiet;
 use bin_history::Form;
-use chm::{Fault, Map, NotClosed};
+use chm::Fault;
 use std::alloc::Global;
 use std::process::Abort;
 use test_maps::open;

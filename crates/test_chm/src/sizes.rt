@@ -1,37 +1,53 @@
 //! What may be refused memory, at each power of two of a map's entries and with ample memory.
-use crate::ample::taken;
-use crate::maps::assert_same;
-use crate::steps::{Act, Found, Row, after_steps};
-use bin_history::Form;
-use std::alloc::Global;
-use std::process::Abort;
-use std::sync::Wait;
-use test_support::Refusing;
+use crate::runs::run_rows;
 
-/// Asserts for each size that a walk shows as many entries, and that the closed map has as many keys,
-/// whose pairs are taken out.
-fn assert_sizes<R: Wait + Abort>(rt: &R, alloc: Global, form: Form) {
-    for level in 0..17u32 {
-        let count = 1u32 << level;
-        let number = u64::from(count);
-        let rows: [Row; 2] = [
-            (0, Act::PutNumbers(0, count), Found::Done),
-            (0, Act::CountEntries, Found::Number(number)),
-        ];
-        let switch = Refusing::new(alloc);
-        let closed = after_steps(rt, &switch, alloc, (form, 1, 1), &rows);
-        let keys = closed.mapping_count();
-        let (pairs, _sum) = taken(rt, closed);
-        assert_same(rt, &(keys, pairs), &(number, count as usize));
-    }
-}
+/// How many keys there are, and the sum of their values.
+const SIZES: &str = "
+    1 0
+    2 1
+    4 6
+    8 28
+    16 120
+    32 496
+    64 2016
+    128 8128
+    256 32640
+    512 130816
+    1024 523776
+    2048 2096128
+    4096 8386560
+    8192 33550336
+    16384 134209536
+    32768 536854528
+    65536 2147450880
+";
 
 #[test]
 fn recorded_maps_of_each_size_have_their_memory(rt: HostRuntime) {
-    assert_sizes(&rt, rt.alloc(), Form::Recorded);
+    run_rows(
+        &rt,
+        rt.alloc(),
+        "open recorded 1 1
+        numbers 0 $0
+        walk_entries = $0
+        close
+        keys = $0
+        take = $0 $1",
+        SIZES,
+    );
 }
 
 #[test]
 fn lean_maps_of_each_size_have_their_memory(rt: HostRuntime) {
-    assert_sizes(&rt, rt.alloc(), Form::Lean);
+    run_rows(
+        &rt,
+        rt.alloc(),
+        "open lean 1 1
+        numbers 0 $0
+        walk_entries = $0
+        close
+        keys = $0
+        take = $0 $1",
+        SIZES,
+    );
 }

@@ -1,137 +1,146 @@
 //! Changing a value by a function: what it is shown, which call the change is, and what each refused
 //! request leaves.
-use crate::maps::KeyQuiet;
-use crate::steps::{Act, Edit, Found, Kind, NONE, Row, Way, after_steps};
-use bin_history::{Call, Form};
-use chm::Fault;
+ghost use Rattle.std.specs.Prelude.{◌≡◌};
+
+use crate::lines::number;
+use crate::maps::{KeyMap, KeyPass, numbered};
+use crate::runs::run_rows;
+use bin_history::KeyArg;
+use chm::{Change, Fault};
 use hashkeys::Key;
 use std::alloc::Allocator;
 use std::process::Abort;
-use test_maps::BOTH;
-use test_support::{Plus, Refusing};
+use std::sync::Wait;
 
-/// A call as a letter and the value that it brings.
-fn short(call: &Call<Key, u64, Plus>) -> (char, Option<u64>) {
-    match call {
-        Call::Contains(_) => ('c', None),
-        Call::Put(_, value) => ('p', Some(*value)),
-        Call::Remove(_) => ('r', None),
-        Call::Get(_) => ('g', None),
-        _ => ('?', None),
+/// What a function does to a value: it stays, goes, or is set to this.
+pub(crate) fn change_to(rt: &impl Abort, word: &str, value: &str) -> Change<u64> {
+    match word {
+        "keep" => Change::Keep,
+        "remove" => Change::Remove,
+        _ => Change::Set(number(rt, value)),
     }
 }
 
-/// Whether the records of the bucket of slot 1 are the calls that were made.
-fn is_updated<A: Allocator + Clone>(rt: &impl Abort, closed: &KeyQuiet<A>) -> bool {
-    let bin = closed.bins().get(1).expect(rt, "a bucket of slot 1");
-    let bin = bin.recorded().expect(rt, "records");
-    let wanted = [
-        ('c', None),
-        ('p', Some(6)),
-        ('p', Some(7)),
-        ('r', None),
-        ('p', Some(9)),
-        ('g', None),
-    ];
-    let mut same = bin.records().len() == wanted.len();
-    for (record, call) in bin.records().iter().zip(wanted) {
-        same = same && short(record.call()) == call;
+/// Changes a value by a function that is called once and returns what it was shown, by the call of this
+/// name, which says how its key is given.
+pub(crate) fn update<R: Wait + Abort, A: Allocator + Clone>(
+    rt: &R,
+    map: &KeyMap<A>,
+    pass: &mut KeyPass,
+    key: Key,
+    way: &str,
+    change: Change<u64>,
+) -> Result<Option<u64>, Fault>
+    requires { pass.old.ledger ≡ map.now.ledger.id }
+    ensures { pass.new.ledger ≡ map.now.ledger.id }
+{
+    let mut called = 0u32;
+    let showing = |value: Option<&u64>| -> (Change<u64>, Option<u64>) {
+        called = called.saturating_add(1);
+        (change, value.copied())
+    };
+    let made = match way {
+        "owned" => map.update(rt, pass, key, showing),
+        "lent" => map.update_lent(rt, pass, &key, showing),
+        "borrowed" => map.update_on(rt, pass, KeyArg::Borrowed(&key), showing),
+        _ => map
+            .try_update(pass, KeyArg::Owned(key), showing)
+            .expect(rt, "a free bucket"),
+    };
+    assert!(rt; called == 1);
+    made
+}
+
+/// Updates of this way give so many new keys their numbers.
+pub(crate) fn fill<R: Wait + Abort, A: Allocator + Clone>(
+    rt: &R,
+    map: &KeyMap<A>,
+    pass: &mut KeyPass,
+    way: &str,
+    count: u32,
+)
+    requires { pass.old.ledger ≡ map.now.ledger.id }
+    ensures { pass.new.ledger ≡ map.now.ledger.id }
+{
+    for number in 0..count {
+        let change = Change::Set(u64::from(number));
+        let shown = update(rt, map, pass, numbered(rt, number), way, change);
+        assert!(rt; shown == Ok(None));
     }
-    same
 }
 
 #[test]
 fn an_update_is_the_call_for_its_change(rt: HostRuntime) {
-    // The value stays, is set twice and taken away, and is set once more.
-    let rows: [Row; 7] = [
-        (0, Act::Update(b"a", Way::Owned, Edit::Keep), NONE),
-        (0, Act::Update(b"a", Way::Owned, Edit::Set(6)), NONE),
-        (
-            0,
-            Act::Update(b"a", Way::Lent, Edit::Set(7)),
-            Found::Value(Some(6)),
-        ),
-        (
-            0,
-            Act::Update(b"a", Way::Tried, Edit::Remove),
-            Found::Value(Some(7)),
-        ),
-        (0, Act::Update(b"a", Way::Borrowed, Edit::Set(9)), NONE),
-        (0, Act::Make(b"a", Kind::Get), Found::Value(Some(9))),
-        (0, Act::Made, Found::Number(6)),
-    ];
-    for form in BOTH {
-        let alloc = Refusing::new(rt.alloc());
-        let closed = after_steps(&rt, &alloc, &alloc, (form, 16, 1), &rows);
-        let has_calls = form == Form::Lean || is_updated(&rt, &closed);
-        drop(closed);
-        assert!(rt; has_calls, "{form:?}");
-    }
+    // The value stays, is set twice and taken away, and is set once more. A lean map has no records.
+    run_rows(
+        &rt,
+        rt.alloc(),
+        "open $0 16 1
+        update owned a keep = none
+        update owned a set 6 = none
+        update lent a set 7 = 6
+        update tried a remove = 7
+        update borrowed a set 9 = none
+        get a = 9
+        made = 6
+        close
+        pairs a 9
+        records = $1
+        record 0 = $2
+        record 1 = $3 $4
+        record 2 = $3 $5
+        record 3 = $6
+        record 4 = $3 $7
+        record 5 = $8",
+        "recorded 6 contains put 6 7 remove 9 get
+        lean 0 lean lean 0 0 lean 0 lean",
+    );
 }
-
-/// An update of one key, with no request granted: of `a`, which has the value 5, or of `q`, which has
-/// none. What it finds, and the values of both then.
-type LeanUpdate = (&'static [u8], Edit, Found, [Option<u64>; 2]);
-
-const LEAN_UPDATES: [LeanUpdate; 6] = [
-    (b"a", Edit::Keep, Found::Value(Some(5)), [Some(5), None]),
-    (b"a", Edit::Set(6), Found::Value(Some(5)), [Some(6), None]),
-    (b"a", Edit::Remove, Found::Value(Some(5)), [None, None]),
-    (b"q", Edit::Keep, NONE, [Some(5), None]),
-    (b"q", Edit::Remove, NONE, [Some(5), None]),
-    (
-        b"q",
-        Edit::Set(6),
-        Found::Refused(Fault::NoMemory),
-        [Some(5), None],
-    ),
-];
 
 #[test]
 fn a_lean_update_asks_for_memory_where_it_makes_an_entry(rt: HostRuntime) {
-    for (text, edit, found, [a, q]) in LEAN_UPDATES {
-        let rows: [Row; 6] = [
-            (0, Act::Make(b"a", Kind::Put(5)), NONE),
-            (0, Act::Grant(0), Found::Done),
-            (0, Act::Update(text, Way::Lent, edit), found),
-            (0, Act::Grant(u64::MAX), Found::Done),
-            (0, Act::View(b"a"), Found::Value(a)),
-            (0, Act::View(b"q"), Found::Value(q)),
-        ];
-        let alloc = Refusing::new(rt.alloc());
-        drop(after_steps(&rt, &alloc, &alloc, (Form::Lean, 16, 1), &rows));
-    }
+    // An update of one key, with no request granted: of `a`, which has the value 5, or of `q`, which has
+    // none. What it finds, and the values of both then.
+    run_rows(
+        &rt,
+        rt.alloc(),
+        "open lean 16 1
+        put a 5 = none
+        grant 0
+        update lent $0 $1 $2 = $3
+        grant max
+        view a = $4
+        view q = $5",
+        "a keep - 5 5 none
+        a set 6 5 6 none
+        a remove - 5 none none
+        q keep - none 5 none
+        q remove - none 5 none
+        q set 6 no-memory 5 none",
+    );
 }
-
-/// A put and so many gets of `a`, which has the value 5, and an update to 6 of it or of `q`, with so many
-/// requests granted. What it finds, and the values of both then.
-type RecordedUpdate = (&'static [u8], u32, u64, Found, [Option<u64>; 2]);
-
-const REFUSED: Found = Found::Refused(Fault::NoMemory);
-
-/// The bucket has room for four records at first, and for as many entries.
-const RECORDED_UPDATES: [RecordedUpdate; 6] = [
-    (b"a", 2, 0, Found::Value(Some(5)), [Some(6), None]),
-    (b"a", 3, 0, REFUSED, [Some(5), None]),
-    (b"a", 3, 1, Found::Value(Some(5)), [Some(6), None]),
-    (b"q", 2, 0, NONE, [Some(5), Some(6)]),
-    (b"q", 3, 0, REFUSED, [Some(5), None]),
-    (b"q", 3, 1, NONE, [Some(5), Some(6)]),
-];
 
 #[test]
 fn a_refused_update_of_a_recorded_map_changes_nothing(rt: HostRuntime) {
-    for (text, gets, granted, found, [a, q]) in RECORDED_UPDATES {
-        let rows: [Row; 7] = [
-            (0, Act::Make(b"a", Kind::Put(5)), NONE),
-            (0, Act::GetOften(gets, 5), Found::Done),
-            (0, Act::Grant(granted), Found::Done),
-            (0, Act::Update(text, Way::Lent, Edit::Set(6)), found),
-            (0, Act::Grant(u64::MAX), Found::Done),
-            (0, Act::View(b"a"), Found::Value(a)),
-            (0, Act::View(b"q"), Found::Value(q)),
-        ];
-        let alloc = Refusing::new(rt.alloc());
-        drop(after_steps(&rt, &alloc, &alloc, (Form::Recorded, 16, 1), &rows));
-    }
+    // A put and so many gets of `a`, which has the value 5, and an update to 6 of it or of `q`, with so many
+    // requests granted. What it finds, and the values of both then. The bucket has room for four records
+    // at first, and for as many entries.
+    run_rows(
+        &rt,
+        rt.alloc(),
+        "open recorded 16 1
+        put a 5 = none
+        often $1 5
+        grant $2
+        update lent $0 set 6 = $3
+        grant max
+        view a = $4
+        view q = $5",
+        "a 2 0 5 6 none
+        a 3 0 no-memory 5 none
+        a 3 1 5 6 none
+        q 2 0 none 5 6
+        q 3 0 no-memory 5 none
+        q 3 1 none 5 6",
+    );
 }

@@ -2,62 +2,91 @@
 ghost use Rattle.std.specs.Prelude.{◌≡◌};
 
 use crate::maps::{KeyMap, KeyPass, assert_same, key};
-use crate::steps::{Act, Found, Kind, NONE, Row, left_by};
-use bin_history::Form;
+use crate::plays::{Play, played};
+use crate::runs::{BOTH_FORMS, run_rows};
+use crate::steps::own;
+use bin_history::{Remap, Value};
 use chm::{Fault, Map};
-use count_ledger::retire_all;
+use count_ledger::Pass;
 use hashkeys::Key;
-use std::alloc::Global;
+use std::alloc::{Allocator, Global};
 use std::process::Abort;
 use std::sync::Wait;
-use test_maps::{BOTH, Single, close_single, open, open_single, take_pass};
-use test_support::{Alloc, Answer, Number, Refusing};
-
-/// The value that is shown, as a number of its own.
-fn number(value: Option<&u64>) -> Option<u64> {
-    value.copied()
-}
+use test_maps::BOTH;
+use test_support::{Alloc, Answer, Number, Plus, Refusing};
 
 #[test]
 fn a_view_sees_what_the_call_before_it_left(rt: HostRuntime) {
-    let rows: [Row; 10] = [
-        (0, Act::Make(b"a", Kind::Put(1)), NONE),
-        (0, Act::Make(b"q", Kind::Put(4)), NONE),
-        (1, Act::View(b"a"), Found::Value(Some(1))),
-        (0, Act::Make(b"a", Kind::Put(2)), Found::Value(Some(1))),
-        (0, Act::Make(b"q", Kind::Remove), Found::Value(Some(4))),
-        (1, Act::View(b"a"), Found::Value(Some(2))),
-        (1, Act::View(b"q"), NONE),
-        (1, Act::View(b"Aa"), NONE),
-        (0, Act::Made, Found::Number(4)),
-        (1, Act::Made, Found::Number(0)),
-    ];
-    for form in BOTH {
-        let (_, keys, _) = left_by(&rt, rt.alloc(), (form, 16, 2), &rows, &[(b"a", 2)]);
-        assert_same(&rt, &keys, &1);
+    run_rows(
+        &rt,
+        rt.alloc(),
+        "open $0 16 2
+        put a 1 = none
+        put q 4 = none
+        as 1
+        view a = 1
+        as 0
+        put a 2 = 1
+        remove q = 4
+        as 1
+        view a = 2
+        view q = none
+        view Aa = none
+        made = 0
+        as 0
+        made = 4
+        close
+        keys = 1
+        pairs a 2",
+        BOTH_FORMS,
+    );
+}
+
+/// Puts a value at a key.
+pub(crate) fn put_in<R: Wait + Abort, V: Value, F: Remap<Key, V>, A: Allocator + Clone>(
+    rt: &R,
+    map: &Map<Key, V, F, A>,
+    pass: &mut Pass<Key, V, F>,
+    text: &[u8],
+    value: V,
+)
+    requires { pass.old.ledger ≡ map.now.ledger.id }
+    ensures { pass.new.ledger ≡ map.now.ledger.id }
+{
+    assert!(rt; map.put(rt, pass, key(rt, text), value).is_ok());
+}
+
+/// While the first client looks at "a", the second tries to see at the same bucket and at another one.
+/// Tells what came of it, and whether a function of a try that found the bucket locked was called.
+#[derive(Drop)]
+struct TryUnderALock;
+
+impl<A: Allocator + Clone> Play<Key, u64, Plus, A> for TryUnderALock {
+    type Told = ([Option<Option<u64>>; 2], bool);
+
+    fn play<R: Wait + Abort>(
+        &self,
+        rt: &R,
+        map: &KeyMap<A>,
+        pass: &mut KeyPass,
+        others: &mut Vec<KeyPass, A>,
+    ) -> ([Option<Option<u64>>; 2], bool) {
+        assert!(rt; others.len() == 1);
+        put_in(rt, map, &mut others[0], b"a", 1);
+        put_in(rt, map, &mut others[0], b"Aa", 3);
+        view_twice(rt, map, &mut others[0], pass)
     }
 }
 
-/// The second client tries a step of a walk; and while the first looks at "a", the second tries to see
-/// at the same bucket and at another one. Answers what came of it, and whether a function of a try that
-/// found the bucket locked was called.
-fn tries_under_a_lock<R: Wait + Abort>(
+fn view_twice<R: Wait + Abort, A: Allocator + Clone>(
     rt: &R,
-    map: &KeyMap<Global>,
+    map: &KeyMap<A>,
     first: &mut KeyPass,
     second: &mut KeyPass,
-) -> ([Option<Option<u64>>; 2], bool, [bool; 2])
+) -> ([Option<Option<u64>>; 2], bool)
     requires first { first.old.ledger ≡ map.now.ledger.id }
     requires second { second.old.ledger ≡ map.now.ledger.id }
 {
-    assert!(rt; map.put(rt, first, key(rt, b"a"), 1).is_ok());
-    assert!(rt; map.put(rt, first, key(rt, b"Aa"), 3).is_ok());
-    let mut cursor = map.cursor();
-    let begun = cursor.is_at_end();
-    let goes = match map.try_visit_next(second, &mut cursor) {
-        Some(Ok(Some(visit))) => visit.class.index() == 0 && visit.entries.len() == 1,
-        _ => false,
-    };
     let same = key(rt, b"q");
     let other = key(rt, b"Aa");
     let mut called = false;
@@ -72,77 +101,85 @@ fn tries_under_a_lock<R: Wait + Abort>(
                 called = true;
                 value.copied()
             });
-            let free = map.try_view(second, &other, number);
+            let free = map.try_view(second, &other, own);
             [busy, free]
         },
     );
-    (tried, called, [begun, goes])
-}
-
-/// The same on a new map.
-fn try_under_a_lock<R: Wait + Abort>(
-    rt: &R,
-    alloc: Global,
-    form: Form,
-) -> ([Option<Option<u64>>; 2], bool, [bool; 2]) {
-    let Single {
-        map,
-        mut pass,
-        mut place,
-    } = take_pass(open(alloc, form, 16, 2).expect(rt, "a map")).expect(rt, "a pass");
-    assert!(rt; place.len() == 1);
-    let tried = tries_under_a_lock(rt, &map, &mut place[0], &mut pass);
-    pass.retire();
-    retire_all(place);
-    tried
+    (tried, called)
 }
 
 #[test]
 fn a_function_that_calls_the_map_finds_its_own_bucket_locked(rt: HostRuntime) {
     for form in BOTH {
-        let (tried, called, walked) = try_under_a_lock(&rt, rt.alloc(), form);
-        assert!(rt; tried == [None, Some(Some(3))]);
-        assert_same(&rt, &(called, walked), &(false, [false, true]));
+        let told = played(&rt, rt.alloc(), (form, 2), &TryUnderALock);
+        assert_same(&rt, &told, &([None, Some(Some(3))], false));
     }
+    // A step of a walk that is tried goes on where nobody looks.
+    run_rows(
+        &rt,
+        rt.alloc(),
+        "open $0 16 2
+        put a 1 = none
+        put Aa 3 = none
+        as 1
+        cursor
+        at_end = false
+        step try 16 0 Aa 3",
+        BOTH_FORMS,
+    );
 }
 
 /// Looks at a value whose copies ask for memory: where it lies, and by copies with and without
-/// memory. Answers what was seen, and whether the view asked for memory.
-fn look<'a, R: Wait + Abort>(
+/// memory. Tells what was seen, and whether the view asked for memory.
+#[derive(Drop)]
+struct Look<'a>(Alloc<'a>);
+
+impl<'a> Play<Key, Number<'a>, Answer<'a>, Alloc<'a>> for Look<'a> {
+    type Told = ([Option<u64>; 2], bool, Option<Fault>);
+
+    fn play<R: Wait + Abort>(
+        &self,
+        rt: &R,
+        map: &Map<Key, Number<'a>, Answer<'a>, Alloc<'a>>,
+        pass: &mut Pass<Key, Number<'a>, Answer<'a>>,
+        _others: &mut Vec<Pass<Key, Number<'a>, Answer<'a>>, Alloc<'a>>,
+    ) -> ([Option<u64>; 2], bool, Option<Fault>) {
+        let alloc = self.0;
+        put_in(rt, map, pass, b"a", Number { number: 7, alloc });
+        alloc.refuse_after(0);
+        let viewed = map.view(rt, pass, &key(rt, b"a"), |value| Some(value?.number));
+        let asked = alloc.has_refused();
+        let (refused, copied) = copy_twice(rt, alloc, map, pass);
+        ([viewed, Some(copied.number)], asked, refused)
+    }
+}
+
+/// Copies the value of `a` without memory, and with it.
+fn copy_twice<R: Wait + Abort, V: Value, F: Remap<Key, V>, A: Allocator + Clone>(
     rt: &R,
-    alloc: Alloc<'a>,
-    form: Form,
-) -> ([Option<u64>; 2], bool, Option<Fault>) {
-    let Single {
-        map,
-        mut pass,
-        place,
-    } = open_single(alloc, form, 16).expect(rt, "a map");
-    let map: Map<Key, Number<'a>, Answer<'a>, Alloc<'a>> = map;
-    let value = Number { number: 7, alloc };
-    assert!(rt; map.put(rt, &mut pass, key(rt, b"a"), value).is_ok());
-    alloc.refuse_after(0);
-    let viewed = map.view(rt, &mut pass, &key(rt, b"a"), |value| Some(value?.number));
-    let asked = alloc.has_refused();
-    let refused = map.look_up(rt, &mut pass, &key(rt, b"a")).err();
-    alloc.refuse_after(u64::MAX);
-    let copied = map
-        .look_up(rt, &mut pass, &key(rt, b"a"))
-        .expect(rt, "memory");
-    drop(close_single(map, pass, place).expect(rt, "a closed map"));
-    (
-        [viewed, Some(copied.expect(rt, "a value").number)],
-        asked,
-        refused,
-    )
+    switch: &Refusing<Global>,
+    map: &Map<Key, V, F, A>,
+    pass: &mut Pass<Key, V, F>,
+) -> (Option<Fault>, V)
+    requires { pass.old.ledger ≡ map.now.ledger.id }
+{
+    let at = key(rt, b"a");
+    switch.refuse_after(0);
+    let refused = map.look_up(rt, pass, &at).err();
+    switch.refuse_after(u64::MAX);
+    let copied = map.look_up(rt, pass, &at).expect(rt, "memory");
+    (refused, copied.expect(rt, "a value"))
 }
 
 #[test]
 fn a_view_copies_nothing_and_a_look_up_a_value(rt: HostRuntime) {
     for form in BOTH {
         let alloc = Refusing::new(rt.alloc());
-        let (seen, asked, refused) = look(&rt, &alloc, form);
-        assert!(rt; seen == [Some(7), Some(7)]);
-        assert_same(&rt, &(asked, refused), &(false, Some(Fault::NoMemory)));
+        let told = played(&rt, &alloc, (form, 1), &Look(&alloc));
+        assert_same(
+            &rt,
+            &told,
+            &([Some(7), Some(7)], false, Some(Fault::NoMemory)),
+        );
     }
 }
