@@ -14,10 +14,11 @@ pub(crate) fn empty(rt: &impl Abort, alloc: Global) -> KeyBin {
     RecordedBin::new(alloc, Salt(0), Class::new(1, 0), Vec::new(alloc)).expect(rt, "memory")
 }
 
-/// The client, the ordinal and the delta of a bin's newest record.
-fn newest(rt: &impl Abort, bin: &KeyBin) -> (u32, u64, i64) {
+/// The delta of a bin's newest record, which is client 7's of this ordinal.
+fn newest_delta(rt: &impl Abort, bin: &KeyBin, ordinal: u64) -> i64 {
     let last = bin.records().last().expect(rt, "a record");
-    (last.client(), last.ordinal(), last.delta())
+    assert_same(rt, &(last.client(), last.ordinal()), &(7, ordinal));
+    last.delta()
 }
 
 impl Makes for RecordedBin<Key, u64, Plus, Global> {
@@ -31,9 +32,7 @@ impl Makes for RecordedBin<Key, u64, Plus, Global> {
         assert!(rt; class.covers(salt.hash_of(call.key())) && ordinal < 1 << 48);
         let ready = self.prepare(call).expect(rt, "memory");
         let reply = self.apply(ready, 7, ordinal).0;
-        let (client, number, delta) = newest(rt, self);
-        assert!(rt; client == 7 && number == ordinal);
-        (reply, delta)
+        (reply, newest_delta(rt, self, ordinal))
     }
 }
 

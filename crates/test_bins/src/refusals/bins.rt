@@ -1,15 +1,37 @@
 //! A bin, each request of its making and of a call refused in turn.
+ghost use Rattle.std.specs.Prelude.{◌≡◌, [], ◌∷◌};
+
 use crate::asserts::{assert_same, key};
 use crate::refusals::samples::{Asking, State, bin_with, make_at, state_of, was_refused};
 use crate::rows::{Line, Samples, listed, reply_of, sixteenth};
 use bin_history::{Bin, Form, Remap, Value};
 use hashkeys::{Key, Salt};
-use std::alloc::{Allocator, Global};
+use std::alloc::{AllocError, Allocator, Global};
 use std::process::Abort;
 use test_support::Refusing;
 
 /// More than any call's requests.
 const MANY: u64 = 1000;
+
+/// The list of one item.
+fn alone<T, A: Allocator + Clone>(rt: &impl Abort, alloc: &A, item: T) -> Vec<T, A>
+where
+    T: Drop,
+    ensures { result.items ≡ item ∷ [] }
+{
+    Vec::from_array(alloc.clone().expect(rt, "memory"), [item]).expect(rt, "memory")
+}
+
+/// What a bin has, where one is made.
+fn found_of<V: Value, F: Remap<Key, V>, A: Allocator + Clone, S: Samples<V, F>>(
+    samples: &S,
+    made: &Result<Bin<Key, V, F, A>, AllocError>,
+) -> Option<State> {
+    match made {
+        Ok(bin) => Some(state_of(samples, bin)),
+        Err(_) => None,
+    }
+}
 
 /// Makes a bin of one pair with the request after so many refused. Returns what the bin has, where one is
 /// made, and whether the request was refused.
@@ -23,15 +45,10 @@ fn refuse_new<V: Value, F: Remap<Key, V>, A: Allocator + Clone, S: Samples<V, F>
 ) -> (Option<State>, bool) {
     let (class, own) = (sixteenth(), key(rt, b"q"));
     assert!(rt; class.covers(Salt(0).hash_of(&own)));
-    let mut base = Vec::new(alloc.clone().expect(rt, "memory"));
-    base.push((own, samples.value(1))).expect(rt, "memory");
+    let base = alone(rt, alloc, (own, samples.value(1)));
     switch.refuse_after(granted);
-    let made: Option<Bin<Key, V, F, A>> = Bin::new(alloc, form, Salt(0), class, base).ok();
-    let refused = was_refused(switch);
-    match made {
-        Some(bin) => (Some(state_of(samples, &bin)), refused),
-        None => (None, refused),
-    }
+    let found = found_of(samples, &Bin::new(alloc, form, Salt(0), class, base));
+    (found, was_refused(switch))
 }
 
 /// Refuses each request of the making of a bin, of which there are so many.

@@ -6,7 +6,7 @@ use crate::refusals::samples::{
 use crate::rows::{Samples, listed, sixteenth};
 use bin_history::{Bin, Call, Form, Remap, Value};
 use hashkeys::Key;
-use std::alloc::{Allocator, Global};
+use std::alloc::{AllocError, Allocator, Global};
 use std::process::Abort;
 use test_support::Refusing;
 
@@ -81,6 +81,23 @@ fn a_refused_fold_leaves_the_base(rt: HostRuntime) {
 /// What a split finds: the halves, or the bin that came back.
 type Halves = Result<(State, State), State>;
 
+/// What a split gives.
+type Split<V, F, A> = Result<
+    (Bin<Key, V, F, A>, Bin<Key, V, F, A>),
+    (Bin<Key, V, F, A>, AllocError),
+>;
+
+/// What there is after a split.
+fn states_of<V: Value, F: Remap<Key, V>, A: Allocator + Clone, S: Samples<V, F>>(
+    samples: &S,
+    split: &Split<V, F, A>,
+) -> Halves {
+    match split {
+        Ok((low, high)) => Ok((state_of(samples, low), state_of(samples, high))),
+        Err((bin, _refused)) => Err(state_of(samples, bin)),
+    }
+}
+
 /// Splits a bin in which `q` and then `a` were put, and then `q` again, with the request after so
 /// many refused. Returns what there is then, and whether the request was made.
 fn refuse_split<V: Value, F: Remap<Key, V>, A: Allocator + Clone, S: Samples<V, F>>(
@@ -95,15 +112,8 @@ fn refuse_split<V: Value, F: Remap<Key, V>, A: Allocator + Clone, S: Samples<V, 
     let bin = bin_with(rt, samples, alloc, form, sixteenth(), &puts);
     assert!(rt; bin.class().n() < 65536);
     switch.refuse_after(granted);
-    let halves = bin.split(alloc);
-    let refused = was_refused(switch);
-    match halves {
-        Ok((low, high)) => {
-            let both = (state_of(samples, &low), state_of(samples, &high));
-            (Ok(both), refused)
-        }
-        Err((bin, _refused)) => (Err(state_of(samples, &bin)), refused),
-    }
+    let found = states_of(samples, &bin.split(alloc));
+    (found, was_refused(switch))
 }
 
 /// What a bin of the form has, with so many records over no base where it is recorded.

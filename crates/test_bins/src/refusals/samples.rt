@@ -1,9 +1,9 @@
 //! Bins whose values and functions ask for memory, and what they have.
 use crate::asserts::key;
 use crate::rows::{Line, Pairs, Samples, call_of, pairs};
-use bin_history::{Bin, Call, Form, KeyArg, Remap, Reply, Value, Walk};
+use bin_history::{Bin, Call, Form, KeyArg, Posting, Remap, Reply, Value, Walk};
 use hashkeys::{Class, Key, Salt};
-use std::alloc::{Allocator, Global};
+use std::alloc::{AllocError, Allocator, Global};
 use std::process::Abort;
 use test_support::{Alloc, Answer, Number, Refusing};
 
@@ -34,6 +34,22 @@ impl<'a> Samples<Number<'a>, Answer<'a>> for Asking<'a> {
     }
 }
 
+/// What a bin gives for a call.
+type Told<V, F> = Result<(Reply<V>, Posting<Key, V, F>), AllocError>;
+
+/// A reply in numbers, where memory is there.
+fn in_numbers<V: Value, F: Remap<Key, V>, S: Samples<V, F>>(
+    samples: &S,
+    told: &Told<V, F>,
+) -> Option<Reply<u64>> {
+    match told {
+        Err(_) => None,
+        Ok((Reply::Truth(truth), _)) => Some(Reply::Truth(*truth)),
+        Ok((Reply::Value(None), _)) => Some(Reply::Value(None)),
+        Ok((Reply::Value(Some(value)), _)) => Some(Reply::Value(Some(samples.number(value)))),
+    }
+}
+
 /// Makes a call on a key of the bin. Returns what it replies, where memory is there.
 pub(crate) fn make<V: Value, F: Remap<Key, V>, A: Allocator + Clone, S: Samples<V, F>>(
     rt: &impl Abort,
@@ -46,13 +62,10 @@ pub(crate) fn make<V: Value, F: Remap<Key, V>, A: Allocator + Clone, S: Samples<
     let hash = salt.hash_of(call.key());
     assert!(rt; class.covers(hash));
     let (key, op) = call.into_parts();
-    let made = bin.make_on(alloc, hash, KeyArg::Owned(key), op, 0, 0);
-    let (reply, _trace) = made.ok()?;
-    match reply {
-        Reply::Value(Some(value)) => Some(Reply::Value(Some(samples.number(&value)))),
-        Reply::Value(None) => Some(Reply::Value(None)),
-        Reply::Truth(truth) => Some(Reply::Truth(truth)),
-    }
+    in_numbers(
+        samples,
+        &bin.make_on(alloc, hash, KeyArg::Owned(key), op, 0, 0),
+    )
 }
 
 /// Makes the call of a line at the key of one byte. Returns what it replies, where memory is there.
@@ -83,6 +96,20 @@ pub(crate) fn put_of(number: u64) -> Line {
     }
 }
 
+/// Puts these pairs, in order.
+fn put_all<V: Value, F: Remap<Key, V>, A: Allocator + Clone, S: Samples<V, F>>(
+    rt: &impl Abort,
+    samples: &S,
+    alloc: &A,
+    bin: &mut Bin<Key, V, F, A>,
+    puts: &[(u8, u64)],
+) {
+    for (byte, number) in puts {
+        let made = make_at(rt, samples, alloc, bin, *byte, &put_of(*number));
+        assert!(rt; made.is_some());
+    }
+}
+
 /// A bin of the class in which these pairs were put, in order, without a salt.
 pub(crate) fn bin_with<V: Value, F: Remap<Key, V>, A: Allocator + Clone, S: Samples<V, F>>(
     rt: &impl Abort,
@@ -94,10 +121,7 @@ pub(crate) fn bin_with<V: Value, F: Remap<Key, V>, A: Allocator + Clone, S: Samp
 ) -> Bin<Key, V, F, A> {
     let base = Vec::new(alloc.clone().expect(rt, "memory"));
     let mut bin = Bin::new(alloc, form, Salt(0), class, base).expect(rt, "memory");
-    for (byte, number) in puts {
-        let made = make_at(rt, samples, alloc, &mut bin, *byte, &put_of(*number));
-        assert!(rt; made.is_some());
-    }
+    put_all(rt, samples, alloc, &mut bin, puts);
     bin
 }
 
