@@ -19,7 +19,9 @@ where
     T: Drop,
     ensures { result.items ≡ item ∷ [] }
 {
-    Vec::from_array(alloc.clone().expect(rt, "memory"), [item]).expect(rt, "memory")
+    let mut items = Vec::new(alloc.clone().expect(rt, "memory"));
+    items.push(item).expect(rt, "memory");
+    items
 }
 
 /// What a bin has, where one is made.

@@ -35,8 +35,9 @@ fn make<A: Allocator + Clone>(alloc: &A) -> Result<Made<A>, AllocError>
     ensures passes { IfOk result (λ made. All (λ p. p.ledger ≡ made.0.id) made.1.items) }
     ensures roles { IfOk result (λ made. All (λ r. r.ledger ≡ made.0.id) made.2.items) }
 {
-    let both = [Vec::new(alloc.clone()?), Vec::new(alloc.clone()?)];
-    let bases = Vec::from_array(alloc.clone()?, both)?;
+    let mut bases = Vec::with_capacity(alloc.clone()?, 2)?;
+    bases.push_reserved(Vec::new(alloc.clone()?));
+    bases.push_reserved(Vec::new(alloc.clone()?));
     Ledger::new(alloc.clone()?, Form::Recorded, Salt(0), 2, &bases)
 }
 

@@ -82,7 +82,7 @@ fn a_refused_fold_leaves_the_base(rt: HostRuntime) {
 type Halves = Result<(State, State), State>;
 
 /// What a split gives.
-type Split<V, F, A> = Result<
+type SplitResult<V, F, A> = Result<
     (Bin<Key, V, F, A>, Bin<Key, V, F, A>),
     (Bin<Key, V, F, A>, AllocError),
 >;
@@ -90,12 +90,23 @@ type Split<V, F, A> = Result<
 /// What there is after a split.
 fn states_of<V: Value, F: Remap<Key, V>, A: Allocator + Clone, S: Samples<V, F>>(
     samples: &S,
-    split: &Split<V, F, A>,
+    split: &SplitResult<V, F, A>,
 ) -> Halves {
     match split {
         Ok((low, high)) => Ok((state_of(samples, low), state_of(samples, high))),
         Err((bin, _refused)) => Err(state_of(samples, bin)),
     }
+}
+
+/// Splits a bin. Returns what there is then.
+fn split<V: Value, F: Remap<Key, V>, A: Allocator + Clone, S: Samples<V, F>>(
+    rt: &impl Abort,
+    samples: &S,
+    alloc: &A,
+    bin: Bin<Key, V, F, A>,
+) -> Halves {
+    assert!(rt; bin.class().n() < 65536);
+    states_of(samples, &bin.split(alloc))
 }
 
 /// Splits a bin in which `q` and then `a` were put, and then `q` again, with the request after so
@@ -110,9 +121,8 @@ fn refuse_split<V: Value, F: Remap<Key, V>, A: Allocator + Clone, S: Samples<V, 
 ) -> (Halves, bool) {
     let puts = [(b'q', 1), (b'a', 2), (b'q', 3)];
     let bin = bin_with(rt, samples, alloc, form, sixteenth(), &puts);
-    assert!(rt; bin.class().n() < 65536);
     switch.refuse_after(granted);
-    let found = states_of(samples, &bin.split(alloc));
+    let found = split(rt, samples, alloc, bin);
     (found, was_refused(switch))
 }
 
