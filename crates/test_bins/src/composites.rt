@@ -78,12 +78,21 @@ fn twice_b(rt: &impl Abort, alloc: Global) -> ByteString<Global> {
     ByteString::new([66u8, 66].to_vec(alloc).expect(rt, "memory"))
 }
 
+/// Whether what two keys are looked up by stands for the pair of them.
+fn stand_for<K: HashKey, L: HashKey, Q: AsKey<K>, R: AsKey<L>>(
+    one: Q,
+    other: R,
+    key: &(K, L),
+) -> bool {
+    stands_for((one, other), key)
+}
+
 /// A key that is a pair, of which a part is a pair itself.
 type Nested = ((ByteString<Global>, u32), u64);
 
 /// Whether the parts stand for the key.
 fn are_parts(bytes: &[u8], number: u32, last: u64, key: &Nested) -> bool {
-    stands_for(((bytes, &number), &last), key)
+    stand_for((bytes, &number), &last, key)
 }
 
 #[test]
@@ -104,42 +113,58 @@ fn is_text(text: &str, key: &Text<Global>) -> bool {
     stands_for(text, key)
 }
 
+/// The key of a text.
+fn text_key(rt: &impl Abort, alloc: Global, text: &str) -> Text<Global> {
+    Text::new(String::from_str(alloc, text).expect(rt, "memory"))
+}
+
+/// The code of a copy of the key, and whether the copy and its text are as they are to be.
+fn copied_text(rt: &impl Abort, key: &Text<Global>, text: &str) -> (u32, [bool; 2]) {
+    let copy = key.clone().expect(rt, "memory");
+    (copy.hash_code(), [copy == *key, copy.as_str() == text])
+}
+
 #[test]
 fn text_is_a_key(rt: HostRuntime) {
-    let key = Text::new(String::from_str(rt.alloc(), "é").expect(&rt, "memory"));
-    let copy = key.clone().expect(&rt, "memory");
-    let found = [copy == key, is_text("é", &key), is_text("e", &key)];
+    let key = text_key(&rt, rt.alloc(), "é");
     // two bytes, 195 and 169
-    let wanted = (6214, "é", [true, true, false]);
-    assert_same(&rt, &(copy.hash_code(), copy.as_str(), found), &wanted);
-    assert_same(&rt, &key.into_string().as_str(), &"é");
+    assert_same(&rt, &copied_text(&rt, &key, "é"), &(6214, [true; 2]));
+    let stand = [is_text("é", &key), is_text("e", &key)];
+    assert_same(&rt, &stand, &[true, false]);
+    assert!(rt; key.into_string().as_str() == "é");
+}
+
+/// The code of a copy of the key, and whether the copy and its bytes are as they are to be.
+fn copied_bytes(rt: &impl Abort, key: &ByteString<Global>, bytes: &[u8]) -> (u32, [bool; 2]) {
+    let copy = key.clone().expect(rt, "memory");
+    (copy.hash_code(), [copy == *key, copy.bytes() == bytes])
 }
 
 #[test]
 fn byte_strings_are_keys(rt: HostRuntime) {
-    let own = twice_b(&rt, rt.alloc());
-    let copy = own.clone().expect(&rt, "memory");
-    let codes = [Bytes(b"Aa").hash_code(), copy.hash_code()];
-    let equal = [copy == own, Bytes(b"Aa") == Bytes(b"BB")];
-    assert_same(&rt, &(codes, equal), &([2112; 2], [true, false]));
-    let bytes = own.into_bytes();
-    let texts = [copy.bytes(), bytes.as_slice()];
-    assert_same(&rt, &texts, &[b"BB".as_slice(); 2]);
+    let key = twice_b(&rt, rt.alloc());
+    assert_same(&rt, &copied_bytes(&rt, &key, b"BB"), &(2112, [true; 2]));
+    assert!(rt; key.into_bytes().as_slice() == b"BB".as_slice());
+    let (one, other) = (Bytes(b"Aa"), Bytes(b"BB"));
+    assert!(rt; one.hash_code() == 2112 && one != other);
 }
 
-/// The key that is made of what stands for it.
-fn made<K: HashKey, Q: MakesKey<K, Global>>(rt: &impl Abort, alloc: Global, query: Q) -> K {
-    query.make(&alloc).expect(rt, "memory")
+/// The pair of keys that is made of what stands for each.
+fn made<K: HashKey, L: HashKey, Q: MakesKey<K, Global>, R: MakesKey<L, Global>>(
+    rt: &impl Abort,
+    alloc: Global,
+    one: Q,
+    other: R,
+) -> (K, L) {
+    (one, other).make(&alloc).expect(rt, "memory")
 }
 
 #[test]
 fn a_key_is_made_of_what_stands_for_it(rt: HostRuntime) {
-    let pair: (ByteString<Global>, Text<Global>) = made(&rt, rt.alloc(), (b"BB".as_slice(), "é"));
-    let found = (pair.0.bytes(), pair.1.as_str());
-    let borrowed: (Bytes<'_>, u32) = made(&rt, rt.alloc(), (pair.0.bytes(), &7u32));
-    let of_borrowed = (borrowed.0.0, borrowed.1);
-    let wanted = ((b"BB".as_slice(), "é"), (b"BB".as_slice(), 7));
-    assert_same(&rt, &(found, of_borrowed), &wanted);
+    let own: (ByteString<Global>, Text<Global>) = made(&rt, rt.alloc(), b"BB".as_slice(), "é");
+    assert!(rt; own.0.bytes() == b"BB".as_slice() && own.1.as_str() == "é");
+    let borrowed: (Bytes<'_>, u32) = made(&rt, rt.alloc(), own.0.bytes(), &7u32);
+    assert!(rt; borrowed.0.0 == b"BB".as_slice() && borrowed.1 == 7);
 }
 
 /// How many of some numbers are there before already.
@@ -156,18 +181,24 @@ fn collisions(numbers: &mut [u32]) -> u32 {
     count
 }
 
+/// How many codes of keys are there twice, of each two numbers below 100 in either order: those of their
+/// pairs, or of the numbers of 128 bits of which they are the halves.
+fn codes_twice(rt: &impl Abort, alloc: Global, are_halves: bool) -> u32 {
+    let mut codes = Vec::new(alloc);
+    for number in 0..10_000u64 {
+        let (i, j) = (number / 100, number % 100);
+        let code = if are_halves {
+            ((u128::from(i) << 64) | u128::from(j)).hash_code()
+        } else {
+            (i, j).hash_code()
+        };
+        codes.push(code).expect(rt, "memory");
+    }
+    collisions(&mut codes)
+}
+
 #[test]
 fn swapped_pairs_and_halves_have_codes_of_their_own(rt: HostRuntime) {
-    let mut pairs = Vec::new(rt.alloc());
-    let mut halves = Vec::new(rt.alloc());
-    // of each two numbers below 100 the pair in either order
-    for i in 0..100u64 {
-        for j in 0..100u64 {
-            pairs.push((i, j).hash_code()).expect(&rt, "memory");
-            let number = (u128::from(i) << 64) | u128::from(j);
-            halves.push(number.hash_code()).expect(&rt, "memory");
-        }
-    }
-    let found = [collisions(&mut pairs) <= 2, collisions(&mut halves) <= 2];
-    assert_same(&rt, &found, &[true; 2]);
+    assert!(rt; codes_twice(&rt, rt.alloc(), false) <= 2);
+    assert!(rt; codes_twice(&rt, rt.alloc(), true) <= 2);
 }

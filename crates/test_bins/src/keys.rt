@@ -2,142 +2,72 @@
 ghost use Rattle.std.specs.Prelude.{◌<◌};
 
 use crate::asserts::{assert_same, key};
-use hashkeys::{Class, HashKey, Key, Salt, spread};
+use crate::rows::sixteenth;
+use hashkeys::{HashKey, Key, Salt, spread};
 use std::cmp::Ordering;
 use std::process::Abort;
 
-/// A key under a salt: its code, the code's spread, its hash, and the hash's slots of 16, 32 and
-/// 4,096.
-#[derive(Drop)]
-struct Row {
-    text: &'static [u8],
-    salt: u32,
-    code: u32,
-    spread: u32,
-    hash: u32,
-    slots: [u32; 3],
-}
+/// The text of a key, and then a salt, the key's code, the code's spread, the key's hash under the salt, and
+/// the hash's slots of 16, 32 and 4,096.
+type Row = (&'static [u8], [u32; 7]);
 
 const ROWS: [Row; 13] = [
-    Row {
-        text: b"a",
-        salt: 0,
-        code: 97,
-        spread: 97,
-        hash: 97,
-        slots: [1, 1, 97],
-    },
-    Row {
-        text: b"q",
-        salt: 0,
-        code: 113,
-        spread: 113,
-        hash: 113,
-        slots: [1, 17, 113],
-    },
-    Row {
-        text: b"Aa",
-        salt: 0,
-        code: 2112,
-        spread: 2112,
-        hash: 2112,
-        slots: [0, 0, 2112],
-    },
-    Row {
-        text: b"BB",
-        salt: 0,
-        code: 2112,
-        spread: 2112,
-        hash: 2112,
-        slots: [0, 0, 2112],
-    },
-    Row {
-        text: b"zzzzzz",
-        salt: 0,
-        code: 3_609_181_632,
-        spread: 0x571F_6ADF,
-        hash: 0x571F_6ADF,
-        slots: [15, 31, 2783],
-    },
-    Row {
-        text: b"zzzzzzz",
-        salt: 0,
-        code: 215_481_018,
-        spread: 0x0CD7_F66D,
-        hash: 0x0CD7_F66D,
-        slots: [13, 13, 1645],
-    },
-    Row {
-        text: b"a",
-        salt: 1,
-        code: 97,
-        spread: 97,
-        hash: 96,
-        slots: [0, 0, 96],
-    },
-    Row {
-        text: b"q",
-        salt: 1,
-        code: 113,
-        spread: 113,
-        hash: 112,
-        slots: [0, 16, 112],
-    },
-    Row {
-        text: b"Aa",
-        salt: 1,
-        code: 2112,
-        spread: 2112,
-        hash: 2113,
-        slots: [1, 1, 2113],
-    },
-    Row {
-        text: b"zzzzzz",
-        salt: 1,
-        code: 3_609_181_632,
-        spread: 0x571F_6ADF,
-        hash: 0x571F_6ADE,
-        slots: [14, 30, 2782],
-    },
-    Row {
-        text: b"a",
-        salt: 2_147_483_648,
-        code: 97,
-        spread: 97,
-        hash: 0x0000_8061,
-        slots: [1, 1, 97],
-    },
-    Row {
-        text: b"q",
-        salt: 2_147_483_648,
-        code: 113,
-        spread: 113,
-        hash: 0x0000_8071,
-        slots: [1, 17, 113],
-    },
-    Row {
-        text: b"zzzzzz",
-        salt: 2_147_483_648,
-        code: 3_609_181_632,
-        spread: 0x571F_6ADF,
-        hash: 0x571F_EADF,
-        slots: [15, 31, 2783],
-    },
+    (b"a", [0, 97, 97, 97, 1, 1, 97]),
+    (b"q", [0, 113, 113, 113, 1, 17, 113]),
+    (b"Aa", [0, 2112, 2112, 2112, 0, 0, 2112]),
+    (b"BB", [0, 2112, 2112, 2112, 0, 0, 2112]),
+    (
+        b"zzzzzz",
+        [0, 3_609_181_632, 0x571F_6ADF, 0x571F_6ADF, 15, 31, 2783],
+    ),
+    (
+        b"zzzzzzz",
+        [0, 215_481_018, 0x0CD7_F66D, 0x0CD7_F66D, 13, 13, 1645],
+    ),
+    (b"a", [1, 97, 97, 96, 0, 0, 96]),
+    (b"q", [1, 113, 113, 112, 0, 16, 112]),
+    (b"Aa", [1, 2112, 2112, 2113, 1, 1, 2113]),
+    (
+        b"zzzzzz",
+        [1, 3_609_181_632, 0x571F_6ADF, 0x571F_6ADE, 14, 30, 2782],
+    ),
+    (b"a", [2_147_483_648, 97, 97, 0x0000_8061, 1, 1, 97]),
+    (b"q", [2_147_483_648, 113, 113, 0x0000_8071, 1, 17, 113]),
+    (
+        b"zzzzzz",
+        [
+            2_147_483_648,
+            3_609_181_632,
+            0x571F_6ADF,
+            0x571F_EADF,
+            15,
+            31,
+            2783,
+        ],
+    ),
 ];
+
+/// The numbers of the key of the text under the salt, as a row has them.
+fn numbers_of(rt: &impl Abort, text: &[u8], salt: u32) -> [u32; 7] {
+    let key = Key::read(text).expect(rt, "a key");
+    let hash = Salt(salt).hash_of(&key);
+    assert!(rt; key.bytes() == text);
+    let code = key.hash_code();
+    [
+        salt,
+        code,
+        spread(code),
+        hash,
+        hash % 16,
+        hash % 32,
+        hash % 4096,
+    ]
+}
 
 #[test]
 fn known_codes_spreads_hashes_and_slots(rt: HostRuntime) {
-    for row in &ROWS {
-        let (text, salt) = (row.text, row.salt);
-        let key = Key::read(text).expect(&rt, "a key");
-        let found = Salt(salt).hash_of(&key);
-        let numbers = [key.hash_code(), spread(row.code), found];
-        let slots = [found % 16, found % 32, found % 4096];
-        assert_same(
-            &rt,
-            &(key.bytes(), salt, numbers, slots),
-            &(text, salt, [row.code, row.spread, row.hash], row.slots),
-        );
+    for (text, wanted) in &ROWS {
+        assert_same(&rt, &numbers_of(&rt, text, wanted[0]), wanted);
     }
 }
 
@@ -148,20 +78,18 @@ const COVERED: [(u32, [bool; 3]); 3] = [
     (2112, [false, false, false]),
 ];
 
-/// A class's size and index.
-fn parts(class: &Class) -> (u32, u32) {
-    (class.n(), class.index())
-}
-
 #[test]
 fn a_class_covers_its_hashes_in_one_half(rt: HostRuntime) {
-    let class = Class::new(16, 1);
+    let class = sixteenth();
     let (low, high) = class.halves();
-    let found = [parts(&class), parts(&low), parts(&high)];
-    assert_same(&rt, &found, &[(16, 1), (32, 1), (32, 17)]);
-    for (hash, wanted) in &COVERED {
-        let found = [class.covers(*hash), low.covers(*hash), high.covers(*hash)];
-        assert_same(&rt, &(*hash, found), &(*hash, *wanted));
+    let sizes = [class.n(), low.n(), high.n()];
+    assert_same(&rt, &sizes, &[16, 32, 32]);
+    let indices = [class.index(), low.index(), high.index()];
+    assert_same(&rt, &indices, &[1, 1, 17]);
+    for row in &COVERED {
+        let hash = row.0;
+        let found = [class.covers(hash), low.covers(hash), high.covers(hash)];
+        assert_same(&rt, &(hash, found), row);
     }
 }
 
@@ -192,8 +120,12 @@ const BYTES: [(u8, bool); 23] = [
     (255, false),
 ];
 
+/// Whether the bytes are a key, which has them then.
 fn is_key(bytes: &[u8]) -> bool {
-    Key::read(bytes).is_some()
+    match Key::read(bytes) {
+        Some(key) => key.bytes() == bytes,
+        None => false,
+    }
 }
 
 /// Whether a byte is a key alone, and with two others, before, between and behind them.
@@ -211,9 +143,8 @@ fn other_bytes_are_no_key(rt: HostRuntime) {
     for (byte, wanted) in &BYTES {
         assert_same(&rt, &(*byte, are_keys(*byte)), &(*byte, [*wanted; 4]));
     }
-    let longest = key(&rt, &[b'_'; 32]);
-    let others = [is_key(b""), is_key(&[b'_'; 33])];
-    assert_same(&rt, &(longest.bytes().len(), others), &(32, [false; 2]));
+    let found = [is_key(&[b'_'; 32]), is_key(b""), is_key(&[b'_'; 33])];
+    assert_same(&rt, &found, &[true, false, false]);
 }
 
 /// Texts of keys in their order: digits, capitals, `_`, small letters; and a key before those that it
@@ -242,12 +173,10 @@ fn compared(rt: &impl Abort, text: &[u8], other: &[u8]) -> (Ordering, bool, bool
 
 #[test]
 fn keys_stand_in_byte_order(rt: HostRuntime) {
-    let texts = &ORDERED;
-    for i in 0..11usize {
-        for j in 0..11usize {
-            let found = compared(&rt, texts[i], texts[j]);
-            assert_same(&rt, &(i, j, found), &(i, j, (i.cmp(&j), i < j, i == j)));
-        }
+    for pair in 0..121usize {
+        let (i, j) = (pair / 11, pair % 11);
+        let found = compared(&rt, ORDERED[i], ORDERED[j]);
+        assert_same(&rt, &(i, j, found), &(i, j, (i.cmp(&j), i < j, i == j)));
     }
 }
 
@@ -268,8 +197,11 @@ fn most_in_a_slot(shift: u32) -> u8
 
 #[test]
 fn numbers_that_differ_in_upper_bits_lie_apart(rt: HostRuntime) {
-    for shift in 0..4u32 {
-        let most = most_in_a_slot(16 * shift);
-        assert_same(&rt, &(shift, most < 8), &(shift, true));
-    }
+    let found = [
+        most_in_a_slot(0) < 8,
+        most_in_a_slot(16) < 8,
+        most_in_a_slot(32) < 8,
+        most_in_a_slot(48) < 8,
+    ];
+    assert_same(&rt, &found, &[true; 4]);
 }

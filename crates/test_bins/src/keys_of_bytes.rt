@@ -4,7 +4,7 @@ use hashkeys::{AsKey, Bytes, HashKey};
 use seeded_keys::{Hashed, Padded, Seed, ShortBytes};
 use std::alloc::{Allocator, Global};
 use std::process::Abort;
-use test_support::{Alloc, Refusing};
+use test_support::Refusing;
 
 /// The bytes 1, 2, 3 and so on.
 const COUNTED: [u8; 66] = [
@@ -102,58 +102,70 @@ fn padded_bytes_have_zeros_behind_them(rt: HostRuntime) {
 
 /// Whether a clone is made where the next request is refused, and whether there was one. What comes after
 /// it is granted.
-fn refused_clone(alloc: Alloc<'_>, own: &Hashed<Alloc<'_>>) -> (bool, bool) {
-    alloc.refuse_after(0);
+fn refused_clone<A: Allocator + Clone>(switch: &Refusing<Global>, own: &Hashed<A>) -> (bool, bool) {
+    switch.refuse_after(0);
     let is_made = own.clone().is_ok();
-    (is_made, alloc.has_refused())
+    (is_made, switch.has_refused())
 }
 
 /// What is found of a clone and of its clone: whether both are as the key and the latter has the bytes
 /// given, the codes of both, how many blocks are out with them, and whether the latter has room.
 type Clones = ([bool; 3], [u32; 2], u64, bool);
 
-fn clones(rt: &impl Abort, alloc: Alloc<'_>, own: &Hashed<Alloc<'_>>, given: &[u8]) -> Clones {
+fn clones<A: Allocator + Clone>(
+    rt: &impl Abort,
+    switch: &Refusing<Global>,
+    own: &Hashed<A>,
+    given: &[u8],
+) -> Clones {
     let same = own.clone().expect(rt, "memory");
     let again = same.clone().expect(rt, "memory");
     let equal = [same == *own, again == *own, again.bytes() == given];
     let codes = [same.hash_code(), again.hash_code()];
-    let blocks = alloc.blocks_out();
+    let blocks = switch.blocks_out();
     (equal, codes, blocks, again.into_room().is_some())
+}
+
+/// Asserts that clones of a key of so many bytes take so many blocks each.
+fn assert_clones<A: Allocator + Copy>(
+    rt: &impl Abort,
+    switch: &Refusing<Global>,
+    alloc: A,
+    len: u8,
+    blocks: u64,
+) {
+    let given = counted(len);
+    let own = key(rt, alloc, given);
+    let before = switch.blocks_out();
+    let refused = refused_clone(switch, &own);
+    let found = clones(rt, switch, &own, given);
+    switch.refuse_after(9);
+    let is_inline = blocks == 0;
+    let own_blocks = if is_inline { 0 } else { 2 };
+    let first = (len, before, refused);
+    assert_same(rt, &first, &(len, own_blocks, (is_inline, !is_inline)));
+    let both = own_blocks.wrapping_add(blocks.wrapping_mul(2));
+    let wanted = ([true; 3], [own.hash_code(); 2], both, blocks == 2);
+    assert_same(rt, &(len, found), &(len, wanted));
 }
 
 #[test]
 fn clones_of_long_keys_alone_take_memory(rt: HostRuntime) {
     let alloc = Refusing::new(rt.alloc());
     for (len, blocks) in &LENGTHS {
-        let given = counted(*len);
-        let own = key(&rt, &alloc, given);
-        let before = alloc.blocks_out();
-        let refused = refused_clone(&alloc, &own);
-        let found = clones(&rt, &alloc, &own, given);
-        alloc.refuse_after(9);
-        let inline = *blocks == 0;
-        let own_blocks = if inline { 0 } else { 2 };
-        let wanted = (
-            [true; 3],
-            [own.hash_code(); 2],
-            own_blocks + 2 * *blocks,
-            *blocks == 2,
-        );
-        let first = (*len, before, refused);
-        assert_same(&rt, &first, &(*len, own_blocks, (inline, !inline)));
-        assert_same(&rt, &(*len, found), &(*len, wanted));
+        assert_clones(&rt, &alloc, &alloc, *len, *blocks);
     }
     assert_same(&rt, &alloc.blocks_out(), &0);
 }
 
 /// Whether a look-up by the bytes finds the key.
-fn is_found(bytes: &[u8], key: &Hashed<Alloc<'_>>) -> bool {
+fn is_found<A: Allocator + Clone>(bytes: &[u8], key: &Hashed<A>) -> bool {
     seed().query(bytes).is_key(key)
 }
 
 /// Whether the keys of two texts are equal, as they are made, as they are stored and as a look-up compares
 /// them.
-fn are_equal(rt: &impl Abort, alloc: Alloc<'_>, one: &[u8], other: &[u8]) -> bool {
+fn are_equal(rt: &impl Abort, alloc: Global, one: &[u8], other: &[u8]) -> bool {
     let (first, second) = (key(rt, alloc, one), key(rt, alloc, other));
     let stored = second.clone().expect(rt, "memory");
     let is_equal = first == second;
@@ -163,7 +175,7 @@ fn are_equal(rt: &impl Abort, alloc: Alloc<'_>, one: &[u8], other: &[u8]) -> boo
         is_found(one, &stored),
         is_found(other, &first),
     ];
-    assert_same(rt, &(one, other, found), &(one, other, [is_equal; 4]));
+    assert_same(rt, &found, &[is_equal; 4]);
     is_equal
 }
 
@@ -180,22 +192,21 @@ const TEXTS: [(&[u8], &[u8], bool); 7] = [
 
 #[test]
 fn keys_are_equal_to_those_of_the_same_bytes_alone(rt: HostRuntime) {
-    let alloc = Refusing::new(rt.alloc());
     let mut others = COUNTED;
     for len in 0..66u8 {
         let end = len as usize;
         others[end] = 77;
         let found = [
-            are_equal(&rt, &alloc, counted(len), counted(len)),
-            are_equal(&rt, &alloc, counted(len), counted(len + 1)),
-            are_equal(&rt, &alloc, counted(len + 1), &others[..end + 1]),
+            are_equal(&rt, rt.alloc(), counted(len), counted(len)),
+            are_equal(&rt, rt.alloc(), counted(len), counted(len + 1)),
+            are_equal(&rt, rt.alloc(), counted(len + 1), &others[..end + 1]),
         ];
         others[end] = COUNTED[end];
         assert_same(&rt, &(len, found), &(len, [true, false, false]));
     }
     for (one, other, wanted) in &TEXTS {
-        let found = are_equal(&rt, &alloc, one, other);
-        assert_same(&rt, &(*one, *other, found), &(*one, *other, *wanted));
+        let found = are_equal(&rt, rt.alloc(), one, other);
+        assert_same(&rt, &(one.len(), found), &(one.len(), *wanted));
     }
 }
 
@@ -225,7 +236,10 @@ const CODES: [(&[u8], u32); 9] = [
 #[test]
 fn plain_codes_of_bytes_are_known(rt: HostRuntime) {
     for (bytes, code) in &CODES {
-        let found = (*bytes, Bytes(bytes).hash_code());
-        assert_same(&rt, &found, &(*bytes, *code));
+        assert_same(
+            &rt,
+            &(bytes.len(), Bytes(bytes).hash_code()),
+            &(bytes.len(), *code),
+        );
     }
 }

@@ -16,14 +16,13 @@ use std::test::Fail;
 use std::thread::join_mut;
 use test_support::{Plus, settled};
 
-/// A call: which client makes it, on which bin and key, and which value it is to find and to leave.
-#[derive(Drop)]
-struct Row {
-    client: usize,
-    bin: usize,
-    key: &'static [u8],
-    before: Option<u64>,
-    after: Option<u64>,
+/// A call: which client makes it, on which bin and key, and which value it is to find and to leave, 0 for
+/// none.
+type Row = (usize, usize, &'static [u8], u64, u64);
+
+/// The value of a row.
+fn value_of(number: u64) -> Option<u64> {
+    if number == 0 { None } else { Some(number) }
 }
 
 /// Makes a call on the key as the pass's next, which finds a value and leaves one, and posts it.
@@ -67,15 +66,17 @@ fn make_all(
     ensures bin_capacity { vec_capacity bins.new ≡ vec_capacity bins.old }
 {
     for row in rows {
-        assert!(rt; row.client < passes.len() && row.bin < bins.len());
+        let (client, bin, key, before, after) = *row;
+        assert!(rt; client < passes.len() && bin < bins.len());
+        let (before, after) = (value_of(before), value_of(after));
         call(
             rt,
             ledger,
-            &mut passes[row.client],
-            &mut bins[row.bin],
-            row.key,
-            row.before,
-            row.after,
+            &mut passes[client],
+            &mut bins[bin],
+            key,
+            before,
+            after,
         );
     }
 }
@@ -191,41 +192,11 @@ pub(crate) fn settled_for_two(
 
 /// The first client puts four times, and the second takes one of its keys away.
 const SHARED: [Row; 5] = [
-    Row {
-        client: 0,
-        bin: 1,
-        key: b"a",
-        before: None,
-        after: Some(1),
-    },
-    Row {
-        client: 0,
-        bin: 0,
-        key: b"b",
-        before: None,
-        after: Some(2),
-    },
-    Row {
-        client: 0,
-        bin: 1,
-        key: b"a",
-        before: Some(1),
-        after: Some(3),
-    },
-    Row {
-        client: 0,
-        bin: 1,
-        key: b"q",
-        before: None,
-        after: Some(4),
-    },
-    Row {
-        client: 1,
-        bin: 0,
-        key: b"b",
-        before: Some(2),
-        after: None,
-    },
+    (0, 1, b"a", 0, 1),
+    (0, 0, b"b", 0, 2),
+    (0, 1, b"a", 1, 3),
+    (0, 1, b"q", 0, 4),
+    (1, 0, b"b", 2, 0),
 ];
 
 #[test]
@@ -263,47 +234,10 @@ fn are_of(bins: &[Held], classes: &[(u32, u32)]) -> bool {
 }
 
 /// Both clients put a key before its bin is divided.
-const BEFORE: [Row; 2] = [
-    Row {
-        client: 0,
-        bin: 1,
-        key: b"a",
-        before: None,
-        after: Some(1),
-    },
-    Row {
-        client: 1,
-        bin: 1,
-        key: b"c",
-        before: None,
-        after: Some(2),
-    },
-];
+const BEFORE: [Row; 2] = [(0, 1, b"a", 0, 1), (1, 1, b"c", 0, 2)];
 
 /// Each puts the other's key afterwards, and one puts a key more.
-const AFTER: [Row; 3] = [
-    Row {
-        client: 1,
-        bin: 1,
-        key: b"a",
-        before: Some(1),
-        after: Some(3),
-    },
-    Row {
-        client: 0,
-        bin: 2,
-        key: b"c",
-        before: Some(2),
-        after: Some(4),
-    },
-    Row {
-        client: 0,
-        bin: 1,
-        key: b"q",
-        before: None,
-        after: Some(5),
-    },
-];
+const AFTER: [Row; 3] = [(1, 1, b"a", 1, 3), (0, 2, b"c", 2, 4), (0, 1, b"q", 0, 5)];
 
 #[test]
 fn a_divided_role_keeps_each_key_in_its_half(rt: HostRuntime) {

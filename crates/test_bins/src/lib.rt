@@ -1,4 +1,5 @@
-//! Tests of keys, bins, ledgers and moves, by what these crates make public.
+//! Tests of keys, bins, ledgers and moves, by what these crates make public, and of what stands where
+//! memory is refused.
 #![tactic(auto)]
 
 #[cfg(test)]
@@ -11,6 +12,8 @@ mod chains;
 mod composites;
 #[cfg(test)]
 mod held;
+#[cfg(test)]
+mod helpers;
 #[cfg(test)]
 mod keys;
 #[cfg(test)]
@@ -29,6 +32,8 @@ mod moves;
 mod number_seeds;
 #[cfg(test)]
 mod plain;
+#[cfg(test)]
+mod refusals;
 #[cfg(test)]
 mod rows;
 #[cfg(test)]

@@ -1,120 +1,104 @@
 //! Bins of either form, whose calls are made in one step.
 use crate::asserts::{assert_same, key};
-use crate::bins;
-use crate::rows::{Kind, LINES, call_of, reply_of};
-use bin_history::{Bin, BinKind, Call, Form, KeyArg, Reply};
+use crate::rows::{LEFT, Makes, Pairs, Sums, listed, make_lines, make_often, pairs, sixteenth};
+use bin_history::{Bin, Call, Form, KeyArg, Reply, Walk};
 use hashkeys::{Class, Key, Salt};
 use std::alloc::Global;
 use std::process::Abort;
 use test_support::Plus;
 
-pub(crate) type KeyBin = Bin<Key, u64, Plus, Global>;
+type KeyBin = Bin<Key, u64, Plus, Global>;
+
+/// A bin, and where it takes its memory.
+#[derive(Drop)]
+pub(crate) struct Made {
+    alloc: Global,
+    bin: KeyBin,
+}
 
 /// A bin of the form without entries, which has every key.
-pub(crate) fn empty(rt: &impl Abort, alloc: Global, form: Form) -> KeyBin {
-    Bin::new(&alloc, form, Salt(0), Class::new(1, 0), Vec::new(alloc)).expect(rt, "memory")
-}
-
-/// A copy of the bin's entries.
-pub(crate) fn copied(rt: &impl Abort, alloc: Global, bin: &KeyBin) -> Vec<(Key, u64)> {
-    bin.copy_entries(&alloc).expect(rt, "memory")
-}
-
-/// Asserts that these are the entries, in order, where a walk goes over them and in a copy.
-fn assert_entries(rt: &impl Abort, alloc: Global, bin: &KeyBin, wanted: &[(&[u8], u64)]) {
-    bins::assert_entries(rt, &copied(rt, alloc, bin), wanted);
-    let mut walk = bin.walk();
-    for (text, number) in wanted {
-        let entry = walk.next().expect(rt, "an entry");
-        assert_same(rt, &(entry.0.bytes(), entry.1), &(*text, *number));
+pub(crate) fn empty(rt: &impl Abort, alloc: Global, form: Form) -> Made {
+    let bin = Bin::new(&alloc, form, Salt(0), Class::new(1, 0), Vec::new(alloc));
+    Made {
+        alloc,
+        bin: bin.expect(rt, "memory"),
     }
-    assert_same(rt, &walk.next().is_none(), &true);
 }
 
-/// Makes a call on a bin that has its key, as client 7's call of this ordinal. Answers its reply,
-/// and how many keys more there are.
-pub(crate) fn make(
-    rt: &impl Abort,
-    alloc: Global,
-    bin: &mut KeyBin,
-    call: Call<Key, u64, Plus>,
-    ordinal: u64,
-) -> (Reply<u64>, i64) {
-    let (salt, class) = (bin.salt(), bin.class());
-    let hash = salt.hash_of(call.key());
-    assert!(rt; class.covers(hash));
-    assert!(rt; ordinal <= 1024);
-    let (key, op) = call.into_parts();
-    let made = bin.make_on(&alloc, hash, KeyArg::Owned(key), op, 7, ordinal);
-    let (reply, trace) = made.expect(rt, "memory");
-    (reply, trace.delta())
+impl Makes for Made {
+    fn make<R: Abort>(
+        &mut self,
+        rt: &R,
+        call: Call<Key, u64, Plus>,
+        ordinal: u64,
+    ) -> (Reply<u64>, i64) {
+        let (salt, class) = (self.bin.salt(), self.bin.class());
+        let hash = salt.hash_of(call.key());
+        assert!(rt; class.covers(hash) && ordinal < 1 << 48);
+        let (key, op) = call.into_parts();
+        let made = self
+            .bin
+            .make_on(&self.alloc, hash, KeyArg::Owned(key), op, 7, ordinal);
+        let (reply, trace) = made.expect(rt, "memory");
+        (reply, trace.delta())
+    }
 }
 
-/// Makes calls on a bin: each by the byte of its key, and how often it is made.
-fn make_often(rt: &impl Abort, alloc: Global, bin: &mut KeyBin, lines: &[(u8, Kind, u32)]) {
-    for (byte, kind, times) in lines {
-        for _time in 0..*times {
-            let _ = make(rt, alloc, bin, call_of(key(rt, &[*byte]), kind), 0);
+impl Made {
+    /// A copy of the bin's entries.
+    pub(crate) fn copied(&self, rt: &impl Abort) -> Vec<(Key, u64)> {
+        self.bin.copy_entries(&self.alloc).expect(rt, "memory")
+    }
+
+    /// The entries, as a walk goes over them. A copy has the same.
+    fn entries(&self, rt: &impl Abort) -> Pairs {
+        let walked = pairs(&Sums, self.bin.walk());
+        assert_same(rt, &pairs_in(&self.copied(rt)), &walked);
+        walked
+    }
+
+    /// The value that the bin has at the key of one byte.
+    fn value_at(&self, rt: &impl Abort, byte: u8) -> Option<u64> {
+        let own = key(rt, &[byte]);
+        self.bin.get(self.bin.salt().hash_of(&own), &own).copied()
+    }
+
+    /// How many records the bin stores, and how many entries its base has, where it is recorded.
+    fn stored(&self) -> Option<(usize, usize)> {
+        match self.bin.recorded() {
+            Some(own) => Some((own.records().len(), own.base().len())),
+            None => None,
         }
     }
 }
 
-/// The entries that the calls of all lines leave.
-const LEFT: [(&[u8], u64); 3] = [(b"a", 6), (b"b", 7), (b"c", u64::MAX)];
-
-/// Makes the calls of all lines on a bin of the form, and answers it.
-fn after_rows(rt: &impl Abort, alloc: Global, form: Form) -> KeyBin {
-    let mut bin = empty(rt, alloc, form);
-    let mut ordinal = 0u64;
-    for (byte, kind, told, delta) in &LINES {
-        let found = make(
-            rt,
-            alloc,
-            &mut bin,
-            call_of(key(rt, &[*byte]), kind),
-            ordinal,
-        );
-        assert_same(rt, &(ordinal, found), &(ordinal, (reply_of(told), *delta)));
-        ordinal = ordinal.wrapping_add(1);
-    }
-    assert_entries(rt, alloc, &bin, &LEFT);
-    bin
+/// The pairs of a list.
+fn pairs_in(list: &[(Key, u64)]) -> Pairs {
+    let walk: Walk<'_, Key, u64, Global> = Walk::of_list(list);
+    pairs(&Sums, walk)
 }
 
-/// The value that a bin has at the key of the text.
-fn value_at(rt: &impl Abort, bin: &KeyBin, text: &[u8]) -> Option<u64> {
-    let own = key(rt, text);
-    bin.get(bin.salt().hash_of(&own), &own).copied()
-}
-
-/// Asserts what a bin with the three entries that the lines leave answers: the value at a key that
-/// is there and at one that is not, its first entry, and all three poured behind one more.
-fn assert_answers(rt: &impl Abort, alloc: Global, bin: KeyBin) {
-    let found = [value_at(rt, &bin, b"b"), value_at(rt, &bin, b"B")];
-    let first = bin.first().expect(rt, "an entry").1;
-    assert_same(rt, &(found, first), &([Some(7), None], 6));
+/// The entries of a bin of three, poured behind a pair of `z` and 1.
+fn poured(rt: &impl Abort, made: Made) -> Pairs {
+    let Made { alloc, bin } = made;
+    let bin = Bin::of_kind(bin.into_kind());
     let mut list = Vec::with_capacity(alloc, 4).expect(rt, "memory");
     list.push_reserved((key(rt, b"z"), 1));
     assert!(rt; bin.copy_entries(&alloc).expect(rt, "memory").len() == 3);
-    let [a, b, c] = LEFT;
-    bins::assert_entries(rt, &bin.pour(list), &[(b"z", 1), a, b, c]);
-}
-
-/// How many records a bin stores, and how many entries its base has, where it is recorded.
-fn stored_in(kind: &BinKind<Key, u64, Plus, Global>) -> Option<(usize, usize)> {
-    match kind {
-        BinKind::Recorded(own) => Some((own.records().len(), own.base().len())),
-        BinKind::Lean(_) => None,
-    }
+    pairs_in(&bin.pour(list))
 }
 
 /// Asserts what a bin of the form answers after the calls of all lines, and what it stores then.
 fn assert_each_call(rt: &impl Abort, alloc: Global, form: Form, stored: Option<(usize, usize)>) {
-    let bin = after_rows(rt, alloc, form);
-    let found = bin.form();
-    let kind = bin.into_kind();
-    assert_same(rt, &(found, stored_in(&kind)), &(form, stored));
-    assert_answers(rt, alloc, Bin::of_kind(kind));
+    let mut made = empty(rt, alloc, form);
+    make_lines(rt, &mut made);
+    assert_same(rt, &made.entries(rt), &listed(&LEFT));
+    assert_same(rt, &(made.bin.form(), made.stored()), &(form, stored));
+    let values = [made.value_at(rt, b'b'), made.value_at(rt, b'B')];
+    let first = made.bin.first().expect(rt, "an entry").1;
+    assert_same(rt, &(values, first), &([Some(7), None], 6));
+    let [a, b, c] = LEFT;
+    assert_same(rt, &poured(rt, made), &listed(&[(b'z', 1), a, b, c]));
 }
 
 #[test]
@@ -128,43 +112,58 @@ fn each_call_in_one_step_of_a_recorded_bin(rt: HostRuntime) {
 }
 
 /// The byte of a key, a call on it, and how often it is made.
-const SALTED: [(u8, Kind, u32); 2] = [(b'a', Kind::Put(1), 1), (b'q', Kind::Put(2), 1)];
+const SALTED: [(u8, &str, u32); 2] = [(b'a', "put 1", 1), (b'q', "put 2", 1)];
 
-/// The halves of a bin of class (16, 1) under the salt 16, by which the hash of `a` is 113 and that
-/// of `q` is 97.
-fn split_salted(rt: &impl Abort, alloc: Global, form: Form) -> (KeyBin, KeyBin) {
-    let mut bin = Bin::new(&alloc, form, Salt(16), Class::new(16, 1), Vec::new(alloc)).expect(
-        rt, "memory",
-    );
-    make_often(rt, alloc, &mut bin, &SALTED);
+/// A bin of class (16, 1) under the salt 16, by which the hash of `a` is 113 and that of `q` is 97.
+fn salted(rt: &impl Abort, alloc: Global, form: Form) -> Made {
+    let bin = Bin::new(&alloc, form, Salt(16), sixteenth(), Vec::new(alloc));
+    let mut made = Made {
+        alloc,
+        bin: bin.expect(rt, "memory"),
+    };
+    make_often(rt, &mut made, &SALTED);
+    made
+}
+
+/// The halves of a bin.
+fn halves(rt: &impl Abort, made: Made) -> (Made, Made) {
+    let Made { alloc, bin } = made;
     assert!(rt; bin.class().n() < 65536);
-    let Ok(halves) = bin.split(&alloc) else {
+    let Ok((low, high)) = bin.split(&alloc) else {
         assert!(rt; false, "memory");
         unreachable!()
     };
-    halves
+    (Made { alloc, bin: low }, Made { alloc, bin: high })
+}
+
+/// Asserts that the low half of a salted bin of the form has `q`, and the high half `a`.
+fn assert_split(rt: &impl Abort, alloc: Global, form: Form) {
+    let (low, high) = halves(rt, salted(rt, alloc, form));
+    assert_same(rt, &[low.bin.form(), high.bin.form()], &[form; 2]);
+    let found = [low.entries(rt), high.entries(rt)];
+    assert_same(rt, &found, &[listed(&[(b'q', 2)]), listed(&[(b'a', 1)])]);
 }
 
 #[test]
 fn a_salted_bin_is_split_by_salted_hashes(rt: HostRuntime) {
-    for form in &[Form::Lean, Form::Recorded] {
-        let (low, high) = split_salted(&rt, rt.alloc(), *form);
-        assert_same(&rt, &[low.form(), high.form()], &[*form; 2]);
-        assert_entries(&rt, rt.alloc(), &low, &[(b"q", 2)]);
-        assert_entries(&rt, rt.alloc(), &high, &[(b"a", 1)]);
-    }
+    assert_split(&rt, rt.alloc(), Form::Lean);
+    assert_split(&rt, rt.alloc(), Form::Recorded);
 }
 
 /// The byte of a key, a call on it, and how often it is made.
-const OFTEN: [(u8, Kind, u32); 3] = [
-    (b'b', Kind::Put(5), 1),
-    (b'a', Kind::Put(0), 1),
-    (b'a', Kind::Merge(1, Some(0)), 10_000),
+const OFTEN: [(u8, &str, u32); 3] = [
+    (b'b', "put 5", 1),
+    (b'a', "put 0", 1),
+    (b'a', "merge 1 +0", 10_000),
 ];
 
 #[test]
 fn a_lean_bin_stores_its_entries_alone(rt: HostRuntime) {
-    let mut bin = empty(&rt, rt.alloc(), Form::Lean);
-    make_often(&rt, rt.alloc(), &mut bin, &OFTEN);
-    assert_entries(&rt, rt.alloc(), &bin, &[(b"b", 5), (b"a", 10_000)]);
+    let mut made = empty(&rt, rt.alloc(), Form::Lean);
+    make_often(&rt, &mut made, &OFTEN);
+    assert_same(
+        &rt,
+        &made.entries(&rt),
+        &listed(&[(b'b', 5), (b'a', 10_000)]),
+    );
 }

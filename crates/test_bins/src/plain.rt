@@ -2,6 +2,7 @@
 ghost use Rattle.std.specs.Prelude.{◌<◌};
 
 use crate::asserts::{assert_same, key};
+use crate::rows::{Line, Makes, Sums, call_of};
 use crate::{bins, made};
 use bin_history::{Call, Form, Record, Reply};
 use hashkeys::Key;
@@ -15,17 +16,14 @@ type Pairs = Vec<(usize, u64)>;
 /// Two with one code among them.
 const TEXTS: [&[u8]; 6] = [b"a", b"q", b"Aa", b"BB", b"zzzzzz", b"_"];
 
-/// A call, with what any kind takes.
+/// A call on the key of a number.
 #[derive(Drop)]
 struct Plain {
-    kind: u64,
     key: usize,
-    given: u64,
-    other: u64,
-    function: Option<u64>,
+    line: Line,
 }
 
-impl Plain {
+impl Line {
     /// What the function answers for this value.
     fn computed(&self, value: u64) -> Option<u64> {
         match self.function {
@@ -57,53 +55,39 @@ impl Plain {
         };
         (after, reply)
     }
+}
 
+impl Plain {
     /// Makes the call on the pairs.
     fn make(&self, rt: &impl Abort, pairs: &mut Pairs) -> Reply<u64> {
-        let before = value_at(pairs, self.key);
-        let (after, reply) = self.effect(before);
-        match (before, after) {
-            (Some(_), Some(value)) => set_at(pairs, self.key, value),
-            (None, Some(value)) => pairs.push((self.key, value)).expect(rt, "memory"),
-            _ => pairs.retain(|pair| pair.0 != self.key),
+        let place = place_of(pairs, self.key);
+        let before = match pairs.get(place) {
+            Some(pair) => Some(pair.1),
+            None => None,
+        };
+        let (after, reply) = self.line.effect(before);
+        if place < pairs.len() {
+            match after {
+                Some(value) => pairs[place].1 = value,
+                None => {
+                    let _ = pairs.remove(place);
+                }
+            }
+        } else if let Some(value) = after {
+            pairs.push((self.key, value)).expect(rt, "memory");
         }
         reply
     }
 
-    /// What a call of this kind takes, as `given_to` tells it of a call.
-    fn given(&self) -> (u64, u64, u64, Option<u64>) {
-        match self.kind {
-            0 | 1 | 4 => (self.kind, 0, 0, None),
-            2 | 3 | 5 | 6 => (self.kind, self.given, 0, None),
-            7 => (7, self.given, self.other, None),
-            11 => (11, self.given, 0, self.function),
-            _ => (self.kind, 0, 0, self.function),
-        }
+    /// The call, as a bin takes it.
+    fn call(&self, rt: &impl Abort) -> Call<Key, u64, Plus> {
+        call_of(&Sums, text(rt, self.key), &self.line)
     }
 
     /// Whether this is the call.
     fn is(&self, rt: &impl Abort, call: &Call<Key, u64, Plus>) -> bool {
-        given_to(call) == self.given() && *call.key() == text(rt, self.key)
-    }
-
-    /// The call, as a bin takes it.
-    fn call(&self, rt: &impl Abort) -> Call<Key, u64, Plus> {
-        let key = text(rt, self.key);
-        let function = Plus(self.function);
-        match self.kind {
-            0 => Call::Get(key),
-            1 => Call::Contains(key),
-            2 => Call::Put(key, self.given),
-            3 => Call::PutIfAbsent(key, self.given),
-            4 => Call::Remove(key),
-            5 => Call::RemoveIf(key, self.given),
-            6 => Call::Replace(key, self.given),
-            7 => Call::ReplaceIf(key, self.given, self.other),
-            8 => Call::ComputeIfAbsent(key, function),
-            9 => Call::ComputeIfPresent(key, function),
-            10 => Call::Compute(key, function),
-            _ => Call::Merge(key, self.given, function),
-        }
+        let own = self.call(rt);
+        given_to(call) == given_to(&own) && *call.key() == *own.key()
     }
 }
 
@@ -125,27 +109,20 @@ fn given_to(call: &Call<Key, u64, Plus>) -> (u64, u64, u64, Option<u64>) {
     }
 }
 
-/// The value at a key of the pairs.
-fn value_at(pairs: &[(usize, u64)], key: usize) -> Option<u64> {
+/// The place of a key among the pairs, behind them where it has none.
+fn place_of(pairs: &[(usize, u64)], key: usize) -> usize {
+    let mut place = 0usize;
     for pair in pairs {
         if pair.0 == key {
-            return Some(pair.1);
+            return place;
         }
+        place = place.wrapping_add(1);
     }
-    None
-}
-
-/// Sets the value at a key of the pairs.
-fn set_at(pairs: &mut [(usize, u64)], key: usize, value: u64) {
-    for pair in pairs.iter_mut() {
-        if pair.0 == key {
-            pair.1 = value;
-        }
-    }
+    pairs.len()
 }
 
 /// A decimal digit.
-fn digit(number: usize) -> u8 {
+pub(crate) fn digit(number: usize) -> u8 {
     b'0' + (number % 10) as u8
 }
 
@@ -181,13 +158,15 @@ impl Numbers {
             0 => None,
             n => Some(n),
         };
-        Plain {
-            kind: self.below(12),
-            key: self.below(keys) as usize,
+        let kind = self.below(12) as usize;
+        let key = self.below(keys) as usize;
+        let line = Line {
+            kind,
             given: self.below(4),
             other: self.below(4),
             function,
-        }
+        };
+        Plain { key, line }
     }
 }
 
@@ -248,7 +227,7 @@ fn first_misstored(rt: &impl Abort, alloc: Global) -> Option<u64> {
     let mut numbers = Numbers(1);
     for line in 0..3_000u64 {
         let plain = numbers.call(6);
-        let _ = bins::make(rt, &mut bin, plain.call(rt));
+        let _ = bin.make(rt, plain.call(rt), line);
         made.push(plain).expect(rt, "memory");
         let is_checked = line % 61 == 0 || line == 1024 || line == 1536;
         if is_checked && !are_stored(rt, &bin, &made, &mut folded) {
@@ -266,13 +245,12 @@ fn a_bin_stores_its_newest_calls_over_what_the_others_left(rt: HostRuntime) {
 /// Makes a call on the bin and on the pairs, and says whether both answered and left the same.
 fn is_made_by_both(
     rt: &impl Abort,
-    alloc: Global,
     plain: &Plain,
-    bin: &mut made::KeyBin,
+    bin: &mut made::Made,
     pairs: &mut Pairs,
 ) -> bool {
-    let (reply, _) = made::make(rt, alloc, bin, plain.call(rt), 0);
-    reply == plain.make(rt, pairs) && are_same(rt, &made::copied(rt, alloc, bin), pairs)
+    let (reply, _) = bin.make(rt, plain.call(rt), 0);
+    reply == plain.make(rt, pairs) && are_same(rt, &bin.copied(rt), pairs)
 }
 
 /// Makes so many calls on as many keys of a bin of the form and of a plain map, and answers which
@@ -291,7 +269,7 @@ fn first_difference(
     let mut numbers = Numbers(1);
     for line in 0..calls {
         let plain = numbers.call(keys);
-        if !is_made_by_both(rt, alloc, &plain, &mut bin, &mut pairs) {
+        if !is_made_by_both(rt, &plain, &mut bin, &mut pairs) {
             return Some(line);
         }
     }

@@ -3,68 +3,45 @@
 use crate::asserts::assert_same;
 use hashkeys::{AsKey, HashKey, MakesKey};
 use seeded_keys::{Hashed, Query, Seed};
-use std::alloc::{AllocError, Global};
+use std::alloc::{AllocError, Allocator, Global};
 use std::io;
 use std::process::Abort;
 use std::random::RandomSource;
-use test_support::{Alloc, Refusing};
+use test_support::Refusing;
 
 /// How many of the bytes 0, 1, 2 and so on, and their code under the seed of the bytes 0 to 15.
-#[derive(Drop)]
-struct Row {
-    len: u8,
-    code: u32,
-}
-
-const ROWS: [Row; 8] = [
-    Row {
-        len: 0,
-        code: 84_919_516,
-    },
-    Row {
-        len: 1,
-        code: 2_102_905_491,
-    },
-    Row {
-        len: 7,
-        code: 2_612_072_768,
-    },
-    Row {
-        len: 8,
-        code: 2_368_313_998,
-    },
-    Row {
-        len: 9,
-        code: 1_812_348_388,
-    },
-    Row {
-        len: 15,
-        code: 709_990_742,
-    },
-    Row {
-        len: 16,
-        code: 2_106_624_870,
-    },
-    Row {
-        len: 63,
-        code: 3_082_531_752,
-    },
+const ROWS: [(usize, u32); 8] = [
+    (0, 84_919_516),
+    (1, 2_102_905_491),
+    (7, 2_612_072_768),
+    (8, 2_368_313_998),
+    (9, 1_812_348_388),
+    (15, 709_990_742),
+    (16, 2_106_624_870),
+    (63, 3_082_531_752),
 ];
+
+/// The code of the bytes, of their query and of their key.
+fn codes_of(rt: &impl Abort, alloc: Global, seed: Seed, bytes: &[u8]) -> [u32; 3] {
+    let of_query = code_of(seed.query(bytes));
+    [
+        seed.code(bytes),
+        of_query,
+        key(rt, alloc, seed, bytes).hash_code(),
+    ]
+}
 
 #[test]
 fn codes_under_a_seed_are_known(rt: HostRuntime) {
     let seed = Seed::of(0x0706_0504_0302_0100, 0x0f0e_0d0c_0b0a_0908);
-    for row in &ROWS {
-        let mut bytes = Vec::new(rt.alloc());
-        for byte in 0..row.len {
-            bytes.push(byte).expect(&rt, "memory");
-        }
-        let codes = [
-            seed.code(bytes.as_slice()),
-            code_of(seed.query(bytes.as_slice())),
-            key(&rt, rt.alloc(), seed, bytes.as_slice()).hash_code(),
-        ];
-        assert_same(&rt, &(row.len, codes), &(row.len, [row.code; 3]));
+    let mut bytes = [0u8; 63];
+    for byte in 0..63u8 {
+        bytes[byte as usize] = byte;
+    }
+    for (len, code) in &ROWS {
+        let front = bytes.as_slice().get(..*len).expect(&rt, "so many bytes");
+        let codes = codes_of(&rt, rt.alloc(), seed, front);
+        assert_same(&rt, &(*len, codes), &(*len, [*code; 3]));
     }
 }
 
@@ -90,6 +67,20 @@ fn keys_that_share_a_plain_code_differ_under_a_seed(rt: HostRuntime) {
     assert_same(&rt, &(of_first, of_second), &wanted);
 }
 
+/// Whether the key is equal to its copy, and to that of its bytes under another seed, and whether it has these
+/// bytes.
+fn equals(
+    rt: &impl Abort,
+    alloc: Global,
+    own: &Hashed<Global>,
+    other: Seed,
+    text: &[u8],
+) -> [bool; 3] {
+    let copy = own.clone().expect(rt, "memory");
+    let second = key(rt, alloc, other, text);
+    [*own == copy, *own == second, own.bytes() == text]
+}
+
 #[test]
 fn a_query_finds_the_key_of_its_seed_alone(rt: HostRuntime) {
     let (first, second) = (Seed::of(0, 0), Seed::of(1, 2));
@@ -98,16 +89,15 @@ fn a_query_finds_the_key_of_its_seed_alone(rt: HostRuntime) {
         first.query(b"AaAaBB").is_key(&one),
         second.query(b"AaAaBB").is_key(&one),
         first.query(b"BBAaBB").is_key(&one),
-        one == one.clone().expect(&rt, "memory"),
-        one == key(&rt, rt.alloc(), second, b"AaAaBB"),
-        one.bytes() == b"AaAaBB".as_slice(),
     ];
-    assert_same(&rt, &found, &[true, false, false, true, false, true]);
+    assert_same(&rt, &found, &[true, false, false]);
+    let equal = equals(&rt, rt.alloc(), &one, second, b"AaAaBB");
+    assert_same(&rt, &equal, &[true, false, true]);
 }
 
 /// Whether the key that a query makes has the bytes and their code, where one is made.
-fn is_made(alloc: Alloc<'_>, seed: Seed, text: &[u8]) -> Option<bool> {
-    let made: Result<Hashed<Alloc<'_>>, AllocError> = seed.query(text).make(&alloc);
+fn is_made<A: Allocator + Clone>(alloc: &A, seed: Seed, text: &[u8]) -> Option<bool> {
+    let made: Result<Hashed<A>, AllocError> = seed.query(text).make(alloc);
     match made {
         Ok(made) => Some(made.hash_code() == seed.code(text) && made.bytes() == text),
         Err(_) => None,
@@ -119,22 +109,29 @@ fn is_made(alloc: Alloc<'_>, seed: Seed, text: &[u8]) -> Option<bool> {
 fn a_query_makes_its_key_and_asks_for_memory_for_long_bytes(rt: HostRuntime) {
     let alloc = Refusing::new(rt.alloc());
     let seed = Seed::of(1, 2);
-    let eighteen = b"abcdefghijklmnopqr".as_slice();
     let more = b"abcdefghijklmnopqrs".as_slice();
     alloc.refuse_after(0);
-    let short = [is_made(&alloc, seed, b""), is_made(&alloc, seed, eighteen)];
-    assert_same(&rt, &(short, alloc.requests()), &([Some(true); 2], 0));
-    let long = [is_made(&alloc, seed, more), is_made(&alloc, seed, more)];
+    let (empty, eighteen) = (
+        is_made(&&alloc, seed, b""),
+        is_made(&&alloc, seed, &more[..18]),
+    );
+    assert_same(
+        &rt,
+        &(empty, eighteen, alloc.requests()),
+        &(Some(true), Some(true), 0),
+    );
+    let long = [is_made(&&alloc, seed, more), is_made(&&alloc, seed, more)];
     assert_same(&rt, &long, &[None, Some(true)]);
+}
+
+/// A seed of the system.
+fn random(rt: &(impl Abort + RandomSource)) -> Seed {
+    Seed::random(rt).expect(rt, "memory")
 }
 
 #[test]
 fn two_seeds_of_the_system_differ(rt: HostRuntime) {
-    let (first, second) = (
-        Seed::random(&rt).expect(&rt, "memory"),
-        Seed::random(&rt).expect(&rt, "memory"),
-    );
-    assert!(rt; first != second);
+    assert!(rt; random(&rt) != random(&rt));
 }
 
 /// A source that gives the bytes from a number on, one after the other.

@@ -165,68 +165,93 @@ impl Words {
     }
 }
 
-/// A number, what a function does there and finds, and how many keys more there are.
-type Row = (u64, Change, Found, i64);
+/// A number, what a function does there, what it finds, and how many keys more there are. It leaves a number,
+/// or `none`, and finds the value before it; or it is `count` or `spend`, of which the second `fails` where
+/// there is no value.
+type Row = (u64, &'static str, &'static str, i64);
 
 /// What values a function is given where they lie.
 const LEFT: [Row; 13] = [
-    (7, Change::Leave(None), Ok(None), 0),
-    (1, Change::Leave(Some(10)), Ok(None), 1),
-    (2, Change::Leave(Some(20)), Ok(None), 1),
-    (3, Change::Leave(Some(30)), Ok(None), 1),
+    (7, "none", "none", 0),
+    (1, "10", "none", 1),
+    (2, "20", "none", 1),
+    (3, "30", "none", 1),
     // a value that stays keeps its place, the first's, another's and the last's
-    (1, Change::Leave(Some(11)), Ok(Some(10)), 0),
-    (2, Change::Leave(Some(21)), Ok(Some(20)), 0),
-    (3, Change::Leave(Some(31)), Ok(Some(30)), 0),
-    (4, Change::Leave(None), Ok(None), 0),
-    (4, Change::Leave(Some(40)), Ok(None), 1),
+    (1, "11", "10", 0),
+    (2, "21", "20", 0),
+    (3, "31", "30", 0),
+    (4, "none", "none", 0),
+    (4, "40", "none", 1),
     // one that goes leaves the others in order
-    (2, Change::Leave(None), Ok(Some(21)), -1),
-    (1, Change::Leave(None), Ok(Some(11)), -1),
-    (4, Change::Leave(None), Ok(Some(40)), -1),
-    (2, Change::Leave(Some(22)), Ok(None), 1),
+    (2, "none", "21", -1),
+    (1, "none", "11", -1),
+    (4, "none", "40", -1),
+    (2, "22", "none", 1),
 ];
 
 /// Counts that begin at none.
 const COUNTED: [Row; 5] = [
-    (1, Change::Count, Ok(Some(101)), 1),
-    (1, Change::Count, Ok(Some(102)), 0),
-    (2, Change::Count, Ok(Some(102)), 1),
-    (2, Change::Count, Ok(Some(103)), 0),
-    (1, Change::Count, Ok(Some(103)), 0),
+    (1, "count", "101", 1),
+    (1, "count", "102", 0),
+    (2, "count", "102", 1),
+    (2, "count", "103", 0),
+    (1, "count", "103", 0),
 ];
 
 /// What is spent until none is left.
 const SPENT: [Row; 6] = [
-    (1, Change::Leave(Some(2)), Ok(None), 1),
-    (2, Change::Leave(Some(9)), Ok(None), 1),
-    (1, Change::Spend, Ok(Some(1)), 0),
-    (1, Change::Spend, Ok(Some(0)), -1),
-    (1, Change::Spend, Err(1), 0),
-    (1, Change::Spend, Err(1), 0),
+    (1, "2", "none", 1),
+    (2, "9", "none", 1),
+    (1, "spend", "1", 0),
+    (1, "spend", "0", -1),
+    (1, "spend", "fails", 0),
+    (1, "spend", "fails", 0),
 ];
 
 /// Values far back among those of 100 numbers.
 const FAR: [Row; 4] = [
-    (99, Change::Leave(Some(7)), Ok(Some(99)), 0),
-    (50, Change::Leave(Some(8)), Ok(Some(50)), 0),
-    (98, Change::Leave(None), Ok(Some(98)), -1),
-    (100, Change::Leave(None), Ok(None), 0),
+    (99, "7", "99", 0),
+    (50, "8", "50", 0),
+    (98, "none", "98", -1),
+    (100, "none", "none", 0),
 ];
+
+/// The change of a row.
+fn change_of(text: &str) -> Change {
+    match text {
+        "count" => Change::Count,
+        "spend" => Change::Spend,
+        left => Change::Leave(left.parse().ok()),
+    }
+}
+
+/// What a change at the number finds.
+fn found_of(number: u64, text: &str) -> Found {
+    match text {
+        "fails" => Err(number),
+        found => Ok(found.parse().ok()),
+    }
+}
 
 /// Makes the changes of the rows, in order.
 fn change_all(rt: &impl Abort, twins: &mut Twins, rows: &[Row]) {
-    for (number, change, wanted, delta) in rows {
-        let found = twins.update(rt, *number, *change);
-        assert_same(rt, &(*number, found), &(*number, (*wanted, *delta)));
+    for (number, change, found, delta) in rows {
+        let made = twins.update(rt, *number, change_of(change));
+        let wanted = (*number, (found_of(*number, found), *delta));
+        assert_same(rt, &(*number, made), &wanted);
     }
+}
+
+/// The entries that the changes of the rows leave.
+fn assert_changes(rt: &impl Abort, alloc: Global, rows: &[Row], left: &[(u64, u64)]) {
+    let mut twins = Twins::new(alloc);
+    change_all(rt, &mut twins, rows);
+    twins.assert_walk(rt, left);
 }
 
 #[test]
 fn a_function_is_given_values_where_they_lie(rt: HostRuntime) {
-    let mut twins = Twins::new(rt.alloc());
-    change_all(&rt, &mut twins, &LEFT);
-    twins.assert_walk(&rt, &[(3, 31), (2, 22)]);
+    assert_changes(&rt, rt.alloc(), &LEFT, &[(3, 31), (2, 22)]);
 }
 
 #[test]
@@ -240,24 +265,22 @@ fn a_function_is_given_a_value_or_none(rt: HostRuntime) {
 
 #[test]
 fn a_function_leaves_none_where_there_is_none(rt: HostRuntime) {
-    let mut twins = Twins::new(rt.alloc());
-    change_all(&rt, &mut twins, &SPENT);
-    twins.assert_walk(&rt, &[(2, 9)]);
+    assert_changes(&rt, rt.alloc(), &SPENT, &[(2, 9)]);
 }
 
 #[test]
 fn values_far_back_in_a_chain_are_updated(rt: HostRuntime) {
     let mut twins = Twins::new(rt.alloc());
     for number in 0..100u64 {
-        let row = (number, Change::Leave(Some(number)), Ok(None), 1);
-        change_all(&rt, &mut twins, &[row]);
+        let made = twins.update(&rt, number, Change::Leave(Some(number)));
+        assert_same(&rt, &made, &(Ok(None), 1));
     }
     change_all(&rt, &mut twins, &FAR);
     assert_same(&rt, &twins.set(&rt, 97, 6), &Some(97));
     for number in 0..97u64 {
-        let wanted = if number == 50 { 8 } else { number };
-        let row = (number, Change::Leave(None), Ok(Some(wanted)), -1);
-        change_all(&rt, &mut twins, &[row]);
+        let made = twins.update(&rt, number, Change::Leave(None));
+        let before = if number == 50 { 8 } else { number };
+        assert_same(&rt, &made, &(Ok(Some(before)), -1));
     }
     twins.assert_walk(&rt, &[(97, 6), (99, 7)]);
 }

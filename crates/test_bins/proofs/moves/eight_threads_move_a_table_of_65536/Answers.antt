@@ -3,5 +3,5 @@ use Rattle.std.proofs.Crossing.{crosses}
 use Rattle.transfer.proofs.Shared.{strides_sync}
 use Rattle.test_bins.proofs.moves.eight_threads_move_a_table_of_65536.Goals as goal
 
-pub map_indices-requires-sync-F : goal.map_indices-requires-sync-F
-map_indices-requires-sync-F c κs within = search (sendable, crosses, strides_sync) depth 40
+pub moved_by_threads-found-requires-sync-M : goal.moved_by_threads-found-requires-sync-M
+moved_by_threads-found-requires-sync-M g c κs = search (sendable, crosses, strides_sync) depth 40

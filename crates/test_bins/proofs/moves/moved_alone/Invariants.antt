@@ -1,5 +1,5 @@
 use Rattle.std.proofs.Common.{◌≡◌, ◌-◌, length}
-use Rattle.test_bins.proofs.moves.walked.Given as goal
+use Rattle.test_bins.proofs.moves.moved_alone.Given as goal
 
 abbrev pub invariant-loop-range : goal.invariant-loop-range
 invariant-loop-range l = l.opener.strides ≡ l.strides

@@ -5,28 +5,22 @@ use crate::asserts::assert_same;
 use bin_history::Form;
 use count_ledger::{BinRole, Ledger, Pass};
 use hashkeys::{Key, Salt};
-use std::alloc::{AllocError, Global};
+use std::alloc::{AllocError, Allocator, Global};
 use std::process::Abort;
-use test_support::{Alloc, Answer, Number, Refusing, settled};
+use test_support::{Alloc, Keep, Refusing, settled};
 use transfer::{Finish, Range, Strides};
 
 /// More than any call's requests.
 const MANY: u64 = 1000;
 
-type NumberLedger<'a> = Ledger<Key, Number<'a>, Answer<'a>, Alloc<'a>>;
-
-type NumberPass<'a> = Pass<Key, Number<'a>, Answer<'a>>;
-
-type NumberRole<'a> = BinRole<Key, Number<'a>, Answer<'a>>;
-
-type Made<'a> = (
-    NumberLedger<'a>,
-    Vec<NumberPass<'a>, Alloc<'a>>,
-    Vec<NumberRole<'a>, Alloc<'a>>,
+type Made<A> = (
+    Ledger<Key, u64, Keep, A>,
+    Vec<Pass<Key, u64, Keep>, A>,
+    Vec<BinRole<Key, u64, Keep>, A>,
 );
 
 /// Settles a ledger of two clients over two bins that nobody called.
-fn assert_settles(rt: &impl Abort, made: Made<'_>)
+fn assert_settles<A: Allocator>(rt: &impl Abort, made: Made<A>)
     requires passes { All (λ p. p.ledger ≡ made.0.id) made.1.items }
     requires roles { All (λ r. r.ledger ≡ made.0.id) made.2.items }
 {
@@ -37,26 +31,33 @@ fn assert_settles(rt: &impl Abort, made: Made<'_>)
 }
 
 /// A ledger of two clients over two empty bins.
-fn make(alloc: Alloc<'_>) -> Result<Made<'_>, AllocError>
+fn make<A: Allocator + Clone>(alloc: &A) -> Result<Made<A>, AllocError>
     ensures passes { IfOk result (λ made. All (λ p. p.ledger ≡ made.0.id) made.1.items) }
     ensures roles { IfOk result (λ made. All (λ r. r.ledger ≡ made.0.id) made.2.items) }
 {
-    let bases = Vec::from_array(alloc, [Vec::new(alloc), Vec::new(alloc)])?;
-    Ledger::new(alloc, Form::Recorded, Salt(0), 2, &bases)
+    let mut bases = Vec::with_capacity(alloc.clone()?, 2)?;
+    bases.push_reserved(Vec::new(alloc.clone()?));
+    bases.push_reserved(Vec::new(alloc.clone()?));
+    Ledger::new(alloc.clone()?, Form::Recorded, Salt(0), 2, &bases)
 }
 
 /// Makes a ledger with the request after so many refused, and again where there was one. Answers
 /// whether there was.
-fn refuse_ledger(rt: &impl Abort, alloc: Alloc<'_>, granted: u64) -> Result<bool, AllocError> {
-    alloc.refuse_after(granted);
-    if let Ok(made) = make(alloc) {
-        assert_settles(rt, made);
-        assert!(rt; !alloc.has_refused());
-        return Ok(false);
+fn refuse_ledger<A: Allocator + Clone>(
+    rt: &impl Abort,
+    switch: &Refusing<Global>,
+    alloc: &A,
+    granted: u64,
+) -> bool {
+    switch.refuse_after(granted);
+    let made = make(alloc);
+    let refused = switch.has_refused();
+    assert!(rt; made.is_err() == refused);
+    match made {
+        Ok(made) => assert_settles(rt, made),
+        Err(_) => assert_settles(rt, make(alloc).expect(rt, "memory")),
     }
-    assert!(rt; alloc.has_refused());
-    assert_settles(rt, make(alloc)?);
-    Ok(true)
+    refused
 }
 
 #[test]
@@ -64,7 +65,7 @@ fn a_refused_ledger_is_made_again(rt: HostRuntime) {
     let alloc = Refusing::new(rt.alloc());
     let mut refusals = 0u64;
     for granted in 0..MANY {
-        if !refuse_ledger(&rt, &alloc, granted).expect(&rt, "memory") {
+        if !refuse_ledger(&rt, &alloc, &&alloc, granted) {
             break;
         }
         refusals = refusals.wrapping_add(1);

@@ -17,6 +17,18 @@ fn one_request_is_refused(rt: HostRuntime) {
     }
 }
 
+/// Whether the items are the numbers from 0 on.
+fn are_counted(items: &[u64]) -> bool {
+    let mut next = 0u64;
+    for item in items {
+        if *item != next {
+            return false;
+        }
+        next = next.wrapping_add(1);
+    }
+    true
+}
+
 #[test]
 fn a_refused_growth_leaves_the_items(rt: HostRuntime) {
     let alloc = Refusing::new(rt.alloc());
@@ -30,16 +42,19 @@ fn a_refused_growth_leaves_the_items(rt: HostRuntime) {
             items.push(number).expect(&rt, "memory");
         }
     }
-    assert_same(&rt, &(refused, items.len()), &(1, 100));
-    assert!(rt; items.iter().copied().eq(0..100u64));
+    let found = (refused, items.len(), are_counted(&items));
+    assert_same(&rt, &found, &(1, 100, true));
 }
 
 #[test]
 fn threads_count_together(rt: HostRuntime) {
     let alloc = Refusing::new(rt.alloc());
     alloc.refuse_after(5);
-    let make = |number: usize| Vec::from_array(&alloc, [number]).ok();
-    let blocks = thread::map_indices(&rt, rt.alloc(), 8, &make).expect(&rt, "memory");
-    assert!(rt; blocks.iter().filter(|block| block.is_none()).count() == 1);
-    assert!(rt; alloc.has_refused());
+    let ask = |number: usize| Vec::from_array(&alloc, [number]).is_ok();
+    let granted = thread::map_indices(&rt, rt.alloc(), 8, &ask).expect(&rt, "memory");
+    let mut count = 0u32;
+    for is_granted in &granted {
+        count = count.wrapping_add(u32::from(*is_granted));
+    }
+    assert_same(&rt, &(count, alloc.has_refused()), &(7, true));
 }
