@@ -168,6 +168,15 @@ fn puts<R: Wait>(rt: &R, map: &Words, pass: &mut WordPass) -> bool
             map.remove_as(rt, pass, b"one".as_slice()),
             Reply::Value(Some(6)),
         ),
+    ])
+}
+
+fn puts_if_absent<R: Wait>(rt: &R, map: &Words, pass: &mut WordPass) -> bool
+    requires form { map.now.ledger.form ≡ Lean }
+    requires pass { pass.old.ledger ≡ map.now.ledger.id }
+    ensures { pass.new.ledger ≡ map.now.ledger.id }
+{
+    all(&[
         returns(map.put_if_absent_as(rt, pass, b"one".as_slice(), 5), None),
         returns(
             map.put_if_absent_as(rt, pass, b"one".as_slice(), 6),
@@ -259,7 +268,7 @@ fn changes<R: Wait>(rt: &R, map: &Words, pass: &mut WordPass) -> Result<bool, Fa
 struct ByBytes;
 
 impl Play<Bytes<'static>, u64, Keep, Global> for ByBytes {
-    type Told = [bool; 3];
+    type Told = [bool; 4];
 
     fn play<R: Wait + Abort>(
         &self,
@@ -267,12 +276,13 @@ impl Play<Bytes<'static>, u64, Keep, Global> for ByBytes {
         map: &Words,
         pass: &mut WordPass,
         _others: &mut Vec<WordPass, Global>,
-    ) -> [bool; 3] {
+    ) -> [bool; 4] {
         if map.form() != Form::Lean {
-            return [false; 3];
+            return [false; 4];
         }
         [
             puts(rt, map, pass),
+            puts_if_absent(rt, map, pass),
             merge_as(rt, map, pass),
             changes(rt, map, pass) == Ok(true),
         ]
@@ -282,5 +292,5 @@ impl Play<Bytes<'static>, u64, Keep, Global> for ByBytes {
 #[test]
 fn each_example_of_a_call_by_what_makes_its_key_is_as_it_says(rt: HostRuntime) {
     let right = played(&rt, rt.alloc(), (Form::Lean, 1), &ByBytes);
-    assert_same(&rt, &right, &[true; 3]);
+    assert_same(&rt, &right, &[true; 4]);
 }

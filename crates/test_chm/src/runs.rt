@@ -116,10 +116,11 @@ fn live<R: Wait + Abort, A: Allocator + Clone>(
 pub(crate) fn live_alone<R: Wait + Abort>(
     rt: &R,
     memory: Global,
-    opened: KeyOpened<Global>,
+    map: KeyMap<Global>,
+    passes: Vec<KeyPass, Global>,
     script: (&str, &str),
 )
-    requires { All (λ p. p.ledger ≡ opened.0.ledger.id) opened.1.items }
+    requires { All (λ p. p.ledger ≡ map.ledger.id) passes.items }
 {
     let (lines, row) = script;
     let run = Turn {
@@ -128,7 +129,7 @@ pub(crate) fn live_alone<R: Wait + Abort>(
         memory,
     };
     let switch = Refusing::new(memory);
-    live(rt, &switch, opened, run, (lines, false));
+    live(rt, &switch, (map, passes), run, (lines, false));
 }
 
 /// Opens a map with the pairs of a closed one, under its salt or under another.
@@ -144,6 +145,13 @@ fn reopen<A: Allocator + Clone>(
         closed.reopen(clients)
     } else {
         closed.reopen_with(clients, Salt(small(rt, words[1])))
+    }
+}
+
+fn fault_of<T>(made: &Result<T, Fault>) -> Option<Fault> {
+    match made {
+        Ok(_) => None,
+        Err(fault) => Some(*fault),
     }
 }
 
@@ -163,13 +171,13 @@ fn reopen_at_last<A: Allocator + Clone>(
     let result = reopen(rt, closed, &words);
     let refused = switch.has_refused();
     switch.refuse_after(u64::MAX);
-    let (opened, fault) = match result {
-        Ok(opened) => (opened, None),
-        Err(fault) => (reopen(rt, closed, &words).expect(rt, "a map"), Some(fault)),
-    };
+    let found = done_or_fault(fault_of(&result));
     let wanted = wanted_of(rt, line, run.row, refused);
-    assert_same(rt, &(run.row, done_or_fault(fault)), &(run.row, wanted));
-    (opened, refused)
+    assert_same(rt, &(run.row, found), &(run.row, wanted));
+    match result {
+        Ok(opened) => (opened, refused),
+        Err(_) => (reopen(rt, closed, &words).expect(rt, "a map"), refused),
+    }
 }
 
 /// Takes the pairs out of a closed map, and once more where that is refused: then it is as it was. Returns

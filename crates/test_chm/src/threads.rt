@@ -35,7 +35,7 @@ fn together<R: Threads + Wait + Abort + Sync, J: Job + Sync>(
         ensures { pass.exit.now.ledger ≡ map.ledger.id }
     { job.work(rt, number, &map, pass) };
     thread::for_each_mut(rt, &mut passes, 32, &work);
-    live_alone(rt, memory, (map, passes), (lines, row));
+    live_alone(rt, memory, map, passes, (lines, row));
 }
 
 /// Puts a key where it is not there, and counts whether there was no value, or this one.
