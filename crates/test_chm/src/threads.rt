@@ -1,5 +1,5 @@
 //! Clients in threads of their own.
-ghost use Rattle.std.specs.Prelude.{◌≡◌};
+ghost use Rattle.std.specs.Prelude.{◌≡◌, All};
 
 use crate::lines::{cut, words_of};
 use crate::maps::{KeyMap, KeyPass, assert_same, key, put_numbers, put_text};
@@ -20,6 +20,23 @@ trait Job {
         ensures { pass.new.ledger ≡ map.now.ledger.id };
 }
 
+/// Lets the clients do the job at the same time.
+fn work_together<R: Threads + Wait + Abort + Sync, J: Job + Sync>(
+    rt: &R,
+    map: &KeyMap<Global>,
+    passes: &mut [KeyPass],
+    job: &J,
+)
+    requires { All (λ p. p.ledger ≡ map.now.ledger.id) passes.old }
+    ensures { All (λ p. p.ledger ≡ map.now.ledger.id) passes.new }
+{
+    let work = |number: usize, pass: &mut KeyPass|
+        requires { pass.now.ledger ≡ map.now.ledger.id }
+        ensures { pass.exit.now.ledger ≡ map.entry.now.ledger.id }
+    { job.work(rt, number, map, pass) };
+    thread::for_each_mut(rt, passes, 32, &work);
+}
+
 /// Opens a map as the first line says, lets its clients do the job at the same time, and then does what the
 /// other lines say.
 fn together<R: Threads + Wait + Abort + Sync, J: Job + Sync>(
@@ -30,11 +47,7 @@ fn together<R: Threads + Wait + Abort + Sync, J: Job + Sync>(
 ) {
     let (opening, lines) = cut(script, "\n");
     let (map, mut passes) = open_by(rt, memory, &words_of(rt, opening, row));
-    let work = |number: usize, pass: &mut KeyPass|
-        requires pass { pass.now.ledger ≡ map.ledger.id }
-        ensures { pass.exit.now.ledger ≡ map.ledger.id }
-    { job.work(rt, number, &map, pass) };
-    thread::for_each_mut(rt, &mut passes, 32, &work);
+    work_together(rt, &map, &mut passes, job);
     live_alone(rt, memory, map, passes, (lines, row));
 }
 
