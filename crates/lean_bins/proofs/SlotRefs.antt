@@ -9,7 +9,7 @@ use Rattle.std.proofs.lemmas.Nat.{pow_below, pow_pos}
 use Rattle.std.proofs.lemmas.List.{get_or_append_left}
 use Rattle.std.proofs.Math.Seq.{get_or-append_seam}
 use Rattle.boxcar.specs.Slot.{Named}
-use Rattle.hashkeys.specs.Classes.{ClassView, covers}
+use Rattle.hashkeys.specs.Classes.{ClassView, IsTableSize, covers}
 use Rattle.hashkeys.specs.Limits.{most_bins}
 use Rattle.bin_layout.specs.Names.{home_named}
 use Rattle.bin_layout.specs.Views.{HomeView}
@@ -54,6 +54,13 @@ pub exponent_few : (e i : ℕ) → 2 ^ e ≤ i → i < most_bins → e < 26
 exponent_few e i low high = elim (cases_lt e 26) [
   | inl l ↦ l
   | inr ge ↦ absurd (omega (arith, pow_mono {i = 26} {j = e} ge))
+]
+
+-- the exponent of a table's size
+pub size_few : (e n : ℕ) → IsTableSize n → 2 ^ e ≤ n → e ≤ 26
+size_few e n (k, few, is) low = elim (cases_lt 26 e) [
+  | inl l ↦ absurd (omega (arith, is, few, pow_mono {i = k} {j = 26} few, pow_mono {i = 27} {j = e} l))
+  | inr ge ↦ ge
 ]
 
 pub index_few : (e i : ℕ) → e ≤ 26 → i < 2 ^ e → i < most_bins

@@ -74,7 +74,7 @@ impl<K: HashKey, V: Value, F: Remap<K, V>, A: Allocator + Clone> LeanBins<K, V, 
         requires size { class.n < most_bins }
     {
         // It does not wait for a bucket that is locked: the next call on it moves it.
-        let Some(held) = self.try_hold(class.index()) else {
+        let Some(held) = self.try_hold_of(class) else {
             return Err(Refused::Busy);
         };
         let size = held.bin.class().n();

@@ -82,9 +82,10 @@ impl<K: HashKey, V: Value, F: Remap<K, V>, A: Allocator + Clone> LeanBins<K, V, 
         })
     }
 
-    /// One try for the bin of the hash at the place where it most often is.
+    /// Locks the bin of the hash where it lies, if that is the place where a bin most often is and nobody
+    /// has it just then; or returns none. It waits for nobody.
     #[inline(always)]
-    fn try_widest(&self, hash: u32) -> Option<BinGuard<'_, K, V, F, A>>
+    pub fn try_hold_widest(&self, hash: u32) -> Option<BinGuard<'_, K, V, F, A>>
         ensures lies { IfSome result (λ t. IsSomeAnd (taken t.inner.seat.me.1)
             (IsInSlot K.eq (after V.eq F.remapped F.merged) (place_of t.home.now t.class))) }
         ensures covers { IfSome result (λ t. covers t.class hash ≡ true) }
@@ -106,10 +107,22 @@ impl<K: HashKey, V: Value, F: Remap<K, V>, A: Allocator + Clone> LeanBins<K, V, 
         ensures of_map { IfSome result (λ t. IsPlaceOf self.now (place_of t.home.now t.class)) }
         ensures home { IfSome result (λ t. t.home.now ≡ self.now) }
     {
-        match self.try_widest(hash) {
+        match self.try_hold_widest(hash) {
             Some(taken) => Some(taken),
-            None => self.try_hold_found(hash),
+            None => self.try_hold_elsewhere(hash),
         }
+    }
+
+    /// Does what `try_hold_found` does, and is inlined, as `hold_elsewhere` is.
+    #[inline(always)]
+    fn try_hold_elsewhere(&self, hash: u32) -> Option<BinGuard<'_, K, V, F, A>>
+        ensures lies { IfSome result (λ t. IsSomeAnd (taken t.inner.seat.me.1)
+            (IsInSlot K.eq (after V.eq F.remapped F.merged) (place_of t.home.now t.class))) }
+        ensures covers { IfSome result (λ t. covers t.class hash ≡ true) }
+        ensures of_map { IfSome result (λ t. IsPlaceOf self.now (place_of t.home.now t.class)) }
+        ensures home { IfSome result (λ t. t.home.now ≡ self.now) }
+    {
+        self.try_hold_found(hash)
     }
 
     /// Locks the bin of the hash at the place where it is found, or returns none where another thread
@@ -142,10 +155,23 @@ impl<K: HashKey, V: Value, F: Remap<K, V>, A: Allocator + Clone> LeanBins<K, V, 
         ensures of_map { IsPlaceOf self.now (place_of result.home.now result.class) }
         ensures home { result.home.now ≡ self.now }
     {
-        match self.try_widest(hash) {
+        match self.try_hold_widest(hash) {
             Some(taken) => taken,
-            None => self.hold_found(rt, hash),
+            None => self.hold_elsewhere(rt, hash),
         }
+    }
+
+    /// Does what `hold_found` does, and is inlined: what that function returns lies in memory then on this
+    /// way alone, and not where the bin is found at once.
+    #[inline(always)]
+    fn hold_elsewhere<R: Wait>(&self, rt: &R, hash: u32) -> BinGuard<'_, K, V, F, A>
+        ensures lies { IsSomeAnd (taken result.inner.seat.me.1)
+            (IsInSlot K.eq (after V.eq F.remapped F.merged) (place_of result.home.now result.class)) }
+        ensures covers { covers result.class hash ≡ true }
+        ensures of_map { IsPlaceOf self.now (place_of result.home.now result.class) }
+        ensures home { result.home.now ≡ self.now }
+    {
+        self.hold_found(rt, hash)
     }
 
     /// Waits for the bin of the hash where it is found, and holds it there. It is not inlined.
@@ -182,6 +208,36 @@ impl<K: HashKey, V: Value, F: Remap<K, V>, A: Allocator + Clone> LeanBins<K, V, 
     {
         let taken = self.try_hold_found(hash)?;
         Some(taken.take_out())
+    }
+
+    /// Holds the bin of the class, or the one that its index has in place of it, or none where another
+    /// thread has it just then. It waits for nobody. It first tries the place where a bin of the class lies.
+    pub(crate) fn try_hold_of(&self, class: Class) -> Option<Held<'_, K, V, F, A>>
+        ensures at { IfSome result (λ h. AreAt K.eq (after V.eq F.remapped F.merged)
+            (place_of h.place.home.now h.place.class) h.bin h.role) }
+        ensures lawful { IfSome result
+            (λ h. IsLawful K.eq K.code (after V.eq F.remapped F.merged) h.bin) }
+        ensures of_map { IfSome result
+            (λ h. IsPlaceOf self.now (place_of h.place.home.now h.place.class)) }
+        ensures home { IfSome result (λ h. h.place.home.now ≡ self.now) }
+    {
+        match self.try_class(class) {
+            Some(taken) => Some(taken.take_out()),
+            None => self.try_hold(class.index()),
+        }
+    }
+
+    /// One try for the bin of the class at the place of its index.
+    #[inline(always)]
+    fn try_class(&self, class: Class) -> Option<BinGuard<'_, K, V, F, A>>
+        ensures lies { IfSome result (λ t. IsSomeAnd (taken t.inner.seat.me.1)
+            (IsInSlot K.eq (after V.eq F.remapped F.merged) (place_of t.home.now t.class))) }
+        ensures of_map { IfSome result (λ t. IsPlaceOf self.now (place_of t.home.now t.class)) }
+        ensures home { IfSome result (λ t. t.home.now ≡ self.now) }
+    {
+        let exponent = class.n().ilog2();
+        let index = class.index();
+        self.try_at(self.slot_ref(index)?, exponent, index)
     }
 
     /// Waits for the bin of the hash, and holds it.

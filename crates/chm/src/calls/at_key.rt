@@ -264,6 +264,79 @@ impl<K: HashKey, V: Value, F: Remap<K, V>, A: Allocator + Clone> Map<K, V, F, A>
         if pass.made() >= self.ledger.most_calls() {
             return Err(work.refuse());
         }
+        if let StoreKind::Lean(home) = &self.bins.kind {
+            let hash = work.hash(home.salt());
+            if let Some(guard) = home.try_hold_widest(hash) {
+                return self.call_on_guard(guard, pass, hash, work);
+            }
+        }
+        self.call_elsewhere(rt, pass, work)
+    }
+
+    /// Makes a call in a lean bucket that is locked where it lies, unlocks the bucket, and does the call's
+    /// part for the table.
+    #[inline(always)]
+    fn call_on_guard<W: AtKey<K, V, F, A>>(
+        &self,
+        guard: BinGuard<'_, K, V, F, A>,
+        pass: &mut Pass<K, V, F>,
+        hash: u32,
+        work: W,
+    ) -> Result<W::Answer, W::Failure>
+        requires may { W.may work self.now.ledger pass.old }
+        requires pass { pass.old.ledger ≡ self.now.ledger.id }
+        requires hash { hash ≡ hash_by K.code self.now.ledger.salt (W.key work) }
+        requires lies { IsSomeAnd (taken guard.inner.seat.me.1)
+            (IsInSlot K.eq (after V.eq F.remapped F.merged) (place_of guard.home.now guard.class)) }
+        requires home { guard.home.now ≡ bins_of self.now }
+        requires covers { covers guard.class hash ≡ true }
+        ensures done { IfOk result (W.does work self.now.ledger pass.old pass.new) }
+        ensures fails { IfErr result (W.fails work self.now.ledger pass.old) }
+        ensures same { OnErr result (pass.new ≡ pass.old) }
+    {
+        match self.on_guard(guard, pass, hash, work) {
+            Ok((answer, class, growth)) => {
+                self.after_call(pass, class, growth);
+                Ok(answer)
+            }
+            Err(failure) => Err(failure),
+        }
+    }
+
+    /// Does what `call_slowly` does, and is inlined: what is handed to that function and what it returns
+    /// then lies in memory on this way alone, and a short call keeps all in registers.
+    #[inline(always)]
+    fn call_elsewhere<R: Wait, W: AtKey<K, V, F, A>>(
+        &self,
+        rt: &R,
+        pass: &mut Pass<K, V, F>,
+        work: W,
+    ) -> Result<W::Answer, W::Failure>
+        requires may { W.may work self.now.ledger pass.old }
+        requires pass { pass.old.ledger ≡ self.now.ledger.id }
+        ensures done { IfOk result (W.does work self.now.ledger pass.old pass.new) }
+        ensures fails { IfErr result (W.fails work self.now.ledger pass.old) }
+        ensures same { OnErr result (pass.new ≡ pass.old) }
+    {
+        self.call_slowly(rt, pass, work)
+    }
+
+    /// Makes a call whose bucket is not free where a bucket most often lies, or is a recorded one, and does
+    /// the call's part for the table. It waits for the bucket.
+    #[cold]
+    #[inline(never)]
+    fn call_slowly<R: Wait, W: AtKey<K, V, F, A>>(
+        &self,
+        rt: &R,
+        pass: &mut Pass<K, V, F>,
+        work: W,
+    ) -> Result<W::Answer, W::Failure>
+        requires may { W.may work self.now.ledger pass.old }
+        requires pass { pass.old.ledger ≡ self.now.ledger.id }
+        ensures done { IfOk result (W.does work self.now.ledger pass.old pass.new) }
+        ensures fails { IfErr result (W.fails work self.now.ledger pass.old) }
+        ensures same { OnErr result (pass.new ≡ pass.old) }
+    {
         match self.at_key(rt, pass, work) {
             Ok((answer, class, growth)) => {
                 self.after_call(pass, class, growth);
@@ -292,6 +365,47 @@ impl<K: HashKey, V: Value, F: Remap<K, V>, A: Allocator + Clone> Map<K, V, F, A>
         if pass.made() >= self.ledger.most_calls() {
             return Some(Err(work.refuse()));
         }
+        if let StoreKind::Lean(home) = &self.bins.kind {
+            let hash = work.hash(home.salt());
+            if let Some(guard) = home.try_hold_widest(hash) {
+                return Some(self.call_on_guard(guard, pass, hash, work));
+            }
+        }
+        self.try_call_elsewhere(pass, work)
+    }
+
+    /// Does what `try_call_slowly` does, and is inlined, as `call_elsewhere` is.
+    #[inline(always)]
+    fn try_call_elsewhere<W: AtKey<K, V, F, A> + Drop>(
+        &self,
+        pass: &mut Pass<K, V, F>,
+        work: W,
+    ) -> Option<Result<W::Answer, W::Failure>>
+        requires may { W.may work self.now.ledger pass.old }
+        requires pass { pass.old.ledger ≡ self.now.ledger.id }
+        ensures done { IfSome result (λ done. IfOk done (W.does work self.now.ledger pass.old pass.new)) }
+        ensures fails { IfSome result (λ done. IfErr done (W.fails work self.now.ledger pass.old)) }
+        ensures same { IfSome result (λ done. OnErr done (pass.new ≡ pass.old)) }
+        ensures busy { IfNone result (pass.new ≡ pass.old) }
+    {
+        self.try_call_slowly(pass, work)
+    }
+
+    /// Does what `call_slowly` does, unless the bucket is locked just then: then it returns none.
+    #[cold]
+    #[inline(never)]
+    fn try_call_slowly<W: AtKey<K, V, F, A> + Drop>(
+        &self,
+        pass: &mut Pass<K, V, F>,
+        work: W,
+    ) -> Option<Result<W::Answer, W::Failure>>
+        requires may { W.may work self.now.ledger pass.old }
+        requires pass { pass.old.ledger ≡ self.now.ledger.id }
+        ensures done { IfSome result (λ done. IfOk done (W.does work self.now.ledger pass.old pass.new)) }
+        ensures fails { IfSome result (λ done. IfErr done (W.fails work self.now.ledger pass.old)) }
+        ensures same { IfSome result (λ done. OnErr done (pass.new ≡ pass.old)) }
+        ensures busy { IfNone result (pass.new ≡ pass.old) }
+    {
         match self.try_at_key(pass, work)? {
             Ok((answer, class, growth)) => {
                 self.after_call(pass, class, growth);

@@ -86,15 +86,40 @@ impl<K: HashKey, V: Value, F: Remap<K, V>, A: Allocator + Clone> Map<K, V, F, A>
         ensures n { cursor.new.n ≡ cursor.old.n }
     {
         match &self.bins.kind {
-            StoreKind::Recorded(_) => {
-                let held = self.bins.hold(rt, next.index());
-                self.show_held(held, pass, cursor, next, f);
-            }
+            StoreKind::Recorded(_) => self.show_recorded(rt, pass, cursor, next, f),
             StoreKind::Lean(home) => {
                 let held = home.hold_in_place(rt, next.index());
                 self.show_guarded(held, pass, cursor, next, f);
             }
         }
+    }
+
+    /// Does what `show_class` does in a bucket that is taken out to lock it. It is not inlined, so that the
+    /// bucket does not lie among the locals of a walk that leaves it where it is.
+    #[cold]
+    #[inline(never)]
+    fn show_recorded<R: Wait, G: FnMut(&K, &V)>(
+        &self,
+        rt: &R,
+        pass: &mut Pass<K, V, F>,
+        cursor: &mut Cursor,
+        next: Class,
+        f: &mut G,
+    )
+        requires callable { G.IsAlwaysCallable f.old }
+        requires pass { pass.old.ledger ≡ self.now.ledger.id }
+        requires next { cursor.old.next ≡ Some next }
+        ensures shown { (v : VisitView K V)
+            × HasSeen K.eq (after V.eq F.remapped F.merged) self.now.ledger pass.old pass.new
+            × IsVisit K.eq K.code self.now.ledger pass.new.seen v
+            × FoldsTo (IsUsedAt G.step) f.old v.entries f.new
+            × ((shown : List (VisitView K V)) → HasCome cursor.old shown →
+            HasCome cursor.new (shown ++ v ∷ [])) }
+        ensures callable { G.IsAlwaysCallable f.new }
+        ensures n { cursor.new.n ≡ cursor.old.n }
+    {
+        let held = self.bins.hold(rt, next.index());
+        self.show_held(held, pass, cursor, next, f);
     }
 
     /// Gives the function those entries of a bucket that was taken out to lock it that are of the class

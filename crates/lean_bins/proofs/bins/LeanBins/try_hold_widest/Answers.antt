@@ -1,5 +1,5 @@
 use Rattle.lean_bins.proofs.SlotRefs.{some_then, covers_at, index_few}
-use Rattle.lean_bins.proofs.bins.LeanBins.try_widest.Goals as goal
+use Rattle.lean_bins.proofs.bins.LeanBins.try_hold_widest.Goals as goal
 
 pub slot_ref-requires : goal.slot_ref-requires
 slot_ref-requires g c =
