@@ -65,12 +65,40 @@ impl<K: HashKey, V: Value, F: Remap<K, V>, A: Allocator + Clone> Map<K, V, F, A>
     {
         let next = walk.next();
         match &self.bins.kind {
-            StoreKind::Recorded(_) => self.part_recorded(rt, pass, walk, taker, part),
+            StoreKind::Recorded(_) => self.part_elsewhere(rt, pass, walk, taker, part),
             StoreKind::Lean(home) => {
                 let held = home.hold_in_place(rt, next.index());
                 self.part_guarded(held, pass, walk, taker, part)
             }
         }
+    }
+
+    /// Does what `part_recorded` does, and is inlined: what that function returns lies in memory then on this
+    /// way alone.
+    #[inline(always)]
+    fn part_elsewhere<R: Wait, T: Taker<K, V>>(
+        &self,
+        rt: &R,
+        pass: &mut Pass<K, V, F>,
+        walk: &mut PartWalk,
+        taker: &T,
+        part: T::Part,
+    ) -> T::Part
+        requires pass { pass.old.ledger ≡ self.now.ledger.id }
+        requires more { is_at_end walk.old ≡ false }
+        requires part { (es : List (K × V)) × T.reached taker.now es part }
+        ensures shown { (v : VisitView K V)
+            × HasSeen K.eq (after V.eq F.remapped F.merged) self.now.ledger pass.old pass.new
+            × IsVisit K.eq K.code self.now.ledger pass.new.seen v
+            × ((es : List (K × V)) → T.reached taker.now es part →
+            T.reached taker.now (es ++ v.entries) result)
+            × ((classes : List ClassView) → HasWalked walk.old classes →
+            HasWalked walk.new (classes ++ v.class ∷ [])) }
+        ensures n { walk.new.n ≡ walk.old.n }
+        ensures lo { walk.new.lo ≡ walk.old.lo }
+        ensures hi { walk.new.hi ≡ walk.old.hi }
+    {
+        self.part_recorded(rt, pass, walk, taker, part)
     }
 
     /// Does what `show_part` does in a bucket that is taken out to lock it. It is not inlined, so that the
