@@ -1,8 +1,9 @@
 //! How often what a caller gives is asked.
 ghost use Rattle.std.specs.Prelude.{◌≡◌};
 
-use crate::bulk::counted;
-use crate::samples::{CountedAction, CountedProbe, KeyQuiet, assert_same};
+use crate::bulk::FindingAny;
+use crate::closed::{KeyQuiet, Look, on_counted};
+use crate::samples::{CountedAction, assert_same};
 use bulk_tasks::{
     BasedReducer, BulkFault, Plan, Probe, Reducer, for_each, reduce, reduce_based, search,
 };
@@ -13,7 +14,6 @@ use std::sync::Wait;
 use std::sync::atomic::AtomicU64;
 use std::sync::atomic::Ordering::SeqCst;
 use std::thread::Threads;
-use steal_pool::OpenGate;
 
 /// Reduces to nothing, and counts how often it is asked for what.
 #[derive(Drop)]
@@ -124,107 +124,129 @@ const PLANS: [(u32, usize, u64); 12] = [
     (64, 4, u64::MAX),
 ];
 
-/// What a reduction of nothing to nothing answers, and how often its reducer is asked.
-fn reduced<Rt: Threads + Wait + Sync>(
-    rt: &Rt,
-    alloc: Global,
-    quiet: &KeyQuiet,
-    plan: &Plan<'_, OpenGate>,
-) -> (Result<Option<()>, BulkFault>, (u64, u64, u64)) {
-    let reducer = new_reducer();
-    let answer = reduce(rt, alloc, quiet, plan, &reducer);
-    (answer, reducer.counts())
+/// Reduces without a basis, and from one. Returns what each reduction returns, and how often its reducer
+/// is called.
+#[derive(Drop)]
+struct Reducing {
+    workers: usize,
+    threshold: u64,
 }
 
-/// What a reduction from a basis answers, and how often its reducer is asked.
-fn reduced_from_basis<Rt: Threads + Wait + Sync>(
-    rt: &Rt,
-    alloc: Global,
-    quiet: &KeyQuiet,
-    plan: &Plan<'_, OpenGate>,
-) -> (Result<(), BulkFault>, (u64, u64, u64)) {
-    let reducer = new_reducer();
-    let answer = reduce_based(rt, alloc, quiet, plan, &reducer);
-    (answer, reducer.counts())
+type Reduced = (Result<Option<()>, BulkFault>, (u64, u64, u64));
+
+type Based = (Result<(), BulkFault>, (u64, u64, u64));
+
+impl Look for Reducing {
+    type Seen = (Reduced, Based);
+
+    fn look<Rt: Threads + Wait + Sync + Abort>(
+        &self,
+        rt: &Rt,
+        alloc: Global,
+        quiet: &KeyQuiet,
+    ) -> (Reduced, Based) {
+        let plan = Plan::new(self.threshold, self.workers);
+        let (plain, based) = (new_reducer(), new_reducer());
+        let reduced = reduce(rt, alloc, quiet, &plan, &plain);
+        let from_basis = reduce_based(rt, alloc, quiet, &plan, &based);
+        ((reduced, plain.counts()), (from_basis, based.counts()))
+    }
 }
 
 // Each pair is lifted once, and so many values are joined by one join less. A basis is asked for
 // once, and joined to what there is once.
 #[test]
 fn a_reducer_is_asked_once_a_pair(rt: HostRuntime) {
-    for (count, workers, threshold) in PLANS {
-        let quiet = counted(&rt, rt.alloc(), count).expect(&rt, "no fault");
-        let plan = Plan::new(threshold, workers);
-        let plain = reduced(&rt, rt.alloc(), &quiet, &plan);
-        let based = reduced_from_basis(&rt, rt.alloc(), &quiet, &plan);
-        drop(quiet);
+    for plan in &PLANS {
+        let (count, workers, threshold) = *plan;
+        let reducing = Reducing { workers, threshold };
+        let found = on_counted(&rt, rt.alloc(), count, &reducing);
         let n = u64::from(count);
         let some = if count > 0 { Some(()) } else { None };
-        assert_same(&rt, &plain, &(Ok(some), (n, n.saturating_sub(1), 0)));
-        assert_same(&rt, &based, &(Ok(()), (n, n, 1)));
+        let plain = (Ok(some), (n, n.saturating_sub(1), 0));
+        assert_same(&rt, &found, &(plain, (Ok(()), (n, n, 1))));
+    }
+}
+
+/// Searches for nothing. Returns what the search returns, and how often its probe is called.
+#[derive(Drop)]
+struct FindingNothing {
+    workers: usize,
+    threshold: u64,
+}
+
+impl Look for FindingNothing {
+    type Seen = (Result<Option<i64>, BulkFault>, u64);
+
+    fn look<Rt: Threads + Wait + Sync + Abort>(
+        &self,
+        rt: &Rt,
+        alloc: Global,
+        quiet: &KeyQuiet,
+    ) -> (Result<Option<i64>, BulkFault>, u64) {
+        let probe = CountedNothing {
+            calls: AtomicU64::new(0),
+        };
+        let plan = Plan::new(self.threshold, self.workers);
+        let found = search(rt, alloc, quiet, &plan, &probe);
+        (found, probe.calls.load(SeqCst))
     }
 }
 
 #[test]
 fn a_probe_that_finds_nothing_is_asked_once_a_pair(rt: HostRuntime) {
-    for (count, workers, threshold) in PLANS {
-        let quiet = counted(&rt, rt.alloc(), count).expect(&rt, "no fault");
-        let probe = CountedNothing {
-            calls: AtomicU64::new(0),
-        };
-        let plan = Plan::new(threshold, workers);
-        let found = search(&rt, rt.alloc(), &quiet, &plan, &probe);
-        drop(quiet);
-        let calls = probe.calls.load(SeqCst);
-        assert_same(&rt, &(found, calls), &(Ok(None), u64::from(count)));
+    for plan in &PLANS {
+        let (count, workers, threshold) = *plan;
+        let finding = FindingNothing { workers, threshold };
+        let found = on_counted(&rt, rt.alloc(), count, &finding);
+        assert_same(&rt, &found, &(Ok(None), u64::from(count)));
     }
-}
-
-/// Whether something is found where anything is, and how often the probe is asked.
-fn found_anything<Rt: Threads + Wait + Sync>(
-    rt: &Rt,
-    alloc: Global,
-    quiet: &KeyQuiet,
-    workers: usize,
-) -> (bool, u64) {
-    let probe = CountedProbe {
-        calls: AtomicU64::new(0),
-    };
-    let found = search(rt, alloc, quiet, &Plan::new(1, workers), &probe);
-    let is_found = found.ok().flatten().is_some();
-    (is_found, probe.calls.load(SeqCst))
 }
 
 // Each worker asks once at most, since each find of its own ends its task and it looks before the
 // next.
 #[test]
 fn a_worker_that_found_something_asks_no_more(rt: HostRuntime) {
-    let quiet = counted(&rt, rt.alloc(), 64).expect(&rt, "no fault");
     for workers in 1..=16 {
-        let (is_found, calls) = found_anything(&rt, rt.alloc(), &quiet, workers);
-        assert!(rt;
-            is_found && 0 < calls && calls <= workers as u64,
-            "{workers}: {calls}"
-        );
+        let (is_found, calls) = on_counted(&rt, rt.alloc(), 64, &FindingAny { workers });
+        let is_asked = 0 < calls && calls <= workers as u64;
+        assert_same(&rt, &(workers, is_found, is_asked), &(workers, true, true));
+    }
+}
+
+/// Returns how many results an action has, and how often it is called.
+#[derive(Drop)]
+struct Acting {
+    workers: usize,
+    threshold: u64,
+}
+
+impl Look for Acting {
+    type Seen = (Result<usize, BulkFault>, u64);
+
+    fn look<Rt: Threads + Wait + Sync + Abort>(
+        &self,
+        rt: &Rt,
+        alloc: Global,
+        quiet: &KeyQuiet,
+    ) -> (Result<usize, BulkFault>, u64) {
+        let action = CountedAction {
+            calls: AtomicU64::new(0),
+        };
+        let plan = Plan::new(self.threshold, self.workers);
+        let len = match for_each(rt, alloc, quiet, &plan, &action) {
+            Ok(list) => Ok(list.len()),
+            Err(fault) => Err(fault),
+        };
+        (len, action.calls.load(SeqCst))
     }
 }
 
 #[test]
 fn an_action_is_called_once_a_pair(rt: HostRuntime) {
-    for (count, workers, threshold) in PLANS {
-        let quiet = counted(&rt, rt.alloc(), count).expect(&rt, "no fault");
-        let action = CountedAction {
-            calls: AtomicU64::new(0),
-        };
-        let plan = Plan::new(threshold, workers);
-        let list = for_each(&rt, rt.alloc(), &quiet, &plan, &action);
-        drop(quiet);
-        let len = list.ok().map(|list| list.len());
-        let calls = action.calls.load(SeqCst);
-        assert_same(
-            &rt,
-            &(len, calls),
-            &(Some(count as usize), u64::from(count)),
-        );
+    for plan in &PLANS {
+        let (count, workers, threshold) = *plan;
+        let found = on_counted(&rt, rt.alloc(), count, &Acting { workers, threshold });
+        assert_same(&rt, &found, &(Ok(count as usize), u64::from(count)));
     }
 }

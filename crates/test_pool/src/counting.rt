@@ -39,9 +39,10 @@ impl Leaves {
 
     /// Whether it has seen just these leaves, each once.
     pub(crate) fn are(&self, leaves: &[(usize, usize)]) -> bool {
-        let names = leaves
-            .iter()
-            .fold(0, |bits, leaf| bits | bit_of(leaf.0, leaf.1));
+        let mut names = 0;
+        for (lo, hi) in leaves {
+            names |= bit_of(*lo, *hi);
+        }
         self.names.load(SeqCst) == names && self.calls.load(SeqCst) == leaves.len() as u64
     }
 }

@@ -1,11 +1,12 @@
 //! The examples of the bulk operations, as they stand with them.
-use crate::bulk::quiet_of;
-use crate::samples::{Above, KeyQuiet};
+use crate::closed::{KeyQuiet, Look, on_rows};
+use crate::samples::{Above, assert_same};
 use bulk_tasks::{
     Action, Bulk, BulkFault, Greatest, Plan, Sum, for_each, reduce, reduce_based, search,
 };
 use hashkeys::Key;
 use std::alloc::{AllocError, Global};
+use std::process::Abort;
 use std::sync::Wait;
 use std::thread::Threads;
 
@@ -38,10 +39,24 @@ fn examples<Rt: Threads + Wait + Sync>(
     ])
 }
 
+/// Whether each example is as it says.
+struct AsTold;
+
+impl Look for AsTold {
+    type Seen = Result<[bool; 5], BulkFault>;
+
+    fn look<Rt: Threads + Wait + Sync + Abort>(
+        &self,
+        rt: &Rt,
+        alloc: Global,
+        quiet: &KeyQuiet,
+    ) -> Result<[bool; 5], BulkFault> {
+        examples(rt, alloc, quiet)
+    }
+}
+
 #[test]
 fn each_operation_answers_as_its_example_says(rt: HostRuntime) {
-    let quiet = quiet_of(&rt, rt.alloc(), 16, &[(b"a", 1), (b"b", 2)]).expect(&rt, "no fault");
-    let found = examples(&rt, rt.alloc(), &quiet);
-    drop(quiet);
-    assert!(rt; found == Ok([true; 5]), "{found:?}");
+    let found = on_rows(&rt, rt.alloc(), 16, &[(b"a", 1), (b"b", 2)], &AsTold);
+    assert_same(&rt, &found, &Ok([true; 5]));
 }

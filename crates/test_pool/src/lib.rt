@@ -7,6 +7,8 @@ mod asked;
 #[cfg(test)]
 mod bulk;
 #[cfg(test)]
+mod closed;
+#[cfg(test)]
 mod counting;
 #[cfg(test)]
 mod examples;
@@ -14,6 +16,8 @@ mod examples;
 mod finds;
 #[cfg(test)]
 mod gates;
+#[cfg(test)]
+mod races;
 #[cfg(test)]
 mod refused;
 #[cfg(test)]
@@ -24,5 +28,7 @@ mod samples;
 mod settling;
 #[cfg(test)]
 mod sizes;
+#[cfg(test)]
+mod tasks;
 #[cfg(test)]
 mod trees;

@@ -11,7 +11,7 @@ use std::sync::Wait;
 use std::sync::atomic::AtomicU64;
 use std::sync::atomic::Ordering::SeqCst;
 use std::thread::Threads;
-use steal_pool::{OpenGate, Tasks, run};
+use steal_pool::{Gate, OpenGate, Tasks, run};
 
 /// What a settlement counts where so many tasks were pushed.
 pub(crate) fn settled(count: u64) -> Option<Tasks> {
@@ -46,14 +46,15 @@ fn assert_leaves<Rt: Threads + Wait + Sync + Abort>(
         at_zero: AtomicU64::new(16),
     };
     let done = run(rt, &alloc, workers, &gate, &body, bins, batch);
-    let are_leaves = (gate.seen.are(leaves), body.leaves.are(leaves));
-    let found = (done.part, are_leaves, gate.late.load(SeqCst));
-    assert_same(rt, &found, &(bins, (true, true), 0));
-    let tasks = (leaves.len() as u64).wrapping_sub(1);
-    assert_same(rt, &done.tasks, &settled(tasks));
     let greatest = gate.greatest.load(SeqCst);
-    assert!(rt; greatest < workers as u64 && greatest < leaves.len() as u64);
-    assert_same(rt, &gate.at_zero.load(SeqCst), &0);
+    let is_few = greatest < workers as u64 && greatest < leaves.len() as u64;
+    let found = (
+        (done.part, done.tasks),
+        (gate.seen.are(leaves), body.leaves.are(leaves), is_few),
+        (gate.late.load(SeqCst), gate.at_zero.load(SeqCst)),
+    );
+    let tasks = settled((leaves.len() as u64).wrapping_sub(1));
+    assert_same(rt, &found, &((bins, tasks), (true, true, true), (0, 0)));
 }
 
 #[test]
@@ -81,57 +82,90 @@ fn four_workers_do_each_leaf_once(rt: HostRuntime) {
     }
 }
 
+/// Returns how many bins a run with this gate does.
+fn run_at<Rt: Threads + Wait + Sync, G: Gate + Sync>(
+    rt: &Rt,
+    alloc: Global,
+    gate: &G,
+    workers: usize,
+    bins: usize,
+    batch: usize,
+) -> usize
+    requires { (0 < workers) × (workers ≤ most_workers) × (0 < bins) × (bins ≤ 64)
+        × (batch ≤ most_batch) }
+{
+    let done = run(rt, &alloc, workers, gate, &new_count(), bins, batch);
+    done.part
+}
+
 #[test]
 fn one_worker_takes_its_newest_task(rt: HostRuntime) {
     let gate = new_watch(false);
-    let done = run(&rt, &rt.alloc(), 1, &gate, &new_count(), 5, 2);
-    assert_same(&rt, &(done.part, gate.seen.load(SeqCst)), &(5, 01_12_23_35));
+    let part = run_at(&rt, rt.alloc(), &gate, 1, 5, 2);
+    assert_same(&rt, &(part, gate.seen.load(SeqCst)), &(5, 01_12_23_35));
 }
 
 #[test]
 fn a_thief_takes_the_oldest_task(rt: HostRuntime) {
     let gate = new_watch(true);
-    let done = run(&rt, &rt.alloc(), 2, &gate, &new_count(), 5, 2);
-    let found = (done.part, gate.late.load(SeqCst), gate.first.load(SeqCst));
+    let part = run_at(&rt, rt.alloc(), &gate, 2, 5, 2);
+    let found = (part, gate.late.load(SeqCst), gate.first.load(SeqCst));
     assert_same(&rt, &found, &(5, 0, 23));
+}
+
+/// Runs two workers, and holds each leaf until two have begun. Returns how many bins they do, whether a leaf
+/// was held in vain, and how many leaves have begun.
+fn run_two<Rt: Threads + Wait + Sync>(
+    rt: &Rt,
+    alloc: Global,
+    bins: usize,
+    batch: usize,
+) -> (usize, u64, u64)
+    requires { (0 < bins) × (bins ≤ 64) × (batch ≤ most_batch) }
+{
+    let gate = new_meeting(2, 10_000_000);
+    let part = run_at(rt, alloc, &gate, 2, bins, batch);
+    (part, gate.late.load(SeqCst), gate.begun.load(SeqCst))
 }
 
 #[test]
 fn two_leaves_at_once(rt: HostRuntime) {
-    let gate = new_meeting(2, 10_000_000);
-    let done = run(&rt, &rt.alloc(), 2, &gate, &new_count(), 64, 8);
-    let found = (done.part, gate.late.load(SeqCst), gate.begun.load(SeqCst));
-    assert_same(&rt, &found, &(64, 0, 16));
+    assert_same(&rt, &run_two(&rt, rt.alloc(), 64, 8), &(64, 0, 16));
 }
 
 // A worker that has nothing to do when it begins does not give up: of two leaves it does one, while
 // the caller is in the other.
 #[test]
 fn two_workers_meet_a_thousand_times(rt: HostRuntime) {
-    let mut met = 0u64;
     for _ in 0..1000u32 {
-        let gate = new_meeting(2, 10_000_000);
-        let done = run(&rt, &rt.alloc(), 2, &gate, &new_count(), 2, 1);
-        assert_same(&rt, &(done.part, gate.late.load(SeqCst)), &(2, 0));
-        met = met.wrapping_add(gate.begun.load(SeqCst));
+        assert_same(&rt, &run_two(&rt, rt.alloc(), 2, 1), &(2, 0, 2));
     }
-    assert_same(&rt, &met, &2000);
+}
+
+/// Asserts that so many workers, whose bits these are, do leaves of 64 bins at the same time.
+fn assert_all_work<Rt: Threads + Wait + Sync + Abort>(
+    rt: &Rt,
+    alloc: Global,
+    workers: usize,
+    bits: u64,
+    batch: usize,
+)
+    requires { (0 < workers) × (workers ≤ most_workers) × (batch ≤ most_batch) }
+{
+    let gate = all_workers(bits);
+    let part = run_at(rt, alloc, &gate, workers, 64, batch);
+    let found = (part, gate.late.load(SeqCst), gate.seen.load(SeqCst));
+    assert_same(rt, &found, &(64, 0, bits));
 }
 
 #[test]
 fn four_workers_do_leaves_at_once(rt: HostRuntime) {
-    let gate = all_workers(0b1111);
-    let done = run(&rt, &rt.alloc(), 4, &gate, &new_count(), 64, 16);
-    let found = (done.part, gate.late.load(SeqCst), gate.seen.load(SeqCst));
-    assert_same(&rt, &found, &(64, 0, 0b1111));
+    assert_all_work(&rt, rt.alloc(), 4, 0b1111, 16);
 }
 
 #[test]
 fn sixteen_workers_do_leaves_at_once(rt: HostRuntime) {
-    let gate = all_workers(0xffff);
-    let done = run(&rt, &rt.alloc(), 16, &gate, &new_count(), 64, 64);
-    let found = (done.part, gate.late.load(SeqCst), gate.seen.load(SeqCst));
-    assert_same(&rt, &found, &(64, 0, 0xffff));
+    assert_all_work(&rt, rt.alloc(), 16, 0xffff, 64);
 }
 
 /// How many bins the workers do of so many, how many leaves they begin, and what tasks they share.
@@ -150,25 +184,30 @@ fn run_over<Rt: Threads + Wait + Sync>(
     (done.part, body.leaves.calls.load(SeqCst), done.tasks)
 }
 
+/// Batches, each with its number of nodes.
+const NODES: [(usize, u64); 6] = [(0, 1), (1, 2), (6, 8), (8, 16), (16, 32), (64, 128)];
+
 // Where bins suffice each node does one leaf.
 #[test]
 fn nodes_by_batch(rt: HostRuntime) {
-    let rows = [(0, 1), (1, 2), (6, 8), (8, 16), (16, 32), (64, 128)];
-    for (batch, nodes) in rows {
-        let found = run_over(&rt, rt.alloc(), 2, 65536, batch);
-        assert_same(&rt, &found, &(65536, nodes, settled(nodes - 1)));
+    for (batch, nodes) in &NODES {
+        let found = run_over(&rt, rt.alloc(), 2, 65536, *batch);
+        assert_same(&rt, &found, &(65536, *nodes, settled(*nodes - 1)));
     }
 }
+
+/// The batch of 0 and those that are powers of two, each with its number of nodes.
+const POWERS: [(usize, u64); 7] = [(0, 1), (1, 2), (2, 4), (4, 8), (8, 16), (16, 32), (32, 64)];
 
 // Each range is halved until its batch is used up, or it has one bin: so by powers of two.
 #[test]
 fn runs_of_each_size_have_their_memory(rt: HostRuntime) {
-    for workers in [1, 2, 4, 8, 16] {
-        for (batch, nodes) in [(0, 1), (1, 2), (2, 4), (4, 8), (8, 16), (16, 32), (32, 64)] {
+    for workers in &[1, 2, 4, 8, 16] {
+        for (batch, nodes) in &POWERS {
             for level in 0..17u32 {
                 let bins = 1usize << level;
-                let leaves = nodes.min(bins as u64);
-                let found = run_over(&rt, rt.alloc(), workers, bins, batch);
+                let leaves = (*nodes).min(bins as u64);
+                let found = run_over(&rt, rt.alloc(), *workers, bins, *batch);
                 assert_same(&rt, &found, &(bins, leaves, settled(leaves - 1)));
             }
         }

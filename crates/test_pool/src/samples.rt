@@ -1,16 +1,12 @@
-//! What bulk operations are run on: closed maps at the program's keys, a reducer, probes and
-//! actions.
+//! What bulk operations are run with: a reducer, probes and actions.
 ghost use Rattle.std.specs.Prelude.{◌≡◌};
 
 use bin_history::{Exact, Remap};
 use bulk_tasks::{Action, Probe, Reducer};
-use chm::{Map, NotClosed, Quiet};
-use count_ledger::{Pass, retire_all};
 use hashkeys::Key;
-use std::alloc::{AllocError, Global};
+use std::alloc::AllocError;
 use std::fmt::Debug;
 use std::process::Abort;
-use std::sync::Wait;
 use std::sync::atomic::AtomicU64;
 use std::sync::atomic::Ordering::SeqCst;
 
@@ -51,60 +47,6 @@ impl Remap<Key, i64> for Forget {
 
     fn merge(&self, _old: &i64, _given: &i64) -> Result<Option<i64>, AllocError> {
         Ok(None)
-    }
-}
-
-type KeyMap = Map<Key, i64, Forget, Global>;
-
-type KeyPass = Pass<Key, i64, Forget>;
-
-pub(crate) type KeyQuiet = Quiet<Key, i64, Forget, Global>;
-
-fn put_all<Rt: Wait>(rt: &Rt, map: &KeyMap, pass: &mut KeyPass, pairs: Vec<(Key, i64)>) -> bool
-    requires { pass.old.ledger ≡ map.now.ledger.id }
-    ensures { pass.new.ledger ≡ pass.old.ledger }
-{
-    let mut all = true;
-    for (key, value) in pairs {
-        match map.put(rt, pass, key, value) {
-            Ok(_) => (),
-            Err(_) => all = false,
-        }
-    }
-    all
-}
-
-/// A map of these pairs, that one client put in their order, closed.
-pub(crate) fn closed<Rt: Wait>(
-    rt: &Rt,
-    alloc: Global,
-    capacity: usize,
-    pairs: Vec<(Key, i64)>,
-) -> Option<KeyQuiet> {
-    let Ok((map, mut passes)) = KeyMap::new(alloc, capacity, 1) else {
-        return None;
-    };
-    let mut all = false;
-    if let Some(pass) = passes.first_mut() {
-        all = put_all(rt, &map, pass, pairs);
-    }
-    match map.close(passes) {
-        Ok(quiet) => {
-            if all {
-                return Some(quiet);
-            }
-            None
-        }
-        Err(
-            NotClosed {
-                fault: _,
-                map: _,
-                passes,
-            },
-        ) => {
-            retire_all(passes);
-            None
-        }
     }
 }
 

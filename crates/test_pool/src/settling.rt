@@ -101,12 +101,8 @@ fn a_run_with_no_thread_started_adds_up_all_bins(rt: HostRuntime) {
             bins: 64,
             batch: 1,
         };
-        let done = run_order(&rt, &rt.alloc(), &order);
-        assert!(rt;
-            done.part == 2080 && done.tasks == settled(1),
-            "{workers} workers: {} in all",
-            done.part
-        );
+        let Finished { part, tasks } = run_order(&rt, &rt.alloc(), &order);
+        assert_same(&rt, &(workers, part, tasks), &(workers, 2080, settled(1)));
     }
 }
 
@@ -158,9 +154,8 @@ fn take_two(alloc: Global) -> Result<Taken, AllocError> {
 
 #[test]
 fn what_is_left_is_what_nobody_took(rt: HostRuntime) {
-    let (newest, oldest, left) = take_two(rt.alloc()).expect(&rt, "no fault");
-    assert_same(&rt, &(newest, oldest), &(Some(12), Some(10)));
-    assert_same(&rt, &left, &(None, 1));
+    let taken = take_two(rt.alloc()).expect(&rt, "no fault");
+    assert_same(&rt, &taken, &(Some(12), Some(10), (None, 1)));
 }
 
 // Members 0, 2 and 3 of four have a task each, their number. What member 1 takes.
@@ -202,10 +197,9 @@ fn a_thief_asks_the_next_number_first(rt: HostRuntime) {
 #[test]
 fn nodes_by_binary_digits_of_the_batch(rt: HostRuntime) {
     let small = [nodes_for(0), nodes_for(1), nodes_for(2), nodes_for(3)];
-    assert!(rt; small == [1, 2, 4, 4]);
     let middle = [nodes_for(4), nodes_for(7), nodes_for(8), nodes_for(15)];
-    assert!(rt; middle == [8, 8, 16, 16]);
     let great = [nodes_for(16), nodes_for(31), nodes_for(32), nodes_for(63)];
-    assert!(rt; great == [32, 32, 64, 64]);
-    assert!(rt; nodes_for(64) == 128);
+    let found = (small, middle, great, nodes_for(64));
+    let wanted = ([1, 2, 4, 4], [8, 8, 16, 16], [32, 32, 64, 64], 128);
+    assert_same(&rt, &found, &wanted);
 }

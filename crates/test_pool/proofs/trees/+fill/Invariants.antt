@@ -1,4 +1,4 @@
 use Rattle.test_pool.proofs.trees.+fill.Given as goal
 
 abbrev pub decreases-fill : goal.decreases-fill
-decreases-fill g l = l.level
+decreases-fill l = l.level
