@@ -1,18 +1,19 @@
 -- Where a walk by numbers goes on.
 use Rattle.std.proofs.Common.{◌≡◌, ℕ, ◌+◌, ◌*◌, ◌%◌, ◌^◌, ◌<◌, ◌≤◌, ◌⊎◌, inl, inr, true, Option, Some, None, List, All}
 use Rattle.std.proofs.Common.{[], ◌∷◌, ◌++◌}
-use Rattle.std.proofs.Common.{sym, subst, ◌∙◌, arith}
+use Rattle.std.proofs.Common.{◌/◌, ap, sym, subst, ◌∙◌, arith}
 use Rattle.std.specs.Prelude.{IfOk, IfSome, IfNone, IsSomeAnd, Result, Ok}
 use Rattle.std.proofs.Math.Nat.{mod-eq_of_lt}
 use Rattle.std.proofs.Math.Pow.{pow_mono}
 use Rattle.std.proofs.lemmas.Bool.{eqb-true, cases_lt}
 use Rattle.std.proofs.lemmas.Nat.{pow_below, pow-add}
-use Rattle.hashkeys.specs.Classes.{ClassView, IsTableSize, covering, covers}
-use Rattle.hashkeys.specs.Limits.{most_bins}
+use Rattle.hashkeys.specs.Classes.{ClassView, IsClass, IsTableSize, covering, covers}
+use Rattle.hashkeys.specs.Limits.{most_bins, most_exponent}
+use Rattle.bin_layout.proofs.Sizes.{size_few}
 use Rattle.bin_layout.specs.Walks.{IsWalkTo, Precedes}
 use Rattle.part_walks.specs.Parts.{IsFirstOf}
 use Rattle.chm.specs.Cursors.{CursorView, HasCome, list_of}
-use Rattle.chm.specs.Numbered.{HasComeAt, number_of}
+use Rattle.chm.specs.Numbered.{HasComeAt, IsNumberOf, first_end, hash_at}
 use Rattle.chm.specs.Visits.{VisitView}
 
 -- the first of those that a class has become begins where the class does
@@ -36,6 +37,25 @@ behind n hash e size least few low high =
     let double : 2 ^ (e + 1) ≡ 2 * 2 ^ e = let more = pow-add 2 e 1 in omega (arith, more) in
     ((e + 1, omega arith, is), omega arith, omega arith)
 
+-- the exponent of a table's size is few
+pub few-exponent : (e n : ℕ) → IsTableSize n → 2 ^ e ≤ n → e ≤ most_exponent
+few-exponent e n (k, few, is) low = elim (cases_lt 26 e) [
+  | inl more ↦ absurd (let top : 2 ^ k ≤ 2 ^ 26 = pow_mono {i = k} {j = 26} few in let much : 2 ^ 27 ≤ 2 ^ e = pow_mono {i = 27} {j = e} more in omega (arith, is, low, top, much))
+  | inr le ↦ le
+]
+
+-- the size of a table, by its exponent
+pub size-of : (e : ℕ) → e ≤ most_exponent → 1 * 2 ^ e % 4294967296 ≡ 2 ^ e
+size-of e few = let small : 2 ^ e < 4294967296 = pow_below e 32 (omega (arith, few)) in
+    omega (arith, mod-eq_of_lt {n = 2 ^ e} {m = 4294967296} small)
+
+-- the number of a place has the exponent of the table above the first hash of the class
+pub IsNumberOf-at : (e : ℕ) (next : Option ClassView) (class : ClassView) (number : ℕ) → next ≡ Some class → IsClass class →
+    number ≡ (e + 1) * most_bins + class.index → IsNumberOf e next number
+IsNumberOf-at e next class number at (size, below) is =
+    subst (λ (o : Option ClassView). IsNumberOf e o number) (sym at)
+    (let few = size_few class.n size in omega (arith, few, below), is)
+
 -- of the class that is next a walk knows the first hash alone
 walk-at : (n : ℕ) (classes : List ClassView) (d k : ClassView) → d.index ≡ k.index → IsWalkTo n classes d →
     IsWalkTo n classes k
@@ -49,26 +69,42 @@ walk-at n classes d k e w = record {
   least = w.least;
 }
 
--- a walk that goes on at the number goes on at the class that begins there
-pub HasCome-at : {K V : Type 0} (n number : ℕ) (shown : List (VisitView K V)) (k : ClassView) → number < 67108864
-    → k.index ≡ number → HasComeAt n number shown → HasCome (record { n = n; next = Some k }) shown
-HasCome-at n number shown k few at (None, is, come) = absurd (omega (arith, few, is))
-HasCome-at n number shown k few at (Some d, is, come) = walk-at n _ d k (sym is ∙ sym at) come
+-- a walk that goes on at a number without a table is at its beginning
+pub HasCome-begun : {K V : Type 0} (n number : ℕ) (shown : List (VisitView K V)) (next : Option ClassView) →
+    number < most_bins → IsSomeAnd next (λ k. k.index ≡ hash_at number) → IsWalkTo n [] (record { n = n; index = 0 }) →
+    HasComeAt number shown → HasCome (record { n = n; next = next }) shown
+HasCome-begun n number shown None few at first come = absurd at
+HasCome-begun {K} {V} n number shown (Some k) few at first (inl (zero, empty)) =
+    subst (λ (l : List (VisitView K V)). HasCome (record { n = n; next = Some k }) l) (sym empty)
+    (walk-at n [] (record { n = n; index = 0 }) k (omega (arith, at, zero)) first)
+HasCome-begun n number shown (Some k) few at first (inr (e, None, le, is, come)) = absurd (omega (arith, few, is))
+HasCome-begun n number shown (Some k) few at first (inr (e, Some d, le, (low, is), come)) =
+    absurd (omega (arith, few, is))
+
+-- one that goes on at a number with a table goes on at the class that begins at its hash
+pub HasCome-on : {K V : Type 0} (n number e : ℕ) (shown : List (VisitView K V)) (next : Option ClassView) →
+    number < first_end → number / most_bins ≡ e + 1 → n ≡ 2 ^ e → IsSomeAnd next (λ k. k.index ≡ hash_at number) →
+    HasComeAt number shown → HasCome (record { n = n; next = next }) shown
+HasCome-on n number e shown None few table is at come = absurd at
+HasCome-on n number e shown (Some k) few table is at (inl (zero, empty)) = absurd (omega (arith, table, zero))
+HasCome-on n number e shown (Some k) few table is at (inr (d, None, le, end, come)) = absurd (omega (arith, few, end))
+HasCome-on {K} {V} n number e shown (Some k) few table is at (inr (d, Some next, le, (low, sum), come)) =
+    let same : d ≡ e = omega (arith, table, low, sum) in
+    let there : next.index ≡ k.index = omega (arith, at, low, sum) in
+    subst (λ (m : ℕ). HasCome {K = K} {V = V} (record { n = m; next = Some k }) shown) (ap (λ (x : ℕ). 2 ^ x) same ∙ sym is)
+    (walk-at (2 ^ d) _ next k there come)
 
 -- and at the number of the place behind it
-pub HasComeAt-of : {K V : Type 0} (n number : ℕ) (cursor : CursorView) (shown : List (VisitView K V)) → cursor.n ≡ n
-    → number ≡ number_of cursor.next → HasCome cursor shown → HasComeAt n number shown
-HasComeAt-of {K} {V} n number cursor shown same is come =
-    (cursor.next, is, subst (λ (m : ℕ). HasCome {K = K} {V = V} (record { n = m; next = cursor.next }) shown) same come)
-
--- a cursor at a class that begins at the number
-pub HasCome-there : {K V : Type 0} (n number m : ℕ) (next : Option ClassView) (shown : List (VisitView K V)) →
-    number < 67108864 → m ≡ n → IsSomeAnd next (λ k. k.index ≡ number) → HasComeAt n number shown →
-    HasCome (record { n = m; next = next }) shown
-HasCome-there n number m None shown few same at come = absurd at
-HasCome-there {K} {V} n number m (Some k) shown few same at come =
-    subst (λ (x : ℕ). HasCome {K = K} {V = V} (record { n = x; next = Some k }) shown) (sym same)
-    (HasCome-at n number shown k few at come)
+pub HasComeAt-of : {K V : Type 0} (number : ℕ) (cursor : CursorView) (shown : List (VisitView K V)) →
+    ((e : ℕ) × (e ≤ most_exponent) × (cursor.n ≡ 2 ^ e) × IsNumberOf e cursor.next number) → HasCome cursor shown →
+    HasComeAt number shown
+HasComeAt-of {K} {V} number cursor shown (e, le, n_is, is) come = inr (
+  e,
+  cursor.next,
+  le,
+  is,
+  subst (λ (m : ℕ). HasCome {K = K} {V = V} (record { n = m; next = cursor.next }) shown) n_is come,
+)
 
 -- a step from there shows what begins at the number
 pub shown-at : {K V : Type 0} (P Q : VisitView K V → Type 0) (number : ℕ) (next : Option ClassView)
@@ -85,11 +121,11 @@ shown-at P Q number (Some k) (Some v) at first is = (
 )
 
 -- it goes on behind that
-pub come-at : {K V : Type 0} (n number : ℕ) (cursor : CursorView) (shown : List (VisitView K V))
-    (v : Option (VisitView K V)) → cursor.n ≡ n → number ≡ number_of cursor.next → HasCome cursor (shown ++ list_of v) →
-    IfSome v (λ v. HasComeAt n number (shown ++ v ∷ []))
-come-at n number cursor shown None same is come = tt
-come-at n number cursor shown (Some v) same is come = HasComeAt-of n number cursor (shown ++ v ∷ []) same is come
+pub come-at : {K V : Type 0} (number : ℕ) (cursor : CursorView) (shown : List (VisitView K V))
+    (v : Option (VisitView K V)) → ((e : ℕ) × (e ≤ most_exponent) × (cursor.n ≡ 2 ^ e) × IsNumberOf e cursor.next number) →
+    HasCome cursor (shown ++ list_of v) → IfSome v (λ v. HasComeAt number (shown ++ v ∷ []))
+come-at number cursor shown None of come = tt
+come-at number cursor shown (Some v) of come = HasComeAt-of number cursor (shown ++ v ∷ []) of come
 
 -- it is not at the end
 pub shown-some : {X : Type 0} (P Q : Type 0) (R : ClassView → Type 0) (next : Option ClassView) (v : Option X) →

@@ -1,7 +1,7 @@
 -- A walk whose cursor is a number.
-use Rattle.std.specs.Prelude.{◌≡◌, ℕ, ◌≤◌, Option, Some, None, List}
+use Rattle.std.specs.Prelude.{◌≡◌, ℕ, ◌+◌, ◌*◌, ◌%◌, ◌^◌, ◌<◌, ◌≤◌, ◌⊎◌, Option, Some, None, List, []}
 use Rattle.hashkeys.specs.Classes.{ClassView}
-use Rattle.hashkeys.specs.Limits.{most_bins}
+use Rattle.hashkeys.specs.Limits.{most_bins, most_exponent}
 use Rattle.chm.specs.Cursors.{HasCome}
 use Rattle.chm.specs.Visits.{VisitView}
 
@@ -9,16 +9,27 @@ use Rattle.chm.specs.Visits.{VisitView}
 abbrev pub end_of_walk : ℕ
 end_of_walk = 18446744073709551615
 
--- the number of a place: the first hash of the class that is next, or that of the end
-abbrev pub number_of : Option ClassView → ℕ
-number_of None = end_of_walk
-number_of (Some next) = next.index
+-- from here on a number is of no bucket: 28 times 2^26
+abbrev pub first_end : ℕ
+first_end = 1879048192
 
--- these visits have been shown, of a map that opened with n bins, and a walk goes on at the number
-abbrev pub HasComeAt : {K V : Type 0} → ℕ → ℕ → List (VisitView K V) → Type 0
-HasComeAt n number shown =
-    (next : Option ClassView) × (number ≡ number_of next) × HasCome (record { n = n; next = next }) shown
+-- the number of a place in a walk over a table of 2^e bins: the first hash of the class that is next, and above it e + 1;
+-- or the number of the end
+abbrev pub IsNumberOf : ℕ → Option ClassView → ℕ → Type 0
+IsNumberOf e None number = number ≡ end_of_walk
+IsNumberOf e (Some next) number = (next.index < most_bins) × (number ≡ (e + 1) * most_bins + next.index)
 
--- from 2^26 on a number is of no bin, and a walk is at its end
+-- the hash at which the place of a number begins
+abbrev pub hash_at : ℕ → ℕ
+hash_at number = number % most_bins
+
+-- these visits have been shown, and a walk goes on at the number: at 0 none has been shown yet, and at another number the
+-- walk goes over the table that the number names
+abbrev pub HasComeAt : {K V : Type 0} → ℕ → List (VisitView K V) → Type 0
+HasComeAt number shown = ((number ≡ 0) × (shown ≡ []))
+    ⊎ ((e : ℕ) × (next : Option ClassView) × (e ≤ most_exponent) × IsNumberOf e next number
+    × HasCome (record { n = 2 ^ e; next = next }) shown)
+
+-- from the first end on a number is of no bucket, and a walk is at its end
 abbrev pub IsEnd : ℕ → ℕ → Type 0
-IsEnd number then = (most_bins ≤ number) × (then ≡ end_of_walk)
+IsEnd number then = (first_end ≤ number) × (then ≡ end_of_walk)

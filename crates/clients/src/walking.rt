@@ -7,10 +7,9 @@ ghost use Rattle.count_ledger.specs.Fronts.{HasSeen, HasSeenMore};
 ghost use Rattle.count_ledger.specs.Views.{PassView};
 ghost use Rattle.part_walks.specs.Parts.{IsFirstOf};
 ghost use Rattle.chm.specs.Cursors.{AreShown, HasCome, IsUsedAt, list_of};
-ghost use Rattle.chm.specs.Numbered.{HasComeAt, IsEnd};
+ghost use Rattle.chm.specs.Numbered.{HasComeAt, IsEnd, first_end, hash_at};
 ghost use Rattle.chm.specs.Visits.{IsVisit, VisitView};
 ghost use Rattle.hashkeys.specs.Classes.{covers};
-ghost use Rattle.hashkeys.specs.Limits.{most_bins};
 
 use crate::client::ClientOf;
 use crate::holder::{Holder, Seat};
@@ -157,27 +156,26 @@ impl<H: Holder<K, V, F, A>, K: HashKey, V: Value, F: Remap<K, V>, A: Allocator +
             .show_next(rt, self.seat.pass_mut(), cursor, f)
     }
 
-    /// Tries to return copies of the entries of the bucket that has the hash of this number, in order,
-    /// as all calls before had left it, which the client has then seen; and the number that a walk
-    /// goes on at behind it. Returns none where the bucket is locked just then: the client is as it
-    /// was. From 2^26 on a number is the end of a walk: there is no bucket then. A walk begins at 0,
-    /// and goes from step to step by these numbers, as `Map::try_visit_at` says.
+    /// Tries to return copies of the entries of the bucket at this number, in order, as all calls before
+    /// had left it, which the client has then seen; and the number that a walk goes on at behind it.
+    /// Returns none where the bucket is locked just then: the client is as it was. A walk begins at 0, and
+    /// goes from step to step by these numbers up to `END_OF_WALK`, as `Map::try_visit_at` says.
     ///
     /// # Errors
     ///
     /// `NoMemory`.
     pub fn try_visit_at(&mut self, number: u64) -> Option<Result<Step<K, V, A>, Fault>>
         ensures visit { IfSome result (λ tried. IfOk tried (λ step. IfSome step.0 (λ v.
-            (v.class.index ≡ number)
-            × (covers v.class number ≡ true)
+            (v.class.index ≡ hash_at number)
+            × (covers v.class (hash_at number) ≡ true)
             × HasSeen K.eq (after V.eq F.remapped F.merged) self.old.map.ledger self.old.pass self.new.pass
             × IsVisit K.eq K.code self.old.map.ledger self.new.pass.seen v))) }
-        ensures come { (shown : List (VisitView K V)) → HasComeAt self.old.map.n number shown →
+        ensures come { (shown : List (VisitView K V)) → HasComeAt number shown →
             IfSome result (λ tried. IfOk tried (λ step. IfSome step.0 (λ v.
-            HasComeAt self.old.map.n step.1 (shown ++ v ∷ [])))) }
+            HasComeAt step.1 (shown ++ v ∷ [])))) }
         ensures end { IfSome result (λ tried. IfOk tried (λ step. IfNone step.0
             (IsEnd number step.1 × (self.new.pass ≡ self.old.pass)))) }
-        ensures ended { most_bins ≤ number →
+        ensures ended { first_end ≤ number →
             IsSomeAnd result (λ tried. IsOkAnd tried (λ step. step.0 ≡ None)) }
         ensures seen { HasSeenMore self.old.pass self.new.pass }
         ensures faults { IfSome result (λ tried. IfErr tried (λ fault. fault ≡ Fault.NoMemory)) }

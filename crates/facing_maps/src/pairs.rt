@@ -45,8 +45,8 @@ impl<K, V> Pairs<K, V> {
     }
 }
 
-/// Tries to copy the entries of the bucket that has the hash of this number. It waits for nobody, and
-/// takes memory for them.
+/// Tries to copy the entries of the bucket at this number. It waits for nobody, and takes memory for
+/// them.
 fn try_visit_of<K: HashKey, V: Value, F: Remap<K, V>>(
     client: &mut OwnedClient<K, V, F, Global>,
     at: u64,
@@ -100,8 +100,8 @@ fn visit_closed<K: HashKey, V: Value, F: Remap<K, V>>(
 
 impl<K: HashKey, V: Value, F: Remap<K, V>> Stage<K, V, F> {
     /// Tries to show the entries of the bucket at this place: of a closed map the bucket with this
-    /// number, and of a map whose client this is the one that has the hash of this number; of anything
-    /// else none. It waits for nobody, and takes memory for the copies.
+    /// number, and of a map whose client this is the one at which a walk goes on by this number; of
+    /// anything else none. It waits for nobody, and takes memory for the copies.
     pub fn try_visit(&mut self, at: u64) -> Option<Seen<K, V>>
         ensures { IsSeen K.eq K.code (after V.eq F.remapped F.merged) self.old at self.new (answered result) }
     {

@@ -9,8 +9,8 @@
 #include <string.h>
 #include <sys/random.h>
 
-/* The most keys that one SCAN copies; and the numbers of the map's cursor are below this. */
-enum { MOST_SCANNED = 1024, CURSORS = 1 << 26 };
+/* The most keys that one SCAN copies; and a walk may begin at any hash below this. */
+enum { MOST_SCANNED = 1024, HASHES = 1 << 26 };
 
 /* Which keys are asked for, and those that were found: each behind its length. */
 struct finding {
@@ -139,7 +139,7 @@ const char *run_randomkey(struct connection *c) {
     bool is_second = false, is_over = false;
     uint32_t random[2] = {0}, status = FACING_DONE;
     (void)!getrandom(random, sizeof random, 0);
-    walk->at = random[0] % CURSORS;
+    walk->at = random[0] % HASHES;
     while (status == FACING_DONE && it.count == 0 && !is_over) {
         status = take_keys(c, &it, 1);
         is_over = is_second && walk->at == UINT64_MAX;

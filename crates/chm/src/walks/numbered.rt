@@ -16,6 +16,9 @@ use std::alloc::Allocator;
 /// The number of the end of a walk. A walk begins at 0.
 pub const END_OF_WALK: u64 = 18_446_744_073_709_551_615;
 
+/// From here on a number is of no bucket: 28 times 2^26.
+const FIRST_END: u64 = 1_879_048_192;
+
 /// What a step of a walk by numbers returns: the bucket, or none at the end, and the number that the
 /// walk goes on at.
 pub type Step<K, V, A> = (Option<Visit<K, V, A>>, u64);
@@ -36,10 +39,10 @@ fn size_at(n: u32, hash: u32) -> u32
 }
 
 impl Cursor {
-    ghost use Rattle.std.specs.Prelude.{◌≡◌, ◌<◌, IsSomeAnd};
+    ghost use Rattle.std.specs.Prelude.{◌≡◌, ◌<◌, ◌≤◌, ◌^◌, ℕ, IsSomeAnd};
     ghost use Rattle.hashkeys.specs.Classes.{IsTableSize};
-    ghost use Rattle.hashkeys.specs.Limits.{most_bins};
-    ghost use Rattle.chm.specs.Numbered.{number_of};
+    ghost use Rattle.hashkeys.specs.Limits.{most_bins, most_exponent};
+    ghost use Rattle.chm.specs.Numbered.{IsNumberOf};
 
     /// Returns a cursor of a walk over a table of `n` buckets, at the widest class that begins at the hash.
     fn at_hash(n: u32, hash: u32) -> Cursor
@@ -54,12 +57,18 @@ impl Cursor {
         }
     }
 
-    /// The number of the place: the first hash of the class that is next, or that of the end.
+    /// The number of the place: of the table by which the walk goes and the first hash of the class that
+    /// is next, or that of the end.
     pub(crate) fn number(&self) -> u64
-        ensures { result ≡ number_of self.now.next }
+        ensures { (e : ℕ) × (e ≤ most_exponent) × (self.now.n ≡ 2 ^ e)
+            × IsNumberOf e self.now.next result }
     {
         match self.next {
-            Some(class) => u64::from(class.index()),
+            Some(class) => {
+                // called for the proof alone, which so has that the index is below 2^26
+                let _ = class.n();
+                (u64::from(self.n.ilog2()) + 1) * u64::from(MOST_BINS) + u64::from(class.index())
+            }
             None => END_OF_WALK,
         }
     }
@@ -69,21 +78,23 @@ impl<K: HashKey, V: Value, F: Remap<K, V>, A: Allocator + Clone> Map<K, V, F, A>
     ghost use Rattle.std.specs.Prelude.{◌≡◌, ◌≤◌, ◌++◌, [], ◌∷◌, List, None, true, IfOk, IfErr, IfSome, IfNone, IsOkAnd};
     ghost use Rattle.std.specs.Prelude.{IsSomeAnd, OnErr};
     ghost use Rattle.hashkeys.specs.Classes.{covers};
-    ghost use Rattle.hashkeys.specs.Limits.{most_bins};
     ghost use Rattle.bin_history.specs.Calls.{after};
     ghost use Rattle.count_ledger.specs.Fronts.{HasSeen, HasSeenMore};
-    ghost use Rattle.chm.specs.Numbered.{HasComeAt, IsEnd};
+    ghost use Rattle.chm.specs.Cursors.{HasCome};
+    ghost use Rattle.chm.specs.Numbered.{HasComeAt, IsEnd, first_end, hash_at};
     ghost use Rattle.chm.specs.Visits.{IsVisit, VisitView};
 
-    /// Tries to return copies of the entries of the bucket that has the hash of this number, in order,
-    /// as all calls before had left it, which the pass has then seen; and the number that a walk
-    /// goes on at behind it. Returns none where the bucket is locked just then: the pass is as it
-    /// was. From 2^26 on a number is the end of a walk: there is no bucket then.
+    /// Tries to return copies of the entries of the bucket at this number, in order, as all calls before
+    /// had left it, which the pass has then seen; and the number that a walk goes on at behind it. Returns
+    /// none where the bucket is locked just then: the pass is as it was.
     ///
-    /// A walk begins at 0, and goes from step to step by these numbers. What the steps return stands in
-    /// walk order, no key comes twice, and at the end every key has come. The number is of no map. If
-    /// the hash of a number is within a bucket, as it may be of a number that another map returned, the
-    /// step shows the widest part of the bucket that begins at the hash.
+    /// A walk begins at 0, and goes from step to step by these numbers, in the order in which buckets lie
+    /// in the table that calls went by when it began. No key comes twice, and at the end every key has
+    /// come. A number is a hash, and above its 26 bits the size of the table, by its exponent plus one; with
+    /// 0 there a step goes by the table of just then. From 28 times 2^26 on a number is the end of a walk:
+    /// there is no bucket then. The number is of no map. If its hash is within a bucket, as it may be
+    /// of a number that another map returned, the step shows the widest part of the bucket that begins at
+    /// the hash.
     ///
     /// It waits for nobody, and takes memory for the copies of the entries alone.
     ///
@@ -97,25 +108,25 @@ impl<K: HashKey, V: Value, F: Remap<K, V>, A: Allocator + Clone> Map<K, V, F, A>
     ) -> Option<Result<Step<K, V, A>, Fault>>
         requires pass { pass.old.ledger ≡ self.now.ledger.id }
         ensures visit { IfSome result (λ tried. IfOk tried (λ step. IfSome step.0 (λ v.
-            (v.class.index ≡ number)
-            × (covers v.class number ≡ true)
+            (v.class.index ≡ hash_at number)
+            × (covers v.class (hash_at number) ≡ true)
             × HasSeen K.eq (after V.eq F.remapped F.merged) self.now.ledger pass.old pass.new
             × IsVisit K.eq K.code self.now.ledger pass.new.seen v))) }
-        ensures come { (shown : List (VisitView K V)) → HasComeAt self.now.n number shown →
+        ensures come { (shown : List (VisitView K V)) → HasComeAt number shown →
             IfSome result (λ tried. IfOk tried (λ step. IfSome step.0 (λ v.
-            HasComeAt self.now.n step.1 (shown ++ v ∷ [])))) }
+            HasComeAt step.1 (shown ++ v ∷ [])))) }
         ensures end { IfSome result (λ tried. IfOk tried (λ step. IfNone step.0
             (IsEnd number step.1 × (pass.new ≡ pass.old)))) }
-        ensures ended { most_bins ≤ number →
+        ensures ended { first_end ≤ number →
             IsSomeAnd result (λ tried. IsOkAnd tried (λ step. step.0 ≡ None)) }
         ensures seen { HasSeenMore pass.old pass.new }
         ensures faults { IfSome result (λ tried. IfErr tried (λ fault. fault ≡ Fault.NoMemory)) }
         ensures busy { IfNone result (pass.new ≡ pass.old) }
     {
-        if number >= u64::from(MOST_BINS) {
+        if number >= FIRST_END {
             return Some(Ok((None, END_OF_WALK)));
         }
-        let mut cursor = Cursor::at_hash(self.bins.n(), number as u32);
+        let mut cursor = self.cursor_at(number);
         let tried = self.try_visit_next(pass, &mut cursor)?;
         match tried {
             Ok(visit) => Some(Ok((visit, cursor.number()))),
@@ -123,12 +134,18 @@ impl<K: HashKey, V: Value, F: Remap<K, V>, A: Allocator + Clone> Map<K, V, F, A>
         }
     }
 
-    /// A walk by numbers begins at 0. It does nothing when it runs.
-    pub fn walk_begins(&self)
-        ensures { (none : List (VisitView K V)) → none ≡ [] → HasComeAt self.now.n 0 none }
+    /// The cursor of a walk that has come to the number.
+    fn cursor_at(&self, number: u64) -> Cursor
+        requires { number < first_end }
+        ensures next { IsSomeAnd result.next (λ next. next.index ≡ hash_at number) }
+        ensures come { (shown : List (VisitView K V)) → HasComeAt number shown → HasCome result shown }
     {
         walk_laws();
-        // called for the proof alone, which so has how many bins there are
-        let _ = self.bins.n();
+        let hash = (number % u64::from(MOST_BINS)) as u32;
+        let table = (number / u64::from(MOST_BINS)) as u32;
+        if table == 0 {
+            return Cursor::at_hash(self.table_size(), hash);
+        }
+        Cursor::at_hash(1u32 << (table - 1), hash)
     }
 }

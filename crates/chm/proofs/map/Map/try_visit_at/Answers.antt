@@ -1,22 +1,23 @@
-use Rattle.std.proofs.Common.{◌≡◌, ◌++◌, Option, None, rules, ◌∙◌, arith}
+use Rattle.std.proofs.Common.{◌≡◌, ◌≤◌, ◌^◌, ◌++◌, ℕ, Option, None, subst, sym}
 use Rattle.std.specs.Prelude.{IfSome, IfNone, IsSomeAnd}
 use Rattle.bin_history.specs.Calls.{after}
 use Rattle.count_ledger.specs.Fronts.{HasSeen}
 use Rattle.part_walks.specs.Parts.{IsFirstOf}
 use Rattle.chm.specs.Cursors.{HasCome, list_of}
+use Rattle.chm.specs.Numbered.{hash_at}
 use Rattle.chm.specs.Visits.{VisitView, IsVisit}
-use Rattle.chm.proofs.Stepping.{HasCome-there, come-at, ok_is, shown-at, shown-some}
+use Rattle.chm.proofs.Stepping.{come-at, ok_is, shown-at, shown-some}
 use Rattle.chm.proofs.map.Map.try_visit_at.Goals as goal
 
 pub returns-in-Ok-clause-visit : goal.returns-in-Ok-clause-visit
 returns-in-Ok-clause-visit g c =
-    let next = c.at_hash-cursor.result.next in
+    let next = c.cursor_at-cursor.result.next in
     let Seen : VisitView g.row.K.Denot g.row.V.Denot → Type 0 = λ _. HasSeen g.K.PartialEq.eq
     (after g.V.PartialEq.eq g.F.Remap.remapped g.F.Remap.merged) c.args.self.now.ledger c.args.pass.now
     c.try_visit_next.new.pass in
     let Shown : VisitView g.row.K.Denot g.row.V.Denot → Type 0 = λ v. IsVisit g.K.PartialEq.eq g.K.HashKey.code
     c.args.self.now.ledger c.try_visit_next.new.pass.seen v in
-    shown-at Seen Shown c.args.number next c.in-Ok.visit c.at_hash-cursor.ensures.next
+    shown-at Seen Shown (hash_at c.args.number) next c.in-Ok.visit c.cursor_at-cursor.ensures.next
     (ok_is (λ (o : Option (VisitView g.row.K.Denot g.row.V.Denot)). IfSome o (λ v. IsSomeAnd next (λ k. IsFirstOf k v.class)))
     c.in_ok-tried.tried c.in-Ok.visit c.in-Ok.is c.in_ok-tried.ensures.first)
     (ok_is (λ (o : Option (VisitView g.row.K.Denot g.row.V.Denot)). IfSome o (λ v. Seen v × Shown v)) c.in_ok-tried.tried
@@ -24,17 +25,14 @@ returns-in-Ok-clause-visit g c =
 
 pub returns-in-Ok-clause-come : goal.returns-in-Ok-clause-come
 returns-in-Ok-clause-come g c shown come =
-    let n : c.n.result ≡ c.args.self.now.n = search rules in
-    let there = HasCome-there c.args.self.now.n c.args.number c.at_hash-cursor.result.n c.at_hash-cursor.result.next shown
-    (omega (arith, c.if-number-from.false)) (c.at_hash-cursor.ensures.n ∙ n) c.at_hash-cursor.ensures.next come in
-    come-at c.args.self.now.n c.number.result c.try_visit_next.new.cursor shown c.in-Ok.visit
-    (c.try_visit_next.ensures.n ∙ c.at_hash-cursor.ensures.n ∙ n) c.number.ensures
+    come-at c.number.result c.try_visit_next.new.cursor shown c.in-Ok.visit c.number.ensures
     (ok_is (λ (o : Option (VisitView g.row.K.Denot g.row.V.Denot)). HasCome c.try_visit_next.new.cursor (shown ++ list_of o))
-    c.in_ok-tried.tried c.in-Ok.visit c.in-Ok.is (c.in_ok-tried.ensures.come shown there))
+    c.in_ok-tried.tried c.in-Ok.visit c.in-Ok.is
+    (c.in_ok-tried.ensures.come shown (c.cursor_at-cursor.ensures.come shown come)))
 
 pub returns-in-Ok-clause-end : goal.returns-in-Ok-clause-end
 returns-in-Ok-clause-end g c =
-    let next = c.at_hash-cursor.result.next in
-    shown-some (c.try_visit_next.new.pass ≡ c.args.pass.now) _ _ next c.in-Ok.visit c.at_hash-cursor.ensures.next
+    let next = c.cursor_at-cursor.result.next in
+    shown-some (c.try_visit_next.new.pass ≡ c.args.pass.now) _ _ next c.in-Ok.visit c.cursor_at-cursor.ensures.next
     (ok_is (λ (o : Option (VisitView g.row.K.Denot g.row.V.Denot)). IfNone o ((next ≡ None)
     × (c.try_visit_next.new.pass ≡ c.args.pass.now))) c.in_ok-tried.tried c.in-Ok.visit c.in-Ok.is c.in_ok-tried.ensures.end)

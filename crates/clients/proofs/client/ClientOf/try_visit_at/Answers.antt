@@ -2,9 +2,7 @@ use Rattle.std.proofs.Common.{◌≡◌, rules}
 use Rattle.clients.proofs.client.ClientOf.try_visit_at.Goals as goal
 
 pub returns-clause-come : goal.returns-clause-come
-returns-clause-come g c =
-    let map_is : c.map.result.now ≡ c.args.self.now.map = search rules in
-    rw (map_is) at c.try_visit_at.ensures.come
+returns-clause-come g c = c.try_visit_at.ensures.come
 
 pub returns-clause-visit : goal.returns-clause-visit
 returns-clause-visit g c =
