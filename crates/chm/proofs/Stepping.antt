@@ -13,7 +13,7 @@ use Rattle.bin_layout.proofs.Sizes.{size_few}
 use Rattle.bin_layout.specs.Walks.{IsWalkTo, Precedes}
 use Rattle.part_walks.specs.Parts.{IsFirstOf}
 use Rattle.chm.specs.Cursors.{CursorView, HasCome, list_of}
-use Rattle.chm.specs.Numbered.{HasComeAt, IsNumberOf, first_end, hash_at}
+use Rattle.chm.specs.Numbered.{GoesOnAt, HasComeAt, IsNumberOf, IsOfTable, first_end, hash_at}
 use Rattle.chm.specs.Visits.{VisitView}
 
 -- the first of those that a class has become begins where the class does
@@ -126,6 +126,24 @@ pub come-at : {K V : Type 0} (number : ℕ) (cursor : CursorView) (shown : List 
     HasCome cursor (shown ++ list_of v) → IfSome v (λ v. HasComeAt number (shown ++ v ∷ []))
 come-at number cursor shown None of come = tt
 come-at number cursor shown (Some v) of come = HasComeAt-of number cursor (shown ++ v ∷ []) of come
+
+-- whatever the number, over the table of the cursor
+pub goes-on : {K V : Type 0} (number then e n : ℕ) (next : Option ClassView) (cursor : CursorView)
+    (v : Option (VisitView K V)) → e ≤ most_exponent → n ≡ 2 ^ e → IsOfTable e number →
+    IsSomeAnd next (λ k. k.index ≡ hash_at number) →
+    ((d : ℕ) × (d ≤ most_exponent) × (cursor.n ≡ 2 ^ d) × IsNumberOf d cursor.next then) →
+    ((shown : List (VisitView K V)) → HasCome (record { n = n; next = next }) shown → HasCome cursor (shown ++ list_of v)) →
+    IfSome v (λ v. GoesOnAt number v then)
+goes-on number then e n next cursor None le is of at to on = tt
+goes-on number then e n None cursor (Some v) le is of at to on = absurd at
+goes-on {K} {V} number then e n (Some k) cursor (Some v) le is of at to on = (
+  e,
+  le,
+  of,
+  λ shown come. HasComeAt-of then cursor (shown ++ v ∷ []) to (on shown
+      (subst (λ (m : ℕ). HasCome {K = K} {V = V} (record { n = m; next = Some k }) shown) (sym is)
+      (walk-at (2 ^ e) _ (record { n = 2 ^ e; index = hash_at number }) k (sym at) come))),
+)
 
 -- it is not at the end
 pub shown-some : {X : Type 0} (P Q : Type 0) (R : ClassView → Type 0) (next : Option ClassView) (v : Option X) →

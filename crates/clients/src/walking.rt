@@ -7,7 +7,7 @@ ghost use Rattle.count_ledger.specs.Fronts.{HasSeen, HasSeenMore};
 ghost use Rattle.count_ledger.specs.Views.{PassView};
 ghost use Rattle.part_walks.specs.Parts.{IsFirstOf};
 ghost use Rattle.chm.specs.Cursors.{AreShown, HasCome, IsUsedAt, list_of};
-ghost use Rattle.chm.specs.Numbered.{HasComeAt, IsEnd, first_end, hash_at};
+ghost use Rattle.chm.specs.Numbered.{GoesOnAt, HasComeAt, IsEnd, first_end, hash_at};
 ghost use Rattle.chm.specs.Visits.{IsVisit, VisitView};
 ghost use Rattle.hashkeys.specs.Classes.{covers};
 
@@ -156,10 +156,10 @@ impl<H: Holder<K, V, F, A>, K: HashKey, V: Value, F: Remap<K, V>, A: Allocator +
             .show_next(rt, self.seat.pass_mut(), cursor, f)
     }
 
-    /// Tries to return copies of the entries of the bucket at this number, in order, as all calls before
-    /// had left it, which the client has then seen; and the number that a walk goes on at behind it.
-    /// Returns none where the bucket is locked just then: the client is as it was. A walk begins at 0, and
-    /// goes from step to step by these numbers up to `END_OF_WALK`, as `Map::try_visit_at` says.
+    /// Tries to copy the entries of the bucket at this number, in order, as all calls before had left it,
+    /// which the client has then seen; and returns the number to go on at. Returns none where the bucket
+    /// is locked just then: the client is as it was. Begin at 0, go on at each number that is returned,
+    /// and stop at `END_OF_WALK`. `Map::try_visit_at` says what a number is.
     ///
     /// # Errors
     ///
@@ -173,6 +173,8 @@ impl<H: Holder<K, V, F, A>, K: HashKey, V: Value, F: Remap<K, V>, A: Allocator +
         ensures come { (shown : List (VisitView K V)) → HasComeAt number shown →
             IfSome result (λ tried. IfOk tried (λ step. IfSome step.0 (λ v.
             HasComeAt step.1 (shown ++ v ∷ [])))) }
+        ensures on { IfSome result (λ tried. IfOk tried (λ step. IfSome step.0 (λ v.
+            GoesOnAt number v step.1))) }
         ensures end { IfSome result (λ tried. IfOk tried (λ step. IfNone step.0
             (IsEnd number step.1 × (self.new.pass ≡ self.old.pass)))) }
         ensures ended { first_end ≤ number →

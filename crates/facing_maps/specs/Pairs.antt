@@ -7,7 +7,7 @@ use Rattle.bin_history.specs.Lawful.{BinView}
 use Rattle.bin_history.specs.declared.call.Call.{Call}
 use Rattle.count_ledger.specs.Fronts.{HasSeen, HasSeenMore}
 use Rattle.count_ledger.specs.Views.{PassView}
-use Rattle.chm.specs.Numbered.{HasComeAt, IsEnd, end_of_walk, hash_at}
+use Rattle.chm.specs.Numbered.{GoesOnAt, HasComeAt, IsEnd, end_of_walk, hash_at}
 use Rattle.chm.specs.Views.{MapView}
 use Rattle.chm.specs.Visits.{VisitView, IsVisit}
 use Rattle.clients.specs.Clients.{ClientView}
@@ -34,7 +34,7 @@ module _ {K V F : Type 0} (same_key : K → K → Bool) (code : K → ℕ) (afte
   IsLiveSeen map at old new (Ok (Some pairs, next)) = (v : VisitView K V) × (v.entries ≡ pairs)
       × (v.class.index ≡ hash_at at) × (covers v.class (hash_at at) ≡ true) × HasSeen same_key after map.ledger old new
       × IsVisit same_key code map.ledger new.seen v
-      × ((shown : List (VisitView K V)) → HasComeAt at shown → HasComeAt next (shown ++ v ∷ []))
+      × ((shown : List (VisitView K V)) → HasComeAt at shown → HasComeAt next (shown ++ v ∷ [])) × GoesOnAt at v next
   IsLiveSeen map at old new (Ok (None, next)) = IsEnd at next × (new ≡ old)
   IsLiveSeen map at old new (Err status) = ((status ≡ facing_busy) × (new ≡ old)) ⊎ ((status ≡ facing_no_memory) × HasSeenMore old new)
 

@@ -75,26 +75,29 @@ impl Cursor {
 }
 
 impl<K: HashKey, V: Value, F: Remap<K, V>, A: Allocator + Clone> Map<K, V, F, A> {
-    ghost use Rattle.std.specs.Prelude.{◌≡◌, ◌≤◌, ◌++◌, [], ◌∷◌, List, None, true, IfOk, IfErr, IfSome, IfNone, IsOkAnd};
+    ghost use Rattle.std.specs.Prelude.{◌≡◌, ◌≤◌, ◌<◌, ◌^◌, ◌++◌, [], ◌∷◌, ℕ, List, None, true, IfOk, IfErr, IfSome, IfNone, IsOkAnd};
     ghost use Rattle.std.specs.Prelude.{IsSomeAnd, OnErr};
     ghost use Rattle.hashkeys.specs.Classes.{covers};
+    ghost use Rattle.hashkeys.specs.Limits.{most_exponent};
     ghost use Rattle.bin_history.specs.Calls.{after};
     ghost use Rattle.count_ledger.specs.Fronts.{HasSeen, HasSeenMore};
     ghost use Rattle.chm.specs.Cursors.{HasCome};
-    ghost use Rattle.chm.specs.Numbered.{HasComeAt, IsEnd, first_end, hash_at};
+    ghost use Rattle.chm.specs.Numbered.{GoesOnAt, HasComeAt, IsEnd, IsOfTable, first_end, hash_at};
     ghost use Rattle.chm.specs.Visits.{IsVisit, VisitView};
 
-    /// Tries to return copies of the entries of the bucket at this number, in order, as all calls before
-    /// had left it, which the pass has then seen; and the number that a walk goes on at behind it. Returns
-    /// none where the bucket is locked just then: the pass is as it was.
+    /// Tries to copy the entries of the bucket at this number, in order, as all calls before had left it,
+    /// which the pass has then seen; and returns the number to go on at. Returns none where the bucket is
+    /// locked just then: the pass is as it was.
     ///
-    /// A walk begins at 0, and goes from step to step by these numbers, in the order in which buckets lie
-    /// in the table that calls went by when it began. No key comes twice, and at the end every key has
-    /// come. A number is a hash, and above its 26 bits the size of the table, by its exponent plus one; with
-    /// 0 there a step goes by the table of just then. From 28 times 2^26 on a number is the end of a walk:
-    /// there is no bucket then. The number is of no map. If its hash is within a bucket, as it may be
-    /// of a number that another map returned, the step shows the widest part of the bucket that begins at
-    /// the hash.
+    /// Begin at 0, go on at each number that is returned, and stop at `END_OF_WALK`, which is returned
+    /// with the last bucket. Each key that stays in the map comes once, and none twice, however the table
+    /// grows. A step shows a part of a bucket that is still to be divided. A number may be kept, sent, and
+    /// used by any pass; after an error or none, try the same number again.
+    ///
+    /// In a walk over a table of 2^e buckets a number is (e + 1) * 2^26 + hash. Any number is allowed. Below
+    /// 2^26 it is a hash, at which the walk begins, over the table that calls go by just then. From
+    /// 28 * 2^26 on it is the end. From a number of another map a walk shows what begins at its hash
+    /// and what comes behind it.
     ///
     /// It waits for nobody, and takes memory for the copies of the entries alone.
     ///
@@ -115,6 +118,8 @@ impl<K: HashKey, V: Value, F: Remap<K, V>, A: Allocator + Clone> Map<K, V, F, A>
         ensures come { (shown : List (VisitView K V)) → HasComeAt number shown →
             IfSome result (λ tried. IfOk tried (λ step. IfSome step.0 (λ v.
             HasComeAt step.1 (shown ++ v ∷ [])))) }
+        ensures on { IfSome result (λ tried. IfOk tried (λ step. IfSome step.0 (λ v.
+            GoesOnAt number v step.1))) }
         ensures end { IfSome result (λ tried. IfOk tried (λ step. IfNone step.0
             (IsEnd number step.1 × (pass.new ≡ pass.old)))) }
         ensures ended { first_end ≤ number →
@@ -138,6 +143,7 @@ impl<K: HashKey, V: Value, F: Remap<K, V>, A: Allocator + Clone> Map<K, V, F, A>
     fn cursor_at(&self, number: u64) -> Cursor
         requires { number < first_end }
         ensures next { IsSomeAnd result.next (λ next. next.index ≡ hash_at number) }
+        ensures table { (e : ℕ) × (e ≤ most_exponent) × (result.n ≡ 2 ^ e) × IsOfTable e number }
         ensures come { (shown : List (VisitView K V)) → HasComeAt number shown → HasCome result shown }
     {
         walk_laws();

@@ -2,7 +2,7 @@ use Rattle.std.proofs.Common.{◌≡◌, ℕ, true, ◌∷◌, ◌++◌, [], Lis
 use Rattle.hashkeys.specs.Classes.{covers}
 use Rattle.bin_history.specs.Calls.{after}
 use Rattle.count_ledger.specs.Fronts.{HasSeen}
-use Rattle.chm.specs.Numbered.{HasComeAt, hash_at}
+use Rattle.chm.specs.Numbered.{GoesOnAt, HasComeAt, hash_at}
 use Rattle.chm.specs.Visits.{VisitView, IsVisit}
 use Rattle.facing_maps.proofs.Shown.{of-shown}
 use Rattle.facing_maps.proofs.pairs.try_visit_of.Goals as goal
@@ -25,4 +25,6 @@ returns-in-Some-clause-seen g c =
       visit,
       λ shown come. of-shown (λ (v : VisitView g.row.K.Denot g.row.V.Denot) (n : ℕ). HasComeAt n (shown ++ v ∷ []))
           c.in-Some-Ok.field-0 c.in-Some.visit c.in-Some-Ok.next full (c.in-Some-Ok.ensures.come shown come),
+      of-shown (λ (v : VisitView g.row.K.Denot g.row.V.Denot) (n : ℕ). GoesOnAt c.args.at v n)
+          c.in-Some-Ok.field-0 c.in-Some.visit c.in-Some-Ok.next full c.in-Some-Ok.ensures.on,
     )

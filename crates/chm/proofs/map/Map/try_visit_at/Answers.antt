@@ -6,7 +6,7 @@ use Rattle.part_walks.specs.Parts.{IsFirstOf}
 use Rattle.chm.specs.Cursors.{HasCome, list_of}
 use Rattle.chm.specs.Numbered.{hash_at}
 use Rattle.chm.specs.Visits.{VisitView, IsVisit}
-use Rattle.chm.proofs.Stepping.{come-at, ok_is, shown-at, shown-some}
+use Rattle.chm.proofs.Stepping.{come-at, goes-on, ok_is, shown-at, shown-some}
 use Rattle.chm.proofs.map.Map.try_visit_at.Goals as goal
 
 pub returns-in-Ok-clause-visit : goal.returns-in-Ok-clause-visit
@@ -29,6 +29,15 @@ returns-in-Ok-clause-come g c shown come =
     (ok_is (λ (o : Option (VisitView g.row.K.Denot g.row.V.Denot)). HasCome c.try_visit_next.new.cursor (shown ++ list_of o))
     c.in_ok-tried.tried c.in-Ok.visit c.in-Ok.is
     (c.in_ok-tried.ensures.come shown (c.cursor_at-cursor.ensures.come shown come)))
+
+pub returns-in-Ok-clause-on : goal.returns-in-Ok-clause-on
+returns-in-Ok-clause-on g c =
+    let (e, le, is, of) = c.cursor_at-cursor.ensures.table in
+    goes-on c.args.number c.number.result e c.cursor_at-cursor.result.n c.cursor_at-cursor.result.next
+    c.try_visit_next.new.cursor c.in-Ok.visit le is of c.cursor_at-cursor.ensures.next c.number.ensures
+    (λ shown come. ok_is
+    (λ (o : Option (VisitView g.row.K.Denot g.row.V.Denot)). HasCome c.try_visit_next.new.cursor (shown ++ list_of o))
+    c.in_ok-tried.tried c.in-Ok.visit c.in-Ok.is (c.in_ok-tried.ensures.come shown come))
 
 pub returns-in-Ok-clause-end : goal.returns-in-Ok-clause-end
 returns-in-Ok-clause-end g c =
