@@ -13,7 +13,8 @@
  * header and of a copy of one of the last 1,024 handles that were freed.
  *
  * Every function but facing_free returns a status. Where it is not FACING_DONE nothing was changed, but where facing_close
- * or a call of many keys says so; an answer is {0, 0}, but where FACING_NO_ROOM tells a length; an output handle is null.
+ * or a call of many keys says so, and a cursor may have passed empty buckets; an answer is {0, 0}, but where FACING_NO_ROOM
+ * tells a length; an output handle is null.
  * The `answer` of a client's call may be NULL.
  *
  * The map draws a secret seed from the system when it is opened. It mixes each key with it, by a multiplication with a secret
@@ -77,10 +78,11 @@ FACING_CHECKED FACING_API uint32_t facing_open_seeded(size_t capacity, uint32_t 
     return facing_open_with(capacity, clients, 0, seed, map);
 }
 
-/* Opens an empty map for 1 to 65,536 clients, with a table of `capacity` buckets to begin with: 1 to 2^26, rounded up to a
- * power of two. A bucket takes 40 bytes, so 2^26 of them take 2.5 GB at once; the table grows by itself, so begin small.
- * The map's seed is drawn with getrandom; the salt is mixed in too, and is no secret: pass 0. Returns FACING_NO_SEED where
- * the system gives none, FACING_BAD_CAPACITY, FACING_BAD_CLIENTS or FACING_NO_MEMORY, and the handle is null then. */
+/* Opens an empty map for 1 to 65,536 clients, with a table of `capacity` buckets to begin with: 1 to 2^26, rounded up
+ * to a power of two. A bucket takes 40 bytes, so 2^26 of them take 2.5 GB, and twice that while the map opens. The
+ * table grows by itself, so begin small. The map's seed is drawn with getrandom; the salt is mixed in too, and is no
+ * secret: pass 0. Returns FACING_NO_SEED where the system gives none, FACING_BAD_CAPACITY, FACING_BAD_CLIENTS or
+ * FACING_NO_MEMORY, and the handle is null then. */
 FACING_CHECKED FACING_API uint32_t facing_open(size_t capacity, uint32_t clients, uint32_t salt, facing_handle *map) {
     uint64_t seed[2] = {0, 0};
     uint32_t status;

@@ -128,10 +128,10 @@ FACING_CHECKED FACING_API uint32_t facing_bytes_open_seeded(size_t capacity, uin
     return facing_fill(&map->at, made, FACING_BYTES, status);
 }
 
-/* Opens an empty map for 1 to 65,536 clients, with a table of `capacity` buckets to begin with: 1 to 2^26, rounded up to a
- * power of two. A bucket takes 72 bytes, so 2^26 of them take 4.5 GB at once; the table grows by itself, so begin small.
- * The map's seed is drawn with getrandom. Returns FACING_NO_SEED where the system gives none, FACING_BAD_CAPACITY,
- * FACING_BAD_CLIENTS or FACING_NO_MEMORY, and the handle is null then. */
+/* Opens an empty map for 1 to 65,536 clients, with a table of `capacity` buckets to begin with: 1 to 2^26, rounded up
+ * to a power of two. A bucket takes 72 bytes, so 2^26 of them take 4.5 GB, and twice that while the map opens. The
+ * table grows by itself, so begin small. The map's seed is drawn with getrandom. Returns FACING_NO_SEED where the
+ * system gives none, FACING_BAD_CAPACITY, FACING_BAD_CLIENTS or FACING_NO_MEMORY, and the handle is null then. */
 FACING_CHECKED FACING_API uint32_t facing_bytes_open(size_t capacity, uint32_t clients, facing_bytes_handle *map) {
     uint64_t seed[2] = {0, 0};
     uint32_t status;

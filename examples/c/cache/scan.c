@@ -9,8 +9,8 @@
 #include <string.h>
 #include <sys/random.h>
 
-/* The most keys that one SCAN copies; and a walk may begin at any hash below this. */
-enum { MOST_SCANNED = 1024, HASHES = 1 << 26 };
+/* The most keys that one SCAN copies, and of how many RANDOMKEY draws one; and a walk may begin at any hash below this. */
+enum { MOST_SCANNED = 1024, MOST_DRAWN = 32, HASHES = 1 << 26 };
 
 /* Which keys are asked for, and those that were found: each behind its length. */
 struct finding {
@@ -131,7 +131,8 @@ const char *run_keys(struct connection *c) {
     return error_of(status);
 }
 
-/* Begins at a bucket at random, and shows a key of the first one that has any. */
+/* Begins at a bucket at random, and shows one of the first keys from there on. A key that lies behind many empty buckets is
+ * shown more often than others. */
 const char *run_randomkey(struct connection *c) {
     struct walk *walk = &c->worker->walk;
     struct finding it = {.is_of_strings = true, .now = now_ms()};
@@ -141,7 +142,8 @@ const char *run_randomkey(struct connection *c) {
     (void)!getrandom(random, sizeof random, 0);
     walk->at = random[0] % HASHES;
     while (status == FACING_DONE && it.count == 0 && !is_over) {
-        status = take_keys(c, &it, 1);
+        status = take_keys(c, &it, MOST_DRAWN);
+        if (!c->worker->store.is_alone) turn_pass(&c->worker->store);
         is_over = is_second && walk->at == UINT64_MAX;
         if (walk->at != UINT64_MAX) continue;
         is_second = true;
