@@ -1,12 +1,11 @@
 //! Runs of scripts whose clients call at the same time.
-use crate::samples::{check_with, options, told, told_under};
+use crate::samples::{check_with, fill, options, told, told_under};
 use mapcli_core::{ClientGate, Gate};
-use std::alloc::{AllocError, AllocGlobal, Global};
+use std::alloc::{AllocGlobal, Global};
 use std::process::Abort;
 use std::sync::Wait;
 use std::sync::atomic::AtomicU64;
 use std::sync::atomic::Ordering::SeqCst;
-use std::test::Fail;
 use std::thread;
 use std::thread::Threads;
 
@@ -22,22 +21,23 @@ fn two_clients_put_one_key(rt: HostRuntime) {
 
 /// A script of so many clients, each of which makes one call so often, and its query.
 fn script_of_calls(
+    rt: &impl Abort,
     alloc: Global,
     clients: u32,
     call: &str,
     times: u32,
     query: &str,
-) -> Result<String, AllocError> {
+) -> String {
     let mut script = String::new(alloc);
     for _ in 0..clients {
-        script.push_str("client\n")?;
+        fill(rt, &mut script, "client\n", &[]);
         for _ in 0..times {
-            script.push_str(call)?;
+            fill(rt, &mut script, call, &[]);
         }
     }
-    script.push_str("query\n")?;
-    script.push_str(query)?;
-    Ok(script)
+    fill(rt, &mut script, "query\n", &[]);
+    fill(rt, &mut script, query, &[]);
+    script
 }
 
 /// How many lines of a text are this one.
@@ -52,37 +52,39 @@ fn count_lines(rt: &impl Abort, text: &[u8], wanted: &str) -> u32 {
 /// Of 32 clients that put one key where it is absent, one does.
 #[test]
 fn one_of_32_clients_is_first(rt: HostRuntime) {
-    let script = script_of_calls(rt.alloc(), 32, "put_if_absent a 1\n", 1, "count\n").expect(
-        &rt, "memory",
-    );
+    let script = script_of_calls(&rt, rt.alloc(), 32, "put_if_absent a 1\n", 1, "count\n");
     let (status, text) = told(&rt, script.as_bytes(), &options(&rt, 4, 16, 0));
-    drop(script);
-    let found = (
+    let (none, some) = (
         count_lines(&rt, &text, "none"),
         count_lines(&rt, &text, "some 1"),
     );
-    let is_one = text.ends_with(b"\n1\n");
-    drop(text);
-    assert!(rt; status == 0 && is_one && found == (1, 31), "{found:?}");
+    let is_one = status == 0 && text.ends_with(b"\n1\n");
+    assert!(rt; is_one && none == 1 && some == 31, "{none} and {some}");
 }
 
-/// Counts how often each sum was replied, at the place of its number. Sums past the most are
-/// counted at 0.
-fn count_sums(alloc: Global, text: &str, most: u32) -> Result<Vec<u32>, AllocError> {
-    let mut replies = vec![in alloc; 0u32; (most as usize).saturating_add(1)]?;
-    for line in text.lines() {
-        if let Some(sum) = line.strip_prefix("some ") {
-            let place = sum.parse().ok().filter(|sum| *sum <= most).unwrap_or(0);
-            if let Some(count) = replies.get_mut(place as usize) {
-                *count = count.saturating_add(1);
-            }
+/// The sum that a line tells, 0 where it tells none up to the most.
+fn sum_of(line: &str, most: u32) -> u32 {
+    match line.strip_prefix("some ") {
+        Some(sum) => match sum.parse().ok() {
+            Some(sum) if sum <= most => sum,
+            _ => 0,
+        },
+        None => 0,
+    }
+}
+
+/// Asserts that each sum from 1 up to the most is told once, and no other.
+fn assert_once(rt: &impl Abort, alloc: Global, text: &[u8], most: u32) {
+    let len = (most as usize).saturating_add(1);
+    let mut replies = vec![in alloc; 0u32; len].expect(rt, "memory");
+    for line in str::from_utf8(text).expect(rt, "a text").lines() {
+        if line.starts_with("some ") {
+            let count = replies
+                .get_mut(sum_of(line, most) as usize)
+                .expect(rt, "a sum");
+            *count = count.saturating_add(1);
         }
     }
-    Ok(replies)
-}
-
-/// None of them is 0, and each of the others is there once.
-fn assert_once(rt: &impl Abort, replies: &[u32]) {
     for (sum, count) in replies.iter().enumerate() {
         assert!(rt; *count == u32::from(sum > 0), "the sum {sum}");
     }
@@ -95,59 +97,81 @@ fn assert_sums<R: Threads + Wait + Sync + Abort + AllocGlobal>(
     clients: u32,
     calls: u32,
     last: &[u8],
-) -> Result<(), Fail> {
-    let script = script_of_calls(rt.alloc(), clients, "merge a 1 sum\n", calls, "list 1\n")?;
+) {
+    let script = script_of_calls(
+        rt,
+        rt.alloc(),
+        clients,
+        "merge a 1 sum\n",
+        calls,
+        "list 1\n",
+    );
     let (status, text) = told(rt, script.as_bytes(), &options(rt, 4, 16, 0));
-    drop(script);
     assert!(rt; status == 0 && text.ends_with(last));
-    let most = clients.saturating_mul(calls);
-    let replies = count_sums(rt.alloc(), str::from_utf8(&text).expect(rt, "a text"), most)?;
-    drop(text);
-    assert_once(rt, &replies);
-    Ok(())
+    assert_once(rt, rt.alloc(), &text, clients.saturating_mul(calls));
 }
 
 #[test]
-fn two_clients_count_to_2000(rt: HostRuntime) -> Result<(), Fail> {
-    assert_sums(&rt, 2, 1000, b"\na 2000\n")
+fn two_clients_count_to_2000(rt: HostRuntime) {
+    assert_sums(&rt, 2, 1000, b"\na 2000\n");
 }
 
 #[test]
-fn all_32_clients_count_to_32000(rt: HostRuntime) -> Result<(), Fail> {
-    assert_sums(&rt, 32, 1000, b"\na 32000\n")
+fn all_32_clients_count_to_32000(rt: HostRuntime) {
+    assert_sums(&rt, 32, 1000, b"\na 32000\n");
 }
 
-/// A script of 32 clients that put 40 keys each, take every second of them away again and read one,
-/// and what it prints.
-fn script_of_many_keys(alloc: Global) -> Result<(String, String), AllocError> {
+/// A script of 32 clients that put 40 keys each, take every second of them away again and read one.
+fn script_of_many_keys(rt: &impl Abort, alloc: Global) -> String {
     let mut script = String::new(alloc);
-    let mut wanted = String::new(alloc);
-    for client in 0..32 {
-        script.push_str("client\n")?;
-        writeln!(wanted, "client {client}")?;
-        for number in 0..40 {
-            writeln!(script, "put c{client}_{number} {number}")?;
-            writeln!(wanted, "none")?;
+    for client in 0..32i64 {
+        fill(rt, &mut script, "client\n", &[]);
+        for number in 0..40i64 {
+            fill(rt, &mut script, "put c#_# #\n", &[client, number, number]);
         }
-        for half in 0u32..20 {
-            let number = half.saturating_mul(2);
-            writeln!(script, "remove c{client}_{number}")?;
-            writeln!(wanted, "some {number}")?;
+        for half in 0..20i64 {
+            fill(
+                rt,
+                &mut script,
+                "remove c#_#\n",
+                &[client, half.saturating_mul(2)],
+            );
         }
-        writeln!(script, "get c{client}_39")?;
-        writeln!(wanted, "some 39")?;
+        fill(rt, &mut script, "get c#_39\n", &[client]);
     }
-    script.push_str("query\ncount\nreduce sum 1\nreduce max 1\n")?;
-    wanted.push_str("640\n12800\nsome 39\n")?;
-    Ok((script, wanted))
+    fill(
+        rt,
+        &mut script,
+        "query\ncount\nreduce sum 1\nreduce max 1\n",
+        &[],
+    );
+    script
+}
+
+/// What it prints.
+fn printed_of_many_keys(rt: &impl Abort, alloc: Global) -> String {
+    let mut wanted = String::new(alloc);
+    for client in 0..32i64 {
+        fill(rt, &mut wanted, "client #\n", &[client]);
+        for _ in 0..40 {
+            fill(rt, &mut wanted, "none\n", &[]);
+        }
+        for half in 0..20i64 {
+            fill(rt, &mut wanted, "some #\n", &[half.saturating_mul(2)]);
+        }
+        fill(rt, &mut wanted, "some 39\n", &[]);
+    }
+    fill(rt, &mut wanted, "640\n12800\nsome 39\n", &[]);
+    wanted
 }
 
 /// The table grows from one bin while they call.
 #[test]
 fn clients_of_many_keys_do_not_meet(rt: HostRuntime) {
-    let (script, wanted) = script_of_many_keys(rt.alloc()).expect(&rt, "memory");
-    for salt in [0, 1, u32::MAX] {
-        let options = options(&rt, 4, 1, salt);
+    let script = script_of_many_keys(&rt, rt.alloc());
+    let wanted = printed_of_many_keys(&rt, rt.alloc());
+    for salt in &[0, 1, u32::MAX] {
+        let options = options(&rt, 4, 1, *salt);
         check_with(&rt, &options, script.as_bytes(), 0, &wanted);
     }
 }
@@ -159,9 +183,9 @@ fn one_client_prints_the_same_under_any_salt(rt: HostRuntime) {
         b"client\nput q 1\nput a 2\nput Aa 3\nput zzzzzz 4\nput BB 5\nremove a\nmerge q 9 max\nquery\ncount\nreduce sum 1\nlist 1\n";
     let wanted =
         "client 0\nnone\nnone\nnone\nnone\nnone\nsome 2\nsome 9\n4\n21\nAa 3\nBB 5\nq 9\nzzzzzz 4\n";
-    for capacity in [1, 2, 16, 4096] {
-        for salt in [0, 1, 2112, u32::MAX] {
-            let options = options(&rt, 4, capacity, salt);
+    for capacity in &[1, 2, 16, 4096] {
+        for salt in &[0, 1, 2112, u32::MAX] {
+            let options = options(&rt, 4, *capacity, *salt);
             check_with(&rt, &options, script, 0, wanted);
         }
     }

@@ -220,9 +220,9 @@ fn interrupted_reads_and_writes_are_made_again(rt: HostRuntime) {
 /// beginning of it.
 #[test]
 fn a_failed_write_leaves_a_beginning(rt: HostRuntime) {
-    for failure in [Failure::Refuse, Failure::TakeNothing] {
+    for failure in &[Failure::Refuse, Failure::TakeNothing] {
         for taken in 0..OUTPUT.len() {
-            let left = run_failing(&rt, 6, taken + 1, failure);
+            let left = run_failing(&rt, 6, taken + 1, *failure);
             let is_refused = left.is_refused(&OUTPUT[..taken], (0, 1));
             assert!(rt; is_refused, "after {taken}");
         }

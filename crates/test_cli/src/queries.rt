@@ -1,7 +1,7 @@
 //! Queries that a pool of workers answers.
-use crate::samples::{check_with, options, told_under};
+use crate::samples::{check_with, fill, options, told_under};
 use mapcli_core::{ClientGate, Gate};
-use std::alloc::{AllocError, AllocGlobal, Global};
+use std::alloc::{AllocGlobal, Global};
 use std::process::Abort;
 use std::sync::Wait;
 use std::sync::atomic::AtomicU64;
@@ -37,20 +37,20 @@ impl ClientGate for TwoLeaves {
 }
 
 /// A script of 64 puts of the values 1 to 64, and its query.
-fn script_of_puts(alloc: Global, query: &str) -> Result<String, AllocError> {
-    let mut script = String::from_str(alloc, "client\n")?;
-    for value in 1..=64 {
-        writeln!(script, "put k{value} {value}")?;
+fn script_of_puts(rt: &impl Abort, alloc: Global, query: &str) -> String {
+    let mut script = String::from_str(alloc, "client\n").expect(rt, "memory");
+    for value in 1..=64i64 {
+        fill(rt, &mut script, "put k# #\n", &[value, value]);
     }
-    script.push_str("query\n")?;
-    script.push_str(query)?;
-    Ok(script)
+    fill(rt, &mut script, "query\n", &[]);
+    fill(rt, &mut script, query, &[]);
+    script
 }
 
 /// Workers that take one leaf after the other miss each other here.
 #[test]
 fn two_leaves_run_at_the_same_time(rt: HostRuntime) {
-    let script = script_of_puts(rt.alloc(), "reduce sum 1\n").expect(&rt, "memory");
+    let script = script_of_puts(&rt, rt.alloc(), "reduce sum 1\n");
     let gate = TwoLeaves {
         begun: AtomicU64::new(0),
         missed: AtomicU64::new(0),
@@ -75,7 +75,7 @@ none\nnone\nnone\nnone\nnone\nnone\nnone\nnone\nnone\nnone\nnone\nnone\nnone\nno
 #[test]
 fn a_sum_by_any_threshold_is_the_same(rt: HostRuntime) {
     let query = "reduce sum 18446744073709551615\nreduce sum 1\n";
-    let script = script_of_puts(rt.alloc(), query).expect(&rt, "memory");
+    let script = script_of_puts(&rt, rt.alloc(), query);
     check_with(&rt, &options(&rt, 2, 16, 0), script.as_bytes(), 0, TWO_SUMS);
 }
 
@@ -95,34 +95,43 @@ impl ClientGate for Leaves {
     fn call(&self, _client: usize, _ordinal: u64) {}
 }
 
-/// How many leaves the query has, by two workers over three keys.
+/// How many leaves a script of three puts and a query has, by two workers.
 fn leaves_of<R: Threads + Wait + Sync + Abort + AllocGlobal>(
     rt: &R,
     query: &str,
-    threshold: u32,
-) -> Result<u64, AllocError> {
-    let script = format!(in rt.alloc();
-        "client\nput a 1\nput b 2\nput c 3\nquery\n{query} {threshold}\n"
-    )?;
+    threshold: i64,
+) -> u64 {
+    let mut script = String::new(rt.alloc());
+    fill(
+        rt,
+        &mut script,
+        "client\nput a 1\nput b 2\nput c 3\nquery\n",
+        &[],
+    );
+    fill(rt, &mut script, query, &[threshold]);
     let gate = Leaves {
         begun: AtomicU64::new(0),
     };
-    let (status, text) = told_under(rt, script.as_bytes(), &options(rt, 2, 16, 0), &gate);
-    drop(text);
+    let (status, _text) = told_under(rt, script.as_bytes(), &options(rt, 2, 16, 0), &gate);
     assert!(rt; status == 0);
-    Ok(gate.begun.load(SeqCst))
+    gate.begun.load(SeqCst)
 }
+
+/// Queries, each with a place for its threshold.
+const DIVIDED: [&str; 4] = [
+    "reduce sum #\n",
+    "reduce max #\n",
+    "search above 9 #\n",
+    "list #\n",
+];
 
 /// The work is divided from a threshold of 1 on, and not where the threshold is above the number of
 /// keys.
 #[test]
 fn a_threshold_divides_the_work_or_not(rt: HostRuntime) {
-    for query in ["reduce sum", "reduce max", "search above 9", "list"] {
-        let leaves = (
-            leaves_of(&rt, query, 1).expect(&rt, "memory"),
-            leaves_of(&rt, query, 4).expect(&rt, "memory"),
-        );
-        assert!(rt; leaves.0 > 1 && leaves.1 == 1, "{query}: {leaves:?}");
+    for query in &DIVIDED {
+        let (divided, whole) = (leaves_of(&rt, query, 1), leaves_of(&rt, query, 4));
+        assert!(rt; divided > 1 && whole == 1, "{query}: {divided} and {whole}");
     }
 }
 
@@ -169,46 +178,53 @@ k8 26
 k9 33
 ";
 
-/// Puts 40 keys, whose values are -30, -23 and so on up to 40, again and again.
-fn script_of_queries(alloc: Global) -> Result<String, AllocError> {
-    let mut text = String::new(alloc);
-    text.push_str("client\n")?;
-    for i in 0..40 {
-        writeln!(text, "put k{i} {}", 7 * (i % 11) - 30)?;
+/// Thresholds that divide the work, and that do not.
+const THRESHOLDS: [&str; 6] = ["0", "1", "5", "40", "41", "18446744073709551615"];
+
+/// Queries, each up to its threshold.
+const BY_THRESHOLD: [&str; 4] = ["reduce sum ", "reduce max ", "list ", "search above 40 "];
+
+/// Puts 40 keys, whose values are -30, -23 and so on up to 40, again and again, and asks each query by each
+/// threshold.
+fn script_of_queries(rt: &impl Abort, alloc: Global) -> String {
+    let mut text = String::from_str(alloc, "client\n").expect(rt, "memory");
+    for i in 0..40i64 {
+        fill(rt, &mut text, "put k# #\n", &[i, 7 * (i % 11) - 30]);
     }
-    text.push_str("query\n")?;
-    for threshold in ["0", "1", "5", "40", "41", "18446744073709551615"] {
-        writeln!(
-            text,
-            "count\nreduce sum {threshold}\nreduce max {threshold}\nlist {threshold}\nsearch above 40 {threshold}"
-        )?;
+    fill(rt, &mut text, "query\n", &[]);
+    for threshold in &THRESHOLDS {
+        fill(rt, &mut text, "count\n", &[]);
+        for query in &BY_THRESHOLD {
+            fill(rt, &mut text, query, &[]);
+            fill(rt, &mut text, threshold, &[]);
+            fill(rt, &mut text, "\n", &[]);
+        }
     }
-    Ok(text)
+    text
 }
 
 /// What it prints: 40 replies, and six times the same answers. Three rounds of eleven values make
 /// 55 each, the first seven of a fourth -63: 102 together.
-fn wanted_answers(alloc: Global) -> Result<String, AllocError> {
-    let mut text = String::new(alloc);
-    text.push_str("client 0\n")?;
+fn wanted_answers(rt: &impl Abort, alloc: Global) -> String {
+    let mut text = String::from_str(alloc, "client 0\n").expect(rt, "memory");
     for _ in 0..40 {
-        text.push_str("none\n")?;
+        fill(rt, &mut text, "none\n", &[]);
     }
     for _ in 0..6 {
-        text.push_str("40\n102\nsome 40\n")?;
-        text.push_str(LISTED)?;
-        text.push_str("none\n")?;
+        fill(rt, &mut text, "40\n102\nsome 40\n", &[]);
+        fill(rt, &mut text, LISTED, &[]);
+        fill(rt, &mut text, "none\n", &[]);
     }
-    Ok(text)
+    text
 }
 
 /// The answers of 1 to 16 workers are the same, at thresholds that divide the work and that do not.
 #[test]
 fn any_workers_answer_the_same(rt: HostRuntime) {
-    let script = script_of_queries(rt.alloc()).expect(&rt, "memory");
-    let wanted = wanted_answers(rt.alloc()).expect(&rt, "memory");
-    for workers in [1, 2, 4, 16] {
-        let options = options(&rt, workers, 16, 0);
+    let script = script_of_queries(&rt, rt.alloc());
+    let wanted = wanted_answers(&rt, rt.alloc());
+    for workers in &[1, 2, 4, 16] {
+        let options = options(&rt, *workers, 16, 0);
         check_with(&rt, &options, script.as_bytes(), 0, &wanted);
     }
 }

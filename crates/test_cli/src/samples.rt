@@ -6,6 +6,19 @@ use std::process::Abort;
 use std::sync::Wait;
 use std::thread::Threads;
 
+/// Writes the template behind the text, with a number for each `#`.
+pub(crate) fn fill(rt: &impl Abort, text: &mut String, template: &str, numbers: &[i64]) {
+    let mut rest = numbers.iter();
+    for letter in template.chars() {
+        if letter == '#' {
+            let number = rest.next().expect(rt, "a number");
+            write!(text, "{number}").expect(rt, "memory");
+        } else {
+            text.push(letter).expect(rt, "memory");
+        }
+    }
+}
+
 /// The options of a run: its workers, its capacity and its salt.
 pub(crate) fn options(rt: &impl Abort, workers: usize, capacity: usize, salt: u32) -> Options {
     Options::with_salt(workers, capacity, Salt(salt)).expect(rt, "options")
@@ -61,6 +74,17 @@ pub(crate) fn check<R: Threads + Wait + Sync + Abort + AllocGlobal>(
     wanted: &str,
 ) {
     check_with(rt, &options(rt, 4, 16, 0), script, wanted_status, wanted);
+}
+
+/// Asserts what runs of scripts end with, all with this status, and what each tells.
+pub(crate) fn check_all<R: Threads + Wait + Sync + Abort + AllocGlobal>(
+    rt: &R,
+    wanted_status: u8,
+    rows: &[(&str, &str)],
+) {
+    for (script, wanted) in rows {
+        check(rt, script.as_bytes(), wanted_status, wanted);
+    }
 }
 
 /// A script of one client.

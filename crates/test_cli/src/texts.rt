@@ -5,102 +5,120 @@ use script::{Fault, Function, Kind, ParseError, Query, parse};
 use std::alloc::{AllocError, Global};
 use std::process::Abort;
 
-/// The line and the kind of a text's fault, or none where it is a script.
-fn fault_of(rt: &impl Abort, alloc: Global, text: &[u8]) -> Option<(u64, Kind)> {
+/// The line and the kind of a text's fault; 0 and nothing, where it is a script.
+type Found = (u64, &'static str);
+
+const SCRIPT: Found = (0, "");
+
+fn fault_of(rt: &impl Abort, alloc: Global, text: &[u8]) -> Found {
     match parse(alloc, text) {
-        Ok(_) => None,
-        Err(ParseError::Fault(fault)) => Some((fault.line, fault.kind)),
-        Err(ParseError::NoMemory) => {
-            assert!(rt; false, "no memory");
-            None
-        }
+        Ok(_) => SCRIPT,
+        Err(ParseError::Fault(fault)) => (fault.line, fault.kind.text()),
+        Err(ParseError::NoMemory) => panic!(rt; "no memory"),
     }
 }
 
-/// Asserts that a text has this fault, or is a script where none is wanted.
-fn assert_fault(rt: &impl Abort, alloc: Global, text: &[u8], wanted: Option<(u64, Kind)>) {
+/// Asserts that a text has this fault, or is a script.
+fn assert_fault(rt: &impl Abort, alloc: Global, text: &[u8], wanted: Found) {
     let found = fault_of(rt, alloc, text);
     assert!(rt; found == wanted, "{text:?}: {found:?}");
 }
 
-#[test]
-fn the_fault_table(rt: HostRuntime) {
-    let rows: [(&[u8], u64, Kind); 14] = [
-        (b"", 1, Kind::Missing),
-        (b"query\n", 1, Kind::Word),
-        (b"client\n\n", 2, Kind::Spaces),
-        (b"client\nput a\n", 2, Kind::Count),
-        (b"client\nput a 1 2\n", 2, Kind::Count),
-        (b"client\nput a-b 1\n", 2, Kind::Key),
-        (b"client\nput a -0\n", 2, Kind::Number),
-        (b"client\nput a 9223372036854775808\n", 2, Kind::Number),
-        (b"client\ncompute a sum\n", 2, Kind::Count),
-        (b"client\ncompute a drop 1\n", 2, Kind::Count),
-        (b"client\ncompute a min 1\n", 2, Kind::Function),
-        (b"client\nquery\nsearch below 1 1\n", 3, Kind::Function),
-        (b"client\nquery\nget a\n", 3, Kind::Word),
-        (b"client\nquery\nlist -1\n", 3, Kind::Number),
-    ];
-    for (text, line, kind) in rows {
-        assert_fault(&rt, rt.alloc(), text, Some((line, kind)));
+/// A text, and its fault.
+type Row = (&'static [u8], Found);
+
+/// Asserts the faults of texts.
+fn assert_faults(rt: &impl Abort, alloc: Global, rows: &[Row]) {
+    for (text, wanted) in rows {
+        assert_fault(rt, alloc, text, *wanted);
     }
 }
+
+const FAULTS: [Row; 14] = [
+    (b"", (1, "missing")),
+    (b"query\n", (1, "word")),
+    (b"client\n\n", (2, "spaces")),
+    (b"client\nput a\n", (2, "count")),
+    (b"client\nput a 1 2\n", (2, "count")),
+    (b"client\nput a-b 1\n", (2, "key")),
+    (b"client\nput a -0\n", (2, "number")),
+    (b"client\nput a 9223372036854775808\n", (2, "number")),
+    (b"client\ncompute a sum\n", (2, "count")),
+    (b"client\ncompute a drop 1\n", (2, "count")),
+    (b"client\ncompute a min 1\n", (2, "function")),
+    (b"client\nquery\nsearch below 1 1\n", (3, "function")),
+    (b"client\nquery\nget a\n", (3, "word")),
+    (b"client\nquery\nlist -1\n", (3, "number")),
+];
+
+#[test]
+fn the_fault_table(rt: HostRuntime) {
+    assert_faults(&rt, rt.alloc(), &FAULTS);
+}
+
+/// Texts that fail by more than one test.
+const FIRST_TESTS: [Row; 12] = [
+    (b"cl\x00 ent  ", (1, "cut")),
+    (b"client\n \x09 nothing\nclient\n", (2, "bytes")),
+    (b"client\nnothing  at a-b\n", (2, "spaces")),
+    (b"client\nnothing a-b x\n", (2, "word")),
+    (b"client\nput a-b x y\n", (2, "key")),
+    (b"client\nput a x y\n", (2, "number")),
+    (b"client\nput a-b\n", (2, "key")),
+    (b"client x\n", (1, "count")),
+    (b"client\nquery x\n", (2, "count")),
+    (b"client\nmerge a 1 min 1\n", (2, "function")),
+    (b"client\nquery\nreduce sum\n", (3, "count")),
+    (b"client\nquery\nsearch above 1\n", (3, "count")),
+];
 
 /// The first failing test gives the kind, though later ones fail as well.
 #[test]
 fn the_first_failing_test_decides(rt: HostRuntime) {
-    let rows: [(&[u8], u64, Kind); 12] = [
-        (b"cl\x00 ent  ", 1, Kind::Cut),
-        (b"client\n \x09 nothing\nclient\n", 2, Kind::Bytes),
-        (b"client\nnothing  at a-b\n", 2, Kind::Spaces),
-        (b"client\nnothing a-b x\n", 2, Kind::Word),
-        (b"client\nput a-b x y\n", 2, Kind::Key),
-        (b"client\nput a x y\n", 2, Kind::Number),
-        (b"client\nput a-b\n", 2, Kind::Key),
-        (b"client x\n", 1, Kind::Count),
-        (b"client\nquery x\n", 2, Kind::Count),
-        (b"client\nmerge a 1 min 1\n", 2, Kind::Function),
-        (b"client\nquery\nreduce sum\n", 3, Kind::Count),
-        (b"client\nquery\nsearch above 1\n", 3, Kind::Count),
-    ];
-    for (text, line, kind) in rows {
-        assert_fault(&rt, rt.alloc(), text, Some((line, kind)));
-    }
+    assert_faults(&rt, rt.alloc(), &FIRST_TESTS);
 }
+
+/// Texts with more than one bad line.
+const FIRST_LINES: [Row; 3] = [
+    (b"client\nget a\nget\nput a\nquer", (3, "count")),
+    (b"client\nget a\n", (3, "missing")),
+    (b"client\nquery\ncount", (3, "cut")),
+];
 
 /// The first bad line decides, though later ones are bad as well.
 #[test]
 fn the_first_bad_line_decides(rt: HostRuntime) {
-    let rows: [(&[u8], u64, Kind); 3] = [
-        (b"client\nget a\nget\nput a\nquer", 3, Kind::Count),
-        (b"client\nget a\n", 3, Kind::Missing),
-        (b"client\nquery\ncount", 3, Kind::Cut),
-    ];
-    for (text, line, kind) in rows {
-        assert_fault(&rt, rt.alloc(), text, Some((line, kind)));
-    }
+    assert_faults(&rt, rt.alloc(), &FIRST_LINES);
 }
+
+/// The shortest and the longest beginnings of a script that have one fault, by their lengths.
+const BEGINNINGS: [(usize, usize, Found); 10] = [
+    (0, 0, (1, "missing")),
+    (1, 6, (1, "cut")),
+    (7, 7, (2, "missing")),
+    (8, 14, (2, "cut")),
+    (15, 15, (3, "missing")),
+    (16, 20, (3, "cut")),
+    (21, 21, (4, "missing")),
+    (22, 26, (4, "cut")),
+    (27, 27, SCRIPT),
+    (28, 32, (5, "cut")),
+];
 
 /// Each beginning of a script has one fault, by its length, until the place of the queries is
 /// reached.
 #[test]
 fn beginnings_of_a_script(rt: HostRuntime) {
-    let text = b"client\nput a 1\nget a\nquery\ncount\n";
-    for length in 0..text.len() {
-        let wanted = match length {
-            0 => Some((1, Kind::Missing)),
-            1..=6 => Some((1, Kind::Cut)),
-            7 => Some((2, Kind::Missing)),
-            8..=14 => Some((2, Kind::Cut)),
-            15 => Some((3, Kind::Missing)),
-            16..=20 => Some((3, Kind::Cut)),
-            21 => Some((4, Kind::Missing)),
-            22..=26 => Some((4, Kind::Cut)),
-            27 => None,
-            _ => Some((5, Kind::Cut)),
-        };
-        assert_fault(&rt, rt.alloc(), &text[..length], wanted);
+    let text = b"client\nput a 1\nget a\nquery\ncount\n".as_slice();
+    let mut lengths = 0usize;
+    for (first, last, wanted) in &BEGINNINGS {
+        for length in *first..=*last {
+            let (beginning, _) = text.split_at(length.min(text.len()));
+            assert_fault(&rt, rt.alloc(), beginning, *wanted);
+            lengths = lengths.wrapping_add(1);
+        }
     }
+    assert!(rt; lengths == text.len());
 }
 
 /// What a call says: its word, key, numbers and function.
@@ -198,143 +216,169 @@ fn repeated(
     Ok(text)
 }
 
+/// A text as its first bytes, a line and its last bytes, how often it has the line, and its fault.
+type Repeated = ([&'static [u8]; 3], u32, Found);
+
 /// Asserts the fault of such a text.
-fn assert_repeated(
-    rt: &impl Abort,
-    alloc: Global,
-    parts: [&[u8]; 3],
-    times: u32,
-    wanted: Option<(u64, Kind)>,
-) {
-    let [first, line, last] = parts;
-    let text = repeated(alloc, first, line, times, last).expect(rt, "memory");
-    let found = fault_of(rt, alloc, &text);
-    drop(text);
-    assert!(rt; found == wanted, "{line:?}: {found:?}");
+fn assert_repeated(rt: &impl Abort, alloc: Global, row: &Repeated) {
+    let (parts, times, wanted) = row;
+    let text = repeated(alloc, parts[0], parts[1], *times, parts[2]).expect(rt, "memory");
+    assert_fault(rt, alloc, &text, *wanted);
 }
+
+fn assert_all_repeated(rt: &impl Abort, alloc: Global, rows: &[Repeated]) {
+    for row in rows {
+        assert_repeated(rt, alloc, row);
+    }
+}
+
+/// Blocks, calls and queries, so many as there may be and more.
+const LIMITS: [Repeated; 5] = [
+    ([b"", b"client\n", b"query\n"], 32, SCRIPT),
+    ([b"", b"client\n", b"query\n"], 33, (33, "limit")),
+    ([b"client\n", b"get a\n", b"query\n"], 1_000_000, SCRIPT),
+    (
+        [b"client\n", b"get a\n", b"query\n"],
+        1_000_001,
+        (1_000_002, "limit"),
+    ),
+    ([b"client\nquery\n", b"count\n", b""], 65_536, SCRIPT),
+];
 
 /// Queries have none.
 #[test]
 fn blocks_and_calls_have_a_limit(rt: HostRuntime) {
-    let blocks: [&[u8]; 3] = [b"", b"client\n", b"query\n"];
-    let calls: [&[u8]; 3] = [b"client\n", b"get a\n", b"query\n"];
-    let queries: [&[u8]; 3] = [b"client\nquery\n", b"count\n", b""];
-    for (parts, times, wanted) in [
-        (blocks, 32, None),
-        (blocks, 33, Some((33, Kind::Limit))),
-        (calls, 1_000_000, None),
-        (calls, 1_000_001, Some((1_000_002, Kind::Limit))),
-        (queries, 65_536, None),
-    ] {
-        assert_repeated(&rt, rt.alloc(), parts, times, wanted);
-    }
+    assert_all_repeated(&rt, rt.alloc(), &LIMITS);
 }
 
-/// Scripts of a client's calls, of clients and of queries, so many each.
+/// Scripts of a client's calls, of queries and of clients, so many each.
 #[test]
 fn scripts_of_each_size_have_their_memory(rt: HostRuntime) {
-    let calls: [&[u8]; 3] = [b"client\n", b"put a 1\n", b"query\n"];
-    let blocks: [&[u8]; 3] = [b"", b"client\nput a 1\n", b"query\n"];
-    let queries: [&[u8]; 3] = [b"client\nquery\n", b"list 5\n", b""];
+    let calls: [&'static [u8]; 3] = [b"client\n", b"put a 1\n", b"query\n"];
+    let queries: [&'static [u8]; 3] = [b"client\nquery\n", b"list 5\n", b""];
+    let blocks: [&'static [u8]; 3] = [b"", b"client\nput a 1\n", b"query\n"];
     for level in 0..17u32 {
-        assert_repeated(&rt, rt.alloc(), calls, 1 << level, None);
-        assert_repeated(&rt, rt.alloc(), queries, 1 << level, None);
-    }
-    for level in 0..6u32 {
-        assert_repeated(&rt, rt.alloc(), blocks, 1 << level, None);
+        assert_repeated(&rt, rt.alloc(), &(calls, 1 << level, SCRIPT));
+        assert_repeated(&rt, rt.alloc(), &(queries, 1 << level, SCRIPT));
+        assert_repeated(&rt, rt.alloc(), &(blocks, 1 << level.min(5), SCRIPT));
     }
 }
 
 /// A byte that is not printable, at the beginning, in the middle and at the end of a line.
 #[test]
 fn bytes_that_are_not_printable(rt: HostRuntime) {
-    for byte in [0u8, 9, 13, 31, 127, 128, 255] {
-        for place in [7usize, 9, 12] {
+    for byte in &[0u8, 9, 13, 31, 127, 128, 255] {
+        for place in &[7usize, 9, 12] {
             let mut text = *b"client\nget ab\nquery\n";
-            text[place] = byte;
-            assert_fault(&rt, rt.alloc(), &text, Some((2, Kind::Bytes)));
+            if *place < 19 {
+                text[*place] = *byte;
+            }
+            assert_fault(&rt, rt.alloc(), &text, (2, "bytes"));
         }
     }
-    let text = b"client\r\nquery\r\n";
-    assert_fault(&rt, rt.alloc(), text, Some((1, Kind::Bytes)));
+    assert_fault(&rt, rt.alloc(), b"client\r\nquery\r\n", (1, "bytes"));
 }
+
+const LONG: [Repeated; 4] = [
+    ([b"client\n", b" ", b"\n"], 10_000_000, (2, "spaces")),
+    ([b"client\n", b" ", b""], 10_000_000, (2, "cut")),
+    ([b"client\nput a ", b"1", b"\n"], 1_000_000, (2, "number")),
+    ([b"client\nget a", b" b", b"\n"], 1_000_000, (2, "count")),
+];
 
 #[test]
 fn long_lines(rt: HostRuntime) {
-    let rows: [([&[u8]; 3], u32, Kind); 4] = [
-        ([b"client\n", b" ", b"\n"], 10_000_000, Kind::Spaces),
-        ([b"client\n", b" ", b""], 10_000_000, Kind::Cut),
-        ([b"client\nput a ", b"1", b"\n"], 1_000_000, Kind::Number),
-        ([b"client\nget a", b" b", b"\n"], 1_000_000, Kind::Count),
-    ];
-    for (parts, times, kind) in rows {
-        assert_repeated(&rt, rt.alloc(), parts, times, Some((2, kind)));
+    assert_all_repeated(&rt, rt.alloc(), &LONG);
+}
+
+const VALUES: [(&[u8], bool); 12] = [
+    (b"0", true),
+    (b"-1", true),
+    (b"9223372036854775807", true),
+    (b"9223372036854775808", false),
+    (b"-9223372036854775808", true),
+    (b"-9223372036854775809", false),
+    (b"-0", false),
+    (b"+1", false),
+    (b"01", false),
+    (b"-01", false),
+    (b"-", false),
+    (b"1a", false),
+];
+
+const THRESHOLDS: [(&[u8], bool); 7] = [
+    (b"0", true),
+    (b"1", true),
+    (b"18446744073709551615", true),
+    (b"18446744073709551616", false),
+    (b"-1", false),
+    (b"+1", false),
+    (b"00", false),
+];
+
+/// Asserts which words between the first and the last bytes are numbers, on this line.
+fn assert_numbers(
+    rt: &impl Abort,
+    alloc: Global,
+    (first, last, line): (&'static [u8], &'static [u8], u64),
+    words: &[(&'static [u8], bool)],
+) {
+    for (word, is_number) in words {
+        let wanted = if *is_number { SCRIPT } else { (line, "number") };
+        assert_repeated(rt, alloc, &([first, *word, last], 1, wanted));
     }
 }
 
 /// Numbers at and beyond each end of their range, and other spellings.
 #[test]
 fn numbers_and_their_range(rt: HostRuntime) {
-    let values: [(&[u8], bool); 12] = [
-        (b"0", true),
-        (b"-1", true),
-        (b"9223372036854775807", true),
-        (b"9223372036854775808", false),
-        (b"-9223372036854775808", true),
-        (b"-9223372036854775809", false),
-        (b"-0", false),
-        (b"+1", false),
-        (b"01", false),
-        (b"-01", false),
-        (b"-", false),
-        (b"1a", false),
-    ];
-    for (value, is_number) in values {
-        let wanted = (!is_number).then_some((2, Kind::Number));
-        let parts: [&[u8]; 3] = [b"client\nput a ", value, b"\nquery\n"];
-        assert_repeated(&rt, rt.alloc(), parts, 1, wanted);
-    }
-    let thresholds: [(&[u8], bool); 7] = [
-        (b"0", true),
-        (b"1", true),
-        (b"18446744073709551615", true),
-        (b"18446744073709551616", false),
-        (b"-1", false),
-        (b"+1", false),
-        (b"00", false),
-    ];
-    for (threshold, is_number) in thresholds {
-        let wanted = (!is_number).then_some((3, Kind::Number));
-        let parts: [&[u8]; 3] = [b"client\nquery\nlist ", threshold, b"\n"];
-        assert_repeated(&rt, rt.alloc(), parts, 1, wanted);
-    }
+    assert_numbers(
+        &rt,
+        rt.alloc(),
+        (b"client\nput a ", b"\nquery\n", 2),
+        &VALUES,
+    );
+    assert_numbers(
+        &rt,
+        rt.alloc(),
+        (b"client\nquery\nlist ", b"\n", 3),
+        &THRESHOLDS,
+    );
 }
+
+const LENGTHS: [Repeated; 4] = [
+    ([b"client\nget ", b"k", b"\nquery\n"], 1, SCRIPT),
+    ([b"client\nget ", b"k", b"\nquery\n"], 32, SCRIPT),
+    ([b"client\nget ", b"k", b"\nquery\n"], 33, (2, "key")),
+    ([b"client\nget ", b"a-b", b"\n"], 1, (2, "key")),
+];
 
 #[test]
 fn keys_have_1_to_32_bytes(rt: HostRuntime) {
-    let parts: [&[u8]; 3] = [b"client\nget ", b"k", b"\nquery\n"];
-    for (length, wanted) in [(1, None), (32, None), (33, Some((2, Kind::Key)))] {
-        assert_repeated(&rt, rt.alloc(), parts, length, wanted);
-    }
-    let text = b"client\nget a-b\n";
-    assert_fault(&rt, rt.alloc(), text, Some((2, Kind::Key)));
+    assert_all_repeated(&rt, rt.alloc(), &LENGTHS);
+}
+
+/// What a function makes of a value, or of an absent key.
+fn remapped(rt: &impl Abort, function: &Function, value: Option<i64>) -> Option<i64> {
+    let key = Key::read(b"a").expect(rt, "a key");
+    function.remap(&key, value.as_ref()).expect(rt, "memory")
+}
+
+/// What a function makes of 9 and 2 in a merge.
+fn merged(rt: &impl Abort, function: &Function) -> Option<i64> {
+    function.merge(&9, &2).expect(rt, "memory")
 }
 
 /// What the functions make of a value, of an absent key, and in a merge.
 #[test]
 fn functions(rt: HostRuntime) {
-    let key = Key::read(b"a").expect(&rt, "a key");
-    let remapped = [
-        Function::Sum(3).remap(&key, None).expect(&rt, "memory"),
-        Function::Sum(-1)
-            .remap(&key, Some(&i64::MIN))
-            .expect(&rt, "memory"),
-        Function::Sum(1)
-            .remap(&key, Some(&i64::MAX))
-            .expect(&rt, "memory"),
-        Function::Max(3).remap(&key, Some(&9)).expect(&rt, "memory"),
-        Function::Set(3).remap(&key, Some(&9)).expect(&rt, "memory"),
-        Function::Drop.remap(&key, None).expect(&rt, "memory"),
+    let found = [
+        remapped(&rt, &Function::Sum(3), None),
+        remapped(&rt, &Function::Sum(-1), Some(i64::MIN)),
+        remapped(&rt, &Function::Sum(1), Some(i64::MAX)),
+        remapped(&rt, &Function::Max(3), Some(9)),
+        remapped(&rt, &Function::Set(3), Some(9)),
+        remapped(&rt, &Function::Drop, None),
     ];
     let wanted = [
         Some(3),
@@ -344,13 +388,13 @@ fn functions(rt: HostRuntime) {
         Some(3),
         None,
     ];
-    assert!(rt; remapped == wanted, "{remapped:?}");
-    let merged = [
-        Function::Drop.merge(&9, &2).expect(&rt, "memory"),
-        Function::Max(2).merge(&9, &2).expect(&rt, "memory"),
-        Function::Sum(2).merge(&9, &2).expect(&rt, "memory"),
+    assert!(rt; found == wanted, "{found:?}");
+    let found = [
+        merged(&rt, &Function::Drop),
+        merged(&rt, &Function::Max(2)),
+        merged(&rt, &Function::Sum(2)),
     ];
-    assert!(rt; merged == [None, Some(9), Some(11)], "{merged:?}");
+    assert!(rt; found == [None, Some(9), Some(11)], "{found:?}");
     assert!(rt; Function::Sum(3).clone().expect(&rt, "memory") == Function::Sum(3));
 }
 
@@ -360,29 +404,34 @@ fn assert_printed(rt: &impl Abort, alloc: Global, error: &ParseError, wanted: &s
     assert!(rt; printed.as_str() == wanted, "{wanted}");
 }
 
+/// The kinds of faults, and how one on line 7 is printed.
+const KINDS: [(Kind, &str); 10] = [
+    (Kind::Cut, "line 7: cut"),
+    (Kind::Bytes, "line 7: bytes"),
+    (Kind::Spaces, "line 7: spaces"),
+    (Kind::Word, "line 7: word"),
+    (Kind::Count, "line 7: count"),
+    (Kind::Key, "line 7: key"),
+    (Kind::Number, "line 7: number"),
+    (Kind::Function, "line 7: function"),
+    (Kind::Limit, "line 7: limit"),
+    (Kind::Missing, "line 7: missing"),
+];
+
+/// Asserts how a fault of the kind on line 7 is printed, alone and as an error.
+fn assert_fault_printed(rt: &impl Abort, alloc: Global, kind: Kind, text: &str) {
+    let fault = Fault { line: 7, kind };
+    let printed = format!(in alloc; "{fault}").expect(rt, "memory");
+    assert!(rt; printed.as_str() == text, "{text}");
+    assert_printed(rt, alloc, &ParseError::from(fault), text);
+    assert!(rt; text.strip_prefix("line 7: ") == Some(kind.text()));
+}
+
 /// How faults are printed.
 #[test]
 fn faults_are_printed(rt: HostRuntime) {
-    let kinds = [
-        (Kind::Cut, "line 7: cut"),
-        (Kind::Bytes, "line 7: bytes"),
-        (Kind::Spaces, "line 7: spaces"),
-        (Kind::Word, "line 7: word"),
-        (Kind::Count, "line 7: count"),
-        (Kind::Key, "line 7: key"),
-        (Kind::Number, "line 7: number"),
-        (Kind::Function, "line 7: function"),
-        (Kind::Limit, "line 7: limit"),
-        (Kind::Missing, "line 7: missing"),
-    ];
-    for (kind, text) in kinds {
-        let fault = Fault { line: 7, kind };
-        let printed = format!(in rt.alloc(); "{fault}").expect(&rt, "memory");
-        let is_same = printed.as_str() == text;
-        drop(printed);
-        assert!(rt; is_same, "{text}");
-        assert_printed(&rt, rt.alloc(), &ParseError::from(fault), text);
-        assert!(rt; text.strip_prefix("line 7: ") == Some(kind.text()));
+    for (kind, text) in &KINDS {
+        assert_fault_printed(&rt, rt.alloc(), *kind, text);
     }
     assert_printed(&rt, rt.alloc(), &ParseError::NoMemory, "no memory");
 }

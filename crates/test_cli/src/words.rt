@@ -42,88 +42,100 @@ fn assert_refusal(rt: &impl Abort, alloc: Global, given: &[&str], wanted_status:
     assert_fault(rt, alloc, &fault, wanted_status, wanted);
 }
 
-#[test]
-fn words_are_taken(rt: HostRuntime) {
-    let rows: [(&[&str], usize, usize, u32, &str); 5] = [
-        (&["f"], 4, 16, 0, "f"),
-        (&["-"], 4, 16, 0, "-"),
-        (&["--salt", "04", "--workers=+5", "f"], 5, 16, 4, "f"),
-        (
-            &[
-                "--workers",
-                "16",
-                "--capacity",
-                "4096",
-                "--salt",
-                "4294967295",
-                "a b",
-            ],
-            16,
-            4096,
-            4294967295,
+/// Words, and the workers, the capacity, the salt and the file that they say.
+const TAKEN: [(&[&str], usize, usize, u32, &str); 5] = [
+    (&["f"], 4, 16, 0, "f"),
+    (&["-"], 4, 16, 0, "-"),
+    (&["--salt", "04", "--workers=+5", "f"], 5, 16, 4, "f"),
+    (
+        &[
+            "--workers",
+            "16",
+            "--capacity",
+            "4096",
+            "--salt",
+            "4294967295",
             "a b",
-        ),
-        (
-            &["f", "--workers=1", "--capacity=1", "--salt=7"],
-            1,
-            1,
-            7,
-            "f",
-        ),
-    ];
-    for (given, workers, capacity, salt, wanted) in rows {
-        let found = read(rt.alloc(), given).expect(&rt, "memory");
-        let is_same = match &found {
-            Some((w, c, s, file)) => {
-                (*w, *c, *s) == (workers, capacity, Salt(salt)) && file.as_str() == wanted
-            }
-            None => false,
-        };
-        assert!(rt; is_same, "{given:?}: {found:?}");
-    }
+        ],
+        16,
+        4096,
+        4294967295,
+        "a b",
+    ),
+    (
+        &["f", "--workers=1", "--capacity=1", "--salt=7"],
+        1,
+        1,
+        7,
+        "f",
+    ),
+];
+
+/// Asserts what words are read as.
+fn assert_taken(
+    rt: &impl Abort,
+    alloc: Global,
+    given: &[&str],
+    wanted: (usize, usize, Salt),
+    wanted_file: &str,
+) {
+    let found = read(alloc, given).expect(rt, "memory");
+    let (workers, capacity, salt, file) = found.expect(rt, "words that are taken");
+    let is_same = (workers, capacity, salt) == wanted && file.as_str() == wanted_file;
+    assert!(rt; is_same, "{given:?}");
 }
 
 #[test]
+fn words_are_taken(rt: HostRuntime) {
+    for (given, workers, capacity, salt, file) in &TAKEN {
+        let wanted = (*workers, *capacity, Salt(*salt));
+        assert_taken(&rt, rt.alloc(), given, wanted, file);
+    }
+}
+
+/// Wrong words, and what is told of them.
+const WRONG: [(&[&str], &str); 9] = [
+    (
+        &["--salt=-1", "f"],
+        "error: invalid value '-1' for '--salt <N>': -1 is not in 0..=4294967295\n\nFor more information, try '--help'.\n",
+    ),
+    (
+        &["--salt", "x", "f"],
+        "error: invalid value 'x' for '--salt <N>': invalid digit found in string\n\nFor more information, try '--help'.\n",
+    ),
+    (
+        &["--salt=", "f"],
+        "error: invalid value '' for '--salt <N>': cannot parse integer from empty string\n\nFor more information, try '--help'.\n",
+    ),
+    (
+        &["--workers", "17", "f"],
+        "error: invalid value '17' for '--workers <N>': 17 is not in 1..=16\n\nFor more information, try '--help'.\n",
+    ),
+    (
+        &["--workers", "0", "f"],
+        "error: invalid value '0' for '--workers <N>': 0 is not in 1..=16\n\nFor more information, try '--help'.\n",
+    ),
+    (
+        &["--capacity", "4097", "f"],
+        "error: invalid value '4097' for '--capacity <N>': 4097 is not in 1..=4096\n\nFor more information, try '--help'.\n",
+    ),
+    (
+        &["--salt", "4294967296", "f"],
+        "error: invalid value '4294967296' for '--salt <N>': 4294967296 is not in 0..=4294967295\n\nFor more information, try '--help'.\n",
+    ),
+    (
+        &[],
+        "error: the following required arguments were not provided:\n  <FILE>\n\nUsage: mapcli <FILE>\n\nFor more information, try '--help'.\n",
+    ),
+    (
+        &["f", "g"],
+        "error: unexpected argument 'g' found\n\nUsage: mapcli [OPTIONS] <FILE>\n\nFor more information, try '--help'.\n",
+    ),
+];
+
+#[test]
 fn wrong_words_are_told_with_their_usage(rt: HostRuntime) {
-    let rows: [(&[&str], &str); 9] = [
-        (
-            &["--salt=-1", "f"],
-            "error: invalid value '-1' for '--salt <N>': -1 is not in 0..=4294967295\n\nFor more information, try '--help'.\n",
-        ),
-        (
-            &["--salt", "x", "f"],
-            "error: invalid value 'x' for '--salt <N>': invalid digit found in string\n\nFor more information, try '--help'.\n",
-        ),
-        (
-            &["--salt=", "f"],
-            "error: invalid value '' for '--salt <N>': cannot parse integer from empty string\n\nFor more information, try '--help'.\n",
-        ),
-        (
-            &["--workers", "17", "f"],
-            "error: invalid value '17' for '--workers <N>': 17 is not in 1..=16\n\nFor more information, try '--help'.\n",
-        ),
-        (
-            &["--workers", "0", "f"],
-            "error: invalid value '0' for '--workers <N>': 0 is not in 1..=16\n\nFor more information, try '--help'.\n",
-        ),
-        (
-            &["--capacity", "4097", "f"],
-            "error: invalid value '4097' for '--capacity <N>': 4097 is not in 1..=4096\n\nFor more information, try '--help'.\n",
-        ),
-        (
-            &["--salt", "4294967296", "f"],
-            "error: invalid value '4294967296' for '--salt <N>': 4294967296 is not in 0..=4294967295\n\nFor more information, try '--help'.\n",
-        ),
-        (
-            &[],
-            "error: the following required arguments were not provided:\n  <FILE>\n\nUsage: mapcli <FILE>\n\nFor more information, try '--help'.\n",
-        ),
-        (
-            &["f", "g"],
-            "error: unexpected argument 'g' found\n\nUsage: mapcli [OPTIONS] <FILE>\n\nFor more information, try '--help'.\n",
-        ),
-    ];
-    for (given, wanted) in rows {
+    for (given, wanted) in &WRONG {
         assert_refusal(&rt, rt.alloc(), given, 2, wanted);
     }
 }
@@ -183,83 +195,84 @@ not there, and with --unproved as its first word compiles it without proofs. The
 page docs/SCRIPTS.md has all rules of scripts.
 ";
 
+/// Words that ask for something, and what is told.
+const ASKED: [(&[&str], &str); 4] = [
+    (&["--help", "--version"], HELP),
+    (&["-h", "--version"], HELP),
+    (&["--version", "--workers", "0"], "mapcli 0.1.0\n"),
+    (&["-V", "--workers", "0"], "mapcli 0.1.0\n"),
+];
+
 /// The first request decides, whatever stands behind it.
 #[test]
 fn what_is_asked_for_is_no_fault(rt: HostRuntime) {
-    for asked in ["--help", "-h"] {
-        assert_refusal(&rt, rt.alloc(), &[asked, "--version"], 0, HELP);
-    }
-    for asked in ["--version", "-V"] {
-        assert_refusal(
-            &rt,
-            rt.alloc(),
-            &[asked, "--workers", "0"],
-            0,
-            "mapcli 0.1.0\n",
-        );
+    for (given, wanted) in &ASKED {
+        assert_refusal(&rt, rt.alloc(), given, 0, wanted);
     }
 }
+
+/// Workers and capacities that are refused, and what is told.
+const OUT_OF_RANGE: [(usize, usize, &str); 5] = [
+    (1, 0, "mapcli: the capacity is not 1 to 4096\n"),
+    (1, 4097, "mapcli: the capacity is not 1 to 4096\n"),
+    (0, 0, "mapcli: the capacity is not 1 to 4096\n"),
+    (0, 1, "mapcli: the workers are not 1 to 16\n"),
+    (17, 4096, "mapcli: the workers are not 1 to 16\n"),
+];
 
 /// The capacity is looked at before the workers.
 #[test]
 fn options_have_ranges(rt: HostRuntime) {
-    for (workers, capacity) in [(1, 1), (16, 4096)] {
-        let options = Options::new(workers, capacity).expect(&rt, "options");
+    for (workers, capacity) in &[(1, 1), (16, 4096)] {
+        let options = Options::new(*workers, *capacity).expect(&rt, "options");
         let found = (options.workers(), options.capacity(), options.salt());
-        assert!(rt; found == (workers, capacity, Salt(0)), "{found:?}");
+        assert!(rt; found == (*workers, *capacity, Salt(0)), "{found:?}");
     }
-    let bad_capacity = "mapcli: the capacity is not 1 to 4096\n";
-    let bad_workers = "mapcli: the workers are not 1 to 16\n";
-    let rows = [
-        (1, 0, bad_capacity),
-        (1, 4097, bad_capacity),
-        (0, 0, bad_capacity),
-        (0, 1, bad_workers),
-        (17, 4096, bad_workers),
-    ];
-    for (workers, capacity, wanted) in rows {
-        let Err(fault) = Options::new(workers, capacity) else {
+    for (workers, capacity, wanted) in &OUT_OF_RANGE {
+        let Err(fault) = Options::new(*workers, *capacity) else {
             panic!(rt; "{workers} workers and capacity {capacity} were taken");
         };
         assert_fault(&rt, rt.alloc(), &fault, 2, wanted);
     }
 }
 
-/// Every end of a run that is no success, with its status and its text.
-fn ends(alloc: Global) -> Result<[(Fault, u8, &'static str); 8], AllocError> {
-    let missing = Fault::ScriptFault {
-        line: 1,
-        kind: Kind::Missing,
-    };
-    let limit = Fault::ScriptFault {
-        line: 1000002,
-        kind: Kind::Limit,
-    };
-    let usage = Fault::Usage(String::from_str(alloc, "a wrong word\n")?);
-    Ok([
-        (Fault::NoMemory, 3, "mapcli: no memory\n"),
-        (Fault::Device, 3, "mapcli: device\n"),
-        (Fault::BinMissing, 3, "mapcli: bins missing\n"),
-        (missing, 1, "mapcli: line 1: missing\n"),
-        (limit, 1, "mapcli: line 1000002: limit\n"),
-        (
-            Fault::BadCapacity,
-            2,
-            "mapcli: the capacity is not 1 to 4096\n",
-        ),
-        (
-            Fault::BadWorkers,
-            2,
-            "mapcli: the workers are not 1 to 16\n",
-        ),
-        (usage, 2, "a wrong word\n"),
-    ])
+/// The status and the text of every end of a run that is no success.
+const ENDS: [(u8, &str); 8] = [
+    (3, "mapcli: no memory\n"),
+    (3, "mapcli: device\n"),
+    (3, "mapcli: bins missing\n"),
+    (1, "mapcli: line 1: missing\n"),
+    (1, "mapcli: line 1000002: limit\n"),
+    (2, "mapcli: the capacity is not 1 to 4096\n"),
+    (2, "mapcli: the workers are not 1 to 16\n"),
+    (2, "a wrong word\n"),
+];
+
+/// The end that a row tells of.
+fn end(rt: &impl Abort, alloc: Global, row: usize) -> Fault {
+    match row {
+        0 => Fault::NoMemory,
+        1 => Fault::Device,
+        2 => Fault::BinMissing,
+        3 => Fault::ScriptFault {
+            line: 1,
+            kind: Kind::Missing,
+        },
+        4 => Fault::ScriptFault {
+            line: 1000002,
+            kind: Kind::Limit,
+        },
+        5 => Fault::BadCapacity,
+        6 => Fault::BadWorkers,
+        _ => Fault::Usage(String::from_str(alloc, "a wrong word\n").expect(rt, "memory")),
+    }
 }
 
 #[test]
 fn each_fault_has_its_status_and_its_line(rt: HostRuntime) {
-    for (fault, wanted_status, wanted) in ends(rt.alloc()).expect(&rt, "memory") {
-        assert_fault(&rt, rt.alloc(), &fault, wanted_status, wanted);
+    for (row, (status, wanted)) in ENDS.iter().enumerate() {
+        let fault = end(&rt, rt.alloc(), row);
+        assert_fault(&rt, rt.alloc(), &fault, *status, wanted);
     }
 }
 
@@ -280,7 +293,7 @@ fn assert_told(rt: &impl Abort, alloc: Global, fault: &Fault, wanted: [&str; 2])
 fn help_is_told_apart_from_faults(rt: HostRuntime) {
     let help = Fault::Help(String::from_str(rt.alloc(), "asked\n").expect(&rt, "memory"));
     assert_told(&rt, rt.alloc(), &help, ["asked\n", ""]);
-    for (fault, _status, wanted) in ends(rt.alloc()).expect(&rt, "memory") {
-        assert_told(&rt, rt.alloc(), &fault, ["", wanted]);
+    for (row, (_status, wanted)) in ENDS.iter().enumerate() {
+        assert_told(&rt, rt.alloc(), &end(&rt, rt.alloc(), row), ["", wanted]);
     }
 }
