@@ -3,7 +3,6 @@ use crate::asserts::assert_same;
 use crate::calls::Texts;
 use clients::Fault;
 use std::alloc::Global;
-use std::process::Abort;
 use std::sync::Wait;
 use text_maps::{ClosedTexts, Hashed, Seed, TextMap, TextNotClosed};
 
@@ -58,75 +57,105 @@ fn reopened<R: Wait>(rt: &R, alloc: Global) -> Result<([Option<u64>; 3], bool, u
 
 #[test]
 fn a_map_is_opened_again_with_its_texts_and_its_seed(rt: HostRuntime) {
-    let found = reopened(&rt, rt.alloc()).expect(&rt, "no fault");
-    assert_same(&rt, &found, &([Some(5), Some(6), Some(7)], true, 2));
+    let wanted = ([Some(5), Some(6), Some(7)], true, 2);
+    assert_same(&rt, &reopened(&rt, rt.alloc()), &Ok(wanted));
+}
+
+/// Returns what a map has that is filled and closed.
+fn closed<R: Wait>(rt: &R, alloc: Global) -> Result<([Option<u64>; 3], [Option<u64>; 3]), Fault> {
+    let closed = filled(rt, alloc, Seed::of(3, 4))?.close()?;
+    Ok(found_in(&closed))
 }
 
 #[test]
 fn a_closed_map_finds_its_texts(rt: HostRuntime) {
-    let closed = filled(&rt, rt.alloc(), Seed::of(3, 4))
-        .expect(&rt, "no fault")
-        .close()
-        .expect(&rt, "closed");
     let wanted = [Some(5), Some(6), None];
-    assert_same(&rt, &found_in(&closed), &(wanted, wanted));
+    assert_same(&rt, &closed(&rt, rt.alloc()), &Ok((wanted, wanted)));
 }
 
 /// The map that was not closed as a client was out, or another handle.
 fn kept(
-    rt: &impl Abort,
     refused: TextNotClosed<Hashed<Global>, u64, clients::Add, Global>,
-) -> (Fault, Texts) {
+) -> Option<(Fault, Texts)> {
     let TextNotClosed {
         fault,
         shared,
         unshared,
         seed: _,
     } = refused;
-    assert!(rt; unshared.is_none());
-    (fault, shared.expect(rt, "the shared map"))
+    let None = unshared else {
+        return None;
+    };
+    match shared {
+        Some(text) => Some((fault, text)),
+        None => None,
+    }
+}
+
+/// Closes a map while a client is out. Returns the fault, whether the map that comes back has its seed, and what it
+/// has; or none, if it is closed or does not come back.
+fn closed_too_early<R: Wait>(
+    rt: &R,
+    alloc: Global,
+) -> Result<Option<(Fault, bool, [Option<u64>; 3])>, Fault> {
+    let seed = Seed::of(3, 4);
+    let text = filled(rt, alloc, seed)?;
+    let client = text.client()?;
+    let Err(refused) = text.close() else {
+        return Ok(None);
+    };
+    let Some((fault, text)) = kept(refused) else {
+        return Ok(None);
+    };
+    drop(client);
+    let same = text.seed() == seed;
+    let found = found_by(rt, &text)?;
+    let closed = text.close()?;
+    let is_closed = closed.get("b").copied() == Some(6);
+    Ok(Some((fault, same && is_closed, found)))
 }
 
 #[test]
 fn a_map_with_a_client_out_comes_back_with_its_seed(rt: HostRuntime) {
-    let seed = Seed::of(3, 4);
-    let text = filled(&rt, rt.alloc(), seed).expect(&rt, "no fault");
-    let client = text.client().expect(&rt, "a client");
-    let Err(refused) = text.close() else {
-        assert!(rt; false, "the map is not closed");
-        unreachable!()
-    };
-    let (fault, text) = kept(&rt, refused);
-    assert_same(&rt, &fault, &Fault::PassMissing);
-    drop(client);
-    assert!(rt; text.seed() == seed);
-    let found = found_by(&rt, &text);
-    assert_same(&rt, &found, &Ok([Some(5), Some(6), None]));
-    let closed = text.close().expect(&rt, "closed");
-    assert_same(&rt, &closed.get("b").copied(), &Some(6));
+    let found = [Some(5), Some(6), None];
+    let wanted = Ok(Some((Fault::PassMissing, true, found)));
+    assert_same(&rt, &closed_too_early(&rt, rt.alloc()), &wanted);
 }
 
-#[test]
-fn a_map_with_two_handles_is_not_closed_and_both_have_its_seed(rt: HostRuntime) {
-    let text = filled(&rt, rt.alloc(), Seed::of(3, 4)).expect(&rt, "no fault");
-    let other = text.again().expect(&rt, "no fault");
+/// Closes one of two handles. Returns the fault, and what the other has.
+fn closed_of_two<R: Wait>(
+    rt: &R,
+    alloc: Global,
+) -> Result<(Option<Fault>, [Option<u64>; 3]), Fault> {
+    let text = filled(rt, alloc, Seed::of(3, 4))?;
+    let other = text.again()?;
     let fault = match text.close() {
         Ok(_) => None,
         Err(refused) => Some(refused.give_up()),
     };
-    assert_same(&rt, &fault, &Some(Fault::PassMissing));
-    let found = found_by(&rt, &other);
-    assert_same(&rt, &found, &Ok([Some(5), Some(6), None]));
+    Ok((fault, found_by(rt, &other)?))
+}
+
+#[test]
+fn a_map_with_two_handles_is_not_closed_and_both_have_its_seed(rt: HostRuntime) {
+    let wanted = (Some(Fault::PassMissing), [Some(5), Some(6), None]);
+    assert_same(&rt, &closed_of_two(&rt, rt.alloc()), &Ok(wanted));
+}
+
+/// Puts a text, and closes the map knowing the moment after that. Returns what the put returns, and what the
+/// closed map has at the text.
+fn closed_knowing<R: Wait>(rt: &R, alloc: Global) -> Result<(Option<u64>, Option<u64>), Fault> {
+    let text = filled(rt, alloc, Seed::of(3, 4))?;
+    let mut client = text.client()?;
+    let put = client.put_as(rt, text.of("c"), 7)?;
+    let moment = client.moment();
+    drop(client);
+    let closed = text.close_knowing(moment)?;
+    Ok((put, closed.get("c").copied()))
 }
 
 #[test]
 fn a_map_is_closed_knowing_what_a_client_did(rt: HostRuntime) {
-    let text = filled(&rt, rt.alloc(), Seed::of(3, 4)).expect(&rt, "no fault");
-    let mut client = text.client().expect(&rt, "a client");
-    let put = client.put_as(&rt, text.of("c"), 7).ok();
-    let moment = client.moment();
-    drop(client);
-    let closed = text.close_knowing(moment).expect(&rt, "closed");
-    assert_same(&rt, &put, &Some(None));
-    assert_same(&rt, &closed.get("c").copied(), &Some(7));
+    let found = closed_knowing(&rt, rt.alloc());
+    assert_same(&rt, &found, &Ok((None, Some(7))));
 }

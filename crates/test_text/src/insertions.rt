@@ -27,6 +27,5 @@ fn run<R: Wait>(rt: &R, alloc: Global) -> Result<([bool; 7], u64), Fault> {
 
 #[test]
 fn a_key_is_inserted_and_removed_once(rt: HostRuntime) {
-    let found = run(&rt, rt.alloc()).expect(&rt, "no fault");
-    assert_same(&rt, &found, &([true; 7], 1));
+    assert_same(&rt, &run(&rt, rt.alloc()), &Ok(([true; 7], 1)));
 }

@@ -33,42 +33,51 @@ impl RandomSource for Dry {
     }
 }
 
+/// Opens a map. Returns its seed, and how many keys it has.
+fn opened<S: RandomSource>(
+    source: &S,
+    alloc: Global,
+    capacity: usize,
+) -> Result<(Seed, u64), TextFault> {
+    let text: Texts = TextMap::new(source, alloc, capacity)?;
+    Ok((text.seed(), text.map().mapping_count()))
+}
+
 /// The first half of a seed is of the first eight bytes, least byte first, and the second of the next.
 #[test]
 fn a_map_has_the_seed_that_its_source_gives(rt: HostRuntime) {
-    let text: Texts = TextMap::new(&Counting, rt.alloc(), 16).expect(&rt, "no fault");
-    assert!(rt; text.seed() == Seed::of(0x0706_0504_0302_0100, 0x0f0e_0d0c_0b0a_0908));
-    assert_same(&rt, &text.map().mapping_count(), &0);
+    let (seed, count) = opened(&Counting, rt.alloc(), 16).expect(&rt, "no fault");
+    let same = seed == Seed::of(0x0706_0504_0302_0100, 0x0f0e_0d0c_0b0a_0908);
+    assert_same(&rt, &(same, count), &(true, 0));
 }
 
 #[test]
 fn two_maps_draw_two_seeds(rt: HostRuntime) {
-    let first: Texts = TextMap::new(&rt, rt.alloc(), 16).expect(&rt, "no fault");
-    let second: Texts = TextMap::new(&rt, rt.alloc(), 16).expect(&rt, "no fault");
-    assert!(rt; first.seed() != second.seed());
+    let (first, _) = opened(&rt, rt.alloc(), 16).expect(&rt, "no fault");
+    let (second, _) = opened(&rt, rt.alloc(), 16).expect(&rt, "no fault");
+    assert!(rt; first != second);
+}
+
+/// Returns why no map of this capacity is opened without a seed: the map's fault, or the source's.
+fn told(alloc: Global, capacity: usize) -> (Option<Fault>, Option<io::ErrorKind>) {
+    match opened(&Dry, alloc, capacity) {
+        Err(TextFault::OfMap(fault)) => (Some(fault), None),
+        Err(TextFault::NoSeed(error)) => (None, Some(error.kind())),
+        Ok(_) => (None, None),
+    }
 }
 
 #[test]
 fn no_map_is_opened_without_a_seed(rt: HostRuntime) {
-    let opened: Result<Texts, TextFault> = TextMap::new(&Dry, rt.alloc(), 16);
-    let told = match opened.err() {
-        Some(TextFault::NoSeed(error)) => Some(error.kind()),
-        _ => None,
-    };
-    assert_same(&rt, &told, &Some(io::ErrorKind::Unsupported));
+    let wanted = (None, Some(io::ErrorKind::Unsupported));
+    assert_same(&rt, &told(rt.alloc(), 16), &wanted);
 }
 
 /// Of a capacity that no map has, and without a seed, the capacity is told.
 #[test]
 fn a_wrong_capacity_is_told_first(rt: HostRuntime) {
-    for capacity in [0, 67_108_865] {
-        let opened: Result<Texts, TextFault> = TextMap::new(&Dry, rt.alloc(), capacity);
-        let told = match opened.err() {
-            Some(TextFault::OfMap(fault)) => Some(fault),
-            _ => None,
-        };
-        assert_same(&rt, &told, &Some(Fault::BadCapacity));
-    }
+    let found = [told(rt.alloc(), 0), told(rt.alloc(), 67_108_865)];
+    assert_same(&rt, &found, &[(Some(Fault::BadCapacity), None); 2]);
 }
 
 #[test]
@@ -77,8 +86,8 @@ fn a_fault_is_told_in_words(rt: HostRuntime) {
     let of_map = format!(in alloc; "{}", TextFault::from(Fault::NoMemory)).expect(&rt, "memory");
     let error = io::Error::from(io::ErrorKind::Unsupported);
     let no_seed = format!(in alloc; "{}", TextFault::from(error)).expect(&rt, "memory");
-    assert_same(&rt, &of_map.as_str(), &"no memory");
-    assert_same(&rt, &no_seed.as_str(), &"no seed: unsupported");
+    let found = (of_map.as_str(), no_seed.as_str());
+    assert_same(&rt, &found, &("no memory", "no seed: unsupported"));
 }
 
 /// Opens a map where the request of this number is refused. Returns whether it is opened, or else
