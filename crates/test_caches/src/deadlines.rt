@@ -1,123 +1,156 @@
 //! Entries that end.
 use crate::asserts::assert_same;
-use crate::calls::{Caller, Numbers};
-use caches::{Cache, CacheCounts};
+use crate::calls::{Caller, Calls, Got, Numbers, put, put_until, shown};
+use caches::CacheCounts;
 use clients::Fault;
-use std::alloc::Global;
 use std::sync::Wait;
 
 /// Puts the key's hundredfold until this deadline.
-fn put_until<R: Wait>(rt: &R, client: &mut Caller, key: u64, deadline: u64) -> Result<(), Fault> {
-    let value = key.saturating_mul(100);
-    client.put(
+fn put_hundredfold<R: Wait>(rt: &R, client: &mut Caller, key: u64, deadline: u64) -> Got {
+    put_until(
         rt,
-        key,
-        value,
+        client,
+        (key, key.saturating_mul(100)),
         Some(deadline),
         0,
-        &mut |_key: u64, _value: u64| (),
-    )?;
-    Ok(())
+    )
 }
 
-/// What calls return one time before the deadline of an entry, at it, and after it.
-fn ends<R: Wait>(rt: &R, alloc: Global) -> Result<([Option<u64>; 6], CacheCounts), Fault> {
-    let cache: Numbers = Cache::new(alloc, 8)?;
-    let mut client = cache.client()?;
-    let mut found = [None; 6];
-    put_until(rt, &mut client, 1, 10)?;
-    found[0] = client.get(rt, &1, 9)?;
-    found[1] = client.get(rt, &1, 10)?;
-    found[2] = client.get(rt, &1, 11)?;
-    found[3] = client.put(rt, 1, 7, Some(20), 9, &mut |_key: u64, _value: u64| ())?;
-    found[4] = client.put(rt, 1, 8, Some(20), 20, &mut |_key: u64, _value: u64| ())?;
-    found[5] = client.remove(rt, &1, 20)?;
-    Ok((found, client.counts()))
+/// Calls one time before the deadline of an entry, at it, and after it.
+struct AroundDeadline;
+
+impl Calls for AroundDeadline {
+    type Shown = ([Got; 7], CacheCounts);
+
+    fn call<R: Wait>(
+        &self,
+        rt: &R,
+        _cache: &Numbers,
+        client: &mut Caller,
+    ) -> Result<([Got; 7], CacheCounts), Fault> {
+        let found = [
+            put_hundredfold(rt, client, 1, 10),
+            client.get(rt, &1, 9),
+            client.get(rt, &1, 10),
+            client.get(rt, &1, 11),
+            put_until(rt, client, (1, 7), Some(20), 9),
+            put_until(rt, client, (1, 8), Some(20), 20),
+            client.remove(rt, &1, 20),
+        ];
+        Ok((found, client.counts()))
+    }
 }
 
 #[test]
 fn an_entry_is_there_before_its_deadline_alone(rt: HostRuntime) {
-    let (found, counts) = ends(&rt, rt.alloc()).expect(&rt, "no fault");
-    let wanted = CacheCounts {
+    let wanted = [
+        Ok(None),
+        Ok(Some(100)),
+        Ok(None),
+        Ok(None),
+        Ok(Some(100)),
+        Ok(None),
+        Ok(None),
+    ];
+    let counts = CacheCounts {
         hits: 1,
         misses: 2,
         evictions: 0,
     };
-    assert_same(&rt, &found, &[Some(100), None, None, Some(100), None, None]);
-    assert_same(&rt, &counts, &wanted);
+    assert_same(
+        &rt,
+        &shown(&rt, rt.alloc(), 8, &AroundDeadline),
+        &(wanted, counts),
+    );
 }
 
-/// Whether an entry without a deadline is there at the last time, and one that ends at that time.
-fn last<R: Wait>(rt: &R, alloc: Global) -> Result<[Option<u64>; 2], Fault> {
-    let cache: Numbers = Cache::new(alloc, 8)?;
-    let mut client = cache.client()?;
-    client.put(rt, 1, 5, None, 0, &mut |_key: u64, _value: u64| ())?;
-    put_until(rt, &mut client, 2, u64::MAX)?;
-    Ok([client.get(rt, &1, u64::MAX)?, client.get(rt, &2, u64::MAX)?])
+/// Gets at the last time of an entry without a deadline, and of one that ends at that time.
+struct AtTheLastTime;
+
+impl Calls for AtTheLastTime {
+    type Shown = [Got; 4];
+
+    fn call<R: Wait>(
+        &self,
+        rt: &R,
+        _cache: &Numbers,
+        client: &mut Caller,
+    ) -> Result<[Got; 4], Fault> {
+        Ok([
+            put(rt, client, 1, 5),
+            put_hundredfold(rt, client, 2, u64::MAX),
+            client.get(rt, &1, u64::MAX),
+            client.get(rt, &2, u64::MAX),
+        ])
+    }
 }
 
 #[test]
 fn an_entry_without_a_deadline_never_ends(rt: HostRuntime) {
-    let found = last(&rt, rt.alloc()).expect(&rt, "no fault");
-    assert_same(&rt, &found, &[Some(5), None]);
+    let found = shown(&rt, rt.alloc(), 8, &AtTheLastTime);
+    assert_same(&rt, &found, &[Ok(None), Ok(None), Ok(Some(5)), Ok(None)]);
 }
 
-/// How many entries of ten, of which the key is the deadline, were removed at time 4, the sum of their values, how many
-/// are left, and which of 4 and 5 is there.
-fn remove_some<R: Wait>(rt: &R, alloc: Global) -> Result<(u64, u64, u64, [Option<u64>; 2]), Fault> {
-    let cache: Numbers = Cache::new(alloc, 16)?;
-    let mut client = cache.client()?;
-    for key in 1..11u64 {
-        put_until(rt, &mut client, key, key)?;
+/// Removes what has ended at time 4, of ten entries of which the key is the deadline. Shown are how many were
+/// removed, the sum of their values, how many are left, and which of 4 and 5 is there.
+struct RemovingEnded;
+
+impl Calls for RemovingEnded {
+    type Shown = (u64, u64, u64, [Got; 2]);
+
+    fn call<R: Wait>(
+        &self,
+        rt: &R,
+        cache: &Numbers,
+        client: &mut Caller,
+    ) -> Result<(u64, u64, u64, [Got; 2]), Fault> {
+        for key in 1..11u64 {
+            put_hundredfold(rt, client, key, key)?;
+        }
+        let mut sum = 0u64;
+        let mut add = |_key: u64, value: u64| sum = sum.saturating_add(value);
+        let removed = client.remove_ended(rt, 4, &mut add)?;
+        let left = cache.map().mapping_count();
+        let found = [client.get(rt, &4, 0), client.get(rt, &5, 0)];
+        Ok((removed, sum, left, found))
     }
-    let mut sum = 0u64;
-    let mut add = |_key: u64, value: u64| sum = sum.saturating_add(value);
-    let removed = client.remove_ended(rt, 4, &mut add)?;
-    let left = cache.map().mapping_count();
-    Ok((
-        removed,
-        sum,
-        left,
-        [client.get(rt, &4, 0)?, client.get(rt, &5, 0)?],
-    ))
 }
 
 #[test]
 fn ended_entries_alone_are_removed_and_handed_over(rt: HostRuntime) {
-    let found = remove_some(&rt, rt.alloc()).expect(&rt, "no fault");
-    assert_same(&rt, &found, &(4, 1_000, 6, [None, Some(500)]));
+    let found = shown(&rt, rt.alloc(), 16, &RemovingEnded);
+    assert_same(&rt, &found, &(4, 1_000, 6, [Ok(None), Ok(Some(500))]));
 }
 
-/// Fills a cache for four with three used entries that end at 5 and one that is not used and does not end, puts one more
-/// at time 5, and returns which are there.
-fn evict_ended<R: Wait>(rt: &R, alloc: Global) -> Result<[bool; 5], Fault> {
-    let cache: Numbers = Cache::new(alloc, 4)?;
-    let mut client = cache.client()?;
-    for key in 1..4u64 {
-        put_until(rt, &mut client, key, 5)?;
-        client.get(rt, &key, 0)?;
+/// Fills a cache for four with three used entries that end at 5 and a used one that ends at 9, and puts one more at
+/// time 5. Shown is how many of the three are there, and the other two.
+struct EvictingEnded;
+
+impl Calls for EvictingEnded {
+    type Shown = (u64, [Got; 2]);
+
+    fn call<R: Wait>(
+        &self,
+        rt: &R,
+        _cache: &Numbers,
+        client: &mut Caller,
+    ) -> Result<(u64, [Got; 2]), Fault> {
+        for (key, deadline) in [(1, 5), (2, 5), (3, 5), (4, 9)] {
+            put_hundredfold(rt, client, key, deadline)?;
+            client.get(rt, &key, 0)?;
+        }
+        put_until(rt, client, (5, 500), None, 5)?;
+        let mut there = 0u64;
+        for key in 1..4u64 {
+            there = there.saturating_add(client.get(rt, &key, 0)?.is_some() as u64);
+        }
+        Ok((there, [client.get(rt, &4, 0), client.get(rt, &5, 0)]))
     }
-    put_until(rt, &mut client, 4, 9)?;
-    client.get(rt, &4, 0)?;
-    client.put(rt, 5, 500, None, 5, &mut |_key: u64, _value: u64| ())?;
-    let mut there = [false; 5];
-    for (number, is_there) in there.iter_mut().enumerate() {
-        *is_there = client
-            .get(rt, &(number as u64).saturating_add(1), 0)?
-            .is_some();
-    }
-    Ok(there)
 }
 
 /// One of the three that have ended goes, though all four were used.
 #[test]
 fn ended_entries_go_though_they_were_used(rt: HostRuntime) {
-    let [first, second, third, fourth, fifth] = evict_ended(&rt, rt.alloc()).expect(
-        &rt, "no fault",
-    );
-    let ended = [first, second, third]
-        .iter()
-        .filter(|there| **there)
-        .count();
-    assert_same(&rt, &(ended, fourth, fifth), &(2, true, true));
+    let found = shown(&rt, rt.alloc(), 4, &EvictingEnded);
+    assert_same(&rt, &found, &(2, [Ok(Some(400)), Ok(Some(500))]));
 }

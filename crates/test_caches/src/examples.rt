@@ -5,16 +5,24 @@ use clients::{Fault, Text};
 use std::alloc::Global;
 use std::sync::Wait;
 
-/// The examples at the cache.
-fn open<R: Wait>(rt: &R, alloc: Global) -> Result<[bool; 4], Fault> {
-    let cache: Cache<u64, u64, Global> = Cache::new(alloc, 1_000)?;
-    let mut client = cache.client()?;
-    let put = client.put(rt, 1, 5, None, 0, &mut |_, _| ())? == None;
+/// The examples at a cache that has 5 at 1.
+fn look<R: Wait>(rt: &R, cache: &Cache<u64, u64, Global>) -> Result<[bool; 3], Fault> {
     let counted = cache.map().mapping_count() == 1;
     let most = cache.most() == 1_000;
     let other = cache.again()?;
     let same = other.client()?.get(rt, &1, 0)? == Some(5);
-    Ok([put, counted, most, same])
+    Ok([counted, most, same])
+}
+
+/// The examples at a put over a value, and at a removal.
+fn put_again<R: Wait>(
+    rt: &R,
+    client: &mut CacheClient<u64, u64, Global>,
+) -> Result<[bool; 2], Fault> {
+    let second = client.put(rt, 1, 6, None, 0, &mut |_, _| ())? == Some(5);
+    client.put(rt, 1, 5, None, 0, &mut |_, _| ())?;
+    let removed = client.remove(rt, &1, 0)? == Some(5);
+    Ok([second, removed])
 }
 
 /// The examples at a get and a removal of ended entries.
@@ -28,22 +36,18 @@ fn end<R: Wait>(rt: &R, client: &mut CacheClient<u64, u64, Global>) -> Result<[b
     Ok([before, after, hit, none, one])
 }
 
-/// The examples at a put and a removal.
-fn put<R: Wait>(rt: &R, client: &mut CacheClient<u64, u64, Global>) -> Result<[bool; 3], Fault> {
-    let first = client.put(rt, 1, 5, None, 0, &mut |_, _| ())? == None;
-    let second = client.put(rt, 1, 6, None, 0, &mut |_, _| ())? == Some(5);
-    client.put(rt, 1, 5, None, 0, &mut |_, _| ())?;
-    let removed = client.remove(rt, &1, 0)? == Some(5);
-    Ok([first, second, removed])
-}
+/// What the examples of a cache show: at the first put, at the cache, at later puts, and at entries that end.
+type Shown = (bool, [bool; 3], [bool; 2], [bool; 5]);
 
-fn run<R: Wait>(rt: &R, alloc: Global) -> Result<([bool; 4], [bool; 5], [bool; 3]), Fault> {
+fn open<R: Wait>(rt: &R, alloc: Global) -> Result<Shown, Fault> {
     let cache: Cache<u64, u64, Global> = Cache::new(alloc, 1_000)?;
     let mut client = cache.client()?;
+    let first = client.put(rt, 1, 5, None, 0, &mut |_, _| ())? == None;
     Ok((
-        open(rt, alloc)?,
+        first,
+        look(rt, &cache)?,
+        put_again(rt, &mut client)?,
         end(rt, &mut client)?,
-        put(rt, &mut client)?,
     ))
 }
 
@@ -66,6 +70,6 @@ fn each_example_of_a_get_by_a_text_is_as_it_says(rt: HostRuntime) {
 
 #[test]
 fn each_example_of_a_cache_is_as_it_says(rt: HostRuntime) {
-    let found = run(&rt, rt.alloc()).expect(&rt, "no fault");
-    assert_same(&rt, &found, &([true; 4], [true; 5], [true; 3]));
+    let found = open(&rt, rt.alloc()).expect(&rt, "no fault");
+    assert_same(&rt, &found, &(true, [true; 3], [true; 2], [true; 5]));
 }

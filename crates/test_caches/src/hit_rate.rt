@@ -1,7 +1,6 @@
 //! How often a cache hits, beside an exact LRU.
 use crate::asserts::assert_same;
-use crate::calls::{Numbers, put};
-use caches::Cache;
+use crate::calls::{Caller, Calls, Numbers, put, shown};
 use clients::Fault;
 use std::alloc::{AllocError, Global};
 use std::sync::Wait;
@@ -36,7 +35,7 @@ fn count_below(sums: &[u64], number: u64) -> u64 {
     let mut count = 0usize;
     for step in [512usize, 256, 128, 64, 32, 16, 8, 4, 2, 1] {
         let place = count.saturating_add(step).saturating_sub(1);
-        if sums.get(place).is_some_and(|sum| *sum <= number) {
+        if place < sums.len() && sums[place] <= number {
             count = place.saturating_add(1);
         }
     }
@@ -56,37 +55,52 @@ fn draws(alloc: Global) -> Result<Vec<u64>, AllocError> {
     Ok(draws)
 }
 
+/// At which place the key is, or how many there are.
+fn place_of(kept: &[u64], key: u64) -> usize {
+    let mut place = 0usize;
+    for it in kept {
+        if *it == key {
+            break;
+        }
+        place = place.saturating_add(1);
+    }
+    place
+}
+
 /// How often an exact LRU hits: it keeps the keys in the order of their last use.
 fn hits_of_lru(alloc: Global, draws: &[u64]) -> Result<u64, AllocError> {
     let mut kept: Vec<u64> = Vec::new(alloc);
     let mut hits = 0u64;
     for key in draws {
-        match kept.iter().position(|it| *it == *key) {
-            Some(place) => {
-                kept.remove(place);
-                hits = hits.saturating_add(1);
-            }
-            None => {
-                if kept.len() >= MOST {
-                    kept.remove(0);
-                }
-            }
+        let place = place_of(&kept, *key);
+        if place < kept.len() {
+            kept.remove(place);
+            hits = hits.saturating_add(1);
+        } else if kept.len() >= MOST {
+            kept.remove(0);
         }
         kept.push(*key)?;
     }
     Ok(hits)
 }
 
-/// How often a cache hits into which each key is put that is not found.
-fn hits_of_cache<R: Wait>(rt: &R, alloc: Global, draws: &[u64]) -> Result<u64, Fault> {
-    let cache: Numbers = Cache::new(alloc, MOST)?;
-    let mut client = cache.client()?;
-    for key in draws {
-        if client.get(rt, key, 0)?.is_none() {
-            put(rt, &mut client, *key, *key)?;
+/// Gets each of the keys, and puts it where it is not found. Shown is how often it was.
+#[derive(Drop)]
+struct Drawing<'a> {
+    draws: &'a [u64],
+}
+
+impl Calls for Drawing<'_> {
+    type Shown = u64;
+
+    fn call<R: Wait>(&self, rt: &R, _cache: &Numbers, client: &mut Caller) -> Result<u64, Fault> {
+        for key in self.draws {
+            if client.get(rt, key, 0)?.is_none() {
+                put(rt, client, *key, *key)?;
+            }
         }
+        Ok(client.counts().hits)
     }
-    Ok(client.counts().hits)
 }
 
 /// Two points of the hit rate are a fiftieth of the draws.
@@ -94,7 +108,14 @@ fn hits_of_cache<R: Wait>(rt: &R, alloc: Global, draws: &[u64]) -> Result<u64, F
 fn the_hit_rate_is_within_two_points_of_an_exact_lru(rt: HostRuntime) {
     let draws = draws(rt.alloc()).expect(&rt, "memory");
     let lru = hits_of_lru(rt.alloc(), &draws).expect(&rt, "memory");
-    let hits = hits_of_cache(&rt, rt.alloc(), &draws).expect(&rt, "no fault");
+    let hits = shown(
+        &rt,
+        rt.alloc(),
+        MOST,
+        &Drawing {
+            draws: draws.as_slice(),
+        },
+    );
     let has_hit = lru > DRAWS / 3;
     let is_within = hits.saturating_add(DRAWS / 50) >= lru;
     assert_same(&rt, &(has_hit, is_within), &(true, true));

@@ -15,6 +15,8 @@ mod examples;
 #[cfg(test)]
 mod hit_rate;
 #[cfg(test)]
+mod passed;
+#[cfg(test)]
 mod read_through;
 #[cfg(test)]
 mod refusals;

@@ -1,9 +1,7 @@
 //! What a cache is for: an answer that takes long to get is kept until it is too old.
 use crate::asserts::assert_same;
-use crate::calls::{Caller, Numbers};
-use caches::Cache;
+use crate::calls::{Caller, Calls, Numbers, shown};
 use clients::Fault;
-use std::alloc::Global;
 use std::sync::Wait;
 
 /// For how many seconds an answer is good.
@@ -32,25 +30,34 @@ fn unread_of<R: Wait>(
     Ok(count)
 }
 
-/// Asks for a user at six times. Returns the answers, and how many queries there were.
-fn ask_again<R: Wait>(rt: &R, alloc: Global) -> Result<([u64; 6], u64), Fault> {
-    let cache: Numbers = Cache::new(alloc, 1_000)?;
-    let mut answers = cache.client()?;
-    let mut asked = 0u64;
-    let found = [
-        unread_of(rt, &mut answers, 25, 0, &mut asked)?,
-        unread_of(rt, &mut answers, 25, 30, &mut asked)?,
-        unread_of(rt, &mut answers, 25, 59, &mut asked)?,
-        unread_of(rt, &mut answers, 25, 60, &mut asked)?,
-        unread_of(rt, &mut answers, 25, 119, &mut asked)?,
-        unread_of(rt, &mut answers, 25, 120, &mut asked)?,
-    ];
-    Ok((found, asked))
+/// Asks for a user at six times. Shown are the answers, and how many queries there were.
+struct Asking;
+
+impl Calls for Asking {
+    type Shown = ([Result<u64, Fault>; 6], u64);
+
+    fn call<R: Wait>(
+        &self,
+        rt: &R,
+        _cache: &Numbers,
+        answers: &mut Caller,
+    ) -> Result<([Result<u64, Fault>; 6], u64), Fault> {
+        let mut asked = 0u64;
+        let found = [
+            unread_of(rt, answers, 25, 0, &mut asked),
+            unread_of(rt, answers, 25, 30, &mut asked),
+            unread_of(rt, answers, 25, 59, &mut asked),
+            unread_of(rt, answers, 25, 60, &mut asked),
+            unread_of(rt, answers, 25, 119, &mut asked),
+            unread_of(rt, answers, 25, 120, &mut asked),
+        ];
+        Ok((found, asked))
+    }
 }
 
 /// The queries are at 0, 60 and 120.
 #[test]
 fn an_answer_is_asked_for_once_a_minute(rt: HostRuntime) {
-    let found = ask_again(&rt, rt.alloc()).expect(&rt, "no fault");
-    assert_same(&rt, &found, &([5; 6], 3));
+    let found = shown(&rt, rt.alloc(), 1_000, &Asking);
+    assert_same(&rt, &found, &([Ok(5); 6], 3));
 }

@@ -15,6 +15,13 @@ fn number(alloc: Alloc<'_>, number: u64) -> Number<'_> {
     Number { number, alloc }
 }
 
+fn number_of(found: Option<Number<'_>>) -> Option<u64> {
+    match found {
+        Some(value) => Some(value.number),
+        None => None,
+    }
+}
+
 fn put<'a, R: Wait>(
     rt: &R,
     client: &mut Caller<'a>,
@@ -22,11 +29,11 @@ fn put<'a, R: Wait>(
     key: u64,
 ) -> Result<Option<u64>, Fault> {
     let before = client.put(rt, key, number(alloc, key), None, 0, &mut |_, _| ())?;
-    Ok(before.map(|value| value.number))
+    Ok(number_of(before))
 }
 
 fn get<'a, R: Wait>(rt: &R, client: &mut Caller<'a>, key: u64) -> Result<Option<u64>, Fault> {
-    Ok(client.get(rt, &key, 0)?.map(|value| value.number))
+    Ok(number_of(client.get(rt, &key, 0)?))
 }
 
 /// What gets return while a copy is refused and after, and what is counted.
@@ -51,8 +58,8 @@ fn a_value_that_cannot_be_copied_stays(rt: HostRuntime) {
         misses: 0,
         evictions: 0,
     };
-    assert_same(&rt, &(refused, found), &(Err(Fault::NoMemory), Some(1)));
-    assert_same(&rt, &counts, &wanted);
+    let found = (refused, found, counts);
+    assert_same(&rt, &found, &(Err(Fault::NoMemory), Some(1), wanted));
 }
 
 /// Puts the keys 1 to 20 into a cache for eight, each with one request more granted, until it is put. Returns how often a
@@ -83,22 +90,25 @@ fn put_refused<'a, R: Wait>(rt: &R, alloc: Alloc<'a>) -> Result<(u64, u64, u64),
 fn a_refused_put_puts_nothing(rt: HostRuntime) {
     let heap = Refusing::new(rt.alloc());
     let (refused, there, left) = put_refused(&rt, &heap).expect(&rt, "no fault");
-    assert_same(&rt, &(refused >= 12, there, left), &(true, 0, 8));
-    assert_same(&rt, &(heap.blocks_out(), heap.bytes_out()), &(0, 0));
+    let out = (heap.blocks_out(), heap.bytes_out());
+    let found = (refused >= 12, there, left, out);
+    assert_same(&rt, &found, &(true, 0, 8, (0, 0)));
+}
+
+/// Opens a cache and a client.
+fn open<'a>(alloc: Alloc<'a>) -> Result<(), Fault> {
+    let cache: Numbers<'a> = Cache::new(alloc, 8)?;
+    drop(cache.client()?);
+    Ok(())
 }
 
 /// How often an opening of a cache and a client was refused, each request in turn.
-fn open_refused<'a>(alloc: Alloc<'a>) -> u64 {
+fn open_refused(alloc: Alloc<'_>) -> u64 {
     let mut refused = 0u64;
     for granted in 0..100u64 {
         alloc.refuse_after(granted);
-        let cache: Result<Numbers<'a>, Fault> = Cache::new(alloc, 8);
-        let made = match cache {
-            Ok(cache) => cache.client().map(|client| client.counts()),
-            Err(fault) => Err(fault),
-        };
-        match made {
-            Ok(_) => break,
+        match open(alloc) {
+            Ok(()) => break,
             Err(Fault::NoMemory) => refused = refused.saturating_add(1),
             Err(_) => return 0,
         }
@@ -110,6 +120,7 @@ fn open_refused<'a>(alloc: Alloc<'a>) -> u64 {
 fn a_refused_opening_gives_all_back(rt: HostRuntime) {
     let heap = Refusing::new(rt.alloc());
     let refused = open_refused(&heap);
-    assert_same(&rt, &(refused >= 3, heap.has_refused()), &(true, false));
-    assert_same(&rt, &(heap.blocks_out(), heap.bytes_out()), &(0, 0));
+    let out = (heap.blocks_out(), heap.bytes_out());
+    let found = (refused >= 3, heap.has_refused(), out);
+    assert_same(&rt, &found, &(true, false, (0, 0)));
 }

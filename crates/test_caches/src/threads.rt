@@ -1,6 +1,6 @@
 //! Clients in threads of their own.
 use crate::asserts::assert_same;
-use crate::calls::{Caller, Numbers, put};
+use crate::calls::{Caller, Calls, Numbers, put, shown};
 use caches::{Cache, CacheCounts};
 use clients::Fault;
 use std::alloc::Global;
@@ -47,21 +47,18 @@ fn call_each<R: Wait>(
 
 /// 1 where a value is not one that was put at the key.
 fn is_of_another(found: Option<u64>, key: u64) -> u64 {
-    found.is_some_and(|value| value / 1_000 != key) as u64
+    match found {
+        Some(value) => (value / 1_000 != key) as u64,
+        None => 0,
+    }
 }
 
-/// What clients that called at the same time came to: how often a value was another key's, how many puts found none, what all
+/// Lets the clients call at the same time. Returns how often a value was another key's, how many puts found none, what all
 /// counted, and how many entries are left.
-#[derive(Drop)]
-struct Called {
-    wrong: u64,
-    added: u64,
-    counts: CacheCounts,
-    left: u64,
-}
-
-/// Lets the clients call at the same time.
-fn call_all<R: Threads + Wait + Sync>(rt: &R, alloc: Global) -> Result<Called, Fault> {
+fn call_all<R: Threads + Wait + Sync>(
+    rt: &R,
+    alloc: Global,
+) -> Result<(u64, u64, CacheCounts, u64), Fault> {
     let cache: Numbers = Cache::new(alloc, MOST)?;
     let run = |number: usize| call_each(rt, &cache, number);
     let mut wrong = 0u64;
@@ -73,69 +70,62 @@ fn call_all<R: Threads + Wait + Sync>(rt: &R, alloc: Global) -> Result<Called, F
         added = added.saturating_add(own_added);
         counts = counts.and(own_counts);
     }
-    let left = cache.map().mapping_count();
-    Ok(Called {
-        wrong,
-        added,
-        counts,
-        left,
-    })
+    Ok((wrong, added, counts, cache.map().mapping_count()))
 }
 
 /// Each get was a hit or a miss, more entries were evicted than may be left, and none over the bound is left. A put that
 /// found none added an entry, which was evicted or is left.
 #[test]
 fn clients_at_work_keep_the_bound(rt: HostRuntime) {
-    let called = call_all(&rt, rt.alloc()).expect(&rt, "no fault");
-    let counts = called.counts;
+    let (wrong, added, counts, left) = call_all(&rt, rt.alloc()).expect(&rt, "no fault");
     let looked = counts.hits.saturating_add(counts.misses);
-    let is_bounded = called.left <= MOST as u64;
+    let is_bounded = left <= MOST as u64;
     let has_evicted = counts.evictions > KEYS;
-    let gone_or_left = counts.evictions.saturating_add(called.left);
-    assert_same(&rt, &(called.wrong, looked), &(0, 4_000));
-    assert_same(&rt, &(is_bounded, has_evicted), &(true, true));
-    assert_same(&rt, &called.added, &gone_or_left);
+    let is_all = added == counts.evictions.saturating_add(left);
+    let found = (wrong, looked, is_bounded, has_evicted, is_all);
+    assert_same(&rt, &found, &(0, 4_000, true, true, true));
 }
 
-/// Puts keys of its own and drops its client and its handle of the cache, over and over.
-fn come_and_go<R: Wait>(rt: &R, cache: &Numbers) -> Result<u64, Fault> {
-    let mut evictions = 0u64;
-    for round in 0..100u64 {
-        let mut client: Caller = cache.again()?.client()?;
-        for key in 0..10u64 {
-            put(
-                rt,
-                &mut client,
-                round.saturating_mul(10).saturating_add(key),
-                round,
-            )?;
+/// Puts keys of its own and drops its client and its handle of the cache, over and over. Shown are how many entries were
+/// evicted, how many are left, and how many of those of the first half.
+struct ComingAndGoing;
+
+impl Calls for ComingAndGoing {
+    type Shown = (u64, u64, u64);
+
+    fn call<R: Wait>(
+        &self,
+        rt: &R,
+        cache: &Numbers,
+        last: &mut Caller,
+    ) -> Result<(u64, u64, u64), Fault> {
+        let mut evictions = 0u64;
+        for round in 0..100u64 {
+            evictions = evictions.saturating_add(put_ten(rt, cache, round)?);
         }
-        evictions = evictions.saturating_add(client.counts().evictions);
+        let left = cache.map().mapping_count();
+        let mut old = 0u64;
+        for key in 0..500u64 {
+            old = old.saturating_add(last.get(rt, &key, 0)?.is_some() as u64);
+        }
+        Ok((evictions, left, old))
     }
-    Ok(evictions)
 }
 
-/// How many of the keys 0 to 499 are there.
-fn count_old<R: Wait>(rt: &R, cache: &Numbers) -> Result<u64, Fault> {
-    let mut client: Caller = cache.client()?;
-    let mut count = 0u64;
-    for key in 0..500u64 {
-        let is_there = client.get(rt, &key, 0)?.is_some();
-        count = count.saturating_add(is_there as u64);
+/// Puts ten keys by a client and a handle of its own. Returns how many entries it evicted.
+fn put_ten<R: Wait>(rt: &R, cache: &Numbers, round: u64) -> Result<u64, Fault> {
+    let mut client: Caller = cache.again()?.client()?;
+    for key in 0..10u64 {
+        let key = round.saturating_mul(10).saturating_add(key);
+        put(rt, &mut client, key, round)?;
     }
-    Ok(count)
+    Ok(client.counts().evictions)
 }
 
 /// A client that was just taken, by whatever handle, goes on where the hand was left, so the hand comes to each bucket, and
 /// no entry of the first half is left.
 #[test]
 fn clients_that_come_and_go_move_one_hand(rt: HostRuntime) {
-    let cache: Numbers = Cache::new(rt.alloc(), MOST).expect(&rt, "no fault");
-    let evictions = come_and_go(&rt, &cache).expect(&rt, "no fault");
-    let old = count_old(&rt, &cache).expect(&rt, "no fault");
-    assert_same(
-        &rt,
-        &(evictions, cache.map().mapping_count(), old),
-        &(950, 50, 0),
-    );
+    let found = shown(&rt, rt.alloc(), MOST, &ComingAndGoing);
+    assert_same(&rt, &found, &(950, 50, 0));
 }
