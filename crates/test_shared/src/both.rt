@@ -1,6 +1,6 @@
 //! Functions over any client, lent or owned, and calls that both kinds have.
 use crate::asserts::assert_same;
-use crate::shared::{close, share};
+use crate::maps::{Numbers, keys_of, share};
 use clients::{Add, Call, Client, ClientOf, Fault, Holder, KeyArg, Loan, Op, Reply, Work};
 use std::alloc::Global;
 use std::sync::Wait;
@@ -33,8 +33,10 @@ impl Work<u64, u64, Add, Global> for AddTwice {
     }
 }
 
+type Got = Result<Reply<u64>, Fault>;
+
 /// What a client gets at 7 by a call, and by a try, and the sum after work of its own.
-type Told = (Option<Reply<u64>>, Option<Reply<u64>>, Option<u64>);
+type Told = (Got, Option<Got>, Result<Option<u64>, Fault>);
 
 /// Gets at 7 by a call that is a value, and by a try; then lets the client that it is lent work.
 #[derive(Clone, Copy)]
@@ -48,29 +50,32 @@ impl Work<u64, u64, Add, Global> for Tell {
         rt: &R,
         client: &mut Client<'_, L, u64, u64, Add, Global>,
     ) -> Told {
-        let called = client.call(rt, Call::Get(7)).ok();
+        let called = client.call(rt, Call::Get(7));
         let tried = client.try_call(KeyArg::Owned(7), Op::Get);
-        let sum = client.work(rt, &AddTwice).ok();
-        (
-            called,
-            tried.and_then(|reply| reply.ok()),
-            sum.and_then(|sum| sum),
-        )
+        (called, tried, client.work(rt, &AddTwice))
     }
+}
+
+/// The sums that an owned client and one that it lends come to, and what the latter tells.
+fn tell_both<R: Wait>(rt: &R, map: &Numbers) -> Result<(Option<u64>, Option<u64>, Told), Fault> {
+    let mut client = map.client()?;
+    let owned = add_twice(rt, &mut client)?;
+    let lent = client.work(rt, &AddTwice)?;
+    Ok((owned, lent, client.work(rt, &Tell)))
 }
 
 #[test]
 fn one_function_takes_both_kinds_of_a_client(rt: HostRuntime) {
     let map = share(rt.alloc(), 1).expect(&rt, "no fault");
-    let mut client = map.client().expect(&rt, "a client");
-    let owned = add_twice(&rt, &mut client).ok();
-    let lent = client.work(&rt, &AddTwice).ok();
-    let told = client.work(&rt, &Tell);
-    drop(client);
-    let closed = close(map).ok();
-    let four = || Some(Reply::Value(Some(4)));
-    assert_same(&rt, &owned, &Some(Some(2)));
-    assert_same(&rt, &lent, &Some(Some(4)));
-    assert_same(&rt, &told, &(four(), four(), Some(6)));
-    assert_same(&rt, &closed, &Some(1));
+    let told = tell_both(&rt, &map);
+    let of_lent = (
+        Ok(Reply::Value(Some(4))),
+        Some(Ok(Reply::Value(Some(4)))),
+        Ok(Some(6)),
+    );
+    assert_same(
+        &rt,
+        &(told, keys_of(map)),
+        &(Ok((Some(2), Some(4), of_lent)), Some(1)),
+    );
 }

@@ -1,11 +1,24 @@
 //! Shared maps of many clients: each has a place for its pass, to which it comes back.
 use crate::asserts::assert_same;
-use crate::shared::{Numbers, Owned, share};
-use clients::Fault;
+use crate::maps::{Numbers, Owned, share};
+use clients::{Add, Fault, Quiet};
 use std::alloc::Global;
 use std::sync::Wait;
 use std::thread;
 use std::thread::Threads;
+
+/// Takes a client, if one is free, which puts its number at its number.
+fn take_one<R: Wait>(rt: &R, map: &Numbers) -> Result<Option<Owned>, Fault> {
+    match map.client() {
+        Ok(mut client) => {
+            let number = client.number() as u64;
+            client.put(rt, number, number)?;
+            Ok(Some(client))
+        }
+        Err(Fault::NoClient) => Ok(None),
+        Err(fault) => Err(fault),
+    }
+}
 
 /// Takes as many clients as wanted, or those that are free, each of which puts its number at its number.
 fn take_each<R: Wait>(
@@ -16,15 +29,10 @@ fn take_each<R: Wait>(
 ) -> Result<Vec<Owned>, Fault> {
     let mut clients = Vec::with_capacity(alloc, wanted as usize)?;
     for _client in 0..wanted {
-        match map.client() {
-            Ok(mut client) => {
-                let number = client.number() as u64;
-                client.put(rt, number, number)?;
-                clients.push(client)?;
-            }
-            Err(Fault::NoClient) => break,
-            Err(fault) => return Err(fault),
-        }
+        let Some(client) = take_one(rt, map)? else {
+            break;
+        };
+        clients.push(client)?;
     }
     Ok(clients)
 }
@@ -38,38 +46,57 @@ fn bring_each(mut clients: Vec<Owned>) {
     }
 }
 
+/// Takes as many clients as wanted, or those that are free, and gives them back. Answers how many were
+/// taken.
+fn take_and_bring<R: Wait>(
+    rt: &R,
+    alloc: Global,
+    map: &Numbers,
+    wanted: u32,
+) -> Result<u64, Fault> {
+    let clients = take_each(rt, alloc, map, wanted)?;
+    let taken = clients.len() as u64;
+    bring_each(clients);
+    Ok(taken)
+}
+
+/// How many of so many numbers have their value.
+fn right_in(closed: &Quiet<u64, u64, Add, Global>, numbers: u32) -> u64 {
+    let mut right = 0u64;
+    for number in 0..u64::from(numbers) {
+        if closed.get(&number) == Some(&number) {
+            right = right.wrapping_add(1);
+        }
+    }
+    right
+}
+
 /// Takes so many clients of a map for as many, gives them back in another order, takes all again, and
 /// closes the map once they are back. Answers how many were taken each time, how many keys the closed
 /// map has, and how many of the numbers have their value.
 fn crowd<R: Wait>(rt: &R, alloc: Global, clients: u32) -> Result<[u64; 4], Fault> {
     let map = share(alloc, clients)?;
-    let first = take_each(rt, alloc, &map, clients)?;
-    let taken = first.len() as u64;
-    bring_each(first);
-    let second = take_each(rt, alloc, &map, clients)?;
-    let again = second.len() as u64;
-    bring_each(second);
+    let taken = take_and_bring(rt, alloc, &map, clients)?;
+    let again = take_and_bring(rt, alloc, &map, clients)?;
     let closed = map.close()?;
-    let mut right = 0u64;
-    for number in 0..u64::from(clients) {
-        if closed.get(&number) == Some(&number) {
-            right = right.wrapping_add(1);
-        }
-    }
-    Ok([taken, again, closed.mapping_count(), right])
+    Ok([
+        taken,
+        again,
+        closed.mapping_count(),
+        right_in(&closed, clients),
+    ])
 }
 
-/// The first 8 clients have the first row of places, the next 16 the second, and the last 8 of 65,536
-/// the last.
+/// How many clients a crowd has: the first 8 have the first row of places, the next 16 the second, and
+/// the last 8 of 65,536 the last.
+const CROWDS: [u32; 8] = [8, 9, 24, 25, 56, 57, 32_768, 65_536];
+
 #[test]
 fn each_client_of_a_crowd_comes_back(rt: HostRuntime) {
-    for clients in [8, 9, 24, 25, 56, 57, 32_768, 65_536] {
-        let told = crowd(&rt, rt.alloc(), clients);
-        assert_same(
-            &rt,
-            &(clients, told),
-            &(clients, Ok([u64::from(clients); 4])),
-        );
+    for clients in &CROWDS {
+        let told = crowd(&rt, rt.alloc(), *clients);
+        let wanted = Ok([u64::from(*clients); 4]);
+        assert_same(&rt, &(*clients, told), &(*clients, wanted));
     }
 }
 
@@ -89,16 +116,13 @@ fn come_and_go(map: &Numbers, times: u32) -> u64 {
 /// free. Answers how often a thread found none, and how many clients are taken when all are back.
 fn jostle<R: Wait + Threads + Sync>(rt: &R, alloc: Global) -> Result<([u64; 4], u64), Fault> {
     let map = share(alloc, 8)?;
-    bring_each(take_each(rt, alloc, &map, 8)?);
+    take_and_bring(rt, alloc, &map, 8)?;
     let mut refused = [0; 4];
     let work = |_number: usize, count: &mut u64| {
         *count = come_and_go(&map, 200_000);
     };
     thread::for_each_mut(rt, &mut refused, 4, &work);
-    let all = take_each(rt, alloc, &map, 8)?;
-    let taken = all.len() as u64;
-    bring_each(all);
-    Ok((refused, taken))
+    Ok((refused, take_and_bring(rt, alloc, &map, 8)?))
 }
 
 /// A thread that others get ahead of tries again.

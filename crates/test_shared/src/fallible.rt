@@ -2,7 +2,7 @@
 ghost use Rattle.std.specs.Prelude.{◌≡◌, OnErr};
 
 use crate::asserts::assert_same;
-use crate::shared::{Owned, close, share};
+use crate::maps::{Numbers, Owned, keys_of, share};
 use clients::{Change, Fault, NotMade};
 use std::sync::Wait;
 
@@ -64,13 +64,16 @@ enum Taking {
     Shown,
 }
 
+/// What is taken, and what is left.
+type Taken = (Result<u64, Refusal>, Option<u64>);
+
 /// Takes some in this way, and gets how many are left.
 fn take_and_get<R: Wait>(
     rt: &R,
     client: &mut Owned,
     taking: Taking,
     count: u64,
-) -> Result<(Result<u64, Refusal>, Option<u64>), Fault> {
+) -> Result<Taken, Fault> {
     let taken = match taking {
         Taking::Lent => take(rt, client, count),
         Taking::Shown => take_shown(rt, client, count),
@@ -79,11 +82,7 @@ fn take_and_get<R: Wait>(
 }
 
 /// Takes 3 where nothing is, and 3, 3 and 2 of 5.
-fn take_all<R: Wait>(
-    rt: &R,
-    client: &mut Owned,
-    taking: Taking,
-) -> Result<[(Result<u64, Refusal>, Option<u64>); 4], Fault> {
+fn take_all<R: Wait>(rt: &R, client: &mut Owned, taking: Taking) -> Result<[Taken; 4], Fault> {
     client.remove(rt, &1)?;
     let unknown = take_and_get(rt, client, taking, 3)?;
     client.put(rt, 1, 5)?;
@@ -95,21 +94,24 @@ fn take_all<R: Wait>(
     ])
 }
 
+/// Takes them in both ways.
+fn take_both<R: Wait>(rt: &R, map: &Numbers) -> Result<[[Taken; 4]; 2], Fault> {
+    let mut client = map.client()?;
+    let lent = take_all(rt, &mut client, Taking::Lent)?;
+    Ok([lent, take_all(rt, &mut client, Taking::Shown)?])
+}
+
+/// What they tell: there is nothing, 2 of 5 are left, which are too few for 3, and then none.
+const WANTED: [Taken; 4] = [
+    (Err(Refusal::Unknown), None),
+    (Ok(2), Some(2)),
+    (Err(Refusal::Few(2)), Some(2)),
+    (Ok(0), Some(0)),
+];
+
 #[test]
 fn an_error_of_the_function_leaves_the_value(rt: HostRuntime) {
     let map = share(rt.alloc(), 1).expect(&rt, "no fault");
-    let mut client = map.client().expect(&rt, "a client");
-    let lent = take_all(&rt, &mut client, Taking::Lent);
-    let shown = take_all(&rt, &mut client, Taking::Shown);
-    drop(client);
-    let closed = close(map).ok();
-    let wanted = [
-        (Err(Refusal::Unknown), None),
-        (Ok(2), Some(2)),
-        (Err(Refusal::Few(2)), Some(2)),
-        (Ok(0), Some(0)),
-    ];
-    assert_same(&rt, &lent, &Ok(wanted));
-    assert_same(&rt, &shown, &Ok(wanted));
-    assert_same(&rt, &closed, &Some(1));
+    let taken = take_both(&rt, &map);
+    assert_same(&rt, &(taken, keys_of(map)), &(Ok([WANTED; 2]), Some(1)));
 }

@@ -16,6 +16,8 @@ mod full;
 #[cfg(test)]
 mod given_back;
 #[cfg(test)]
+mod maps;
+#[cfg(test)]
 mod modifying;
 #[cfg(test)]
 mod owners;

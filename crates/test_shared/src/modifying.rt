@@ -4,7 +4,7 @@ ghost use Rattle.std.specs.Prelude.{◌≡◌, OnErr};
 ghost use Rattle.bin_history.specs.declared.form.Form.TheVariants.{Lean};
 
 use crate::asserts::assert_same;
-use crate::shared::{close, share};
+use crate::maps::{Numbers, keys_of, share};
 use clients::{
     Add, Bytes, Change, Client, ClientOf, Fault, Holder, ListOf, Loan, NoFunction, OwnedClient,
     Salt, SharedMap, Work,
@@ -118,16 +118,18 @@ impl Work<u64, u64, Add, Global> for Lend {
     }
 }
 
+/// Those of a client that owns its pass, and of one that it lends it to.
+fn make_both<R: Wait>(rt: &R, map: &Numbers) -> Result<[[bool; 4]; 2], Fault> {
+    let mut client = map.client()?;
+    let owned = make_each(rt, &mut client)?;
+    Ok([owned, client.work(rt, &Lend)?])
+}
+
 #[test]
 fn each_example_of_a_value_that_a_client_lends_is_as_it_says(rt: HostRuntime) {
     let map = share(rt.alloc(), 1).expect(&rt, "no fault");
-    let mut client = map.client().expect(&rt, "a client");
-    let owned = make_each(&rt, &mut client);
-    let lent = client.work(&rt, &Lend);
-    drop(client);
-    let closed = close(map).ok();
-    assert_same(&rt, &[owned, lent], &[Ok([true; 4]), Ok([true; 4])]);
-    assert_same(&rt, &closed, &Some(0));
+    let made = make_both(&rt, &map);
+    assert_same(&rt, &(made, keys_of(map)), &(Ok([[true; 4]; 2]), Some(0)));
 }
 
 /// A client of a map of byte strings.
@@ -171,21 +173,25 @@ fn changes<R: Wait>(rt: &R, client: &mut Texts) -> Result<bool, Fault>
     Ok(shown && left && lent && left_in_place)
 }
 
+/// The examples of calls by what makes their key, and how many more keys there are then.
+fn make_by_slices<R: Wait>(rt: &R, client: &mut Texts) -> Result<([bool; 3], u64), Fault>
+    requires { client.old.map.ledger.form ≡ Lean }
+{
+    let made = [
+        puts(rt, client)?,
+        merge_as(rt, client)?,
+        changes(rt, client)?,
+    ];
+    Ok((made, client.balance()))
+}
+
 #[test]
 fn each_example_of_what_makes_its_key_is_as_it_says(rt: HostRuntime) {
     let map = SharedMap::with_salt(rt.alloc(), 16, 4, Salt(7)).expect(&rt, "no fault");
     let mut client = map.client().expect(&rt, "a client");
-    let put = puts(&rt, &mut client);
-    let merged = merge_as(&rt, &mut client);
-    let changed = changes(&rt, &mut client);
-    let made = client.balance();
+    let told = make_by_slices(&rt, &mut client);
     drop(client);
-    assert_same(
-        &rt,
-        &[put, merged, changed],
-        &[Ok(true), Ok(true), Ok(true)],
-    );
-    assert_same(&rt, &made, &0);
+    assert_same(&rt, &told, &Ok(([true; 3], 0)));
 }
 
 /// A client of a map of lists.
@@ -207,15 +213,20 @@ fn append_all<R: Wait>(rt: &R, alloc: Global, client: &mut Lists) -> Result<bool
     Ok(true)
 }
 
+/// Whether a list has the numbers from 0 on that were appended.
+fn has_all(list: Option<&ListOf<u64, Global>>) -> bool {
+    match list {
+        Some(list) => list.iter().copied().eq(0..APPENDED),
+        None => false,
+    }
+}
+
 #[test]
 fn a_list_grows_where_it_lies(rt: HostRuntime) {
     let map = SharedMap::with_salt(rt.alloc(), 1, 1, Salt(0)).expect(&rt, "no fault");
     let mut client = map.client().expect(&rt, "a client");
     let found = append_all(&rt, rt.alloc(), &mut client);
-    let in_order = client.view(&rt, &1, |list| {
-        list.is_some_and(|list| list.iter().copied().eq(0..APPENDED))
-    });
+    let in_order = client.view(&rt, &1, has_all);
     drop(client);
-    assert_same(&rt, &found, &Ok(true));
-    assert!(&rt; in_order);
+    assert_same(&rt, &(found, in_order), &(Ok(true), true));
 }

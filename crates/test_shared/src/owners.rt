@@ -1,9 +1,8 @@
 //! Values with several owners: no call copies what they own.
 use crate::asserts::assert_same;
-use clients::{
-    Change, Client, Exact, Fault, Loan, NoFunction, OwnedClient, Shared, SharedMap, Team, Work,
-};
-use std::alloc::{AllocError, Global};
+use crate::maps::client_of_many;
+use clients::{Change, Client, Exact, Fault, Loan, NoFunction, OwnedClient, Shared, Team, Work};
+use std::alloc::{AllocError, Allocator, Global};
 use std::marker::Model;
 use std::sync::Wait;
 use std::thread::Threads;
@@ -80,30 +79,16 @@ fn told(page: Option<&Pages>) -> (u8, u64) {
 /// A client of a map of such pages.
 type Reader = OwnedClient<u64, Pages, NoFunction, Global>;
 
-/// What a get, a view, and an update that leaves the page as it is show of it.
-fn read<R: Wait>(rt: &R, client: &mut Reader) -> Result<[(u8, u64); 3], Fault> {
-    let got = client.get(rt, &1)?;
-    let viewed = client.view(rt, &1, |page| told(page));
-    let kept = client.update(rt, 1, |page| (Change::Keep, told(page)))?;
-    Ok([told(got.as_ref()), viewed, kept])
+/// A page is left as it is; the byte and the copies of what is shown.
+fn kept(page: Option<&Pages>) -> (Change<Pages>, (u8, u64)) {
+    (Change::Keep, told(page))
 }
 
-/// The sums of bytes and of copies that a walk by copies, a fold, and a walk in place come to.
-fn walk<R: Wait>(rt: &R, client: &mut Reader) -> Result<[u64; 3], Fault> {
-    let mut walked = 0u64;
-    for visit in &client.walk(rt)? {
-        for entry in &visit.entries {
-            walked = walked.wrapping_add(sum_of(&entry.1));
-        }
-    }
-    let folded = client.fold(rt, 0u64, |sum, (_key, page)| {
-        sum.wrapping_add(sum_of(&page))
-    })?;
-    let mut shown = 0u64;
-    client.show_each(rt, |_key: &u64, page: &Pages| {
-        shown = shown.wrapping_add(sum_of(page));
-    });
-    Ok([walked, folded, shown])
+/// What a get, a view, and an update that leaves the page as it is show of it.
+fn read<R: Wait>(rt: &R, client: &mut Reader) -> Result<[(u8, u64); 3], Fault> {
+    let got = told(client.get(rt, &1)?.as_ref());
+    let viewed = client.view(rt, &1, told);
+    Ok([got, viewed, client.update(rt, 1, kept)?])
 }
 
 /// A page's byte and, times 1,000, how often it was copied.
@@ -111,63 +96,122 @@ fn sum_of(page: &Pages) -> u64 {
     u64::from(page.byte).wrapping_add(page.copies.wrapping_mul(1000))
 }
 
+/// The sum of bytes and of copies that a walk by copies comes to.
+fn walked<R: Wait>(rt: &R, client: &mut Reader) -> Result<u64, Fault> {
+    let mut sum = 0u64;
+    for visit in &client.walk(rt)? {
+        for entry in &visit.entries {
+            sum = sum.wrapping_add(sum_of(&entry.1));
+        }
+    }
+    Ok(sum)
+}
+
+fn add(sum: u64, (_key, page): (u64, Pages)) -> u64 {
+    sum.wrapping_add(sum_of(&page))
+}
+
+/// The sums of bytes and of copies that a walk by copies, a fold, and a walk in place come to.
+fn walk<R: Wait>(rt: &R, client: &mut Reader) -> Result<[u64; 3], Fault> {
+    let walked = walked(rt, client)?;
+    let folded = client.fold(rt, 0u64, add)?;
+    let mut shown = 0u64;
+    client.show_each(rt, |_key: &u64, page: &Pages| {
+        shown = shown.wrapping_add(sum_of(page));
+    });
+    Ok([walked, folded, shown])
+}
+
+/// Puts a page at 1, and one of which there is another owner at 2.
+fn put_pages<R: Wait>(
+    rt: &R,
+    client: &mut Reader,
+    alloc: Global,
+    other: &Pages,
+) -> Result<(), Fault> {
+    client.put(rt, 1, Shared::new(alloc, new_page(3))?)?;
+    client.put(rt, 2, other.clone()?)?;
+    Ok(())
+}
+
+/// Takes a page out. Returns whether its last owner got it.
+fn is_last<R: Wait>(rt: &R, client: &mut Reader, key: u64) -> Result<bool, Fault> {
+    match client.remove(rt, &key)? {
+        Some(page) => Ok(page.into_value().is_some()),
+        None => Ok(false),
+    }
+}
+
 /// Puts two pages, reads one and sets it to the other, walks, and takes both out. Returns what was
 /// read before and after, what the walk showed, and whether the last owner got its page.
 fn use_pages<R: Wait>(
     rt: &R,
+    client: &mut Reader,
     alloc: Global,
-) -> Result<([(u8, u64); 3], [(u8, u64); 3], [u64; 3], [bool; 2]), Fault> {
-    let map = SharedMap::new(alloc, 16)?;
-    let mut client = map.client()?;
-    client.put(rt, 1, Shared::new(alloc, new_page(3))?)?;
+) -> Result<([[(u8, u64); 3]; 2], [u64; 3], [bool; 2]), Fault> {
     let other = Shared::new(alloc, new_page(5))?;
-    client.put(rt, 2, other.clone()?)?;
-    let before = read(rt, &mut client)?;
+    put_pages(rt, client, alloc, &other)?;
+    let before = read(rt, client)?;
     client.update(rt, 1, |_page| (Change::Set(other), ()))?;
-    let after = read(rt, &mut client)?;
-    let sums = walk(rt, &mut client)?;
-    let first = client.remove(rt, &1)?.and_then(|page| page.into_value());
-    let second = client.remove(rt, &2)?.and_then(|page| page.into_value());
-    Ok((before, after, sums, [first.is_some(), second.is_some()]))
+    let shown = [before, read(rt, client)?];
+    let sums = walk(rt, client)?;
+    let last = [is_last(rt, client, 1)?, is_last(rt, client, 2)?];
+    Ok((shown, sums, last))
 }
 
 /// No call copies a page. The page that two keys have is got out by its last owner alone.
 #[test]
 fn a_page_with_several_owners_is_never_copied(rt: HostRuntime) {
-    let all = use_pages(&rt, rt.alloc()).expect(&rt, "no fault");
-    assert_same(
-        &rt,
-        &all,
-        &([(3, 0); 3], [(5, 0); 3], [10; 3], [false, true]),
-    );
+    let mut client = client_of_many(rt.alloc()).expect(&rt, "no fault");
+    let all = use_pages(&rt, &mut client, rt.alloc());
+    drop(client);
+    let read = [[(3, 0); 3], [(5, 0); 3]];
+    assert_same(&rt, &all, &Ok((read, [10; 3], [false, true])));
+}
+
+/// How often a page was copied.
+fn copies_of(page: Option<&Page>) -> Option<u64> {
+    match page {
+        Some(page) => Some(page.copies),
+        None => None,
+    }
 }
 
 /// Where the value is the page itself, a get copies it, and a view does not.
-fn copies_of_one<R: Wait>(rt: &R, alloc: Global) -> Result<[Option<u64>; 2], Fault> {
-    let map: SharedMap<u64, Page, NoFunction, Global> = SharedMap::new(alloc, 16)?;
-    let mut client = map.client()?;
+fn copies_of_one<R: Wait>(
+    rt: &R,
+    client: &mut OwnedClient<u64, Page, NoFunction, Global>,
+) -> Result<[Option<u64>; 2], Fault> {
     client.put(rt, 1, new_page(3))?;
-    let viewed = client.view(rt, &1, |page| page.map(|page| page.copies));
-    let got = client.get(rt, &1)?.map(|page| page.copies);
-    Ok([viewed, got])
+    let viewed = client.view(rt, &1, copies_of);
+    Ok([viewed, copies_of(client.get(rt, &1)?.as_ref())])
 }
 
 #[test]
 fn a_page_that_is_the_value_is_copied_by_a_get(rt: HostRuntime) {
-    let all = copies_of_one(&rt, rt.alloc()).expect(&rt, "no fault");
-    assert_same(&rt, &all, &[Some(0), Some(1)]);
+    let mut client = client_of_many(rt.alloc()).expect(&rt, "no fault");
+    let all = copies_of_one(&rt, &mut client);
+    drop(client);
+    assert_same(&rt, &all, &Ok([Some(0), Some(1)]));
+}
+
+/// The byte of a page that finds no memory to be shared, and comes back.
+fn refused_byte<A: Allocator>(switch: &Refusing<Global>, alloc: A) -> Option<u8> {
+    switch.refuse_after(0);
+    let refused = Shared::new(alloc, new_page(3));
+    switch.refuse_after(u64::MAX);
+    match refused {
+        Ok(_page) => None,
+        Err(refused) => Some(refused.value.byte),
+    }
 }
 
 /// Out of memory no page is shared, and it comes back.
 #[test]
 fn a_page_that_cannot_be_shared_comes_back(rt: HostRuntime) {
     let alloc = Refusing::new(rt.alloc());
-    alloc.refuse_after(0);
-    let refused = Shared::new(&alloc, new_page(3));
-    alloc.refuse_after(u64::MAX);
-    let byte = refused.map_err(|refused| refused.value.byte).err();
-    assert_same(&rt, &byte, &Some(3));
-    assert_same(&rt, &alloc.bytes_out(), &0);
+    let byte = refused_byte(&alloc, &alloc);
+    assert_same(&rt, &(byte, alloc.bytes_out()), &(Some(3), 0));
 }
 
 /// A map's values in threads: the page that all clients share.
@@ -197,14 +241,13 @@ fn post<R: Threads + Wait + Sync>(
     alloc: Global,
 ) -> Result<(Vec<Result<u8, Fault>>, Option<u64>), Fault> {
     let page = Shared::new(alloc, new_page(5))?;
+    let work = PostPage {
+        page: page.clone()?,
+    };
     let mut team = Team::new(alloc, 16, 4)?;
-    let answers = team.work(
-        rt,
-        &PostPage {
-            page: page.clone()?,
-        },
-    )?;
+    let answers = team.work(rt, &work)?;
     drop(team);
+    drop(work);
     let copies = page.into_value().map(|page| page.copies);
     Ok((answers, copies))
 }
@@ -212,14 +255,15 @@ fn post<R: Threads + Wait + Sync>(
 #[test]
 fn a_page_is_shared_by_four_clients(rt: HostRuntime) {
     let (answers, copies) = post(&rt, rt.alloc()).expect(&rt, "no fault");
-    assert_same(&rt, &answers.as_slice(), &[Ok(5); 4].as_slice());
-    assert_same(&rt, &copies, &Some(0));
+    assert_same(
+        &rt,
+        &(answers.as_slice(), copies),
+        &([Ok(5); 4].as_slice(), Some(0)),
+    );
 }
 
 /// Whether the example at `Shared` is as it says.
-fn example<R: Wait>(rt: &R, alloc: Global) -> Result<bool, Fault> {
-    let map: SharedMap<u64, Pages, NoFunction, Global> = SharedMap::new(alloc, 16)?;
-    let mut client = map.client()?;
+fn example<R: Wait>(rt: &R, client: &mut Reader, alloc: Global) -> Result<bool, Fault> {
     let page = Shared::new(alloc, new_page(5))?;
     client.put(rt, 1, page)?;
     let read = client.get(rt, &1)?;
@@ -228,5 +272,8 @@ fn example<R: Wait>(rt: &R, alloc: Global) -> Result<bool, Fault> {
 
 #[test]
 fn the_example_of_a_shared_value_is_as_it_says(rt: HostRuntime) {
-    assert!(rt; example(&rt, rt.alloc()).expect(&rt, "no fault"));
+    let mut client = client_of_many(rt.alloc()).expect(&rt, "no fault");
+    let found = example(&rt, &mut client, rt.alloc());
+    drop(client);
+    assert_same(&rt, &found, &Ok(true));
 }

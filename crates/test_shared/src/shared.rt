@@ -1,35 +1,13 @@
 //! Shared maps and the clients that own their passes.
 use crate::asserts::assert_same;
+use crate::maps::{Numbers, Owned, close, keys_of, share};
 use clients::{
-    Add, Call, Client, Computed, Fault, KeyArg, Loan, Op, OwnedClient, Reply, Salt, SharedMap,
-    SharedNotClosed, Work, Worked,
+    Add, Call, Client, Computed, Fault, KeyArg, Loan, Op, Reply, SharedMap, Work, Worked,
 };
 use std::alloc::Global;
 use std::sync::Wait;
 use std::thread;
 use std::thread::Threads;
-
-/// A shared map of these tests.
-pub(crate) type Numbers = SharedMap<u64, u64, Add, Global>;
-
-pub(crate) fn share(alloc: Global, clients: u32) -> Result<Numbers, Fault> {
-    SharedMap::with_salt(alloc, 1, clients, Salt(0))
-}
-
-/// How many keys the closed map has, or else why it was not closed, and the shared map.
-pub(crate) fn close(map: Numbers) -> Result<u64, (Fault, Option<Numbers>)> {
-    match map.close() {
-        Ok(closed) => Ok(closed.mapping_count()),
-        Err(refused) => {
-            let SharedNotClosed {
-                fault,
-                shared,
-                unshared: _,
-            } = refused;
-            Err((fault, shared))
-        }
-    }
-}
 
 /// Adds 5 at the client's number, and gets the sum.
 #[derive(Clone, Copy)]
@@ -65,8 +43,6 @@ impl Work<u64, u64, Add, Global> for GetZero {
     }
 }
 
-pub(crate) type Owned = OwnedClient<u64, u64, Add, Global>;
-
 fn call<R: Wait>(rt: &R, client: &mut Owned) -> Result<bool, Fault> {
     client.call(rt, Call::Put(1, 5))?;
     Ok(client.call(rt, Call::Get(1))? == Reply::Value(Some(5)))
@@ -80,19 +56,24 @@ fn work<R: Wait>(rt: &R, client: &mut Owned) -> Result<bool, Fault> {
     Ok(client.number() == 0 && client.work(rt, &AddFive)? == Some(5))
 }
 
-/// The typed calls of a client that owns its pass, as their examples say.
-fn typed<R: Wait>(rt: &R, client: &mut Owned) -> Result<bool, Fault> {
+/// Puts, gets and replaces at 2, of a client that owns its pass.
+fn puts<R: Wait>(rt: &R, client: &mut Owned) -> Result<bool, Fault> {
     let put = client.put(rt, 2, 5)?.is_none() && client.put(rt, 2, 6)? == Some(5);
     let got = client.get(rt, &2)? == Some(6) && client.contains_key(rt, &2)?;
-    let kept = client.put_if_absent(rt, 2, 7)? == Some(6);
+    Ok(put && got && client.put_if_absent(rt, 2, 7)? == Some(6))
+}
+
+/// Replaces 6 there, computes, and removes.
+fn replaces<R: Wait>(rt: &R, client: &mut Owned) -> Result<bool, Fault> {
     let replaced = client.replace(rt, &2, 7)? == Some(6) && client.replace_if(rt, &2, 7, 8)?;
     let computed = client.compute(rt, 2, Add)? == Some(8);
     let removed = !client.remove_if(rt, &2, 7)? && client.remove(rt, &2)? == Some(8);
-    Ok(put && got && kept && replaced && computed && removed)
+    Ok(replaced && computed && removed)
 }
 
 /// Those that may use a function.
-fn counted<R: Wait>(rt: &R, client: &mut Owned) -> Result<[(Option<u64>, bool); 3], Fault> {
+fn counted<R: Wait>(rt: &R, map: &Numbers) -> Result<[(Option<u64>, bool); 3], Fault> {
+    let mut client = map.client()?;
     client.put(rt, 2, 5)?;
     let Computed { value, used } = client.compute_if_absent(rt, 2, Add)?;
     let first = (value, used);
@@ -138,37 +119,44 @@ fn end(map: Numbers) -> Result<bool, Fault> {
     Ok(closed.mapping_count() == 1)
 }
 
-/// The examples at the calls of a shared map and of its clients.
-fn examples<R: Wait>(rt: &R, alloc: Global) -> Result<[bool; 8], Fault> {
+/// The examples of calls of a client that owns its pass.
+fn use_client<R: Wait>(rt: &R, client: &mut Owned) -> Result<[bool; 4], Fault> {
+    Ok([
+        call(rt, client)?,
+        puts(rt, client)?,
+        replaces(rt, client)?,
+        read(rt, client)?,
+    ])
+}
+
+/// The examples of a map that is closed.
+fn use_map<R: Wait>(rt: &R, alloc: Global) -> Result<([bool; 4], bool, bool), Fault> {
     let map = SharedMap::new(alloc, 16)?;
     let mut client = map.client()?;
-    let called = call(rt, &mut client)?;
-    let typed = typed(rt, &mut client)?;
-    let read = read(rt, &mut client)?;
+    let used = use_client(rt, &mut client)?;
     drop(client);
-    let again = again(&map)?;
-    let ended = end(map)?;
+    Ok((used, again(&map)?, end(map)?))
+}
+
+/// The examples of a map that is shared no more.
+fn use_map_again<R: Wait>(rt: &R, alloc: Global) -> Result<[bool; 3], Fault> {
     let map = SharedMap::new(alloc, 16)?;
     let mut client = map.client_when_in(rt)?;
     let tried = try_call(&mut client);
     let worked = work(rt, &mut client)?;
     drop(client);
-    Ok([
-        called,
-        typed,
-        read,
-        again,
-        ended,
-        tried,
-        worked,
-        unshare(map)?,
-    ])
+    Ok([tried, worked, unshare(map)?])
 }
 
 #[test]
 fn each_example_of_a_shared_map_is_as_it_says(rt: HostRuntime) {
-    let answers = examples(&rt, rt.alloc()).expect(&rt, "no fault");
-    assert_same(&rt, &answers.as_slice(), &[true; 8].as_slice());
+    let closed = use_map(&rt, rt.alloc());
+    let unshared = use_map_again(&rt, rt.alloc());
+    assert_same(
+        &rt,
+        &(closed, unshared),
+        &(Ok(([true; 4], true, true)), Ok([true; 3])),
+    );
 }
 
 /// By hand: 5 is there, so it is kept; what is there is doubled by nothing, as `Add` of a value
@@ -176,18 +164,15 @@ fn each_example_of_a_shared_map_is_as_it_says(rt: HostRuntime) {
 #[test]
 fn calls_say_whether_they_used_their_function(rt: HostRuntime) {
     let map = share(rt.alloc(), 1).expect(&rt, "no fault");
-    let mut client = map.client().expect(&rt, "a client");
-    let counted = counted(&rt, &mut client).expect(&rt, "no fault");
-    drop(client);
+    let found = counted(&rt, &map);
     let wanted = [(Some(5), false), (Some(5), true), (Some(7), true)];
-    assert_same(&rt, &counted, &wanted);
-    assert_same(&rt, &close(map).ok(), &Some(0));
+    assert_same(&rt, &(found, keys_of(map)), &(Ok(wanted), Some(0)));
 }
 
 /// Puts each of these keys at itself, each by a client of its own.
-fn put_each<R: Wait>(rt: &R, map: &Numbers, keys: [u64; 2]) -> Result<(), Fault> {
+fn put_each<R: Wait>(rt: &R, map: &Numbers, keys: &[u64; 2]) -> Result<(), Fault> {
     for key in keys {
-        map.client_when_in(rt)?.put(rt, key, key)?;
+        map.client_when_in(rt)?.put(rt, *key, *key)?;
     }
     Ok(())
 }
@@ -198,48 +183,61 @@ fn each_thread_makes_its_clients(rt: HostRuntime) {
     let map = share(rt.alloc(), 1).expect(&rt, "no fault");
     let (first, second) = thread::join(
         &rt,
-        || put_each(&rt, &map, [0, 1]),
-        || put_each(&rt, &map, [2, 3]),
+        || put_each(&rt, &map, &[0, 1]),
+        || put_each(&rt, &map, &[2, 3]),
     );
-    assert_same(&rt, &(first, second), &(Ok(()), Ok(())));
-    assert_same(&rt, &close(map).ok(), &Some(4));
+    assert_same(
+        &rt,
+        &(first, second, keys_of(map)),
+        &(Ok(()), Ok(()), Some(4)),
+    );
+}
+
+/// The pair of a map that is closed knowing what its client did.
+fn close_knowing<R: Wait>(rt: &R, map: Numbers) -> Result<Option<(u64, u64)>, Fault> {
+    let mut client = map.client()?;
+    client.put(rt, 1, 5)?;
+    let moment = client.moment();
+    drop(client);
+    let closed = map.close_knowing(moment)?;
+    Ok(closed.entries().next().copied())
 }
 
 /// What a client did is in the map that is closed with its moment.
 #[test]
 fn a_map_is_closed_knowing_what_a_client_did(rt: HostRuntime) {
     let map = share(rt.alloc(), 2).expect(&rt, "no fault");
-    let mut client = map.client().expect(&rt, "a client");
-    client.put(&rt, 1, 5).expect(&rt, "no fault");
-    let moment = client.moment();
-    drop(client);
-    let closed = map.close_knowing(moment).expect(&rt, "no fault");
-    let pair = closed.entries().next().copied();
-    drop(closed);
-    assert_same(&rt, &pair, &Some((1, 5)));
+    assert_same(&rt, &close_knowing(&rt, map), &Ok(Some((1, 5))));
+}
+
+/// What a client of another handle of the map answers to a put of 5 at 1.
+fn put_by<R: Wait>(rt: &R, other: &Numbers) -> Result<Reply<u64>, Fault> {
+    other.client()?.call(rt, Call::Put(1, 5))
+}
+
+/// What such a put answers; why the map is not closed while the other handle is there; and how many keys
+/// the map has before and after it is closed.
+fn use_two_handles<R: Wait>(
+    rt: &R,
+    map: Numbers,
+) -> Result<(Reply<u64>, Fault, u64, Option<u64>), Fault> {
+    let other = map.again()?;
+    let put = put_by(rt, &other)?;
+    let Err((fault, Some(map))) = close(map) else {
+        return Err(Fault::BinMissing);
+    };
+    drop(other);
+    let count = map.map().mapping_count();
+    Ok((put, fault, count, keys_of(map)))
 }
 
 /// Another handle of the same map keeps it open, and its clients' calls are on the same map.
 #[test]
 fn a_map_with_two_handles_is_not_closed(rt: HostRuntime) {
     let map = share(rt.alloc(), 1).expect(&rt, "no fault");
-    let other = map.again().expect(&rt, "no fault");
-    let put = other
-        .client()
-        .expect(&rt, "a client")
-        .call(&rt, Call::Put(1, 5))
-        .expect(&rt, "no fault");
-    let Err((fault, Some(map))) = close(map) else {
-        assert!(rt; false, "the map is not closed, and comes back");
-        unreachable!()
-    };
-    drop(other);
-    let count = map.map().mapping_count();
-    let closed = close(map).ok();
-    assert_same(&rt, &put, &Reply::Value(None));
-    assert_same(&rt, &fault, &Fault::PassMissing);
-    assert_same(&rt, &count, &1);
-    assert_same(&rt, &closed, &Some(1));
+    let told = use_two_handles(&rt, map);
+    let wanted = (Reply::Value(None), Fault::PassMissing, 1, Some(1));
+    assert_same(&rt, &told, &Ok(wanted));
 }
 
 /// A client works in a thread and comes back with the thread; another learns of what it had seen,
@@ -259,7 +257,9 @@ fn hand_over<R: Threads + Wait + Copy + Send + 'static>(
 fn a_client_that_comes_back_from_its_thread_tells_another(rt: HostRuntime) {
     let map = share(rt.alloc(), 2).expect(&rt, "no fault");
     let got = hand_over(&rt, &map);
-    let closed = close(map).ok();
-    assert_same(&rt, &got, &Ok((Some(5), Some(5))));
-    assert_same(&rt, &closed, &Some(1));
+    assert_same(
+        &rt,
+        &(got, keys_of(map)),
+        &(Ok((Some(5), Some(5))), Some(1)),
+    );
 }

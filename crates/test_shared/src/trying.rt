@@ -1,8 +1,8 @@
 //! Tries that take a function, of a client that owns its pass and of one that is lent one: which of
 //! them call it.
 use crate::asserts::assert_same;
-use crate::shared::{Owned, close, share};
-use clients::{Add, Change, Client, ClientOf, Holder, KeyArg, Loan, Work};
+use crate::maps::{Numbers, Owned, keys_of, share};
+use clients::{Add, Change, Client, ClientOf, Fault, Holder, KeyArg, Loan, Work};
 use std::alloc::Global;
 use std::sync::Wait;
 
@@ -53,16 +53,21 @@ fn try_under_a_lock<R: Wait>(rt: &R, first: &mut Owned, second: &mut Owned) -> [
     [busy, try_both(rt, second)]
 }
 
+/// What two clients of a map try.
+fn try_by_two<R: Wait>(rt: &R, map: &Numbers) -> Result<[[Tried; 2]; 2], Fault> {
+    let mut first = map.client()?;
+    let mut second = map.client()?;
+    Ok(try_under_a_lock(rt, &mut first, &mut second))
+}
+
 #[test]
 fn a_busy_try_of_a_client_calls_no_function(rt: HostRuntime) {
     let map = share(rt.alloc(), 2).expect(&rt, "no fault");
-    let mut first = map.client().expect(&rt, "a client");
-    let mut second = map.client().expect(&rt, "a client");
-    let tried = try_under_a_lock(&rt, &mut first, &mut second);
-    drop(first);
-    drop(second);
-    let closed = close(map).ok();
+    let tried = try_by_two(&rt, &map);
     let (busy, free) = (([false; 3], [false; 3]), ([true; 3], [true; 3]));
-    assert_same(&rt, &tried, &[[busy; 2], [free; 2]]);
-    assert_same(&rt, &closed, &Some(0));
+    assert_same(
+        &rt,
+        &(tried, keys_of(map)),
+        &(Ok([[busy; 2], [free; 2]]), Some(0)),
+    );
 }

@@ -1,7 +1,7 @@
 use denote.Param.Send.{sendable}
 use Rattle.std.proofs.Crossing.{crosses}
 use Rattle.clients.proofs.Crossing.{owned_send, shared_sync}
-use Rattle.test_shared.proofs.full.wait_for_each.Goals as goal
+use Rattle.test_shared.proofs.full.wait_for_one.Goals as goal
 
 pub join-waited-requires-send-F : goal.join-waited-requires-send-F
 join-waited-requires-send-F g c κs within =
