@@ -1,15 +1,14 @@
 //! Walks over parts of tables that are wider than the map's, as wide, and narrower.
-ghost use Rattle.std.specs.Prelude.{◌≡◌, ◌≤◌};
+ghost use Rattle.std.specs.Prelude.{◌≡◌, ◌≤◌, ◌^◌};
 ghost use Rattle.hashkeys.specs.Classes.{IsTableSize};
 
+use crate::samples::assert_same;
 use bin_history::Form;
 use chm::{Map, PartWalk, Pass, Taker};
 use facingberyl::Add;
 use part_walks::share_of;
 use std::alloc::Global;
-use std::process::Abort;
 use std::sync::Wait;
-use std::test::Fail;
 use test_maps::{BOTH, Single, close_single, open_single};
 
 /// A map of these tests.
@@ -79,47 +78,70 @@ fn is_whole<R: Wait>(rt: &R, map: &Numbers, pass: &mut NumberPass, n: u32, share
     shown.once == 8_589_934_590 && shown.twice == 0
 }
 
-/// The number of buckets of a table of this capacity.
-fn table_of<R: Abort>(rt: &R, alloc: Global, capacity: usize) -> u32
-    ensures { IsTableSize result }
+/// Returns by how many of 1 to 8 shares that is so, of a table of `n` buckets, 2 to this exponent.
+fn count_whole<R: Wait>(rt: &R, map: &Numbers, pass: &mut NumberPass, n: u32, exponent: u32) -> u64
+    requires pass { pass.old.ledger ≡ map.now.ledger.id }
+    requires size { (exponent ≤ 10) × (n ≡ 2 ^ exponent) }
+    ensures { pass.new.ledger ≡ map.now.ledger.id }
 {
-    let Single { map, pass, place }: Single<u64, u64, Add, Global> = open_single(
-        alloc,
-        Form::Lean,
-        capacity,
-    ).expect(rt, "a map");
-    let n = map.table_size();
-    drop(close_single(map, pass, place).expect(rt, "a closed map"));
-    n
+    let mut whole = 0u64;
+    for shares in 1..=8usize {
+        whole = whole.wrapping_add(u64::from(is_whole(rt, map, pass, n, shares)));
+    }
+    whole
 }
 
-/// Whether all is shown, once, by 1 to 8 shares of tables of 1 to 1,024 buckets of a map that began
-/// with 16 buckets.
-fn all_is_shown<R: Wait + Abort>(rt: &R, alloc: Global, form: Form) -> bool {
-    let Single {
-        map,
-        mut pass,
-        place,
-    }: Single<u64, u64, Add, Global> = open_single(alloc, form, 16).expect(rt, "a map");
-    let mut right = true;
+/// The same, of tables of 1, 2, 16, 64 and 1,024 buckets.
+fn count_all<R: Wait>(rt: &R, map: &Numbers, pass: &mut NumberPass) -> [u64; 5]
+    requires pass { pass.old.ledger ≡ map.now.ledger.id }
+    ensures { pass.new.ledger ≡ map.now.ledger.id }
+{
+    [
+        count_whole(rt, map, pass, 1, 0),
+        count_whole(rt, map, pass, 2, 1),
+        count_whole(rt, map, pass, 16, 4),
+        count_whole(rt, map, pass, 64, 6),
+        count_whole(rt, map, pass, 1_024, 10),
+    ]
+}
+
+/// How many puts were made, and those counts after them.
+type Filled = (u64, [u64; 5]);
+
+/// Puts the keys 1 to 32, and counts after that.
+fn fill_and_count<R: Wait>(rt: &R, map: &Numbers, pass: &mut NumberPass) -> Filled
+    requires pass { pass.old.ledger ≡ map.now.ledger.id }
+    ensures { pass.new.ledger ≡ map.now.ledger.id }
+{
+    let mut made = 0u64;
     for key in 1..=32u64 {
-        right = right && map.put(rt, &mut pass, key, key).is_ok();
+        made = made.wrapping_add(u64::from(map.put(rt, pass, key, key).is_ok()));
     }
-    for capacity in [1, 2, 16, 64, 1_024] {
-        let n = table_of(rt, alloc, capacity);
-        for shares in 1..=8usize {
-            right = right && is_whole(rt, &map, &mut pass, n, shares);
-        }
-    }
-    drop(close_single(map, pass, place).expect(rt, "a closed map"));
-    right
+    (made, count_all(rt, map, pass))
+}
+
+/// Returns what is counted of a map of this form that began with 16 buckets, and whether the map is closed
+/// after that.
+fn shown_in<R: Wait>(rt: &R, alloc: Global, form: Form) -> Option<(Filled, bool)> {
+    let Some(
+        Single {
+            map,
+            mut pass,
+            place,
+        },
+    ) = open_single::<u64, u64, Add, Global>(alloc, form, 16)
+    else {
+        return None;
+    };
+    let shown = fill_and_count(rt, &map, &mut pass);
+    Some((shown, close_single(map, pass, place).is_ok()))
 }
 
 /// 32 keys make a table of 16 buckets of either form grow.
 #[test]
-fn the_shares_of_any_table_show_each_key_once(rt: HostRuntime) -> Result<(), Fail> {
-    for form in BOTH {
-        assert!(rt; all_is_shown(&rt, rt.alloc(), form));
+fn the_shares_of_any_table_show_each_key_once(rt: HostRuntime) {
+    for form in &BOTH {
+        let found = shown_in(&rt, rt.alloc(), *form);
+        assert_same(&rt, &found, &Some(((32, [8; 5]), true)));
     }
-    Ok(())
 }

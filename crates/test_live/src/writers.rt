@@ -1,11 +1,10 @@
 //! Bulk operations on a map into which others write.
-use crate::samples::{Numbers, Values, filled};
+use crate::samples::{Numbers, Values, assert_same, filled};
 use facingberyl::bulk::Plan;
 use facingberyl::{Add, Client, Fault, Loan, Work, Worked};
 use live_maps::live_for_each;
 use std::alloc::Global;
 use std::sync::Wait;
-use std::test::Fail;
 use std::thread::Threads;
 
 /// Removes the odd keys below 200 and puts them back, so many times, and puts a key more each time,
@@ -62,14 +61,21 @@ fn read<R: Wait + Threads + Sync>(rt: &R, map: &Numbers, times: u64) -> Option<b
     Some(all)
 }
 
-#[test]
-fn what_stays_is_shown_once_while_others_write(rt: HostRuntime) -> Result<(), Fail> {
-    let map = filled(&rt, rt.alloc(), 1, 8, 200)?;
-    let writer = map.client()?.start(&rt, Write { rounds: 50 })?;
-    let seen = read(&rt, &map, 20);
-    let Worked { client, answer } = writer.join(&rt);
+/// Returns what the writer returns, and what a reader sees meanwhile.
+fn write_and_read<R: Threads + Wait + Sync + Copy + Send + 'static>(
+    rt: &R,
+    alloc: Global,
+) -> Result<(Result<(), Fault>, Option<bool>), Fault> {
+    let map = filled(rt, alloc, 1, 8, 200)?;
+    let writer = map.client()?.start(rt, Write { rounds: 50 })?;
+    let seen = read(rt, &map, 20);
+    let Worked { client, answer } = writer.join(rt);
     drop(client);
-    assert_eq!(rt; answer, Ok(()));
-    assert_eq!(rt; seen, Some(true));
-    Ok(())
+    Ok((answer, seen))
+}
+
+#[test]
+fn what_stays_is_shown_once_while_others_write(rt: HostRuntime) {
+    let found = write_and_read(&rt, rt.alloc());
+    assert_same(&rt, &found, &Ok((Ok(()), Some(true))));
 }
