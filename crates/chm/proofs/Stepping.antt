@@ -1,7 +1,7 @@
 -- Where a walk by numbers goes on.
 use Rattle.std.proofs.Common.{◌≡◌, ℕ, ◌+◌, ◌*◌, ◌%◌, ◌^◌, ◌<◌, ◌≤◌, ◌⊎◌, inl, inr, true, Option, Some, None, List, All}
 use Rattle.std.proofs.Common.{[], ◌∷◌, ◌++◌}
-use Rattle.std.proofs.Common.{◌/◌, ap, sym, subst, ◌∙◌, arith}
+use Rattle.std.proofs.Common.{◌/◌, ◌-◌, ap, sym, subst, ◌∙◌, arith}
 use Rattle.std.specs.Prelude.{IfOk, IfSome, IfNone, IsSomeAnd, Result, Ok}
 use Rattle.std.proofs.Math.Nat.{mod-eq_of_lt}
 use Rattle.std.proofs.Math.Pow.{pow_mono}
@@ -37,17 +37,12 @@ behind n hash e size least few low high =
     let double : 2 ^ (e + 1) ≡ 2 * 2 ^ e = let more = pow-add 2 e 1 in omega (arith, more) in
     ((e + 1, omega arith, is), omega arith, omega arith)
 
--- the exponent of a table's size is few
-pub few-exponent : (e n : ℕ) → IsTableSize n → 2 ^ e ≤ n → e ≤ most_exponent
-few-exponent e n (k, few, is) low = elim (cases_lt 26 e) [
-  | inl more ↦ absurd (let top : 2 ^ k ≤ 2 ^ 26 = pow_mono {i = k} {j = 26} few in let much : 2 ^ 27 ≤ 2 ^ e = pow_mono {i = 27} {j = e} more in omega (arith, is, low, top, much))
-  | inr le ↦ le
-]
-
--- the size of a table, by its exponent
-pub size-of : (e : ℕ) → e ≤ most_exponent → 1 * 2 ^ e % 4294967296 ≡ 2 ^ e
-size-of e few = let small : 2 ^ e < 4294967296 = pow_below e 32 (omega (arith, few)) in
-    omega (arith, mod-eq_of_lt {n = 2 ^ e} {m = 4294967296} small)
+-- a number that names a table names one of at most 2^26 bins
+pub exponent-at : (number most : ℕ) → most ≡ most_bins → number < first_end → 0 < number / most →
+    (number / most_bins - 1 ≤ most_exponent) × (number / most_bins ≡ number / most_bins - 1 + 1)
+exponent-at number most is few above =
+    let there : 0 < number / most_bins = subst (λ (m : ℕ). 0 < number / m) is above in
+    (omega (arith, few), omega (arith, there))
 
 -- the number of a place has the exponent of the table above the first hash of the class
 pub IsNumberOf-at : (e : ℕ) (next : Option ClassView) (class : ClassView) (number : ℕ) → next ≡ Some class → IsClass class →
@@ -68,18 +63,6 @@ walk-at n classes d k e w = record {
   before = subst (λ (i : ℕ). All (λ (c : ClassView). Precedes n c.index i) classes) e w.before;
   least = w.least;
 }
-
--- a walk that goes on at a number without a table is at its beginning
-pub HasCome-begun : {K V : Type 0} (n number : ℕ) (shown : List (VisitView K V)) (next : Option ClassView) →
-    number < most_bins → IsSomeAnd next (λ k. k.index ≡ hash_at number) → IsWalkTo n [] (record { n = n; index = 0 }) →
-    HasComeAt number shown → HasCome (record { n = n; next = next }) shown
-HasCome-begun n number shown None few at first come = absurd at
-HasCome-begun {K} {V} n number shown (Some k) few at first (inl (zero, empty)) =
-    subst (λ (l : List (VisitView K V)). HasCome (record { n = n; next = Some k }) l) (sym empty)
-    (walk-at n [] (record { n = n; index = 0 }) k (omega (arith, at, zero)) first)
-HasCome-begun n number shown (Some k) few at first (inr (e, None, le, is, come)) = absurd (omega (arith, few, is))
-HasCome-begun n number shown (Some k) few at first (inr (e, Some d, le, (low, is), come)) =
-    absurd (omega (arith, few, is))
 
 -- one that goes on at a number with a table goes on at the class that begins at its hash
 pub HasCome-on : {K V : Type 0} (n number e : ℕ) (shown : List (VisitView K V)) (next : Option ClassView) →

@@ -1,4 +1,4 @@
-use Rattle.std.proofs.Common.{◌≡◌, ◌≤◌, ◌^◌, ◌++◌, ℕ, Option, None, subst, sym}
+use Rattle.std.proofs.Common.{◌≡◌, ◌++◌, Option, None}
 use Rattle.std.specs.Prelude.{IfSome, IfNone, IsSomeAnd}
 use Rattle.bin_history.specs.Calls.{after}
 use Rattle.count_ledger.specs.Fronts.{HasSeen}
