@@ -122,6 +122,28 @@ fn a_map_with_a_client_out_comes_back_with_its_seed(rt: HostRuntime) {
     assert_same(&rt, &closed_too_early(&rt, rt.alloc()), &wanted);
 }
 
+/// What is printed of a map that is closed while a client is out; nothing, if it is closed.
+fn printed_with_a_client_out(alloc: Global) -> Result<String, Fault> {
+    let text: Texts = TextMap::with_seed(alloc, 16, Seed::of(3, 4))?;
+    let client = text.client()?;
+    let printed = match text.close() {
+        Ok(_closed) => Ok(String::new(alloc)),
+        Err(refused) => {
+            let printed = format!(in alloc; "{refused}");
+            refused.give_up();
+            printed
+        }
+    };
+    drop(client);
+    Ok(printed?)
+}
+
+#[test]
+fn a_map_that_was_not_closed_says_why(rt: HostRuntime) {
+    let printed = printed_with_a_client_out(rt.alloc()).expect(&rt, "no fault");
+    assert_same(&rt, &printed.as_str(), &"a client is still out");
+}
+
 /// Closes one of two handles. Returns the fault, and what the other has.
 fn closed_of_two<R: Wait>(
     rt: &R,
