@@ -186,7 +186,8 @@ def main(program=None):
         for test in (*commands_launch.ALL, *commands_vendor.ALL):
             test(tests, repository)
     with tempfile.TemporaryDirectory() as top:
-        commands_gate.test_gate(tests, os.path.realpath(top))
+        commands_gate.test_gate(tests, f"{os.path.realpath(top)}/gate")
+        commands_gate.test_texts(tests, f"{os.path.realpath(top)}/texts")
     commands_gate.test_words(tests)
     programs = {"mapcli": os.path.realpath(program) if program else built("mapcli"), "map_bench": built("map_bench")}
     if programs["mapcli"]:

@@ -1,9 +1,9 @@
-"""Fault injection: runs the proved programs while each request for memory, and each start of a thread, fails in turn.
+"""Fault injection: runs programs while each request for memory, and each start of a thread, fails in turn.
 
-usage: python3 docs/check_refusals.py [MAPCLI [MAP_BENCH]]
+usage: python3 docs/check_refusals.py [mapcli[=PATH]] [map_bench[=PATH]]
 
-It proves nothing, and takes some seconds. MAPCLI and MAP_BENCH are the programs; without one, that which was proved and built last is used.
-It compiles tools/refuse.c with `cc`, and preloads that into each program, which runs again and again:
+It takes some seconds. With no word it runs both programs: mapcli as it was proved and built last, and map_bench as it is built without its
+proofs, which takes a minute or two where no build of its sources is kept. PATH is another one. It compiles tools/refuse.c with `cc`, and preloads that into each program, which runs again and again:
   the first request fails, then the second, and so on to the last; and all fail from the first on, then from the second on:
     the program writes what it writes without a failure, or it ends with its status and its line for want of memory;
   the same for the starts of threads: the program writes what it writes without a failure.
@@ -15,6 +15,10 @@ import sys
 import tempfile
 
 TOP = os.path.dirname(os.path.dirname(os.path.realpath(__file__)))
+sys.path.insert(0, f"{TOP}/tools")
+from unproved.build import Build  # noqa: E402
+from unproved.crates import NotBuilt, Repository  # noqa: E402
+
 # (a lone client, whose script has one outcome; the queries are shared by four workers, of which three are to be started)
 SCRIPTS = [
     "client\n" + "".join(f"put k{number} {number}\n" for number in range(24)) + "query\ncount\nreduce sum 1\nreduce max 1\nsearch above 22 1\nlist 1\n",
@@ -78,15 +82,23 @@ def faults_of(program):
     print(f"{program.case.program}: {requests} requests, {starts} starts: {2 * (requests + starts)} runs, of which {short} told want of memory")
 
 
-def main(*given):
-    names = list(dict.fromkeys(it.program for it in CASES))
-    paths = {name: os.path.realpath(path) for name, path in zip(names, [*given, *(f"{TOP}/crates/{it}/out/{it}" for it in names[len(given) :])])}
+def program_of(name):
+    """Returns the program that is tried where no other is named."""
+    return f"{TOP}/crates/mapcli/out/mapcli" if name == "mapcli" else Build(Repository(TOP), name).make()
+
+
+def main(*words):
+    paths = dict(it.partition("=")[::2] for it in words or ("mapcli", "map_bench"))
+    if lacking := [it for it in paths if it not in (case.program for case in CASES)]:
+        print(__doc__ if lacking[0] in ("--help", "-h") else f"check_refusals: there is no program {lacking[0]}")
+        return 0 if lacking[0] in ("--help", "-h") else 2
+    paths = {name: os.path.realpath(path or program_of(name)) for name, path in paths.items()}
     if missing := [it for it in paths.values() if not os.access(it, os.X_OK)]:
         print(f"{os.path.relpath(missing[0])} is not there: nothing was tested")
         return 1
     with tempfile.TemporaryDirectory() as top:
         subprocess.run(["cc", "-O2", "-fPIC", "-shared", "-o", f"{top}/refuse.so", f"{TOP}/tools/refuse.c"], check=True)
-        faults = [fault for case in CASES for fault in faults_of(Program(paths[case.program], case, top))]
+        faults = [fault for case in CASES if case.program in paths for fault in faults_of(Program(paths[case.program], case, top))]
     for fault in faults:
         print(fault)
     print(f"{len(faults)} faults")
@@ -94,4 +106,7 @@ def main(*given):
 
 
 if __name__ == "__main__":
-    sys.exit(main(*sys.argv[1:]))
+    try:
+        sys.exit(main(*sys.argv[1:]))
+    except NotBuilt as why:
+        sys.exit(f"check_refusals: {why}")

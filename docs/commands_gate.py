@@ -1,5 +1,5 @@
-"""Tests of bin/test, tools/try_edits and .ci/run: the first two with wrong words, the gate over stubs of its parts."""
-import glob
+"""Tests of bin/test, tools/try_edits and .ci/run: the first two with wrong words, the gate over stubs of its parts, and what it asks of the
+crates of tests over small ones."""
 import os
 import re
 import shutil
@@ -22,30 +22,27 @@ if os.path.exists(its + ".waits"):
     time.sleep(60)
 sys.exit(os.path.exists(its + ".fails"))
 """
-# A stub of rt, which sets builds aside as the kit's does, and puts back what the prover kept.
-RT = """import atexit, os, shutil, sys
-top, crate = os.getcwd(), "crates/low/out"
-aside = f"{top}/.git/rt-aside/low"
-def put_back():
-    shutil.rmtree(f"{top}/{crate}/incremental", ignore_errors=True)
-    os.rename(f"{aside}/incremental", f"{top}/{crate}/incremental")
-    shutil.rmtree(f"{top}/.git/rt-aside")
-shutil.rmtree(f"{top}/.git/rt-aside", ignore_errors=True)
-os.makedirs(f"{top}/.git/rt-aside")
-os.rename(f"{top}/{crate}", aside)
-os.makedirs(f"{top}/{crate}/incremental")
-atexit.register(put_back)
+# A stub of rt, which tells what it is to prove, and builds a program.
+RT = """import os
+print("rt: in a repository" if os.path.exists(".git") else "rt: in a copy")
+print("rt: crates", " ".join(sorted(os.listdir("crates"))))
+with open("crates.txt", encoding="utf-8") as it:
+    print("rt: lines", " ".join(it.read().split()), flush=True)
+print("rt:", os.getcwd() + "/crates/low")
+os.makedirs("crates/low/out")
+with open("crates/low/out/low", "w", encoding="utf-8") as it:
+    it.write("built")
 """
 SCRIPTS = {
     "docs/check.py": "60 pages, 0 faults\n",
+    "tools/gating/texts.py": "0 faults\n",
     "bin/rt": "rt: low proved\nrt: ok\n57 passed, 0 failed\n",
+    "bin/test": "test_low: 9 passed\n9 passed, 0 failed\n",
     "tools/histories": "500 histories of 90000 calls\n",
     "examples/run.py": "words: WORDS\n26 passed, 0 failed, 2 left out\n",
-    "docs/check_refusals.py": "0 faults\n",
+    "docs/check_refusals.py": "refused in WORDS\n0 faults\n",
 }
-
-
-BUILDS = ("incremental/kept", "unproved/built")
+CRATES = "# Crates\nlow:\n\n# Tests\ntest_low: low\n"
 
 
 class Gate:
@@ -56,17 +53,20 @@ class Gate:
         for path in ("tools/gate", "tools/gate_cost", ".ci/run"):
             os.makedirs(os.path.dirname(f"{top}/{path}"), exist_ok=True)
             shutil.copy(f"{TOP}/{path}", f"{top}/{path}")
-        shutil.copytree(f"{TOP}/tools/unproved", f"{top}/tools/unproved", ignore=shutil.ignore_patterns("__pycache__"))
+        for path in ("tools/unproved", "tools/gating"):
+            shutil.copytree(f"{TOP}/{path}", f"{top}/{path}", ignore=shutil.ignore_patterns("__pycache__"))
         for path, says in SCRIPTS.items():
             self.write(path, f"#!{sys.executable}\n{RT}{PART}" if path == "bin/rt" else PART)
             self.write(f"{path}.says", says)
         os.chmod(f"{top}/bin/rt", 0o755)
         shutil.copy(f"{TOP}/tools/gate_times.csv", f"{top}/tools/gate_times.csv")
-        os.makedirs(f"{top}/.git/tmp")
-        self.write("crates/low/src/lib.rt", "#[test]\n")
-        self.write("crates/mapcli/out/mapcli", "")
-        for build in BUILDS:
-            self.write(f"crates/low/out/{build}", build)
+        os.makedirs(f"{top}/.git")
+        os.makedirs(self.its_own(), exist_ok=True)
+        self.write("crates.txt", CRATES)
+        for crate in ("low", "test_low"):
+            self.write(f"crates/{crate}/src/lib.rt", "")
+        self.write("crates/low/out/low", "old")
+        self.write("crates/low/out/unproved/built", "kept")
 
     def write(self, path, text):
         os.makedirs(os.path.dirname(f"{self.top}/{path}"), exist_ok=True)
@@ -80,7 +80,7 @@ class Gate:
         return ran.returncode, output.splitlines()
 
     def begun(self, *words):
-        environment = {**os.environ, "CI": "true", "PATH": f"{self.top}/bin:{os.environ['PATH']}", "TMPDIR": f"{self.top}/.git/tmp"}
+        environment = {**os.environ, "CI": "true", "PATH": f"{self.top}/bin:{os.environ['PATH']}", "TMPDIR": self.its_own()}
         how = {"cwd": "/", "env": environment, "stdin": subprocess.DEVNULL, "stdout": subprocess.PIPE, "stderr": subprocess.STDOUT}
         return subprocess.Popen([f"{self.top}/.ci/run", *words], text=True, start_new_session=True, **how)
 
@@ -104,13 +104,16 @@ class Gate:
         return ran.returncode, output.splitlines(), time.monotonic() - began
 
     def has_begun(self, path):
-        """Returns whether a part waits, in its place or in the copy that a part beside the others works on."""
-        return glob.glob(f"{self.top}/{path}.began") or glob.glob(f"{self.top}/.git/tmp/gate-*/top/{path}.began")
+        """Returns whether a part waits."""
+        return os.path.exists(f"{self.top}/{path}.began")
+
+    def its_own(self):
+        """Returns a folder for what the gate leaves for a while, outside of the repository."""
+        return f"{self.top}.tmp"
 
     def has_builds(self):
-        """Returns whether each build that was kept is in its place, and nothing lies aside."""
-        texts = [self.read(f"crates/low/out/{it}") for it in BUILDS]
-        return texts == list(BUILDS) and not os.path.exists(f"{self.top}/.git/gate-aside") and not os.listdir(f"{self.top}/.git/tmp")
+        """Returns whether what was built without proofs is in its place, and nothing is left of the copy."""
+        return self.read("crates/low/out/unproved/built") == "kept" and not os.listdir(self.its_own())
 
     def read(self, path):
         try:
@@ -143,36 +146,86 @@ def test_gate(tests, top):
     gate = Gate(top)
     status, lines = gate.run()
     tests.want("the gate: its status", status == 0, status)
-    tests.want("the gate: the sum of what its parts count", lines[-1:] == ["86 passed, 0 failed"], lines)
+    tests.want("the gate: the sum of what its parts count", lines[-1:] == ["97 passed, 0 failed"], lines)
     alone = [it for it in lines if re.fullmatch(r"\d+ passed, \d+ failed", it)]
     tests.want("the gate: only one line counts all", len(alone) == 1, alone)
     tests.want("the gate: what is left out is told", "2 parts were left out, as told above" in lines, lines)
     tests.want("the gate: what it will take", any(re.match(r"gate: some \d+ minutes of processor time", it) for it in lines), lines)
-    tests.want("the gate: each proof", "gate: low, 1 of 2 proofs, 0 minutes gone" in lines, lines)
+    tests.want("the gate: each proof", "gate: low, 1 of 1 proofs, 0 minutes gone" in lines, lines)
+    for said in ("rt: in a copy", "rt: crates low", "rt: lines # Crates low: # Tests", "rt: crates/low"):
+        tests.want(f"the gate: what rt ci finds: {said}", said in lines, lines)
+    for said in ("refused in mapcli", "refused in map_bench"):
+        tests.want(f"the gate: {said}", said in lines, lines)
+    tests.want("the gate: a program that was built is in the tree", gate.read("crates/low/out/low") == "built")
     tests.want("the gate: its builds", gate.has_builds())
     test_stops(tests, gate)
     status, lines = gate.run("--all")
-    tests.want("the gate --all: what is left out fails", status == 1 and lines[-1:] == ["86 passed, 2 failed"], lines)
+    tests.want("the gate --all: what is left out fails", status == 1 and lines[-1:] == ["97 passed, 2 failed"], lines)
     tests.want("the gate --all: the tests in C are told", "words: --all" in lines, lines)
     gate.write("bin/rt.says", "56 passed, 1 failed\n")
     gate.write("bin/rt.fails", "")
     gate.write("tools/histories.fails", "")
     status, lines = gate.run()
-    tests.want("the gate: what fails is counted", status == 1 and lines[-1:] == ["84 passed, 2 failed"], lines)
-    os.remove(f"{gate.top}/crates/mapcli/out/mapcli")
-    tests.want("the gate: a program that is not there is told", any("there is no crates/mapcli/out/mapcli" in it for it in gate.run()[1]))
+    tests.want("the gate: what fails is counted", status == 1 and lines[-1:] == ["95 passed, 2 failed"], lines)
+    os.remove(f"{gate.top}/bin/rt")
+    lines = gate.run()[1]
+    tests.want("the gate: where there is no rt", "rt ci: left out, there is no rt" in lines or shutil.which("rt"), lines)
+
+
+# What a small tree has, of which nothing is refused.
+TREE = {
+    "crates.txt": "low:\n\n# Built without proofs\nbench: low\n\n# Tests\ntest_low: low\n",
+    "crates/low/src/lib.rt": "#![tactic(auto)]\n\npub fn one() -> u64 {\n    1\n}\n",
+    "crates/bench/src/main.rt": "#![tactic(auto)]\n\nfn main(_rt: HostRuntime) {}\n",
+    "crates/test_low/src/lib.rt": "#![tactic(auto)]\n\n#[cfg(test)]\nmod ones;\n",
+    "crates/test_low/src/ones.rt": "use low::one;\n\n#[test]\nfn it_is_one() {\n    assert_eq!(one(), 1);\n}\n",
+}
+# What is refused: the file that is other than above, its text, and what is said.
+REFUSED = (
+    ("crates.txt", TREE["crates.txt"].replace("low:", "low: test_low", 1), "low names test_low, which is a crate of tests: only a crate of tests may use it"),
+    ("crates.txt", TREE["crates.txt"].replace("bench: low", "bench: test_low"), "bench names test_low, which is a crate of tests"),
+    ("crates.txt", TREE["crates.txt"].replace("test_low: low", "test_low: bench"), "test_low names bench, which is built without proofs: no crate may use it"),
+    ("crates/test_low/src/lost.rt", "fn lost() {}\n", "crates/test_low/src/lost.rt: no build reads it"),
+    ("crates/test_low/lost.rt", "fn lost() {}\n", "crates/test_low/lost.rt: no build reads it"),
+    ("crates/test_low/data/Lost.antt", "", "crates/test_low/data/Lost.antt: no build reads it"),
+    ("crates/test_low/src/ones.rt", TREE["crates/test_low/src/ones.rt"].replace("    assert", "  assert"), "crates/test_low: run rt fmt in its folder: src/ones.rt"),
+    ("crates/test_low/src/ones.rt", TREE["crates/test_low/src/ones.rt"].replace("#[test]", "#[test]\n#[ignore]"), "ones.rt: a test under #[ignore]"),
+    ("crates/bench/src/main.rt", "fn main(_rt: HostRuntime) {}\n", "crates/bench: its first source has no line #![tactic(auto)]"),
+)
+
+
+def test_texts(tests, top):
+    """What the gate asks of the text of crates that it does not prove."""
+    for path in ("tools/unproved", "tools/gating"):
+        shutil.copytree(f"{TOP}/{path}", f"{top}/{path}", ignore=shutil.ignore_patterns("__pycache__"))
+
+    def said(path="", text=""):
+        shutil.rmtree(f"{top}/crates", ignore_errors=True)
+        for its_path, its_text in {**TREE, **({path: text} if path else {})}.items():
+            os.makedirs(os.path.dirname(f"{top}/{its_path}"), exist_ok=True)
+            with open(f"{top}/{its_path}", "w", encoding="utf-8") as it:
+                it.write(its_text)
+        ran = subprocess.run([sys.executable, f"{top}/tools/gating/texts.py"], capture_output=True, text=True, timeout=60, check=False)
+        return ran.returncode, ran.stdout + ran.stderr
+
+    tests.want("texts: nothing is refused", said() == (0, "0 faults\n"), said())
+    for path, text, what in REFUSED:
+        status, told = said(path, text)
+        tests.want(f"texts: {what}", status == 1 and what in told, told)
 
 
 def test_words(tests):
     """Words that nothing is begun for."""
     for words, status, said in (
         (["bin/test", "no_such"], 2, "bin/test: crates.txt names no crate no_such"),
-        (["bin/test", "--no-such"], 2, "usage: bin/test [CRATE..]"),
-        (["bin/test", "--help"], 0, "usage: bin/test [CRATE..]"),
+        (["bin/test", "test_chm", "no_such"], 2, "bin/test: test_chm has no test or module no_such"),
+        (["bin/test", "--no-such"], 2, "usage: bin/test [--checked] [CRATE..]"),
+        (["bin/test", "--help"], 0, "usage: bin/test [--checked] [CRATE..]"),
+        (["docs/check_refusals.py", "no_such"], 2, "check_refusals: there is no program no_such"),
         (["tools/try_edits", "no_such"], 2, "try_edits: there are no edits of no_such"),
-        (["tools/try_edits", "--help"], 0, "usage: tools/try_edits [CRATE..]"),
+        (["tools/try_edits", "--help"], 0, "usage: tools/try_edits [--built] [CRATE..]"),
         (["tools/gate_cost", "--help"], 0, "usage: tools/gate_cost"),
         ([".ci/run", "--no-such"], 2, "usage: .ci/run [--all]"),
     ):
-        ran = subprocess.run([f"{TOP}/{words[0]}", *words[1:]], capture_output=True, text=True, timeout=60, check=False)
+        ran = subprocess.run([*[sys.executable] * words[0].endswith(".py"), f"{TOP}/{words[0]}", *words[1:]], capture_output=True, text=True, timeout=60, check=False)
         tests.want(" ".join(words), ran.returncode == status and said in ran.stdout + ran.stderr, ran)

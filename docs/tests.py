@@ -10,9 +10,10 @@ import sources
 PATH = "docs/TESTS.md"
 HEAD = """# Tests
 
-`bin/test` runs all {count} tests without proofs, and `rt ci` runs them as they were proved. A test's name says what it
-asserts. Expected values are written by hand, from the rules, and never taken from the program's output. The tests
-include *fault injection*: each request for memory of a call fails in turn.
+`bin/test` runs all {count} tests, in two builds without proofs: one that checks arithmetic and indices, and one that is
+optimised. [A test needs no proof](CHECKING.md#what-is-proved-and-what-is-run), and [a recipe](../CONTRIBUTING.md#add-a-test)
+says how to add one. A test's name says what it asserts. Expected values are written by hand, from the rules, and never
+taken from the program's output. The tests include *fault injection*: each request for memory of a call fails in turn.
 
 Other kinds of tests have pages of their own: [mutation testing](TRIED.md),
 [recorded histories of real runs](THEOREM.md#real-time-is-tested-not-proved), and the

@@ -1,5 +1,6 @@
 """Builds the tests of several crates, and their programs, as one program without their proofs: what is below them is read and compiled once
-for all. Unlike other builds it keeps the trial run's checks of steps, so that a step that a proof would refuse ends the test."""
+for all. One build keeps the trial run's checks of steps, so that a step that a proof would refuse ends the test; another one is optimised, as
+users build a program, so that a wrong optimisation shows."""
 import copy
 import hashlib
 import os
@@ -10,6 +11,8 @@ from .build import Build, Room
 
 # The modules that the crates become, and the tests that the programs become.
 PREFIX, PROGRAM = "in_", "the_program"
+# What the toolchain made of the sources.
+MODULE = "module.bc"
 # A crate's tests are built with those of other crates that have the same one of these below them, the first that they have: more in one
 # program would be more copies of generic functions than the kit compiles (65,536).
 LAYERS = ("caches", "clients", "mapcli_core", "chm")
@@ -39,6 +42,17 @@ def count_of_tests(repository, crate):
         with open(path, encoding="utf-8") as it:
             count += len(re.findall(r"^\s*#\[test\]$", it.read(), re.M))
     return count
+
+
+def has_test(repository, crate, name):
+    """Returns whether a crate has a test, or a module of tests, of this name."""
+    for path in repository.files(crate):
+        with open(path, encoding="utf-8") as it:
+            text = it.read()
+        is_module = name in os.path.relpath(path, repository.folder(crate)).removesuffix(".rt").split("/")
+        if "#[test]" in text and (is_module or re.search(rf"(?m)^\s*#\[test\]\n(?:\s*#\[.*\n)*\s*(?:pub )?fn {name}\b", text)):
+            return True
+    return False
 
 
 def is_program(repository, crate):
@@ -74,15 +88,18 @@ def write_module(folder, crate, to):
 
 
 class Tests(Build):
-    """The build of the tests of some crates."""
+    """The build of the tests of some crates that looks at each step. What is kept of it is a folder, with the program and with the module that
+    the other build is made from."""
+
+    KIND = "tests_{}"
 
     def __init__(self, repository, layer, crates, tell=lambda step: None):
-        self.repository, self.crates = copy.copy(repository), crates
+        self.repository, self.crates, self.layer = copy.copy(repository), crates, layer
         self.crate = f"tests_{layer}"
         uses = [it for crate in crates for it in repository.used[crate]]
         self.repository.used = {**repository.used, self.crate: list(dict.fromkeys(uses))}
         self.repository.kinds = {**repository.kinds, self.crate: []}
-        self.set_up(tell, f"{repository.folder(crates[0])}/out/unproved", self.crate)
+        self.set_up(tell, f"{repository.folder(crates[0])}/out/unproved", self.KIND.format(layer))
 
     def kept(self):
         made = hashlib.sha256()
@@ -93,8 +110,30 @@ class Tests(Build):
     def room(self, folder, log):
         return TestsRoom(self, folder, log)
 
+    def program(self):
+        """Returns the path of the program, which is built where it is not kept."""
+        return f"{self.make()}/program"
+
+
+class OptimisedTests(Tests):
+    """The build of the tests of some crates as users build a program: optimised, without the checks of steps."""
+
+    KIND = "tests_{}.optimised"
+
+    def room(self, folder, log):
+        return OptimisedRoom(self, folder, log)
+
+    def program(self):
+        return self.make()
+
+    def module(self):
+        """Returns the path of the module that the build which looks at each step read."""
+        return f"{Tests(self.repository, self.layer, self.crates, self.tell).make()}/{MODULE}"
+
 
 class TestsRoom(Room):
+    """Where the tests are built that look at each step."""
+
     # (not optimised: that costs at least twice the time that it saves when the tests run)
     level, extra = "-O0", ("--test",)
 
@@ -109,3 +148,21 @@ class TestsRoom(Room):
     def rewritten(self, lines, given):
         # The hints on inlining are left out: a call of the map is long, and inlining it in every test costs more time than it saves.
         return module.plain(lines, {}, has_checks=True)
+
+    def make(self):
+        """Returns the path of a folder with the program and the module."""
+        program, kept = super().make(), f"{self.folder}/kept"
+        os.mkdir(kept)
+        os.rename(program, f"{kept}/program")
+        os.rename(f"{self.folder}/{MODULE}", f"{kept}/{MODULE}")
+        return kept
+
+
+class OptimisedRoom(Room):
+    """Where the tests are built as users build a program, from the module of the other build."""
+
+    def read(self):
+        os.symlink(self.build.module(), f"{self.folder}/{MODULE}")
+
+    def rewritten(self, lines, given):
+        return module.plain(lines, given)

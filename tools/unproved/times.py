@@ -3,9 +3,9 @@ import csv
 
 from .crates import TOP
 
-# Seconds of processor time for each crate: its proof, its tests, its edits, and what both compilers made of it. tools/gate_cost writes it.
+# Seconds of processor time for each crate: its proof, its edits, and what both compilers made of it. tools/gate_cost writes it.
 FILE = "tools/gate_times.csv"
-KINDS = ("proof", "tests", "edits", "compiled")
+KINDS = ("proof", "edits", "compiled")
 
 
 def measured(top=TOP):

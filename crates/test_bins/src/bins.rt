@@ -5,7 +5,7 @@ use bin_history::{Call, Record, RecordedBin, Reply, Walk};
 use hashkeys::{Class, Key, Salt};
 use std::alloc::Global;
 use std::process::Abort;
-use test_support::Plus;
+use test_helpers::Plus;
 
 pub(crate) type KeyBin = RecordedBin<Key, u64, Plus, Global>;
 

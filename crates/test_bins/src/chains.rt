@@ -9,7 +9,7 @@ use bin_history::{Bin, Form, KeyArg, Op, Reply};
 use hashkeys::{Class, Salt};
 use std::alloc::{AllocError, Global};
 use std::process::Abort;
-use test_support::Plus;
+use test_helpers::Plus;
 
 type LongBin = Bin<Twin, u64, Plus, Global>;
 

@@ -11,7 +11,7 @@ use hashkeys::{Class, HashKey, Key, Salt};
 use std::alloc::{AllocError, Global};
 use std::marker::Model;
 use std::process::Abort;
-use test_support::Plus;
+use test_helpers::Plus;
 
 pub(crate) type KeyLedger = Ledger<Key, u64, Plus, Global>;
 
@@ -32,7 +32,7 @@ impl Model for Held {
     ghost use Rattle.bin_history.specs.Calls.{after};
     ghost use Rattle.count_ledger.specs.Agreement.{BinAgrees};
     ghost use Rattle.count_ledger.specs.Views.{RoleView};
-    ghost use Rattle.test_support.specs.declared.functions.Plus.{Plus};
+    ghost use Rattle.test_helpers.specs.declared.functions.Plus.{Plus};
 
     ghost Value = { RoleView (List ℕ) ℕ Plus };
 

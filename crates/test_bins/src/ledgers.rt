@@ -14,7 +14,7 @@ use std::alloc::{AllocError, Global};
 use std::process::Abort;
 use std::test::Fail;
 use std::thread::join_mut;
-use test_support::{Plus, settled};
+use test_helpers::{Plus, settled};
 
 /// A call: which client makes it, on which bin and key, and which value it is to find and to leave, 0 for
 /// none.

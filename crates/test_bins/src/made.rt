@@ -5,7 +5,7 @@ use bin_history::{Bin, Call, Form, KeyArg, Reply, Walk};
 use hashkeys::{Class, Key, Salt};
 use std::alloc::Global;
 use std::process::Abort;
-use test_support::Plus;
+use test_helpers::Plus;
 
 type KeyBin = Bin<Key, u64, Plus, Global>;
 

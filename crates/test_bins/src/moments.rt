@@ -9,7 +9,7 @@ use count_ledger::Moment;
 use hashkeys::Key;
 use std::process::Abort;
 use std::thread::join_mut;
-use test_support::Plus;
+use test_helpers::Plus;
 
 type KeyMoment = Moment<Key, u64, Plus>;
 

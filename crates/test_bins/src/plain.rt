@@ -8,7 +8,7 @@ use bin_history::{Call, Form, Record, Reply};
 use hashkeys::Key;
 use std::alloc::Global;
 use std::process::Abort;
-use test_support::Plus;
+use test_helpers::Plus;
 
 /// Pairs in order of insertion. A key is a number, whose text `text` gives.
 type Pairs = Vec<(usize, u64)>;

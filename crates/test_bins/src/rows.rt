@@ -6,7 +6,7 @@ use bin_history::{Call, Op, Remap, Reply, Value, Walk};
 use hashkeys::{Class, Key};
 use std::alloc::Allocator;
 use std::process::Abort;
-use test_support::Plus;
+use test_helpers::Plus;
 
 /// The names of the calls. A call's kind is the place of its name.
 const NAMES: [&str; 12] = [

@@ -2,7 +2,7 @@
 use crate::asserts::assert_same;
 use crate::held::roles_of;
 use crate::ledgers::{call, open};
-use test_support::settled;
+use test_helpers::settled;
 
 #[test]
 fn settling_needs_each_pass(rt: HostRuntime) {

@@ -6,7 +6,7 @@ use hashkeys::{ByteString, Class, Salt};
 use std::alloc::Global;
 use std::marker::Model;
 use std::process::Abort;
-use test_support::Plus;
+use test_helpers::Plus;
 
 /// What a function does at a number.
 #[derive(Clone, Copy)]

@@ -4,7 +4,8 @@ use caches::{Cache, CacheClient, CacheCounts};
 use clients::Fault;
 use std::alloc::Global;
 use std::sync::Wait;
-use test_support::{Alloc, Number, Refusing};
+use test_helpers::{Alloc, Number};
+use test_support::Refusing;
 
 /// A cache whose requests a test may refuse, and a client of it.
 type Numbers<'a> = Cache<u64, Number<'a>, Alloc<'a>>;

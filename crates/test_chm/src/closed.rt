@@ -7,7 +7,7 @@ use bin_history::Call;
 use hashkeys::Key;
 use std::alloc::Allocator;
 use std::process::Abort;
-use test_support::Plus;
+use test_helpers::Plus;
 
 /// Asserts for each line that what it says is found.
 pub(crate) fn look_at<A: Allocator + Clone>(

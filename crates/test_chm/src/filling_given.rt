@@ -10,8 +10,8 @@ use hashkeys::ByteString;
 use std::alloc::Allocator;
 use std::process::Abort;
 use std::sync::Wait;
+use test_helpers::Plus;
 use test_maps::{BOTH, numbered_text};
-use test_support::Plus;
 
 /// How a word without a value gets one, and what that finds: by a call that waits, and by one that is tried.
 const WAYS: &str = "word add 5 = 105

@@ -12,7 +12,7 @@ use std::alloc::Allocator;
 use std::mem::replace;
 use std::process::Abort;
 use std::sync::Wait;
-use test_support::Plus;
+use test_helpers::Plus;
 
 pub(crate) type Word<A> = ByteString<A>;
 

@@ -15,8 +15,8 @@ use std::alloc::Global;
 use std::mem::replace;
 use std::process::Abort;
 use std::sync::Wait;
+use test_helpers::Keep;
 use test_maps::BOTH;
-use test_support::Keep;
 
 fn modify<R: Wait>(rt: &R, map: &Numbers, pass: &mut NumberPass) -> bool
     requires { pass.old.ledger ≡ map.now.ledger.id }

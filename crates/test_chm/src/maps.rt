@@ -10,8 +10,8 @@ use std::alloc::Allocator;
 use std::fmt::Debug;
 use std::process::Abort;
 use std::sync::Wait;
+use test_helpers::Plus;
 use test_maps::numbered_text;
-use test_support::Plus;
 
 pub(crate) type KeyMap<A> = Map<Key, u64, Plus, A>;
 

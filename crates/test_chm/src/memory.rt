@@ -11,8 +11,9 @@ use hashkeys::Key;
 use std::alloc::{Allocator, Global};
 use std::process::Abort;
 use std::sync::Wait;
+use test_helpers::Plus;
 use test_maps::numbered_text;
-use test_support::{Plus, Refusing};
+use test_support::Refusing;
 
 /// So many calls of the kind that the first word says. Returns how many of them replied as they should.
 pub(crate) fn ask<R: Wait + Abort, A: Allocator + Clone>(

@@ -11,8 +11,9 @@ use std::alloc::{Allocator, Global};
 use std::mem::replace;
 use std::process::Abort;
 use std::sync::Wait;
+use test_helpers::Plus;
 use test_maps::BOTH;
-use test_support::{Plus, Refusing};
+use test_support::Refusing;
 
 /// Adds at a word that has no entry with one request more granted each time, until it is granted. Tells
 /// how often it was refused, and whether each time what was given came back and the word had no value.

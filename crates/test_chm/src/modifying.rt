@@ -10,8 +10,9 @@ use bin_history::Form;
 use std::alloc::{Allocator, Global};
 use std::process::Abort;
 use std::sync::Wait;
+use test_helpers::Plus;
 use test_maps::BOTH;
-use test_support::{Plus, Refusing};
+use test_support::Refusing;
 
 /// Words, what is done at each and what that finds: with all requests granted, and then with none.
 #[derive(Drop)]

@@ -14,8 +14,9 @@ use hashkeys::Key;
 use std::alloc::{Allocator, Global};
 use std::process::Abort;
 use std::sync::Wait;
+use test_helpers::{Alloc, Answer, Number, Plus};
 use test_maps::{BOTH, numbered_text};
-use test_support::{Alloc, Answer, Number, Plus, Refusing};
+use test_support::Refusing;
 
 /// A map of values whose copies ask for memory.
 type NumberMap<'a> = Map<Key, Number<'a>, Answer<'a>, Alloc<'a>>;

@@ -17,7 +17,8 @@ use hashkeys::Key;
 use std::alloc::{Allocator, Global};
 use std::process::Abort;
 use std::sync::Wait;
-use test_support::{Plus, Refusing};
+use test_helpers::Plus;
+use test_support::Refusing;
 
 /// Does what the lines say, and asserts for each that what it says is found.
 pub(crate) fn follow<R: Wait + Abort, A: Allocator + Clone>(

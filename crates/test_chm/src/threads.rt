@@ -11,7 +11,7 @@ use std::sync::Wait;
 use std::sync::atomic::AtomicU64;
 use std::sync::atomic::Ordering::SeqCst;
 use std::thread::{self, Threads};
-use test_support::Plus;
+use test_helpers::Plus;
 
 /// What each of several clients does, by its number, in a thread of its own.
 trait Job {

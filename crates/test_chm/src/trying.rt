@@ -11,8 +11,9 @@ use hashkeys::Key;
 use std::alloc::{Allocator, Global};
 use std::process::Abort;
 use std::sync::Wait;
+use test_helpers::{Alloc, Answer, Number};
 use test_maps::BOTH;
-use test_support::{Alloc, Answer, Number, Refusing};
+use test_support::Refusing;
 
 /// Of a view, a view by a borrowed key, an update and a computation that were tried: which were made,
 /// and whose function was called.

@@ -12,8 +12,9 @@ use hashkeys::Key;
 use std::alloc::{Allocator, Global};
 use std::process::Abort;
 use std::sync::Wait;
+use test_helpers::{Alloc, Answer, Number, Plus};
 use test_maps::BOTH;
-use test_support::{Alloc, Answer, Number, Plus, Refusing};
+use test_support::Refusing;
 
 #[test]
 fn a_view_sees_what_the_call_before_it_left(rt: HostRuntime) {

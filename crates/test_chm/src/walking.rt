@@ -11,8 +11,8 @@ use hashkeys::Key;
 use std::alloc::{Allocator, Global};
 use std::process::Abort;
 use std::sync::Wait;
+use test_helpers::Plus;
 use test_maps::open;
-use test_support::Plus;
 
 /// Whose turn it is, where the walk has come to, the number of the run, memory for another map, and whether
 /// a request was refused.

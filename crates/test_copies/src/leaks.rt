@@ -13,8 +13,9 @@ use hashkeys::HashKey;
 use std::alloc::{Allocator, Global};
 use std::process::Abort;
 use std::sync::Wait;
+use test_helpers::Alloc;
 use test_maps::{BOTH, Single, close, open};
-use test_support::{Alloc, Refusing};
+use test_support::Refusing;
 
 /// Asserts that memory was asked for, and all of it came back.
 fn assert_all_back(rt: &impl Abort, alloc: Alloc<'_>) {

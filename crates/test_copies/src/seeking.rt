@@ -14,7 +14,8 @@ use hashkeys::Bytes;
 use std::alloc::{Allocator, Global};
 use std::process::Abort;
 use std::sync::Wait;
-use test_support::{Keep, Refusing};
+use test_helpers::Keep;
+use test_support::Refusing;
 
 /// The put of `one` at `a`, and then calls at `a` and at `b`, which has no value: gets with so many
 /// requests granted, and the others with none.

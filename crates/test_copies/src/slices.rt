@@ -12,8 +12,9 @@ use hashkeys::Bytes;
 use std::alloc::{Allocator, Global};
 use std::process::Abort;
 use std::sync::Wait;
+use test_helpers::Keep;
 use test_maps::BOTH;
-use test_support::{Keep, Refusing};
+use test_support::Refusing;
 
 /// The put of `one` at `a`. Then a look-up of `a` and a glance at it, each with so many requests
 /// granted, and both of `b`, which has no value, with none.

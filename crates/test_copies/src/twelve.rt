@@ -12,7 +12,8 @@ use hashkeys::Key;
 use std::alloc::{Allocator, Global};
 use std::process::Abort;
 use std::sync::Wait;
-use test_support::{Alloc, Answer, Number, Refusing};
+use test_helpers::{Alloc, Answer, Number};
+use test_support::Refusing;
 
 /// What makes values, and the function whose result is 7, whose copies ask for memory.
 trait Makes<V, F> {

@@ -4,7 +4,7 @@ use chm::Fault;
 use hashkeys::ByteString;
 use std::alloc::Allocator;
 use std::process::Abort;
-use test_support::Number;
+use test_helpers::Number;
 
 pub(crate) type Text<A> = ByteString<A>;
 

@@ -3,7 +3,8 @@ use crate::asserts::assert_same;
 use clients::{Add, Bytes, Fault, NoFunction, OwnedClient, Salt, SharedMap};
 use std::alloc::Global;
 use std::sync::Wait;
-use test_support::{Alloc, Number, Refusing};
+use test_helpers::{Alloc, Number};
+use test_support::Refusing;
 
 /// A client that owns its pass.
 type Owned = OwnedClient<u64, u64, Add, Global>;

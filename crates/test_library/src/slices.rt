@@ -8,7 +8,8 @@ use clients::{
 };
 use std::alloc::Global;
 use std::sync::Wait;
-use test_support::{Alloc, Number, Refusing};
+use test_helpers::{Alloc, Number};
+use test_support::Refusing;
 
 /// A client of these tests. A copy of a value asks for memory once.
 type Numbers<'c, 'a, L, K> = Client<'c, L, K, Number<'a>, NoFunction, Alloc<'a>>;

@@ -12,7 +12,7 @@ use hashkeys::{HashKey, Key};
 use std::alloc::{AllocError, Allocator};
 use std::fmt::Debug;
 use std::process::Abort;
-use test_support::Keep;
+use test_helpers::Keep;
 
 /// Asserts that what was found is what is wanted. A call of it is one step of the caller, which
 /// goes on as it is.

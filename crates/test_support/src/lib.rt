@@ -1,18 +1,10 @@
-//! What tests share: an allocator that refuses one request, so that a test can show what each
-//! refusal leaves, and that counts its requests and what was not taken back; values that ask it for
-//! memory; functions of a value.
+//! An allocator that refuses one request, so that a test can show what each refusal leaves, and that
+//! counts its requests and what was not taken back.
 #![tactic(auto)]
 
-mod books;
-mod functions;
-mod values;
-
-pub use books::settled;
-pub use functions::{Keep, Plus};
 use std::alloc::{AllocError, Allocator};
 use std::sync::atomic::AtomicU64;
 use std::sync::atomic::Ordering::SeqCst;
-pub use values::{Alloc, Answer, Number};
 
 /// How many requests were made, the number, from 0, of the one that is refused, and how many blocks
 /// and bytes were given and not taken back.

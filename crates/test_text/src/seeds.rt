@@ -5,7 +5,8 @@ use clients::{Fault, NoFunction};
 use std::alloc::Global;
 use std::io;
 use std::random::RandomSource;
-use test_support::{Alloc, Refusing};
+use test_helpers::Alloc;
+use test_support::Refusing;
 use text_maps::{Seed, TextFault, TextMap};
 
 /// A source that gives the numbers from 0 on, a byte each.

@@ -7,7 +7,8 @@ use count_ledger::{BinRole, Ledger, Pass};
 use hashkeys::{Key, Salt};
 use std::alloc::{AllocError, Allocator, Global};
 use std::process::Abort;
-use test_support::{Alloc, Keep, Refusing, settled};
+use test_helpers::{Alloc, Keep, settled};
+use test_support::Refusing;
 use transfer::{Finish, Range, Strides};
 
 /// More than any call's requests.

@@ -7,7 +7,8 @@ use bin_history::{Bin, Call, Form, Remap, Value};
 use hashkeys::{Class, Key};
 use std::alloc::{Allocator, Global};
 use std::process::Abort;
-use test_support::{Keep, Refusing};
+use test_helpers::Keep;
+use test_support::Refusing;
 
 /// Numbers, and functions that keep them.
 #[derive(Drop)]

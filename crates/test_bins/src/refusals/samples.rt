@@ -5,7 +5,8 @@ use bin_history::{Bin, Call, Form, KeyArg, Posting, Remap, Reply, Value, Walk};
 use hashkeys::{Class, Key, Salt};
 use std::alloc::{AllocError, Allocator, Global};
 use std::process::Abort;
-use test_support::{Alloc, Answer, Number, Refusing};
+use test_helpers::{Alloc, Answer, Number};
+use test_support::Refusing;
 
 /// Numbers whose copies ask this for memory, and functions whose calls and copies do, and whose result is
 /// their number.

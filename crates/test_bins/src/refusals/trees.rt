@@ -5,7 +5,8 @@ use crate::asserts::assert_same;
 use completers::{Arrival, Partial, Relation, Supply, Tree};
 use std::alloc::AllocError;
 use std::process::Abort;
-use test_support::{Alloc, Refusing};
+use test_helpers::Alloc;
+use test_support::Refusing;
 
 /// More than any call's requests.
 const MANY: u64 = 1000;

@@ -16,7 +16,7 @@ use lean_bins::{BinSlot, LeanBins};
 use std::alloc::{AllocError, Allocator};
 use std::process::Abort;
 use std::sync::Wait;
-use test_support::Keep;
+use test_helpers::Keep;
 
 pub(crate) type KeyMap<A> = LeanBins<Key, u64, Keep, A>;
 

@@ -16,7 +16,7 @@ use std::alloc::{AllocError, Allocator, Global};
 use std::process::Abort;
 use std::sync::Wait;
 use std::thread::{self, Threads};
-use test_support::settled;
+use test_helpers::settled;
 
 /// Tries until the class is moved, however often another thread has its bin.
 fn forward<R: Wait, A: Allocator + Clone>(

@@ -10,7 +10,7 @@ use hashkeys::{Class, Key, Salt};
 use std::alloc::{AllocError, Allocator};
 use std::process::Abort;
 use std::sync::Wait;
-use test_support::Keep;
+use test_helpers::Keep;
 
 pub(crate) type KeyMap<A> = Generations<Key, u64, Keep, A>;
 

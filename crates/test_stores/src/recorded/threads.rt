@@ -11,7 +11,7 @@ use std::alloc::{Allocator, Global};
 use std::process::Abort;
 use std::sync::Wait;
 use std::thread::{self, Threads};
-use test_support::settled;
+use test_helpers::settled;
 
 #[test]
 fn two_threads_forward_one_class_once(rt: HostRuntime) {

@@ -1,9 +1,9 @@
 //! Values and functions that ask for memory where they are copied or called.
-use crate::Refusing;
 use bin_history::{Exact, Remap};
 use hashkeys::Key;
 use std::alloc::{AllocError, Global};
 use std::marker::Model;
+use test_support::Refusing;
 
 /// The allocator of a test.
 pub type Alloc<'a> = &'a Refusing<Global>;
