@@ -14,8 +14,9 @@ TOP = os.path.dirname(os.path.dirname(os.path.dirname(os.path.realpath(__file__)
 COUNTS = re.compile(r"(\d+) passed, (\d+) failed(?:, (\d+) left out)?.*")
 # What was started has so many seconds to end by itself once the gate is stopped.
 PATIENCE = 1.2
-# What runs beside the proofs takes what they leave of the processors.
-BESIDE = ["nice", "-n", "10"]
+# What runs beside the proofs takes what they leave of the processors. Linux shares them between sessions first, by a number of each session, and
+# by the niceness of processes only within a session.
+BESIDE = ["sh", "-c", 'echo 10 2> /dev/null > /proc/$$/autogroup; exec nice -n 10 "$@"', "sh"]
 PRINTING = threading.RLock()
 
 
