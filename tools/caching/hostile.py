@@ -218,6 +218,55 @@ def long_pipelines(program):
         must(all(it.reply() == b"x" * 4096 for _ in range(10000)) and it.reply() == b"end", "a reply is another")
 
 
+def pipelines_that_are_read(program):
+    """Clients that read while the server sends have all their replies, time and again, and no connection is closed but by its client."""
+    rounds, reply = (80 if "plain" in program else 10), 61440
+    with Server(program, "--threads", 2) as server, Connection(server.port) as it:
+        must(it.call("SET", "v", "x" * reply) == OK, "a key was not set")
+        size = 300 * len(b"$%d\r\n%b\r\n" % (reply, b"x" * reply))
+        for _ in range(rounds):
+            with Connection(server.port) as other:
+                other.send(packed("GET", "v") * 300)
+                got = 0
+                while got < size:
+                    other.more()
+                    got, other.at = got + len(other.got), len(other.got)
+                must(got == size and other.call("PING") == PONG, "a reply is another")
+        until = time.monotonic() + 60
+        while (closed := closings(it))["client"] < rounds:
+            must(time.monotonic() < until, f"{closed} were closed")
+        must(sum(closed.values()) == rounds, f"{closed} were closed")
+
+
+def closings(it):
+    """How many connections were closed for each reason."""
+    lines = it.call("INFO", "closed").decode().split()[2:]
+    return {name.removeprefix("closed_by_"): int(count) for name, count in (line.split(":") for line in lines)}
+
+
+def closings_are_counted(program):
+    """Each connection that the server closes is counted by its reason."""
+    words = ("--output", 1 << 17, "--timeout", 2, "--threads", 1, "--password", "sesame", "--request", 1 << 20)
+    with Server(program, *words) as server, Connection(server.port) as it:
+        must(it.call("AUTH", "sesame") == OK and it.call("SET", "v", "x" * 60000) == OK, "no reply")
+        for name, data in (("quit", packed("QUIT")), ("protocol", b"*x\r\n"), ("http", b"POST / HTTP/1.1\r\n"),
+                           ("output", packed("AUTH", "sesame") + packed("MGET", "v", "v", "v")), ("timeout", b"")):
+            before = closings(it)
+            with Connection(server.port) as other:
+                other.send(data)
+                while not wait_for(other, 0.5):
+                    must(it.call("PING") == PONG, "no reply")
+            after = closings(it)
+            must({key for key in after if after[key] != before[key]} == {name}, f"{name}: {before}, and then {after}")
+            must(after[name] == before[name] + 1, f"{name}: {before}, and then {after}")
+
+
+def wait_for(it, seconds):
+    """Whether the server closes the connection within so many seconds."""
+    it.socket.settimeout(seconds)
+    return it.is_closed()
+
+
 def amplified(program):
     """One small request whose reply is larger than the limit: the connection is closed."""
     with Server(program, "--output", 1 << 24) as server, witness(server), Connection(server.port) as it:

@@ -3,7 +3,7 @@
  * options.c reads the options. main.c opens the map, starts the threads, accepts connections and deals them out, and removes
  * expired keys in slices. worker.c has a thread's loop over its connections; request.c takes requests apart, run.c runs
  * them, reply.c writes replies. store.c changes the value of a key by one atomic call, walk.c goes over the keys, evict.c
- * makes room; turn.c lets a request run alone, watch.c tells whether a key was changed. clock.c has deadlines, cluster.c the
+ * makes room; closing.c counts why connections were closed; turn.c lets a request run alone, watch.c tells whether a key was changed. clock.c has deadlines, cluster.c the
  * servers beside this one. heap.c counts memory. commands.c has the table of commands; commands.h tells where each is. */
 #ifndef CACHE_H
 #define CACHE_H
@@ -66,6 +66,21 @@ enum { COUNTS = sizeof(struct counts) / sizeof(int64_t) };
 /* Connections that the main thread or a worker refused, each for a reason. */
 enum refusal { TOO_MANY, CROSS_PROTOCOL, WRONG_PASSWORD, REFUSALS };
 
+/* Why a connection was closed; closing.c has their names. */
+enum closing {
+    STILL_OPEN,
+    BY_CLIENT,
+    BY_QUIT,
+    BY_SOCKET,   /* the system reports an error of it */
+    BY_PROTOCOL, /* a request that cannot be taken apart */
+    BY_HTTP,
+    BY_TIMEOUT,
+    BY_OUTPUT, /* the replies to one request go past --output */
+    BY_MEMORY, /* the limit of memory or the system has none for its request or replies */
+    BY_STOP,
+    CLOSINGS
+};
+
 struct seat {
     _Alignas(64) atomic_bool is_taken;
 };
@@ -95,7 +110,7 @@ struct cache {
     uint64_t hand;           /* where eviction goes on in the map; hand_lock is held */
     struct watched **chains; /* watch_lock is held */
     _Alignas(64) _Atomic int64_t counts[COUNTS];
-    _Alignas(64) _Atomic uint64_t connections, accepted, ids, refused[REFUSALS];
+    _Alignas(64) _Atomic uint64_t connections, accepted, ids, refused[REFUSALS], closed[CLOSINGS];
 };
 
 int64_t read_count(struct cache *cache, size_t offset);
@@ -271,6 +286,7 @@ struct connection {
     bool is_broken; /* is closed at once */
     bool is_held;   /* has too many replies to send, and takes no requests until they are sent */
     bool is_known;  /* gave the password, or needs none */
+    enum closing why;
     uint64_t id, began, served; /* when it was served last */
     uint8_t *name;              /* its bytes and a 0, or NULL */
     struct buffer in, out;
@@ -288,6 +304,12 @@ void worker_begin(struct worker *worker, struct seat *seat);
 bool worker_open(struct worker *worker, struct cache *cache, facing_bytes_handle *map);
 void worker_close(struct worker *worker);
 void *worker_run(void *of);
+
+/* == closing.c: connections that end, and why == */
+
+void end_connection(struct connection *c, enum closing why);
+void break_connection(struct connection *c, enum closing why);
+size_t write_closings(struct cache *cache, char *text, size_t most);
 
 #define NOT_A_NUMBER "ERR value is not an integer or out of range"
 #define NOT_A_FLOAT "ERR value is not a valid float"

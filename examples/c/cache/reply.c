@@ -21,7 +21,7 @@ void send_replies(struct connection *c) {
         else if (sent < 0 && (errno == EAGAIN || errno == EWOULDBLOCK))
             return;
         else if (sent == 0 || errno != EINTR)
-            c->is_broken = true;
+            break_connection(c, BY_SOCKET);
     }
     c->out.len = c->sent = 0;
     buffer_move(&c->worker->out, &c->out);
@@ -29,8 +29,9 @@ void send_replies(struct connection *c) {
 
 /* Whether the replies may grow by so many bytes: those of a request have a limit, and what is much must have room. */
 static bool may_grow(struct connection *c, size_t len) {
-    if (c->answered + len > c->worker->cache->limits.output) return false;
-    return unsent(c) + len <= HELD || c->out.room - c->out.len >= len || make_room(&c->worker->store, len);
+    bool is_within = c->answered + len <= c->worker->cache->limits.output;
+    if (!is_within) break_connection(c, BY_OUTPUT);
+    return is_within && (unsent(c) + len <= HELD || c->out.room - c->out.len >= len || make_room(&c->worker->store, len));
 }
 
 /* Makes room for so many bytes, and returns where they go; NULL where the connection is to be closed. */
@@ -43,7 +44,7 @@ static uint8_t *more_out(struct connection *c, size_t len) {
     }
     if (c->out.at == NULL) buffer_move(&c->out, &c->worker->out);
     if (!may_grow(c, len) || !buffer_reserve(&c->out, len)) {
-        c->is_broken = true;
+        break_connection(c, BY_MEMORY);
         return NULL;
     }
     return c->out.at + c->out.len;
@@ -130,7 +131,7 @@ void reply_bulk(struct connection *c, struct bytes bytes) {
 /* Replies with bytes of a value that is held, from a place on. */
 void reply_held(struct connection *c, facing_bytes_handle *held, size_t from, size_t len) {
     uint8_t *to = write_bulk(c, len);
-    if (to != NULL && facing_bytes_read(held, from, to, len, NULL) != FACING_DONE) c->is_broken = true;
+    if (to != NULL && facing_bytes_read(held, from, to, len, NULL) != FACING_DONE) break_connection(c, BY_MEMORY);
 }
 
 /* A name, and what is told of it. */

@@ -103,7 +103,7 @@ void run_request(struct connection *c) {
     c->command = command_of(arg(c, 0));
     if (c->command == NULL && is_of_http(arg(c, 0))) {
         atomic_fetch_add_explicit(&c->worker->cache->refused[CROSS_PROTOCOL], 1, memory_order_relaxed);
-        c->is_ending = true;
+        end_connection(c, BY_HTTP);
         return;
     }
     error = refused(c);

@@ -13,7 +13,7 @@ const char *run_ping(struct connection *c) {
 
 const char *run_quit(struct connection *c) {
     reply_simple(c, "OK");
-    c->is_ending = true;
+    end_connection(c, BY_QUIT);
     return NULL;
 }
 
@@ -66,7 +66,7 @@ static void write_stats(struct cache *cache, char part[PART]) {
 
 /* Replies with the sections that are asked for, and an empty line between them. */
 const char *run_info(struct connection *c) {
-    static const char *const names[] = {"Server", "Clients", "Memory", "Stats", "Cluster", "Keyspace"};
+    static const char *const names[] = {"Server", "Clients", "Memory", "Stats", "Closed", "Cluster", "Keyspace"};
     struct cache *cache = c->worker->cache;
     char parts[sizeof names / sizeof *names][PART], text[sizeof parts + sizeof parts / 4];
     size_t len = 0;
@@ -79,10 +79,11 @@ const char *run_info(struct connection *c) {
     write_clients(cache, parts[1]);
     write_memory(cache, parts[2]);
     write_stats(cache, parts[3]);
-    snprintf(parts[4], PART, "cluster_enabled:%d\r\n", is_in_cluster());
-    parts[5][0] = 0;
+    write_closings(cache, parts[4], PART);
+    snprintf(parts[5], PART, "cluster_enabled:%d\r\n", is_in_cluster());
+    parts[6][0] = 0;
     if (keys > 0)
-        snprintf(parts[5], PART, "db0:keys=%" PRIu64 ",expires=%" PRId64 ",avg_ttl=0\r\n", keys, COUNT_OF(cache, timed));
+        snprintf(parts[6], PART, "db0:keys=%" PRIu64 ",expires=%" PRId64 ",avg_ttl=0\r\n", keys, COUNT_OF(cache, timed));
     text[0] = 0;
     for (size_t i = 0; i < sizeof names / sizeof *names; i++)
         if (is_asked(c, names[i]))

@@ -59,8 +59,10 @@ static void take_out(struct connection *c) {
 }
 
 /* Closes a connection. The list changes in a turn, so that who runs alone may read it. */
-static void drop(struct connection *c) {
+static void drop(struct connection *c, enum closing why) {
     struct store *store = &c->worker->store;
+    if (c->why != STILL_OPEN) why = c->why;
+    atomic_fetch_add_explicit(&store->cache->closed[why], 1, memory_order_relaxed);
     turn_share(store);
     take_out(c);
     forget_transaction(c);
@@ -112,20 +114,20 @@ static bool receive(struct connection *c) {
     if (c->in.at == NULL) buffer_move(&c->in, &c->worker->in);
     if (!may_be_longer(c)) {
         reply_error(c, error_of(STORE_FULL));
-        c->is_ending = true;
+        end_connection(c, BY_MEMORY);
         return false;
     }
     if (!buffer_reserve(&c->in, c->in.at == NULL ? KEPT : LEAST_READ)) {
-        c->is_broken = true;
+        break_connection(c, BY_MEMORY);
         return false;
     }
     len = recv(c->socket, c->in.at + c->in.len, c->in.room - c->in.len, 0);
     if (len > 0)
         c->in.len += (size_t)len;
     else if (len == 0)
-        c->is_ending = true;
+        end_connection(c, BY_CLIENT);
     else if (errno != EAGAIN && errno != EWOULDBLOCK && errno != EINTR)
-        c->is_broken = true;
+        break_connection(c, BY_SOCKET);
     return len > 0;
 }
 
@@ -162,24 +164,26 @@ static void run_requests(struct connection *c) {
         c->is_held = !c->is_broken && !c->is_ending && parsed == PARSED && has_many(c);
         if (c->is_held) send_replies(c);
     } while (c->is_held && !c->is_broken && unsent(c) == 0);
-    if (parsed == WRONG) c->is_ending = true;
+    if (parsed == WRONG) end_connection(c, BY_PROTOCOL);
     if (c->begin > 0) memmove(c->in.at, c->in.at + c->begin, c->in.len - c->begin);
     c->in.len -= c->begin;
     c->begin = 0;
     if (c->in.len == 0) buffer_move(&c->worker->in, &c->in);
 }
 
-/* Closes a connection that is at its end, and else says what it waits for. */
+/* Sends the replies, closes a connection that is at its end, and else says what it waits for. What a connection holds that is
+ * not read goes out when the socket takes more: were all of it sent here, nothing would be left to wait for. */
 static void settle(struct connection *c) {
-    bool is_read = !c->is_ending && !c->is_held;
-    uint32_t events = (is_read ? (uint32_t)EPOLLIN : 0U) | (unsent(c) > 0 ? (uint32_t)EPOLLOUT : 0U);
+    uint32_t events;
+    if (!c->is_held) send_replies(c);
+    events = (c->is_ending || c->is_held ? 0U : (uint32_t)EPOLLIN) | (unsent(c) > 0 ? (uint32_t)EPOLLOUT : 0U);
     if (c->is_broken || events == 0) {
-        drop(c);
+        drop(c, BY_CLIENT);
     } else if (events != c->watched) {
         if (watch(c->worker->epoll, EPOLL_CTL_MOD, c->socket, events, c))
             c->watched = events;
         else
-            drop(c);
+            drop(c, BY_MEMORY);
     }
 }
 
@@ -187,7 +191,7 @@ static void settle(struct connection *c) {
 static void finish(struct connection *c) {
     while (!c->is_held && !c->is_ending && !c->is_broken && now_ms() < c->worker->drain_by && receive(c))
         run_requests(c);
-    if (!c->is_held) c->is_ending = true;
+    if (!c->is_held) end_connection(c, BY_STOP);
 }
 
 static void serve(struct connection *c, uint32_t events) {
@@ -199,7 +203,6 @@ static void serve(struct connection *c, uint32_t events) {
         receive(c);
         run_requests(c);
     }
-    send_replies(c);
     settle(c);
 }
 
@@ -220,7 +223,6 @@ static void drain(struct worker *worker) {
     for (struct connection *c = worker->first, *after; c != NULL; c = after) {
         after = c->after;
         finish(c);
-        send_replies(c);
         settle(c);
     }
 }
@@ -229,7 +231,7 @@ static void drain(struct worker *worker) {
 static void close_idle(struct worker *worker) {
     uint64_t timeout = 1000 * worker->cache->limits.timeout;
     while (timeout > 0 && worker->last != NULL && worker->last->served + timeout <= worker->now)
-        drop(worker->last);
+        drop(worker->last, BY_TIMEOUT);
 }
 
 /* How many milliseconds to wait for events: -1 for as long as there are none. */
@@ -257,6 +259,6 @@ void *worker_run(void *of) {
         close_idle(worker);
     }
     while (worker->first != NULL)
-        drop(worker->first);
+        drop(worker->first, BY_STOP);
     return NULL;
 }
