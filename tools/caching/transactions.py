@@ -178,6 +178,20 @@ def transactions_are_one_step(server):
     must(done["sums"] > 20 and done["moves"] > 20, f"little was done: {done}")
 
 
+def time_stands_still(server):
+    """A key that expires while EXEC runs, or a command of many keys, is there for all of it or for none; so is a deadline that EXEC asks for."""
+    several = {"EXEC": [["STRLEN", "k"]] * 30000, "MGET": [["MGET", *["k"] * 60000]], "PTTL": [["PTTL", "k"]] * 30000}
+    with Connection(server.port) as it, Connection(server.port) as other:
+        for name, requests in several.items():
+            for _ in range(4 if server.is_plain else 2):
+                it.calls([["MULTI"], *requests])
+                must(other.call("SET", "k", "v", "PX", "6") == OK, "no reply")
+                got = it.call("EXEC")
+                replies = got[0] if name == "MGET" else got
+                must(len(set(replies)) == 1, f"{name}: one moment has the replies {set(replies)}")
+            must(it.calls([["MULTI"], *[["SET", "k", "v", "PX", "50"], ["PTTL", "k"]] * 2, ["EXEC"]])[-1] == [OK, 50] * 2, "time passes in EXEC")
+
+
 def flushes(server):
     """FLUSHALL removes all keys at one moment, however often it is called, and the memory comes back."""
     with Connection(server.port) as it, Connection(server.port) as other:

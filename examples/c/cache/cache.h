@@ -143,8 +143,7 @@ uint32_t walk_sweep(struct walk *walk, struct store *store);
 /* == clock.c == */
 
 uint64_t now_ms(void);
-bool deadline_from(int64_t count, int64_t unit, bool is_moment, uint64_t *deadline);
-bool has_passed(uint64_t deadline);
+bool deadline_from(int64_t count, int64_t unit, bool is_moment, uint64_t now, uint64_t *deadline);
 int64_t day_of(uint64_t deadline);
 
 /* == store.c: a client of the map, with room for a value == */
@@ -175,6 +174,7 @@ struct store {
     uint32_t next_status; /* why `next` cannot be stored; FACING_DONE where it can */
     struct candidates candidates;
     struct counts counts; /* what is not yet told */
+    uint64_t now;         /* when the request runs, or 0 where it has not asked yet */
     bool is_alone;        /* this store's request runs alone */
 };
 
@@ -191,13 +191,15 @@ enum change { LEAVE, STORE, REMOVE };
 /* Decides on what a key has. Before it returns STORE it calls store_next. It may be asked again, of another value. */
 typedef enum change decide_fn(struct store *store, const struct found *found, void *of);
 
+uint64_t store_now(struct store *store);
+bool has_passed(struct store *store, uint64_t deadline);
 uint32_t store_open(struct store *store, struct cache *cache, facing_bytes_handle *map);
 void store_close(struct store *store);
 void store_tell(struct store *store);
 void store_rest(struct store *store);
 void store_next(struct store *store, uint64_t deadline, struct bytes front, struct bytes back);
 void store_over(struct store *store, size_t at, struct bytes bytes);
-void store_find(const struct store *store, struct stored stored, uint64_t now, struct found *found);
+void store_find(struct store *store, struct stored stored, struct found *found);
 uint32_t store_get(struct store *store, struct bytes key, struct found *found);
 uint32_t store_view(struct store *store, struct bytes key, struct found *found, facing_bytes_handle *held);
 uint32_t store_look(struct store *store, struct bytes key, struct found *found);

@@ -32,16 +32,12 @@ static int64_t day_ahead(void) {
 
 /* The deadline after so many units of milliseconds, or at such a time of day. One in the past is 1. Returns false where the
  * time of day has no such moment in 63 bits. */
-bool deadline_from(int64_t count, int64_t unit, bool is_moment, uint64_t *deadline) {
+bool deadline_from(int64_t count, int64_t unit, bool is_moment, uint64_t now, uint64_t *deadline) {
     int64_t at, before = day_ahead();
     if (__builtin_mul_overflow(count, unit, &at)) return false;
-    if (!is_moment && __builtin_add_overflow(at, before + (int64_t)now_ms(), &at)) return false;
+    if (!is_moment && __builtin_add_overflow(at, before + (int64_t)now, &at)) return false;
     *deadline = at > before ? (uint64_t)(at - before) : 1;
     return true;
-}
-
-bool has_passed(uint64_t deadline) {
-    return deadline != 0 && deadline <= now_ms();
 }
 
 /* The time of day of a deadline, in milliseconds. */

@@ -19,7 +19,7 @@ static enum change decide_expire(struct store *store, const struct found *found,
     struct expiring *it = of;
     it->is_done = found->is_live && (it->deadline != 0 || found->deadline != 0) && is_met(it, found->deadline);
     if (!it->is_done) return LEAVE;
-    if (has_passed(it->deadline)) return REMOVE;
+    if (has_passed(store, it->deadline)) return REMOVE;
     store_next(store, it->deadline, found->value, NOTHING);
     return STORE;
 }
@@ -53,9 +53,10 @@ const char *run_expire(struct connection *c) {
     struct expiring it = {0};
     const char *error = read_conditions(c, &it);
     int64_t count, unit = c->command->number;
+    uint64_t now = store_now(&c->worker->store);
     if (error != NULL) return error;
     if (!number_of(arg(c, 2), &count)) return NOT_A_NUMBER;
-    if (!deadline_from(count, unit < 0 ? -unit : unit, unit < 0, &it.deadline)) return no_deadline(c);
+    if (!deadline_from(count, unit < 0 ? -unit : unit, unit < 0, now, &it.deadline)) return no_deadline(c);
     return change_deadline(c, &it);
 }
 
@@ -69,7 +70,7 @@ const char *run_persist(struct connection *c) {
 const char *run_ttl(struct connection *c) {
     struct found found;
     uint32_t status = store_look(&c->worker->store, arg(c, 1), &found);
-    int64_t unit = c->command->number, now = (int64_t)now_ms();
+    int64_t unit = c->command->number, now = (int64_t)store_now(&c->worker->store);
     int64_t ms = unit < 0 ? day_of(found.deadline) : (int64_t)found.deadline > now ? (int64_t)found.deadline - now : 0;
     if (unit < 0) unit = -unit;
     ms = ms / unit + (2 * (ms % unit) >= unit);

@@ -111,7 +111,7 @@ static void evict_unused(struct store *store, uint64_t more, bool is_sparing, st
         struct stored stored;
         struct bytes key = next_of(of, &stored);
         struct found found;
-        store_find(store, stored, 0, &found);
+        store_find(store, stored, &found);
         if (found.is_live && was_touched(store->cache, key) && is_sparing) continue;
         evict_key(store, key, removed);
     }
@@ -145,7 +145,7 @@ static void evict_first(struct store *store, struct removed *removed) {
         struct stored stored;
         struct bytes key = next_of(of, &stored);
         struct found found;
-        store_find(store, stored, 0, &found);
+        store_find(store, stored, &found);
         if (found.is_live && found.deadline == 0) continue;
         put_in_order(&firsts, key, found.deadline);
         timed++;

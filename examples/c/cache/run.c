@@ -99,6 +99,7 @@ void run_request(struct connection *c) {
     if (c->count == 0) return;
     c->base = c->in.at + c->begin;
     c->answered = 0;
+    c->worker->store.now = 0;
     c->worker->store.counts.calls++;
     c->command = command_of(arg(c, 0));
     if (c->command == NULL && is_of_http(arg(c, 0))) {

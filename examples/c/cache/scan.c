@@ -16,7 +16,6 @@ enum { MOST_SCANNED = 1024, MOST_DRAWN = 32, HASHES = 1 << 26 };
 struct finding {
     struct bytes pattern;
     bool has_pattern, is_of_strings;
-    uint64_t now;
     size_t count;
     struct buffer keys;
 };
@@ -25,7 +24,7 @@ struct finding {
 static bool take_key(struct store *store, struct bytes key, struct stored stored, void *of) {
     struct finding *it = of;
     struct found found;
-    store_find(store, stored, it->now, &found);
+    store_find(store, stored, &found);
     if (!found.is_live) return true;
     if (!it->is_of_strings || (it->has_pattern && !is_like(key, it->pattern))) return true;
     if (!buffer_reserve(&it->keys, sizeof key.len + key.len)) return false;
@@ -94,7 +93,7 @@ static const char *options_of_scan(struct connection *c, struct finding *it, int
 const char *run_scan(struct connection *c) {
     static const char no_cursor[] = "ERR invalid cursor";
     struct walk *walk = &c->worker->walk;
-    struct finding it = {.is_of_strings = true, .now = now_ms()};
+    struct finding it = {.is_of_strings = true};
     int64_t count = 10;
     const char *error;
     char text[24];
@@ -117,7 +116,7 @@ const char *run_scan(struct connection *c) {
  * that runs alone between two steps. */
 const char *run_keys(struct connection *c) {
     struct walk *walk = &c->worker->walk;
-    struct finding it = {.is_of_strings = true, .now = now_ms()};
+    struct finding it = {.is_of_strings = true};
     uint32_t status;
     it.pattern = arg(c, 1);
     it.has_pattern = true;
@@ -135,7 +134,7 @@ const char *run_keys(struct connection *c) {
  * shown more often than others. */
 const char *run_randomkey(struct connection *c) {
     struct walk *walk = &c->worker->walk;
-    struct finding it = {.is_of_strings = true, .now = now_ms()};
+    struct finding it = {.is_of_strings = true};
     struct bytes key = NOTHING;
     bool is_second = false, is_over = false;
     uint32_t random[2] = {0}, status = FACING_DONE;

@@ -43,10 +43,12 @@ static bool read_time(const struct connection *c, size_t *at, const struct time_
 
 /* Sets the deadline to what the time says. Returns an error, or NULL. */
 static const char *read_deadline(struct connection *c, struct setting *it) {
+    const struct time_option *time = it->time;
     int64_t count;
-    if (it->time == NULL || it->time->unit == 0) return NULL;
+    if (time == NULL || time->unit == 0) return NULL;
     if (!number_of(it->count, &count)) return NOT_A_NUMBER;
-    return count > 0 && deadline_from(count, it->time->unit, it->time->is_moment, &it->deadline) ? NULL : no_deadline(c);
+    if (count <= 0) return no_deadline(c);
+    return deadline_from(count, time->unit, time->is_moment, store_now(&c->worker->store), &it->deadline) ? NULL : no_deadline(c);
 }
 
 /* What it replaced stays in store->seen. */
@@ -56,7 +58,7 @@ static enum change decide_set(struct store *store, const struct found *found, vo
     it->before = *found;
     it->is_set = found->is_live ? !it->if_absent : !it->if_present;
     if (!it->is_set) return LEAVE;
-    if (has_passed(deadline)) return REMOVE;
+    if (has_passed(store, deadline)) return REMOVE;
     store_next(store, deadline, it->value, NOTHING);
     return STORE;
 }
@@ -120,7 +122,7 @@ static enum change decide_getex(struct store *store, const struct found *found, 
     struct setting *it = of;
     it->before = *found;
     if (!found->is_live || it->time == NULL || it->error != NULL || it->deadline == found->deadline) return LEAVE;
-    if (has_passed(it->deadline)) return REMOVE;
+    if (has_passed(store, it->deadline)) return REMOVE;
     store_next(store, it->deadline, found->value, NOTHING);
     return STORE;
 }

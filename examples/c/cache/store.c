@@ -1,9 +1,10 @@
 /* Values with deadlines in the map. Each function that changes a value does so by one call of the map, which is atomic:
  * either the call does not depend on what was there, or it is made only if that is still there, and else all is done again.
  *
- * A value whose deadline has passed is gone for every function here: each looks at the clock after it got the value, and no
- * clock of another thread is behind. So is a value of another generation, since FLUSHALL begins a new one. Both take memory
- * until they are overwritten or removed. */
+ * A value whose deadline has passed is gone for every function here. A request looks at the clock once, when it first needs
+ * to, so all that it finds is of one moment; no clock of another thread is behind, so a request that begins after another found
+ * a key expired finds it expired too. So is a value gone of another generation, since FLUSHALL begins a new one. Both take
+ * memory until they are overwritten or removed. */
 #include "cache.h"
 #include <string.h>
 
@@ -42,6 +43,16 @@ static uint64_t generation_of(const struct store *store) {
 }
 
 /* == The store == */
+
+/* The time of the request that runs. */
+uint64_t store_now(struct store *store) {
+    if (store->now == 0) store->now = now_ms();
+    return store->now;
+}
+
+bool has_passed(struct store *store, uint64_t deadline) {
+    return deadline != 0 && deadline <= store_now(store);
+}
 
 uint32_t store_open(struct store *store, struct cache *cache, facing_bytes_handle *map) {
     store->cache = cache;
@@ -112,8 +123,8 @@ void store_over(struct store *store, size_t at, struct bytes bytes) {
 
 /* == What is stored == */
 
-/* What the head of a value that is stored says, at that time; now where it is 0. */
-void store_find(const struct store *store, struct stored stored, uint64_t now, struct found *found) {
+/* What the head of a value that is stored says. */
+void store_find(struct store *store, struct stored stored, struct found *found) {
     uint64_t head = 0;
     *found = (struct found){.is_stored = true, .stored_len = stored.len};
     if (stored.len < SHORT_HEAD) return;
@@ -123,14 +134,14 @@ void store_find(const struct store *store, struct stored stored, uint64_t now, s
     found->is_dead = is_of_other(head, generation_of(store));
     if (found->is_dead) return;
     found->deadline = deadline_of(head);
-    found->is_live = found->deadline == 0 || (now != 0 ? now : now_ms()) < found->deadline;
+    found->is_live = !has_passed(store, found->deadline);
     found->value.len = stored.len - found->head_len;
 }
 
 /* What a call said of a key, whose answer has the first bytes there. */
-static void find_answer(const struct store *store, facing_bytes_answer answer, const uint8_t *first, struct found *found) {
+static void find_answer(struct store *store, facing_bytes_answer answer, const uint8_t *first, struct found *found) {
     *found = (struct found){0};
-    if (answer.found) store_find(store, (struct stored){first, (size_t)answer.len}, 0, found);
+    if (answer.found) store_find(store, (struct stored){first, (size_t)answer.len}, found);
 }
 
 /* Gets the value at a key, a copy where it is short. A long one is not copied: `held` is a handle of it, and else null. */
@@ -290,7 +301,7 @@ uint32_t store_expire(struct store *store, struct bytes key, struct stored store
     bool is_long = stored.len > KEPT && !store->is_alone;
     struct found found;
     uint32_t status;
-    store_find(store, stored, 0, &found);
+    store_find(store, stored, &found);
     if (found.is_live) return FACING_DONE;
     if (is_long) turn_take_alone(store);
     if (store->is_alone) {

@@ -20,6 +20,7 @@ bool turns_begin(struct cache *cache, size_t stores) {
 /* Begins a turn that other threads share. */
 void turn_share(struct store *store) {
     struct cache *cache = store->cache;
+    store->now = 0;
     while (true) {
         atomic_store(&store->seat->is_taken, true);
         if (!atomic_load(&cache->is_alone)) return;
