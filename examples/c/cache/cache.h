@@ -3,7 +3,7 @@
  * options.c reads the options. main.c opens the map, starts the threads, accepts connections and deals them out, and removes
  * expired keys in slices. worker.c has a thread's loop over its connections; request.c takes requests apart, run.c runs
  * them, reply.c writes replies. store.c changes the value of a key by one atomic call, walk.c goes over the keys, evict.c
- * makes room; closing.c counts why connections were closed; turn.c lets a request run alone, watch.c tells whether a key was changed. clock.c has deadlines, cluster.c the
+ * makes room; holding.c bounds what connections hold, closing.c counts why connections were closed; turn.c lets a request run alone, watch.c tells whether a key was changed. clock.c has deadlines, cluster.c the
  * servers beside this one. heap.c counts memory. commands.c has the table of commands; commands.h tells where each is. */
 #ifndef CACHE_H
 #define CACHE_H
@@ -39,6 +39,7 @@ void heap_free(void *at);
 void heap_tell(void);
 uint64_t heap_used(void);
 bool buffer_reserve(struct buffer *buffer, size_t more);
+void buffer_fit(struct buffer *buffer);
 void buffer_free(struct buffer *buffer);
 void buffer_move(struct buffer *to, struct buffer *from);
 
@@ -49,7 +50,7 @@ enum evicts { EVICT_NONE, EVICT_LRU, EVICT_TTL };
 
 /* What the server may use, by its options; the password, which is empty where there is none. */
 struct limits {
-    uint64_t connections, request, output, memory, timeout, grace;
+    uint64_t connections, request, output, memory, buffers, timeout, grace;
     enum evicts evicts;
     struct bytes password;
 };
@@ -57,6 +58,7 @@ struct limits {
 /* What threads count, and tell the others when their turn ends. */
 struct counts {
     int64_t dataset; /* the bytes of all keys and values, with their heads */
+    int64_t stored;  /* how many keys are stored, live or not */
     int64_t timed;   /* how many keys have a deadline */
     int64_t dead;    /* how many keys are still stored that a FLUSHALL removed */
     int64_t calls, hits, misses, evicted, expired;
@@ -77,6 +79,7 @@ enum closing {
     BY_TIMEOUT,
     BY_OUTPUT, /* the replies to one request go past --output */
     BY_MEMORY, /* the limit of memory or the system has none for its request or replies */
+    BY_BUFFERS, /* it held the most where connections together held more than --buffers */
     BY_STOP,
     CLOSINGS
 };
@@ -108,8 +111,10 @@ struct cache {
     _Atomic uint64_t watching;         /* how many keys connections watch */
     pthread_mutex_t alone, hand_lock, watch_lock;
     uint64_t hand;           /* where eviction goes on in the map; hand_lock is held */
+    atomic_bool is_barren;   /* a write looked for keys to evict and found none */
     struct watched **chains; /* watch_lock is held */
     _Alignas(64) _Atomic int64_t counts[COUNTS];
+    _Alignas(64) _Atomic uint64_t holding[2]; /* what connections hold, those without a password first */
     _Alignas(64) _Atomic uint64_t connections, accepted, ids, refused[REFUSALS], closed[CLOSINGS];
 };
 
@@ -122,7 +127,7 @@ struct walk {
     uint64_t at; /* 0 at the beginning, UINT64_MAX at the end */
     uint64_t *key_lens, *value_lens;
     uint8_t *room;
-    size_t len, room_len, pairs;
+    size_t len, room_len, pairs, looked; /* how many it copied, and how many buckets the last step looked into */
 };
 
 /* What a walk copies of a value: its head, or all of it where it is shorter; and how long it is. */
@@ -259,6 +264,7 @@ struct worker {
     struct walk walk;
     int epoll, inbox, outbox; /* the main thread writes descriptors of connections to the outbox, and closes it to stop */
     struct connection *first, *last; /* those that were served last are first */
+    pthread_mutex_t list_lock;       /* of the list, and of what its connections hold */
     struct buffer in, out;           /* empty, to be lent */
     uint64_t now, drain_by;          /* when a stopping worker closes all that is left, or 0 */
     char error[1024];                /* the last error with an argument in it */
@@ -276,7 +282,7 @@ struct transaction {
     size_t count;
     struct buffer requests;
     struct watch *watches;
-    size_t watches_len, watches_room;
+    size_t watches_len, watches_room, watched; /* how many bytes the watched keys have */
 };
 
 struct connection {
@@ -289,8 +295,13 @@ struct connection {
     bool is_held;   /* has too many replies to send, and takes no requests until they are sent */
     bool is_known;  /* gave the password, or needs none */
     enum closing why;
+    atomic_int shed;          /* why another thread has it closed, or 0 */
+    atomic_bool is_spared;    /* by CLIENT NO-EVICT */
+    _Atomic size_t holds;     /* what cache->holding has of it; it changes under the worker's list_lock */
+    atomic_bool holds_known;  /* and where */
     uint64_t id, began, served; /* when it was served last */
     uint8_t *name;              /* its bytes and a 0, or NULL */
+    size_t name_len;
     struct buffer in, out;
     size_t begin, at;             /* of `in`: where the request begins, and how far it is read */
     size_t left, count, arg_room; /* how many arguments are still to come, are there, and have room in `args` */
@@ -306,6 +317,13 @@ void worker_begin(struct worker *worker, struct seat *seat);
 bool worker_open(struct worker *worker, struct cache *cache, facing_bytes_handle *map);
 void worker_close(struct worker *worker);
 void *worker_run(void *of);
+
+/* == holding.c: what connections hold == */
+
+bool may_hold(struct connection *c, size_t more);
+void hold_within(struct connection *c);
+void hold_nothing(struct connection *c);
+void shed(struct connection *c, enum closing why);
 
 /* == closing.c: connections that end, and why == */
 

@@ -26,11 +26,12 @@ static const char *name_client(struct connection *c, struct bytes name) {
     if (copy != NULL) memcpy(copy, name.at, name.len);
     heap_free(c->name);
     c->name = copy;
+    c->name_len = copy == NULL ? 0 : name.len;
     return NULL;
 }
 
 static struct bytes name_of(const struct connection *c) {
-    return c->name == NULL ? NOTHING : bytes_of((const char *)c->name);
+    return (struct bytes){c->name, c->name_len};
 }
 
 static const char *set_name(struct connection *c) {
@@ -58,9 +59,10 @@ static const char *get_id(struct connection *c) {
     return NULL;
 }
 
-/* Clients are never evicted here. */
+/* Whether the connection may be closed where connections hold too much. */
 static const char *no_evict(struct connection *c) {
     if (!is_word(arg(c, 2), "ON") && !is_word(arg(c, 2), "OFF")) return NO_SYNTAX;
+    atomic_store(&c->is_spared, is_word(arg(c, 2), "ON"));
     reply_simple(c, "OK");
     return NULL;
 }

@@ -6,7 +6,11 @@
 #include <string.h>
 #include <sys/mman.h>
 
-enum { LOOKED_AT = 64, SPARING = 16, MOST_STEPS = 256, MOST_EVICTED = 128, FIRSTS = 8, LEAST_BITS = 1 << 13 };
+enum { LOOKED_AT = 64, SPARING = 16, MOST_EVICTED = 128, FIRSTS = 8, LEAST_BITS = 1 << 13 };
+
+/* The most buckets that a write looks into, some 8 ms; and where the one before found nothing there, less than 1 ms. */
+enum { MOST_LOOKED = 1 << 16, MOST_BARREN = 1 << 12 };
+
 enum { NODE = 100, SHORT_KEY = 18, SHORT = 22, BLOCK = 16, ONE_BLOCK = 320, OWNERS = 32 };
 
 /* About how many bytes a key takes with its value and the longest head: a new deadline is never refused. */
@@ -159,25 +163,44 @@ static bool is_enough(const struct removed *removed, uint64_t more) {
     return removed->keys >= MOST_EVICTED && removed->bytes >= more;
 }
 
-/* Sees to it that the limit of memory allows so many more bytes, but for what the map's table takes when it grows. Returns
- * false where nothing can be removed for them. Where all keys were used, those are removed that the hand comes by. */
-bool make_room(struct store *store, uint64_t more) {
+/* Whether there would be room for so many more bytes if all keys were removed that may be. */
+static bool can_have_room(struct store *store, uint64_t more) {
+    struct cache *cache = store->cache;
+    int64_t keys = COUNT_OF(cache, stored) + store->counts.stored, bytes = COUNT_OF(cache, dataset) + store->counts.dataset;
+    int64_t lacking = (int64_t)(heap_used() + more - cache->limits.memory);
+    if (cache->limits.evicts == EVICT_NONE || more > cache->limits.memory) return false;
+    if (cache->limits.evicts == EVICT_TTL && COUNT_OF(cache, timed) + store->counts.timed <= 0) return false;
+    return keys > 0 && lacking <= bytes + keys * (NODE + 2 * BLOCK + OWNERS);
+}
+
+/* Removes keys until there is room, in a bounded number of buckets. Where all were used, those go that the hand comes by. */
+static void evict_some(struct store *store, uint64_t more, struct removed *removed) {
     struct cache *cache = store->cache;
     struct candidates *of = &store->candidates;
-    struct removed removed = {0, 0};
-    size_t since = 0;
-    if (has_room(cache, more)) return true;
-    heap_tell();
-    if (cache->limits.evicts == EVICT_NONE || more > cache->limits.memory) return false;
-    for (size_t step = 0; step < MOST_STEPS && !has_room(cache, more) && !is_enough(&removed, more); step++) {
-        size_t before = removed.keys;
-        if (cache->limits.evicts == EVICT_TTL && COUNT_OF(cache, timed) + store->counts.timed <= 0) return false;
-        if (of->next == of->walk.pairs && !take_candidates(store)) return false;
+    size_t since = 0, looked = 0, most = atomic_load(&cache->is_barren) ? MOST_BARREN : MOST_LOOKED;
+    while (looked < most && !has_room(cache, more) && !is_enough(removed, more)) {
+        size_t before = removed->keys;
+        bool is_over = of->next == of->walk.pairs;
+        if (is_over && !take_candidates(store)) return;
+        if (is_over) looked += of->walk.looked;
         if (cache->limits.evicts == EVICT_LRU)
-            evict_unused(store, more, since < SPARING, &removed);
+            evict_unused(store, more, since < SPARING, removed);
         else
-            evict_first(store, &removed);
-        since = removed.keys > before ? 0 : since + 1;
+            evict_first(store, removed);
+        since = removed->keys > before ? 0 : since + 1;
     }
-    return has_room(cache, more) || is_enough(&removed, more);
+    if ((looked >= most && removed->keys == 0) != atomic_load(&cache->is_barren))
+        atomic_store(&cache->is_barren, removed->keys == 0);
+}
+
+/* Sees to it that the limit of memory allows so many more bytes, but for what the map's table takes when it grows. Returns
+ * false where what can be removed is not enough, and removes nothing then; or where no key to remove was found. */
+bool make_room(struct store *store, uint64_t more) {
+    struct removed removed = {0, 0};
+    if (has_room(store->cache, more)) return true;
+    heap_tell();
+    if (has_room(store->cache, more)) return true;
+    if (!can_have_room(store, more)) return false;
+    evict_some(store, more, &removed);
+    return has_room(store->cache, more) || is_enough(&removed, more);
 }

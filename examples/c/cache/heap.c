@@ -213,6 +213,14 @@ bool buffer_reserve(struct buffer *buffer, size_t more) {
     return true;
 }
 
+/* Gives back the room that a buffer does not use. */
+void buffer_fit(struct buffer *buffer) {
+    uint8_t *at = buffer->len > 0 && buffer->len < buffer->room ? heap_resize(buffer->at, buffer->len) : NULL;
+    if (at == NULL) return;
+    buffer->at = at;
+    buffer->room = buffer->len;
+}
+
 void buffer_free(struct buffer *buffer) {
     heap_free(buffer->at);
     *buffer = (struct buffer){0};

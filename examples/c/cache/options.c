@@ -25,6 +25,7 @@ static const struct option_number numbers[] = {
     {"output", "the most bytes of the replies to a request", AT(limits.output), 1 << 30, 1 << 17, (uint64_t)1 << 33},
     {"memory", "the most bytes of memory, for keys, values and replies", AT(limits.memory), 1 << 30, 1 << 20,
      (uint64_t)1 << 48},
+    {"buffers", "the most bytes that connections hold together; 0: half of --memory", AT(limits.buffers), 0, 0, (uint64_t)1 << 48},
     {"timeout", "seconds after which a connection is closed that sends nothing; 0: never", AT(limits.timeout), 0, 0,
      100000000},
     {"grace", "milliseconds until a stop closes what is left", AT(limits.grace), 5000, 0, 600000},

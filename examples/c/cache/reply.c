@@ -29,9 +29,10 @@ void send_replies(struct connection *c) {
 
 /* Whether the replies may grow by so many bytes: those of a request have a limit, and what is much must have room. */
 static bool may_grow(struct connection *c, size_t len) {
-    bool is_within = c->answered + len <= c->worker->cache->limits.output;
-    if (!is_within) break_connection(c, BY_OUTPUT);
-    return is_within && (unsent(c) + len <= HELD || c->out.room - c->out.len >= len || make_room(&c->worker->store, len));
+    if (c->answered + len > c->worker->cache->limits.output) break_connection(c, BY_OUTPUT);
+    if (c->is_broken || unsent(c) + len <= HELD || c->out.room - c->out.len >= len) return !c->is_broken;
+    if (!may_hold(c, len)) break_connection(c, BY_BUFFERS);
+    return !c->is_broken && make_room(&c->worker->store, len);
 }
 
 /* Makes room for so many bytes, and returns where they go; NULL where the connection is to be closed. */

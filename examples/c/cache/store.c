@@ -197,6 +197,7 @@ void store_count_look(struct store *store, struct bytes key, uint32_t status, co
 static void count_gone(struct store *store, struct bytes key, const struct found *before) {
     if (before->is_stored) {
         store->counts.dataset -= (int64_t)(before->stored_len + key.len);
+        store->counts.stored--;
         store->counts.dead -= before->is_dead;
         store->counts.timed -= before->deadline != 0;
     }
@@ -207,6 +208,7 @@ static void count_gone(struct store *store, struct bytes key, const struct found
 static void count_stored(struct store *store, struct bytes key, const struct found *before) {
     count_gone(store, key, before);
     store->counts.dataset += (int64_t)(store->next.len + key.len);
+    store->counts.stored++;
     store->counts.timed += store->next_deadline != 0;
     before->is_live ? touch(store, key) : changed(store, key);
 }

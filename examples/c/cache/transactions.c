@@ -17,6 +17,7 @@ static const char *reserve(struct connection *c, size_t more) {
     struct buffer *requests = &c->transaction.requests;
     bool is_much = requests->len + more > KEPT && requests->room - requests->len < more;
     if (more > c->worker->cache->limits.request - requests->len) return "ERR transaction exceeds the limit of a request";
+    if (is_much && !may_hold(c, more)) break_connection(c, BY_BUFFERS);
     if (is_much && !make_room(&c->worker->store, more)) return error_of(STORE_FULL);
     return buffer_reserve(requests, more) ? NULL : error_of(FACING_NO_MEMORY);
 }
@@ -54,7 +55,7 @@ static void unwatch_all(struct connection *c) {
         unwatch_key(c->worker->cache, &t->watches[i]);
     heap_free(t->watches);
     t->watches = NULL;
-    t->watches_len = t->watches_room = 0;
+    t->watches_len = t->watches_room = t->watched = 0;
 }
 
 /* Forgets the requests that wait, and what is watched. */
@@ -146,6 +147,8 @@ static const char *watch_one(struct connection *c, struct bytes key) {
     }
     if (!watch_key(store->cache, key, &t->watches[t->watches_len])) return error_of(FACING_NO_MEMORY);
     t->watches_len++;
+    t->watched += key.len;
+    if (t->watched > KEPT && !may_hold(c, 0)) break_connection(c, BY_BUFFERS);
     status = store_look(store, key, &found);
     t->watches[t->watches_len - 1].is_live = found.is_live;
     t->watches[t->watches_len - 1].generation = atomic_load_explicit(&store->cache->generation, memory_order_relaxed);

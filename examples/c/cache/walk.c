@@ -51,10 +51,11 @@ uint32_t walk_next(struct walk *walk, struct store *store, size_t most) {
     facing_bytes_sizes sizes = {most, 2 * (size_t)KEPT};
     uint32_t status = FACING_DONE;
     size_t bytes = 0;
-    walk->pairs = 0;
+    walk->pairs = walk->looked = 0;
     if (walk->room_len > sizes.bytes) walk_free(walk);
     if (!make_room_in(walk, sizes.pairs, sizes.bytes)) status = FACING_NO_MEMORY;
     for (size_t i = 0; status == FACING_DONE && i < BUCKETS && walk->at != UINT64_MAX; i++) {
+        walk->looked++;
         status = copy_bucket(walk, store, most, &bytes, &sizes);
         if (status != FACING_NO_ROOM || walk->pairs > 0) continue;
         if (most < sizes.pairs) most = sizes.pairs;

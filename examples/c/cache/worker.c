@@ -20,6 +20,7 @@ static bool watch(int epoll, int how, int file, uint32_t events, void *of) {
 /* A worker that is not opened yet, and may be closed. */
 void worker_begin(struct worker *worker, struct seat *seat) {
     *worker = (struct worker){.epoll = -1, .inbox = -1, .outbox = -1, .store = {.seat = seat}};
+    pthread_mutex_init(&worker->list_lock, NULL);
 }
 
 bool worker_open(struct worker *worker, struct cache *cache, facing_bytes_handle *map) {
@@ -43,25 +44,31 @@ void worker_close(struct worker *worker) {
     if (worker->outbox >= 0) close(worker->outbox);
 }
 
-/* == The list of connections: those that were served last are first == */
+/* == The list of connections: those that were served last are first. It changes under its lock == */
 
 static void put_first(struct connection *c) {
     struct worker *worker = c->worker;
+    pthread_mutex_lock(&worker->list_lock);
     c->before = NULL;
     c->after = worker->first;
     *(c->after != NULL ? &c->after->before : &worker->last) = c;
     worker->first = c;
+    pthread_mutex_unlock(&worker->list_lock);
 }
 
 static void take_out(struct connection *c) {
+    pthread_mutex_lock(&c->worker->list_lock);
     *(c->before != NULL ? &c->before->after : &c->worker->first) = c->after;
     *(c->after != NULL ? &c->after->before : &c->worker->last) = c->before;
+    pthread_mutex_unlock(&c->worker->list_lock);
 }
 
 /* Closes a connection. The list changes in a turn, so that who runs alone may read it. */
 static void drop(struct connection *c, enum closing why) {
     struct store *store = &c->worker->store;
     if (c->why != STILL_OPEN) why = c->why;
+    if (atomic_load(&c->shed) != 0) why = (enum closing)atomic_load(&c->shed);
+    hold_nothing(c);
     atomic_fetch_add_explicit(&store->cache->closed[why], 1, memory_order_relaxed);
     turn_share(store);
     take_out(c);
@@ -97,11 +104,16 @@ static void take_in(struct worker *worker, int socket) {
 
 /* == Requests and replies == */
 
-/* Whether the limit of memory allows what more there is of a long request. */
+/* Whether the limits allow what more there is of a long request. */
 static bool may_be_longer(struct connection *c) {
     struct store *store = &c->worker->store;
     bool has_it;
-    if (c->in.len < HELD || c->in.room - c->in.len >= LEAST_READ) return true;
+    if (c->in.len < KEPT / 2 || c->in.room - c->in.len >= LEAST_READ) return true;
+    if (!may_hold(c, c->in.room / 4)) {
+        break_connection(c, BY_BUFFERS);
+        return false;
+    }
+    if (c->in.len < HELD) return true;
     turn_share(store);
     has_it = make_room(store, c->in.len / 4);
     turn_end(store);
@@ -113,7 +125,7 @@ static bool receive(struct connection *c) {
     ssize_t len;
     if (c->in.at == NULL) buffer_move(&c->in, &c->worker->in);
     if (!may_be_longer(c)) {
-        reply_error(c, error_of(STORE_FULL));
+        if (!c->is_broken) reply_error(c, error_of(STORE_FULL));
         end_connection(c, BY_MEMORY);
         return false;
     }
@@ -176,6 +188,8 @@ static void run_requests(struct connection *c) {
 static void settle(struct connection *c) {
     uint32_t events;
     if (!c->is_held) send_replies(c);
+    if (!c->is_known) buffer_fit(&c->in);
+    hold_within(c);
     events = (c->is_ending || c->is_held ? 0U : (uint32_t)EPOLLIN) | (unsent(c) > 0 ? (uint32_t)EPOLLOUT : 0U);
     if (c->is_broken || events == 0) {
         drop(c, BY_CLIENT);
