@@ -45,7 +45,7 @@ def long_values(program):
 def memory_is_limited(program):
     """What a long value needs is within --memory, --output and --request; what was stored stays."""
     value = text_of(3 * MB)
-    words = ("--memory", 16 * MB, "--evict", "none", "--output", 4 * MB, "--request", 64 * MB)
+    words = ("--memory", 16 * MB, "--buffers", 16 * MB, "--evict", "none", "--output", 4 * MB, "--request", 64 * MB)
     with Server(program, *words) as server, Connection(server.port) as it:
         must(it.call("SET", "v", value) == OK and it.call("GET", "v") == value, "a value within the limits is refused")
         are_closed(server, it, packed("MGET", "v", "v"))

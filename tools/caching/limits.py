@@ -104,6 +104,28 @@ def used_is_resident(program):
             must(0.9 * used < resident < 1.1 * used, f"values of {size}: {used} bytes more are used, and {resident} resident")
 
 
+def resident_follows_used(program):
+    """What is resident stays near the limit of memory while values grow, and comes back after a FLUSHALL. INFO tells it."""
+    limit = 20 << 20
+    with Server(program, "--memory", limit, "--threads", 2, "--buckets", 1 << 16) as server, Connection(server.port) as it:
+        it.call("PING")
+        first, used_first = server.resident(), info(it, "used_memory")
+        number = 0
+        for size in (20, 84, 300):
+            for _ in range(limit // (size + 90) * 13 // 10 // 4000):
+                it.send(b"".join(b"SET k:%d %b\r\n" % (number + at, b"v" * size) for at in range(4000)))
+                it.bytes(4000 * len("+OK\r\n"))
+                number += 4000
+        resident, room = server.resident() - first, limit - used_first
+        must(resident < 1.8 * room, f"{resident >> 20} MB more are resident, for {room >> 20} MB")
+        must(abs(info(it, "used_memory_rss") - server.resident()) < (4 << 20), "INFO tells another number")
+        must(it.call("FLUSHALL") == OK, "no reply")
+        until = time.monotonic() + 60
+        while server.resident() - first > info(it, "used_memory") - used_first + (6 << 20):
+            must(time.monotonic() < until, f"{server.resident() - first >> 20} MB stay resident after FLUSHALL")
+            time.sleep(0.1)
+
+
 def looks_are_counted(server):
     """INFO counts look-ups that found a key, those that found none, and keys that expired."""
     with Connection(server.port) as it:

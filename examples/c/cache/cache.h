@@ -4,7 +4,7 @@
  * expired keys in slices. worker.c has a thread's loop over its connections; request.c takes requests apart, run.c runs
  * them, reply.c writes replies. store.c changes the value of a key by one atomic call, walk.c goes over the keys, evict.c
  * makes room; holding.c bounds what connections hold, closing.c counts why connections were closed; turn.c lets a request run alone, watch.c tells whether a key was changed. clock.c has deadlines, cluster.c the
- * servers beside this one. heap.c counts memory. commands.c has the table of commands; commands.h tells where each is. */
+ * servers beside this one. heap.c counts memory, slabs.c has small blocks. commands.c has the table of commands; commands.h tells where each is. */
 #ifndef CACHE_H
 #define CACHE_H
 #include "facing_bytes.h"
@@ -38,10 +38,20 @@ void *heap_zeros(size_t size);
 void heap_free(void *at);
 void heap_tell(void);
 uint64_t heap_used(void);
+uint64_t heap_resident(void);
 bool buffer_reserve(struct buffer *buffer, size_t more);
 void buffer_fit(struct buffer *buffer);
 void buffer_free(struct buffer *buffer);
 void buffer_move(struct buffer *to, struct buffer *from);
+
+/* == slabs.c: small blocks == */
+
+enum { BLOCK_STEP = 8, LARGEST_BLOCK = 128 };
+
+size_t block_steps(const void *at);
+void *block_take(size_t steps);
+void block_give(void *at, size_t steps);
+bool blocks_rest(void);
 
 /* == The server == */
 
@@ -268,6 +278,7 @@ struct worker {
     struct buffer in, out;           /* empty, to be lent */
     uint64_t now, drain_by;          /* when a stopping worker closes all that is left, or 0 */
     char error[1024];                /* the last error with an argument in it */
+    bool is_rested;                  /* it had nothing to do, and gave its free blocks back */
     pthread_t thread;
 };
 

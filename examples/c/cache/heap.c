@@ -1,25 +1,22 @@
-/* The memory of the server and of the library, which is counted: small blocks without the header that malloc puts before
- * each, larger ones from malloc. A key and a value that are short lie in the table, or in one small block of 64 bytes. The
- * library calls the three functions of facing_heap.h, which are defined at the end.
- *
- * A slab has 64 KB of blocks of one size. A thread keeps free blocks of each size, and takes and gives them many at once. A
- * small block is used again for its size, and does not go back to the system. */
+/* The memory of the server and of the library, which is counted: small blocks of slabs.c, larger ones from malloc. A key and a
+ * value that are short lie in the table, or in one small block of 64 bytes. The library calls the three functions of
+ * facing_heap.h, which are defined at the end. */
 #define _GNU_SOURCE
 #include "cache.h"
 #include "facing_heap.h"
 #include <malloc.h>
 #include <stdlib.h>
+#include <stdio.h>
 #include <string.h>
-#include <sys/mman.h>
+#include <unistd.h>
 
-enum { STEP = 8, LARGEST = 128, SIZES = LARGEST / STEP, BATCH = 64, SLAB = 1 << 16, SLABS = 16, LEAF = 1 << 16 };
 enum { HEADER = 8, MOST_UNTOLD = 4096, LEAST_ROOM = 256 };
 
 /* AddressSanitizer looks at malloc's blocks. */
 #ifdef __SANITIZE_ADDRESS__
 enum { SMALL = 0 };
 #else
-enum { SMALL = LARGEST };
+enum { SMALL = LARGEST_BLOCK };
 #endif
 
 /* The bytes of all blocks that are not free, but for those that each thread has yet to tell. */
@@ -42,6 +39,16 @@ static void count(int64_t more) {
 uint64_t heap_used(void) {
     int64_t now = atomic_load_explicit(&used, memory_order_relaxed);
     return now > 0 ? (uint64_t)now : 0;
+}
+
+/* The bytes of memory that are resident. */
+uint64_t heap_resident(void) {
+    unsigned long long pages = 0;
+    FILE *file = fopen("/proc/self/statm", "r");
+    if (file == NULL) return heap_used();
+    if (fscanf(file, "%*s %llu", &pages) != 1) pages = 0;
+    fclose(file);
+    return pages * (uint64_t)sysconf(_SC_PAGESIZE);
 }
 
 static int64_t size_of_malloc(void *at) {
@@ -68,124 +75,33 @@ void heap_free(void *at) {
     free(at);
 }
 
-struct block {
-    struct block *next;
-};
-
-struct blocks {
-    struct block *first;
-    size_t count;
-};
-
-/* What all threads share, under the lock. */
-static pthread_mutex_t lock = PTHREAD_MUTEX_INITIALIZER;
-static struct blocks shared[SIZES];
-static uint8_t *fresh[SIZES], *fresh_end[SIZES]; /* for each size, the part of its last slab that was never a block */
-static uint8_t *slabs, *slabs_end;               /* slabs that have no size yet */
-
-static _Thread_local struct blocks own[SIZES];
-/* For the address of each slab its blocks' size in steps; elsewhere 0, or no leaf. */
-static _Atomic(atomic_uchar *) leaves[LEAF];
-
-/* The size in steps of the blocks where an address lies; 0 where it is malloc's. */
-static size_t size_at(const void *at) {
-    uintptr_t address = (uintptr_t)at;
-    atomic_uchar *leaf = atomic_load_explicit(&leaves[address >> 32], memory_order_acquire);
-    return leaf == NULL ? 0 : atomic_load_explicit(&leaf[address / SLAB % LEAF], memory_order_relaxed);
-}
-
-static bool set_size(const uint8_t *slab, size_t steps) {
-    uintptr_t address = (uintptr_t)slab;
-    atomic_uchar *leaf = atomic_load_explicit(&leaves[address >> 32], memory_order_relaxed);
-    if (leaf == NULL) {
-        leaf = calloc(LEAF, sizeof *leaf);
-        if (leaf == NULL) return false;
-        atomic_store_explicit(&leaves[address >> 32], leaf, memory_order_release);
-    }
-    atomic_store_explicit(&leaf[address / SLAB % LEAF], (unsigned char)steps, memory_order_relaxed);
-    return true;
-}
-
-/* Takes a slab for blocks of a size. Returns false where there is no memory. The lock is held. */
-static bool take_slab(size_t steps) {
-    if (slabs == slabs_end) {
-        uint8_t *at = mmap(NULL, (SLABS + 1) * SLAB, PROT_READ | PROT_WRITE, MAP_PRIVATE | MAP_ANONYMOUS, -1, 0);
-        if (at == MAP_FAILED) return false;
-        slabs = at + (SLAB - (uintptr_t)at % SLAB) % SLAB;
-        slabs_end = slabs + SLABS * SLAB;
-    }
-    if (!set_size(slabs, steps)) return false;
-    fresh[steps - 1] = slabs;
-    slabs += SLAB;
-    fresh_end[steps - 1] = slabs;
-    return true;
-}
-
-static void push(struct blocks *to, struct block *block) {
-    block->next = to->first;
-    to->first = block;
-    to->count++;
-}
-
-static struct block *pop(struct blocks *from) {
-    struct block *block = from->first;
-    from->first = block->next;
-    from->count--;
-    return block;
-}
-
-/* Takes free blocks from those of all threads, or from a slab. */
-static void take_blocks(size_t steps) {
-    struct blocks *mine = &own[steps - 1], *all = &shared[steps - 1];
-    uint8_t **at = &fresh[steps - 1];
-    pthread_mutex_lock(&lock);
-    for (size_t i = 0; i < BATCH; i++) {
-        if (all->count > 0) {
-            push(mine, pop(all));
-        } else if ((size_t)(fresh_end[steps - 1] - *at) >= steps * STEP || (mine->count == 0 && take_slab(steps))) {
-            push(mine, (struct block *)(void *)*at);
-            *at += steps * STEP;
-        }
-    }
-    pthread_mutex_unlock(&lock);
-}
-
-static void give_blocks(size_t steps) {
-    pthread_mutex_lock(&lock);
-    for (size_t i = 0; i < BATCH; i++)
-        push(&shared[steps - 1], pop(&own[steps - 1]));
-    pthread_mutex_unlock(&lock);
-}
-
 facing_room facing_alloc(size_t size, size_t align) {
     static char nowhere;
-    size_t steps = (size + STEP - 1) / STEP + (size == 0);
+    size_t steps = (size + BLOCK_STEP - 1) / BLOCK_STEP + (size == 0);
     void *at;
-    if (size > SMALL || align > STEP) {
+    if (size > SMALL || align > BLOCK_STEP) {
         at = malloc(size);
         count(size_of_malloc(at));
     } else {
-        if (own[steps - 1].count == 0) take_blocks(steps);
-        at = own[steps - 1].count == 0 ? NULL : pop(&own[steps - 1]);
-        if (at != NULL) count((int64_t)(steps * STEP));
+        at = block_take(steps);
+        if (at != NULL) count((int64_t)(steps * BLOCK_STEP));
     }
     return (facing_room){at != NULL, at != NULL ? at : &nowhere};
 }
 
 void facing_dealloc(void *at) {
-    size_t steps = size_at(at);
+    size_t steps = block_steps(at);
     if (steps == 0) {
         heap_free(at);
         return;
     }
-    count(-(int64_t)(steps * STEP));
-    push(&own[steps - 1], at);
-    if (own[steps - 1].count > 2 * BATCH) give_blocks(steps);
+    count(-(int64_t)(steps * BLOCK_STEP));
+    block_give(at, steps);
 }
 
 facing_room facing_realloc(void *at, size_t old_size, size_t size, size_t align) {
     facing_room room;
-    if (size > SMALL && size_at(at) == 0) {
+    if (size > SMALL && block_steps(at) == 0) {
         void *moved = heap_resize(at, size);
         return (facing_room){moved != NULL, moved != NULL ? moved : at};
     }

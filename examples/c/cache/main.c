@@ -25,6 +25,9 @@ enum { STACK = 1 << 20, BACKLOG = 511, BATCH = 64, LARGE = 1 << 17 };
  * or half of it after a FLUSHALL. */
 enum { TICK = 100, SLICE = 1, PAUSE = 9, SHORT_PAUSE = 1 };
 
+/* How often it gives memory back at most, and how much is resident beside what is used before it does. */
+enum { TRIM = 10000, SPARE = 1 << 24 };
+
 /* In seconds: after how long without a sign the system asks whether a client is still there, and how often. */
 enum { ALIVE_AFTER = 300, ALIVE_EACH = 100, ALIVE_TIMES = 3 };
 
@@ -38,7 +41,9 @@ struct server {
     struct store store; /* of the main thread, which removes expired keys */
     struct walk walk;
     int listener, signals;
-    uint64_t sweeping, refused[REFUSALS], logged; /* the generation of the walk; what the log has of refusals, and when */
+    uint64_t sweeping, trimmed;         /* the generation of the walk; when memory was given back */
+    bool is_flushed;                    /* since then what a FLUSHALL left was removed */
+    uint64_t refused[REFUSALS], logged; /* what the log has of refusals, and when */
 };
 
 static bool failed(const char *what) {
@@ -193,12 +198,26 @@ static void sweep(struct server *server, uint64_t until) {
     } while (status == FACING_DONE && server->walk.at != 0 && now_ms() < until);
 }
 
-/* Removes what is live no more, if there may be some. Returns in how many milliseconds there is more to do. */
+/* Gives memory back to the system: after a FLUSHALL, and where much more is resident than is used. */
+static void trim(struct server *server, uint64_t now) {
+    uint64_t used = heap_used();
+    if (!server->is_flushed && now < server->trimmed + TRIM) return;
+    if (server->is_flushed || heap_resident() > used + used / 4 + SPARE) {
+        blocks_rest();
+        malloc_trim(0);
+    }
+    server->trimmed = now;
+    server->is_flushed = false;
+}
+
+/* Removes what is live no more, if there may be some. Returns in how many milliseconds there is more to do. Once all is removed
+ * that a FLUSHALL left its memory is given back. */
 static uint64_t sweep_slice(struct server *server) {
     struct cache *cache = &server->cache;
     bool has_dead = COUNT_OF(cache, dead) > 0;
     if (!has_dead && COUNT_OF(cache, timed) <= 0) return TICK;
     sweep(server, now_ms() + SLICE);
+    server->is_flushed = server->is_flushed || (has_dead && COUNT_OF(cache, dead) <= 0);
     return has_dead ? SHORT_PAUSE : PAUSE;
 }
 
@@ -228,6 +247,7 @@ static void accept_all(struct server *server) {
         if (now >= next) {
             uint64_t pause = sweep_slice(server);
             log_refusals(server, now);
+            trim(server, now);
             files[1].events = POLLIN;
             next = now_ms() + pause;
         }

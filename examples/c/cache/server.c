@@ -48,10 +48,14 @@ const char *policy_of(const struct limits *limits) {
 }
 
 static void write_memory(struct cache *cache, char part[PART]) {
+    uint64_t used = heap_used(), resident = heap_resident();
     snprintf(part, PART,
-             "used_memory:%" PRIu64 "\r\nused_memory_dataset:%" PRId64 "\r\nmaxmemory:%" PRIu64
-             "\r\nmaxmemory_policy:%s\r\n",
-             heap_used(), COUNT_OF(cache, dataset), cache->limits.memory, policy_of(&cache->limits));
+             "used_memory:%" PRIu64 "\r\nused_memory_rss:%" PRIu64 "\r\nused_memory_dataset:%" PRId64 "\r\nmaxmemory:%" PRIu64
+             "\r\nmaxmemory_policy:%s\r\nmem_fragmentation_ratio:%.2f\r\nmem_clients_normal:%" PRIu64 "\r\n",
+             used, resident, COUNT_OF(cache, dataset), cache->limits.memory, policy_of(&cache->limits),
+             (double)resident / (double)(used > 0 ? used : 1),
+             atomic_load_explicit(&cache->holding[0], memory_order_relaxed)
+                 + atomic_load_explicit(&cache->holding[1], memory_order_relaxed));
 }
 
 static void write_stats(struct cache *cache, char part[PART]) {

@@ -251,8 +251,16 @@ static void close_idle(struct worker *worker) {
 /* How many milliseconds to wait for events: -1 for as long as there are none. */
 static int time_left(const struct worker *worker) {
     uint64_t now = now_ms();
-    if (worker->drain_by == 0) return worker->cache->limits.timeout > 0 ? LOOKS : -1;
+    if (worker->drain_by == 0) return worker->cache->limits.timeout > 0 || !worker->is_rested ? LOOKS : -1;
     return worker->drain_by > now ? (int)(worker->drain_by - now) : 0;
+}
+
+/* Waits for events. A thread without any for a second gives the free blocks back that it keeps. */
+static int wait_for_events(struct worker *worker, struct epoll_event *events) {
+    int count = epoll_wait(worker->epoll, events, EVENTS, time_left(worker));
+    if (count == 0 && !worker->is_rested) blocks_rest();
+    worker->is_rested = count == 0;
+    return count;
 }
 
 /* A worker's thread. */
@@ -260,7 +268,7 @@ void *worker_run(void *of) {
     struct worker *worker = of;
     struct epoll_event events[EVENTS];
     while (worker->drain_by == 0 || (worker->first != NULL && now_ms() < worker->drain_by)) {
-        int count = epoll_wait(worker->epoll, events, EVENTS, time_left(worker));
+        int count = wait_for_events(worker, events);
         bool was_stopping = worker->drain_by != 0;
         worker->now = now_ms();
         for (int i = 0; i < count; i++) {
