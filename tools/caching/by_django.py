@@ -1,7 +1,27 @@
 """django-redis over a server: run with its port. Ends with status 1, and says why, where a call returns what it should not."""
 import sys
+import threading
 
 from django.conf import settings
+
+
+def incr_at_once(cache):
+    """Adds to one number from eight threads, which is a script of django-redis. Returns the sum."""
+    cache.set("n", 0, None)
+    threads = [threading.Thread(target=lambda: [cache.incr("n") for _ in range(50)]) for _ in range(8)]
+    for it in threads:
+        it.start()
+    for it in threads:
+        it.join()
+    return cache.get("n")
+
+
+def lock_twice(cache):
+    """Takes a lock, tries to take it again, and takes it when it was given back."""
+    lock, second = cache.lock("lock", timeout=100), cache.lock("lock", timeout=100)
+    first = lock.acquire(blocking=False), second.acquire(blocking=False)
+    lock.release()
+    return *first, second.acquire(blocking=False)
 
 
 def main(port):
@@ -34,6 +54,8 @@ def main(port):
         ("delete_many", lambda: cache.delete_many(["d", "none"]), 1),
         ("delete_pattern", lambda: cache.delete_pattern("a*"), 1),
         ("get_or_set", lambda: cache.get_or_set("e", lambda: 9), 9),
+        ("incr by eight threads", lambda: incr_at_once(cache), 400),
+        ("lock", lambda: lock_twice(cache), (True, False, True)),
         ("clear", lambda: cache.clear(), None),
         ("after clear", lambda: cache.get("b"), None),
     ]

@@ -121,20 +121,27 @@ def release(client, token):
 
 
 def locks(it, other):
-    """A lock by SET with NX and PX, which WATCH gives back. redis-py's own Lock is given back by a script, which is not here."""
+    """A lock by SET with NX and PX, which WATCH gives back; and redis-py's own, which scripts give back and prolong."""
     take = lambda client, token: client.set("lock", token, nx=True, px=100000)
     must_be("a lock is taken", take(it, b"1"), True)
     must_be("a lock is taken twice", take(other, b"2"), None)
     must_be("another's lock is given back", release(other, b"2"), False)
     must_be("a lock is given back", release(it, b"1"), True)
     must_be("a free lock is taken", take(other, b"2"), True)
-    lock = it.lock("own", timeout=100)
+    if isinstance(it.execute_command("COMMAND", "INFO", "EVAL"), dict) and not it.execute_command("COMMAND", "INFO", "EVAL"):
+        return
+    lock, second = it.lock("own", timeout=100), other.lock("own", timeout=100)
     must_be("redis-py's Lock is taken", lock.acquire(blocking=False), True)
+    must_be("redis-py's Lock is taken twice", second.acquire(blocking=False), False)
+    must_be("redis-py's Lock is prolonged", lock.extend(100) and 150 < it.ttl("own") <= 200, True)
+    must_be("redis-py's Lock is given back", lock.release(), None)
+    must_be("redis-py's Lock is taken again", second.acquire(blocking=False) and second.owned(), True)
+    it.delete("own")
     try:
-        lock.release()
-        sys.exit("redis-py's Lock is given back: it needs no scripts any more, and docs/CACHE.md is to say so")
-    except redis.ResponseError as why:
-        must_be("a script is refused", "unknown command" in str(why), True)
+        second.release()
+        sys.exit("a lock is given back that is lost")
+    except redis.exceptions.LockError:
+        must_be("a script is called by its name", it.register_script("return {KEYS[1], ARGV[1]}")(keys=["a"], args=["b"]), [b"a", b"b"])
 
 
 def main(port):

@@ -181,7 +181,7 @@ def lines_of(server, wanted, seconds=60):
         text += os.read(server.process.stdout.fileno(), 4096)
         *lines, text = text.split(b"\n")
         for line in lines:
-            number, _, reason = line.decode().removeprefix("cache: refused ").partition(": ")
+            number, _, reason = line.decode().partition("cache: refused ")[2].partition(": ")
             must(reason in found, f"the log has a line {line}")
             found[reason] += int(number)
 

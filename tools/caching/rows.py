@@ -3,6 +3,7 @@ lacks and where it differs; such requests are not here."""
 import itertools
 
 from .replies import LEAST, MOST
+from .server import lua_words
 
 TEXTS = ("", "x", "0", "1", "-1", "01", "-0", "+1", " 1", "1 ", "1.5", "1e3", "0x1", MOST, MOST + 1, LEAST, LEAST - 1, "9" * 30, b"1\0", b"\r\n\xff")
 # No deadline that is set comes while a reply is looked at.
@@ -54,8 +55,42 @@ def each_command():
             yield ["SCAN", *it]
     yield from (["SCAN", "0", "COUNT", "1000", "TYPE", *it] for it in ([], ["string"], ["STRING"], ["hash"], [""], ["string", "MATCH", "n*"]))
     yield from (["KEYS", *it] for it in ([], ["*"], ["n*"], ["?"], [""], ["x"], ["*", "*"]))
+    yield from of_scripts()
     for name in ("FLUSHALL", "FLUSHDB"):
         yield from ([name, *it] for it in ([], ["sync"], ["ASYNC"], ["x"], ["SYNC", "SYNC"], [""]))
+
+
+# What scripts return, call and may not do. No error in them is of a function of C, whose place Redis's own Lua does not tell.
+SCRIPTS = (
+    "return 1", "return -1.9", "return 2^53", "return {1/0, -1/0}", "return 'x\\0y'", "return {1, 'a', {2, {3}}, false, true, nil, 4}",
+    "return {ok = 'a b'}", "return {err = 'A b'}", "return {ok = 1}", "return {err = {}}", "return function() end", "return nil", "return",
+    "return KEYS", "return ARGV", "return {KEYS[1], ARGV[1], #KEYS, #ARGV}", "return redis.call('GET', KEYS[1])", "return redis.pcall('INCR', KEYS[1])",
+    "return redis.call('INCR', KEYS[1])", "return redis.call('SET', KEYS[1], ARGV[1])", "return redis.call('MGET', 'n', 't', 'none')", "return redis.call()",
+    "return redis.call({})", "return redis.call('SET', 'n', true)", "return redis.call('SET', 'n', 3.25)", "return redis.call('NONE')", "return redis.pcall('NONE')",
+    "return redis.call('GET', 'a', 'b')", "return redis.call('WATCH', 'a')", "return redis.call('AUTH', 'a')", "return redis.call('CLIENT', 'ID')", "a = 1", "return a",
+    "return (", "error('x')", "error({err = 'X y'})", "error()", "error({err = 'X y', line = 7})", "local function f() error('deep') end\nf()", "redis.x = 1", "x.y = 1",
+    "return redis.sha1hex()", "return redis.sha1hex(1)", "return redis.error_reply()", "return redis.error_reply('a\\r\\nb')", "return redis.status_reply(1)",
+    "redis.log(9, 'x')", "redis.log(1)", "return redis.REDIS_VERSION", "return {redis.LOG_WARNING, redis.REPL_ALL, redis.REDIS_VERSION_NUM}",
+    "local ok, e = pcall(redis.call, 'NONE') return {ok, e}", "local ok, e = pcall(error, 'x') return {ok, e}", "local ok, e = pcall(error, {}) return {ok, type(e)}",
+    "return {xpcall(function() error('x') end, function(m) return 'seen ' .. m end)}", "return {pcall(function(...) return ... end, 1, 2)}",
+    "return loadstring('return 1 + 1')()", "return tostring(loadstring('('))", "return ('a,b'):find(',')", "return string.gsub('hello', 'l', 'L')", "return #('x'):rep(100)",
+    "return select('#', 1, 2)", "return unpack({1, 2})", "return setmetatable({}, {__index = function(_, k) return k end}).x", "return tostring(0.1)", "return _VERSION",
+    "return redis.call('PEXPIRE', 'n', 100000)", "return redis.call('SET', 'n', '1', 'GET')", "return redis.call('FLUSHALL')", "return redis.call('DBSIZE')",
+    "return redis.call('TYPE', 'n')", "return redis.call('TYPE', 'n').ok", "return redis.call('SCAN', 0)[1]", "return redis.replicate_commands()", "return redis.set_repl(1)",
+)
+
+
+def of_scripts():
+    """Scripts on the same keys, with right and wrong numbers of keys; and what is loaded. None, where the server is built without Lua."""
+    if not lua_words():
+        return
+    for name in ("EVAL", "EVAL_RO"):
+        yield from ([name, script, "1", "n", "x"] for script in SCRIPTS)
+        yield from ([name, *it] for it in ([], ["return 1"], ["return 1", "x"], ["return 1", "-1"], ["return 1", "1"], ["return 1", "2", "a"], ["", "0"]))
+    yield from ([name, it, "0"] for name in ("EVALSHA", "EVALSHA_RO") for it in ("e0e1f9fabfc9d4800c877a703b823ac0578ff8db", "x", "f" * 40, ""))
+    yield from (["SCRIPT", *it] for it in ([], ["LOAD", "return 1"], ["EXISTS", "e0e1f9fabfc9d4800c877a703b823ac0578ff8db", "x"], ["LOAD", "("], ["LOAD"], ["KILL"]))
+    yield from (["SCRIPT", *it] for it in (["FLUSH", "x"], ["FLUSH", "SYNC", "x"], ["FLUSH"], ["FLUSH", "async"], ["x"], ["EXISTS"], ["KILL", "x"]))
+    yield from (["COMMAND", "INFO", it] for it in ("eval", "evalsha", "eval_ro", "evalsha_ro", "script"))
 
 
 def transactions():

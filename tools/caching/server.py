@@ -42,6 +42,15 @@ def need(*tools):
             raise Lacking(f"there is no {tool}")
 
 
+def lua_words():
+    """What the compiler needs for scripts; none where Lua 5.1 is not installed."""
+    with contextlib.suppress(FileNotFoundError):
+        ran = subprocess.run(["pkg-config", "--cflags", "--libs", "lua5.1"], capture_output=True, text=True, check=False)
+        if ran.returncode == 0:
+            return ["-DCACHE_LUA", *ran.stdout.split()]
+    return []
+
+
 def sources():
     return sorted(f"{SOURCES}/{it}" for it in os.listdir(SOURCES) if it.endswith(".c"))
 
@@ -65,11 +74,15 @@ class Place:
         kept = [it for it in sources() if os.path.basename(it) not in left_out]
         return self.build("plain", [*kept, instead], f"without_{left_out[0]}_plain")
 
-    def build(self, kind, its_sources, name=None):
+    def program_without_lua(self):
+        return self.build("plain", sources(), "without_lua_plain", [])
+
+    def build(self, kind, its_sources, name=None, lua=None):
         need("cc")
+        lua = lua_words() if lua is None else lua
         path = f"{self.folder}/cache_{name or kind}"
         words = ["cc", "-std=c11", *FLAGS[kind], *WARNED, f"-I{self.prefix}/include", f"-I{SOURCES}", *its_sources]
-        ran = subprocess.run([*words, f"{self.prefix}/lib/libfacing.a", "-lpthread", "-o", path], capture_output=True, text=True)
+        ran = subprocess.run([*words, f"{self.prefix}/lib/libfacing.a", *lua, "-lpthread", "-o", path], capture_output=True, text=True)
         if ran.returncode and "cannot find" in ran.stderr and kind != "plain":
             raise Lacking("the sanitizers' libraries are not installed")
         if ran.returncode:
@@ -100,7 +113,7 @@ class Server:
         more = {**os.environ, **SANITIZERS}
         self.process = subprocess.Popen(words, stdout=subprocess.PIPE, stderr=self.said, text=True, env=more, preexec_fn=limit)
         line = self.process.stdout.readline()
-        found = re.match(r"cache: listens on 127\.0\.0\.1:(\d+), (\d+) threads$", line)
+        found = re.match(r"[-0-9T:.]+Z cache: listens on 127\.0\.0\.1:(\d+), (\d+) threads$", line)
         if not found:
             self.process.wait()
             raise Failed(f"the server did not start: {line}{self.errors()}")
@@ -122,7 +135,7 @@ class Server:
         """Waits for the end, and returns the status and the last line."""
         self.is_stopped = True
         rest, _ = self.process.communicate(timeout=seconds)
-        return self.process.returncode, (rest.splitlines() or [""])[-1]
+        return self.process.returncode, (rest.splitlines() or [""])[-1].partition(" ")[2]
 
     def stop(self):
         """Stops the server, which must end with status 0, its line, and no report."""

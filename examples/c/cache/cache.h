@@ -3,7 +3,7 @@
  * options.c reads the options. main.c opens the map, starts the threads, accepts connections and deals them out, and removes
  * expired keys in slices. worker.c has a thread's loop over its connections; request.c takes requests apart, run.c runs
  * them, reply.c writes replies. store.c changes the value of a key by one atomic call, walk.c goes over the keys, evict.c
- * makes room; holding.c bounds what connections hold, closing.c counts why connections were closed; turn.c lets a request run alone, watch.c tells whether a key was changed. clock.c has deadlines, cluster.c the
+ * makes room; holding.c bounds what connections hold, closing.c counts why connections were closed; turn.c lets a request run alone, watch.c tells whether a key was changed. scripts.c runs scripts in Lua. clock.c has deadlines, cluster.c the
  * servers beside this one. heap.c counts memory, slabs.c has small blocks. commands.c has the table of commands; commands.h tells where each is. */
 #ifndef CACHE_H
 #define CACHE_H
@@ -60,7 +60,7 @@ enum evicts { EVICT_NONE, EVICT_LRU, EVICT_TTL };
 
 /* What the server may use, by its options; the password, which is empty where there is none. */
 struct limits {
-    uint64_t connections, request, output, memory, buffers, timeout, grace;
+    uint64_t connections, request, output, memory, buffers, timeout, grace, instructions;
     enum evicts evicts;
     struct bytes password;
 };
@@ -104,6 +104,7 @@ struct touched {
 };
 
 struct watched;
+struct scripting;
 
 struct cache {
     struct limits limits;
@@ -120,6 +121,7 @@ struct cache {
     atomic_bool has_far;               /* a deadline was stored that is kept coarsely */
     _Atomic uint64_t watching;         /* how many keys connections watch */
     pthread_mutex_t alone, hand_lock, watch_lock;
+    struct scripting *scripting; /* NULL before the first script; who runs alone touches it */
     uint64_t hand;           /* where eviction goes on in the map; hand_lock is held */
     atomic_bool is_barren;   /* a write looked for keys to evict and found none */
     struct watched **chains; /* watch_lock is held */
@@ -266,6 +268,14 @@ void unwatch_key(struct cache *cache, struct watch *watch);
 bool is_changed(struct cache *cache, const struct watch *watch);
 void changed(const struct store *store, struct bytes key);
 
+/* == log.c, sha1.c, scripts.c == */
+
+enum { SHA1_HEX = 41 };
+
+__attribute__((format(printf, 1, 2))) void log_line(const char *format, ...);
+void sha1_hex(struct bytes text, char hex[SHA1_HEX]);
+void scripts_close(struct cache *cache);
+
 /* == worker.c: a thread and its connections == */
 
 struct worker {
@@ -355,6 +365,7 @@ enum parsed { PARSED, MORE, WRONG };
 
 enum parsed request_next(struct connection *c);
 void request_done(struct connection *c);
+bool add_arg(struct connection *c, size_t from, size_t len);
 struct bytes arg(const struct connection *c, size_t number);
 struct bytes bytes_of(const char *text);
 bool number_of(struct bytes text, int64_t *number);
@@ -367,6 +378,7 @@ void send_replies(struct connection *c);
 void reply_simple(struct connection *c, const char *text);
 void reply_error(struct connection *c, const char *text);
 void reply_number(struct connection *c, int64_t number);
+void reply_raw(struct connection *c, struct bytes bytes);
 void reply_bulk(struct connection *c, struct bytes bytes);
 void reply_held(struct connection *c, facing_bytes_handle *held, size_t from, size_t len);
 void reply_field(struct connection *c, const char *name, const char *text);

@@ -121,10 +121,17 @@ static unsigned slot_of(struct bytes key) {
  * does. */
 const char *cluster_refuses(struct connection *c) {
     const struct command *command = c->command;
+    size_t first = (size_t)command->first, step = (size_t)command->step;
     size_t last = command->last < 0 ? c->count - (size_t)-command->last : (size_t)command->last;
     unsigned slot = SLOTS;
-    if (count == 0 || command->first == 0) return NULL;
-    for (size_t i = (size_t)command->first; i <= last && i < c->count; i += (size_t)command->step) {
+    int64_t keys;
+    if (count > 0 && (command->flags & COUNTED) && number_of(arg(c, 2), &keys) && keys > 0 && keys < (int64_t)c->count) {
+        first = 3;
+        last = 2 + (size_t)keys;
+        step = 1;
+    }
+    if (count == 0 || first == 0) return NULL;
+    for (size_t i = first; i <= last && i < c->count; i += step) {
         unsigned of = slot_of(arg(c, i));
         if (slot != SLOTS && of != slot) return "CROSSSLOT Keys in request don't hash to the same slot";
         slot = of;

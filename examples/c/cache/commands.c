@@ -3,6 +3,8 @@
 #include <ctype.h>
 #include <string.h>
 
+#define SCRIPTS (NO_SCRIPT | STALE | SKIP_MONITOR | NO_KEYS | COUNTED | ALONE)
+
 /* Name, function, number of words, flags, first and last key, step, number; in the order of the files. */
 static const struct command all[] = {
     /* strings.c */
@@ -57,12 +59,12 @@ static const struct command all[] = {
     {"keys", run_keys, 2, READS, 0, 0, 0, 0},
     {"randomkey", run_randomkey, 1, READS, 0, 0, 0, 0},
     /* client.c */
-    {"client", run_client, -2, 0, 0, 0, 0, 0},
+    {"client", run_client, -2, OUT_OF_SCRIPTS, 0, 0, 0, 0},
     {"hello", run_hello, -1, NO_SCRIPT | LOADING | STALE | FAST | NO_AUTH | BUSY, 0, 0, 0, 0},
     /* cluster.c */
     {"cluster", run_cluster, -2, 0, 0, 0, 0, 0},
     /* config.c */
-    {"config", run_config, -2, 0, 0, 0, 0, 0},
+    {"config", run_config, -2, OUT_OF_SCRIPTS, 0, 0, 0, 0},
     {"object", run_object, -2, 0, 0, 0, 0, 0},
     {"memory", run_memory, -2, 0, 0, 0, 0, 0},
     /* describe.c */
@@ -73,6 +75,14 @@ static const struct command all[] = {
     {"discard", run_discard, 1, NO_SCRIPT | LOADING | STALE | FAST | BUSY | UNQUEUED, 0, 0, 0, 0},
     {"watch", run_watch, -2, NO_SCRIPT | LOADING | STALE | FAST | BUSY | UNQUEUED, 1, -1, 1, 0},
     {"unwatch", run_unwatch, 1, NO_SCRIPT | LOADING | STALE | FAST | BUSY, 0, 0, 0, 0},
+#ifdef CACHE_LUA
+    /* scripts.c */
+    {"eval", run_eval, -3, SCRIPTS, 0, 0, 0, 0},
+    {"eval_ro", run_eval, -3, READS | SCRIPTS, 0, 0, 0, 0},
+    {"evalsha", run_eval, -3, SCRIPTS, 0, 0, 0, 1},
+    {"evalsha_ro", run_eval, -3, READS | SCRIPTS, 0, 0, 0, 1},
+    {"script", run_script, -2, OUT_OF_SCRIPTS, 0, 0, 0, 0},
+#endif
     /* server.c */
     {"ping", run_ping, -1, FAST, 0, 0, 0, 0},
     {"echo", run_ping, 2, LOADING | STALE | FAST, 0, 0, 0, 0},

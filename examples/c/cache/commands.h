@@ -18,8 +18,12 @@ enum {
     NO_AUTH = 1 << 8,
     BUSY = 1 << 9, /* allow_busy */
     SKIP_SLOWLOG = 1 << 10,
+    SKIP_MONITOR = 1 << 11,
+    NO_KEYS = 1 << 12,   /* no_mandatory_keys */
+    COUNTED = 1 << 13, /* movablekeys: the third word is the number of keys behind it */
     ALONE = 1 << 16,    /* runs while no other request does */
     UNQUEUED = 1 << 17, /* runs at once in a transaction too */
+    OUT_OF_SCRIPTS = 1 << 18, /* for parts of Redis's command that are */
 };
 
 /* `arity` is the number of words with the name, or, below 0, the least such number. The keys are every `step`-th word from
@@ -71,6 +75,8 @@ bool cluster_open(const char *slots, const char *path);
 const char *cluster_refuses(struct connection *c);
 /* transactions.c */
 run_fn run_multi, run_exec, run_discard, run_watch, run_unwatch;
+/* scripts.c */
+run_fn run_eval, run_script;
 /* server.c */
 run_fn run_ping, run_info, run_auth, run_quit;
 

@@ -10,7 +10,8 @@ static const struct {
 } words[] = {
     {WRITES, "write"},       {READS, "readonly"},  {GROWS, "denyoom"},   {ADMIN, "admin"},
     {NO_SCRIPT, "noscript"}, {LOADING, "loading"}, {STALE, "stale"},     {SKIP_SLOWLOG, "skip_slowlog"},
-    {FAST, "fast"},          {NO_AUTH, "no_auth"}, {BUSY, "allow_busy"},
+    {FAST, "fast"},          {NO_AUTH, "no_auth"}, {BUSY, "allow_busy"},   {SKIP_MONITOR, "skip_monitor"},
+    {NO_KEYS, "no_mandatory_keys"}, {COUNTED, "movablekeys"},
 };
 enum { WORDS = sizeof words / sizeof *words };
 

@@ -19,7 +19,8 @@
 #include <sys/socket.h>
 #include <unistd.h>
 
-enum { STACK = 1 << 20, BACKLOG = 511, BATCH = 64, LARGE = 1 << 17 };
+/* A script's patterns and functions may nest deep on the stack, which takes memory where it is used. */
+enum { STACK = 1 << 23, BACKLOG = 511, BATCH = 64, LARGE = 1 << 17 };
 
 /* In milliseconds: how often the main thread looks around, and how long it removes keys at a time: a tenth of the time,
  * or half of it after a FLUSHALL. */
@@ -221,17 +222,15 @@ static uint64_t sweep_slice(struct server *server) {
     return has_dead ? SHORT_PAUSE : PAUSE;
 }
 
-/* Writes a line a second at most for each reason why connections were refused. A line that nobody reads is left out. */
+/* Writes a line a second at most for each reason why connections were refused. */
 static void log_refusals(struct server *server, uint64_t now) {
     static const char *const reasons[REFUSALS] = {"too many connections", "requests of HTTP", "wrong passwords"};
     if (now < server->logged + 1000) return;
     server->logged = now;
     for (size_t i = 0; i < REFUSALS; i++) {
         uint64_t count = atomic_load_explicit(&server->cache.refused[i], memory_order_relaxed);
-        struct pollfd out = {.fd = STDOUT_FILENO, .events = POLLOUT};
-        if (count == server->refused[i] || poll(&out, 1, 0) != 1 || (out.revents & POLLOUT) == 0) continue;
-        printf("cache: refused %" PRIu64 ": %s\n", count - server->refused[i], reasons[i]);
-        fflush(stdout);
+        if (count == server->refused[i]) continue;
+        log_line("refused %" PRIu64 ": %s", count - server->refused[i], reasons[i]);
         server->refused[i] = count;
     }
 }
@@ -275,6 +274,7 @@ static void close_all(struct server *server) {
     struct cache *cache = &server->cache;
     for (size_t i = 0; i < cache->workers_len; i++)
         worker_close(&cache->workers[i]);
+    scripts_close(cache);
     heap_free(cache->workers);
     walk_free(&server->walk);
     store_close(&server->store);
@@ -309,14 +309,13 @@ int main(int count, char **words) {
     mallopt(M_MMAP_THRESHOLD, LARGE); /* what a client did not read in time goes back to the system */
     is_started = take_signals(&server, &set) && start(&server);
     if (is_started) {
-        printf("cache: listens on %s:%" PRIu64 ", %zu threads\n", options->address, options->port, server.started);
-        fflush(stdout);
+        log_line("listens on %s:%" PRIu64 ", %zu threads", options->address, options->port, server.started);
         accept_all(&server);
     }
     stop(&server, &set);
     if (is_started)
-        printf("cache: stopped, %" PRIu64 " connections, %" PRId64 " requests\n", atomic_load(&server.cache.accepted),
-               COUNT_OF(&server.cache, calls));
+        log_line("stopped, %" PRIu64 " connections, %" PRId64 " requests", atomic_load(&server.cache.accepted),
+                 COUNT_OF(&server.cache, calls));
     close_all(&server);
     return is_started ? 0 : 1;
 }

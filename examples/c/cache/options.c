@@ -28,6 +28,7 @@ static const struct option_number numbers[] = {
     {"buffers", "the most bytes that connections hold together; 0: half of --memory", AT(limits.buffers), 0, 0, (uint64_t)1 << 48},
     {"timeout", "seconds after which a connection is closed that sends nothing; 0: never", AT(limits.timeout), 0, 0,
      100000000},
+    {"instructions", "the most instructions of a script", AT(limits.instructions), 10000000, 1000, (uint64_t)1 << 40},
     {"grace", "milliseconds until a stop closes what is left", AT(limits.grace), 5000, 0, 600000},
 };
 enum { NUMBERS = sizeof numbers / sizeof *numbers };

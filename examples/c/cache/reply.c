@@ -124,6 +124,14 @@ static uint8_t *write_bulk(struct connection *c, size_t len) {
     return to + head;
 }
 
+/* Writes replies that are whole. */
+void reply_raw(struct connection *c, struct bytes bytes) {
+    uint8_t *to = more_out(c, bytes.len);
+    if (to == NULL) return;
+    if (bytes.len > 0) memcpy(to, bytes.at, bytes.len);
+    wrote(c, bytes.len);
+}
+
 void reply_bulk(struct connection *c, struct bytes bytes) {
     uint8_t *to = write_bulk(c, bytes.len);
     if (to != NULL && bytes.len > 0) memcpy(to, bytes.at, bytes.len);

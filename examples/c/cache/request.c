@@ -46,7 +46,8 @@ static enum parsed wrong(struct connection *c, const char *text) {
     return WRONG;
 }
 
-static bool add_arg(struct connection *c, size_t from, size_t len) {
+/* Adds an argument to the request. Returns false where there is no memory. */
+bool add_arg(struct connection *c, size_t from, size_t len) {
     if (c->count == c->arg_room) {
         size_t room = c->arg_room ? 2 * c->arg_room : 8;
         struct span *args = heap_resize(c->args, room * sizeof *args);
