@@ -43,7 +43,8 @@ def each_command():
             yield from ([name, *it] for it in itertools.product(("n", "none", "td"), repeat=count))
     for name in ("PING", "ECHO", "DBSIZE", "RANDOMKEY", *CONTAINERS):
         yield from ([name, *it] for it in times(2, ("", "x", "a\r\nb")))
-    yield from (["SELECT", *it] for it in times(1, (*NUMBERS, 2**31, -(2**31), -(2**31) - 1, 1)))
+    yield from (["SELECT", *it] for it in times(1, (*NUMBERS, 2**31, -(2**31), -(2**31) - 1, 1, 15, 16, 0)))
+    yield from (["MOVE", *it] for it in times(2, KEYS, (*NUMBERS, 2**31, 1, 15, 16)))
     yield from parts_of_commands()
     yield from places()
     rows = ([], ["a"], ["a\r\nb\tc", ""], ["y" * 127, "z"], ["y" * 128, "z"], ["y"] * 50, ["y" * 40] * 5, [b"a\0b"])

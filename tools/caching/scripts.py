@@ -278,7 +278,7 @@ OF_THIS_SERVER = {
             [b"mset", -3, ["write", "denyoom"], 1, -1, 2],
         ]),
         (["command", "docs"], []),
-        (["CONFIG", "GET", "databases"], [b"databases", b"1"]),
+        (["CONFIG", "GET", "databases"], [b"databases", b"16"]),
         (["CONFIG", "GET", "MAXMEMORY", "maxclients"], [b"maxclients", b"10000", b"maxmemory", b"1073741824"]),
         (["SELECT", "1"], DATABASE),
         (["OBJECT", "IDLETIME", "a"], 0),

@@ -163,13 +163,13 @@ class Server:
 
 @contextlib.contextmanager
 def redis_server(*options):
-    """A redis-server on a port that was free, with one database."""
+    """A redis-server on a port that was free."""
     need("redis-server")
     with socket.socket() as it:
         it.bind(("127.0.0.1", 0))
         port = it.getsockname()[1]
     with tempfile.TemporaryDirectory() as folder:
-        words = ["redis-server", "--port", str(port), "--save", "", "--appendonly", "no", "--databases", "1", "--dir", folder, *map(str, options)]
+        words = ["redis-server", "--port", str(port), "--save", "", "--appendonly", "no", "--databases", "16", "--dir", folder, *map(str, options)]
         with subprocess.Popen(words, stdout=subprocess.DEVNULL) as ran:
             try:
                 for _ in range(600):

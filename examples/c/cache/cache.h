@@ -2,7 +2,7 @@
  *
  * options.c reads the options. main.c opens the map, starts the threads, accepts connections and deals them out, and removes
  * expired keys in slices. worker.c has a thread's loop over its connections; request.c takes requests apart, run.c runs
- * them, reply.c writes replies. store.c changes the value of a key by one atomic call, walk.c goes over the keys, evict.c
+ * them, reply.c writes replies. store.c changes the value of a key by one atomic call, databases.c has a map for each database, walk.c goes over the keys, evict.c
  * makes room; holding.c bounds what connections hold, closing.c counts why connections were closed; turn.c lets a request run alone, watch.c tells whether a key was changed. scripts.c runs scripts in Lua. clock.c has deadlines, cluster.c the
  * servers beside this one. heap.c counts memory, slabs.c has small blocks. commands.c has the table of commands; commands.h tells where each is. */
 #ifndef CACHE_H
@@ -69,8 +69,6 @@ struct limits {
 struct counts {
     int64_t dataset; /* the bytes of all keys and values, with their heads */
     int64_t stored;  /* how many keys are stored, live or not */
-    int64_t timed;   /* how many keys have a deadline */
-    int64_t dead;    /* how many keys are still stored that a FLUSHALL removed */
     int64_t calls, hits, misses, evicted, expired;
 };
 enum { COUNTS = sizeof(struct counts) / sizeof(int64_t) };
@@ -106,6 +104,18 @@ struct touched {
 struct watched;
 struct scripting;
 
+enum { DATABASES = 16 };
+
+/* A database has a map of its own, which is opened when the first client asks for it. */
+struct database {
+    facing_bytes_handle map;
+    atomic_bool is_open;
+    _Atomic uint64_t generation; /* of the values that are stored now */
+    _Atomic uint64_t swept;      /* values of generations before it are removed */
+    _Atomic int64_t timed;       /* how many keys have a deadline */
+    _Atomic int64_t dead;        /* how many keys are still stored that a FLUSHALL removed */
+};
+
 struct cache {
     struct limits limits;
     uint64_t started;
@@ -116,13 +126,14 @@ struct cache {
     struct touched touched;
     uint64_t seed; /* of the hashes of touched and of watched keys */
     _Alignas(64) atomic_bool is_alone; /* a request runs alone, or waits to */
-    _Atomic uint64_t generation;       /* of the values that are stored now */
-    _Atomic uint64_t swept;            /* values of generations before it are removed */
     atomic_bool has_far;               /* a deadline was stored that is kept coarsely */
     _Atomic uint64_t watching;         /* how many keys connections watch */
-    pthread_mutex_t alone, hand_lock, watch_lock;
+    pthread_mutex_t alone, hand_lock, watch_lock, open_lock;
+    struct database databases[DATABASES];
+    uint32_t stores; /* each has a client of each map */
     struct scripting *scripting; /* NULL before the first script; who runs alone touches it */
-    uint64_t hand;           /* where eviction goes on in the map; hand_lock is held */
+    uint64_t hand;           /* where eviction goes on, in which database; hand_lock is held */
+    unsigned hand_db;
     atomic_bool is_barren;   /* a write looked for keys to evict and found none */
     struct watched **chains; /* watch_lock is held */
     _Alignas(64) _Atomic int64_t counts[COUNTS];
@@ -178,12 +189,17 @@ enum { STORE_FULL = 100 };
 struct candidates {
     struct walk walk;
     size_t next, from;
+    unsigned db; /* of whose map */
 };
 
 struct store {
     struct cache *cache;
     struct seat *seat;
-    facing_bytes_handle client;
+    facing_bytes_handle clients[DATABASES];
+    unsigned db;               /* the database of the request, of which these are the map's client and the counts */
+    struct database *database;
+    facing_bytes_handle *client;
+    int64_t timed, dead;       /* of its counts, what is not yet told */
     struct buffer seen, next; /* what was there, and what is to be stored */
     uint8_t head[HEAD];       /* of what was there, where the rest is not copied */
     uint64_t next_deadline;
@@ -210,7 +226,8 @@ typedef enum change decide_fn(struct store *store, const struct found *found, vo
 
 uint64_t store_now(struct store *store);
 bool has_passed(struct store *store, uint64_t deadline);
-uint32_t store_open(struct store *store, struct cache *cache, facing_bytes_handle *map);
+uint32_t store_open(struct store *store, struct cache *cache);
+uint32_t store_select(struct store *store, unsigned db);
 void store_close(struct store *store);
 void store_tell(struct store *store);
 void store_rest(struct store *store);
@@ -227,6 +244,13 @@ uint32_t store_expire(struct store *store, struct bytes key, struct stored store
 uint32_t store_change(struct store *store, struct bytes key, decide_fn *decide, void *of);
 uint32_t store_clear(struct store *store);
 uint64_t store_count(struct store *store, uint32_t *status);
+
+/* == databases.c == */
+
+uint32_t database_open(struct cache *cache, unsigned db, uint64_t buckets);
+void databases_close(struct cache *cache);
+int64_t timed_of_all(const struct cache *cache);
+int64_t dead_of_all(const struct cache *cache);
 
 /* == evict.c: room for what is stored == */
 
@@ -257,13 +281,14 @@ struct watched {
 struct watch {
     struct watched *of;
     uint64_t raised, generation;
+    unsigned db;
     uint8_t *key;
     size_t key_len;
     bool is_live;
 };
 
-uint64_t hash_of(const struct cache *cache, struct bytes key);
-bool watch_key(struct cache *cache, struct bytes key, struct watch *watch);
+uint64_t hash_of(const struct store *store, struct bytes key);
+bool watch_key(const struct store *store, struct bytes key, struct watch *watch);
 void unwatch_key(struct cache *cache, struct watch *watch);
 bool is_changed(struct cache *cache, const struct watch *watch);
 void changed(const struct store *store, struct bytes key);
@@ -332,10 +357,11 @@ struct connection {
     size_t sent;                   /* how much of `out` is sent */
     uint64_t answered;             /* how many bytes of replies the request has that runs */
     struct transaction transaction;
+    unsigned db;
 };
 
 void worker_begin(struct worker *worker, struct seat *seat);
-bool worker_open(struct worker *worker, struct cache *cache, facing_bytes_handle *map);
+bool worker_open(struct worker *worker, struct cache *cache);
 void worker_close(struct worker *worker);
 void *worker_run(void *of);
 

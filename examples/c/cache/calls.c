@@ -123,6 +123,7 @@ static const char *make_call(lua_State *lua, struct scripting *it) {
     c->answered = 0;
     c->out.len = c->sent = 0;
     c->command = command_of(arg(c, 0));
+    if (store_select(&c->worker->store, c->db) != FACING_DONE) return error_of(FACING_NO_MEMORY);
     error = refused(it, c);
     if (error == NULL) error = run_command_of(c, c->command);
     if (error != NULL) return error;

@@ -85,9 +85,9 @@ static bool add_line(struct buffer *lines, const struct connection *c, uint64_t 
     write_address(own, getsockname, c->socket);
     lines->len += (size_t)snprintf((char *)lines->at + lines->len, LINE + name.len,
                                    "id=%" PRIu64 " addr=%s laddr=%s fd=%d name=%.*s age=%" PRIu64 " idle=%" PRIu64
-                                   " flags=N db=0 user=default resp=2\n",
+                                   " flags=N db=%u user=default resp=2\n",
                                    c->id, peer, own, c->socket, (int)name.len, name.len > 0 ? (const char *)name.at : "",
-                                   (now - c->began) / 1000, now > c->served ? (now - c->served) / 1000 : 0);
+                                   (now - c->began) / 1000, now > c->served ? (now - c->served) / 1000 : 0, c->db);
     return true;
 }
 

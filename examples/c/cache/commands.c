@@ -38,12 +38,14 @@ static const struct command all[] = {
     {"touch", run_each_key, -2, READS | FAST, 1, -1, 1, 0},
     {"type", run_type, 2, READS | FAST, 1, 1, 1, 0},
     {"dbsize", run_dbsize, 1, READS | FAST, 0, 0, 0, 0},
-    {"flushall", run_flushall, -1, WRITES | ALONE, 0, 0, 0, 0},
-    {"flushdb", run_flushall, -1, WRITES | ALONE, 0, 0, 0, 0},
+    {"flushall", run_flush, -1, WRITES | ALONE, 0, 0, 0, 1},
+    {"flushdb", run_flush, -1, WRITES | ALONE, 0, 0, 0, 0},
     {"rename", run_rename, 3, WRITES | ALONE, 1, 2, 1, 0},
     {"renamenx", run_rename, 3, WRITES | FAST | ALONE, 1, 2, 1, 1},
     {"copy", run_copy, -3, WRITES | GROWS | ALONE, 1, 2, 1, 0},
+    /* databases.c */
     {"select", run_select, 2, LOADING | STALE | FAST, 0, 0, 0, 0},
+    {"move", run_move, 3, WRITES | FAST | ALONE, 1, 1, 1, 0},
     /* deadlines.c */
     {"expire", run_expire, -3, WRITES | FAST, 1, 1, 1, 1000},
     {"pexpire", run_expire, -3, WRITES | FAST, 1, 1, 1, 1},

@@ -53,7 +53,11 @@ run_fn run_set, run_setex, run_setnx, run_getset, run_getex, run_mset, run_msetn
 /* numbers.c */
 run_fn run_add, run_add_float;
 /* keys.c */
-run_fn run_each_key, run_type, run_dbsize, run_flushall, run_rename, run_copy, run_select;
+run_fn run_each_key, run_type, run_dbsize, run_flush, run_rename, run_copy;
+/* databases.c */
+run_fn run_select, run_move;
+const char *read_database(struct bytes text, unsigned *db);
+uint32_t copy_key(struct connection *c, unsigned db, struct bytes from, struct bytes to, bool replaces, bool *is_done);
 /* deadlines.c */
 run_fn run_expire, run_persist, run_ttl;
 /* scan.c */

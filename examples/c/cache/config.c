@@ -19,7 +19,7 @@ enum { SETTINGS = 8 };
 static void read_settings(const struct connection *c, struct setting_of settings[SETTINGS]) {
     const struct limits *limits = &c->worker->cache->limits;
     const struct setting_of all[SETTINGS] = {
-        {"appendonly", "no"},     {"databases", "1"},         {"maxclients", ""}, {"maxmemory", ""},
+        {"appendonly", "no"},     {"databases", "16"},        {"maxclients", ""}, {"maxmemory", ""},
         {"maxmemory-policy", ""}, {"proto-max-bulk-len", ""}, {"save", ""},       {"timeout", ""},
     };
     memcpy(settings, all, sizeof all);

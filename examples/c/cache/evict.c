@@ -37,8 +37,9 @@ static bool is_tracked(const struct cache *cache) {
 }
 
 /* Where a key's two bits lie: the upper one says that it was used, the lower one that the hand came by since. */
-static _Atomic uint64_t *bits_of(const struct cache *cache, struct bytes key, uint64_t *used, uint64_t *passed) {
-    uint64_t at = 2 * hash_of(cache, key) & cache->touched.mask;
+static _Atomic uint64_t *bits_of(const struct store *store, struct bytes key, uint64_t *used, uint64_t *passed) {
+    const struct cache *cache = store->cache;
+    uint64_t at = 2 * hash_of(store, key) & cache->touched.mask;
     *passed = (uint64_t)1 << at % 64;
     *used = *passed << 1;
     return &cache->touched.words[at / 64];
@@ -49,15 +50,15 @@ void touch(const struct store *store, struct bytes key) {
     uint64_t used, passed;
     _Atomic uint64_t *word;
     if (!is_tracked(store->cache)) return;
-    word = bits_of(store->cache, key, &used, &passed);
+    word = bits_of(store, key, &used, &passed);
     if ((atomic_load_explicit(word, memory_order_relaxed) & used) == 0)
         atomic_fetch_or_explicit(word, used, memory_order_relaxed);
 }
 
 /* Whether a key was used since the hand came by the time before last. Keys that share their bits spare one another. */
-static bool was_touched(const struct cache *cache, struct bytes key) {
+static bool was_touched(const struct store *store, struct bytes key) {
     uint64_t used, passed;
-    _Atomic uint64_t *word = bits_of(cache, key, &used, &passed);
+    _Atomic uint64_t *word = bits_of(store, key, &used, &passed);
     if (atomic_fetch_and_explicit(word, ~used, memory_order_relaxed) & used) {
         atomic_fetch_or_explicit(word, passed, memory_order_relaxed);
         return true;
@@ -71,15 +72,19 @@ bool has_room(const struct cache *cache, uint64_t more) {
     return used <= cache->limits.memory && more <= cache->limits.memory - used;
 }
 
-/* Copies the next part of the map, behind the one that any thread copied last. */
+/* Copies the next part of a map, behind the one that any thread copied last. Behind its end comes the next database. */
 static bool take_candidates(struct store *store) {
     struct cache *cache = store->cache;
     struct candidates *of = &store->candidates;
     uint32_t status;
     pthread_mutex_lock(&cache->hand_lock);
     of->walk.at = cache->hand;
-    status = walk_next(&of->walk, store, LOOKED_AT);
+    of->db = cache->hand_db;
+    status = store_select(store, of->db);
+    if (status == FACING_DONE) status = walk_next(&of->walk, store, LOOKED_AT);
     cache->hand = status != FACING_DONE || of->walk.at == UINT64_MAX ? 0 : of->walk.at;
+    while (cache->hand == 0 && !atomic_load(&cache->databases[cache->hand_db = (cache->hand_db + 1) % DATABASES].is_open))
+        continue;
     pthread_mutex_unlock(&cache->hand_lock);
     of->next = of->from = 0;
     return status == FACING_DONE;
@@ -116,7 +121,7 @@ static void evict_unused(struct store *store, uint64_t more, bool is_sparing, st
         struct bytes key = next_of(of, &stored);
         struct found found;
         store_find(store, stored, &found);
-        if (found.is_live && was_touched(store->cache, key) && is_sparing) continue;
+        if (found.is_live && was_touched(store, key) && is_sparing) continue;
         evict_key(store, key, removed);
     }
 }
@@ -169,7 +174,7 @@ static bool can_have_room(struct store *store, uint64_t more) {
     int64_t keys = COUNT_OF(cache, stored) + store->counts.stored, bytes = COUNT_OF(cache, dataset) + store->counts.dataset;
     int64_t lacking = (int64_t)(heap_used() + more - cache->limits.memory);
     if (cache->limits.evicts == EVICT_NONE || more > cache->limits.memory) return false;
-    if (cache->limits.evicts == EVICT_TTL && COUNT_OF(cache, timed) + store->counts.timed <= 0) return false;
+    if (cache->limits.evicts == EVICT_TTL && timed_of_all(cache) + store->timed <= 0) return false;
     return keys > 0 && lacking <= bytes + keys * (NODE + 2 * BLOCK + OWNERS);
 }
 
@@ -177,11 +182,12 @@ static bool can_have_room(struct store *store, uint64_t more) {
 static void evict_some(struct store *store, uint64_t more, struct removed *removed) {
     struct cache *cache = store->cache;
     struct candidates *of = &store->candidates;
+    unsigned db = store->db;
     size_t since = 0, looked = 0, most = atomic_load(&cache->is_barren) ? MOST_BARREN : MOST_LOOKED;
     while (looked < most && !has_room(cache, more) && !is_enough(removed, more)) {
         size_t before = removed->keys;
         bool is_over = of->next == of->walk.pairs;
-        if (is_over && !take_candidates(store)) return;
+        if (is_over ? !take_candidates(store) : store_select(store, of->db) != FACING_DONE) break;
         if (is_over) looked += of->walk.looked;
         if (cache->limits.evicts == EVICT_LRU)
             evict_unused(store, more, since < SPARING, removed);
@@ -189,6 +195,7 @@ static void evict_some(struct store *store, uint64_t more, struct removed *remov
             evict_first(store, removed);
         since = removed->keys > before ? 0 : since + 1;
     }
+    (void)store_select(store, db);
     if ((looked >= most && removed->keys == 0) != atomic_load(&cache->is_barren))
         atomic_store(&cache->is_barren, removed->keys == 0);
 }

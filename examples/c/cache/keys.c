@@ -1,6 +1,5 @@
 /* The commands on keys, whatever their values. */
 #include "cache.h"
-#include <limits.h>
 #include <string.h>
 
 /* DEL and UNLINK with the number 1, EXISTS and TOUCH: one call a key. */
@@ -32,11 +31,18 @@ const char *run_dbsize(struct connection *c) {
     return done_or_error(c, status, (int64_t)count);
 }
 
-/* All keys are gone at one moment. The main thread gives their memory back, also where SYNC is asked for. */
-const char *run_flushall(struct connection *c) {
-    uint32_t status;
+/* FLUSHDB; with the number 1 FLUSHALL. All keys are gone at one moment. The main thread gives their memory back, also where SYNC
+ * is asked for. */
+const char *run_flush(struct connection *c) {
+    struct store *store = &c->worker->store;
+    uint32_t status = FACING_DONE;
     if (c->count > 2 || (c->count == 2 && !is_word(arg(c, 1), "SYNC") && !is_word(arg(c, 1), "ASYNC"))) return NO_SYNTAX;
-    status = store_clear(&c->worker->store);
+    for (unsigned db = 0; db < DATABASES && status == FACING_DONE; db++) {
+        bool is_meant = c->command->number == 1 ? atomic_load(&store->cache->databases[db].is_open) : db == c->db;
+        if (is_meant) status = store_select(store, db);
+        if (is_meant && status == FACING_DONE) status = store_clear(store);
+    }
+    (void)store_select(store, c->db);
     if (status == FACING_DONE) reply_simple(c, "OK");
     return error_of(status);
 }
@@ -72,40 +78,22 @@ const char *run_rename(struct connection *c) {
     return error_of(status);
 }
 
-/* Reads the number of a database: there is one. Returns an error, or NULL. */
-static const char *no_database(struct bytes text) {
-    int64_t number;
-    if (!number_of(text, &number)) return NOT_A_NUMBER;
-    if (number < INT_MIN || number > INT_MAX)
-        return "ERR value is out of range, value must between -2147483648 and 2147483647";
-    return number == 0 ? NULL : "ERR DB index is out of range";
-}
-
-const char *run_select(struct connection *c) {
-    const char *error = no_database(arg(c, 1));
-    if (error == NULL) reply_simple(c, "OK");
-    return error;
-}
-
 /* COPY: 0 where there is no such key, or one to copy to and no REPLACE. */
 const char *run_copy(struct connection *c) {
-    struct store *store = &c->worker->store;
-    struct found found, other = {0};
-    bool replaces = false;
-    uint32_t status = FACING_DONE;
+    bool replaces = false, is_done;
+    unsigned db = c->db;
+    uint32_t status;
     for (size_t i = 3; i < c->count; i++) {
         const char *error = NULL;
         if (is_word(arg(c, i), "REPLACE"))
             replaces = true;
         else if (is_word(arg(c, i), "DB") && i + 1 < c->count)
-            error = no_database(arg(c, ++i));
+            error = read_database(arg(c, ++i), &db);
         else
             error = NO_SYNTAX;
         if (error != NULL) return error;
     }
-    if (is_same(arg(c, 1), arg(c, 2))) return "ERR source and destination objects are the same";
-    if (!replaces) status = store_look(store, arg(c, 2), &other);
-    if (status == FACING_DONE) status = store_get(store, arg(c, 1), &found);
-    if (status != FACING_DONE || !found.is_live || other.is_live) return done_or_error(c, status, 0);
-    return done_or_error(c, put_found(store, arg(c, 2), &found), 1);
+    if (db == c->db && is_same(arg(c, 1), arg(c, 2))) return "ERR source and destination objects are the same";
+    status = copy_key(c, db, arg(c, 1), arg(c, 2), replaces, &is_done);
+    return done_or_error(c, status, is_done);
 }

@@ -36,11 +36,11 @@ enum { ALIVE_AFTER = 300, ALIVE_EACH = 100, ALIVE_TIMES = 3 };
 struct server {
     struct options options;
     struct cache cache;
-    facing_bytes_handle map;
     struct worker *workers;
     size_t opened, started;
     struct store store; /* of the main thread, which removes expired keys */
     struct walk walk;
+    unsigned db; /* of the walk */
     int listener, signals;
     uint64_t sweeping, trimmed;         /* the generation of the walk; when memory was given back */
     bool is_flushed;                    /* since then what a FLUSHALL left was removed */
@@ -109,10 +109,11 @@ static uint32_t open_map(struct server *server) {
     size_t stores = options->threads + 1;
     uint64_t seed[2];
     uint32_t status = facing_seed(seed);
-    pthread_mutex_t *const locks[] = {&cache->alone, &cache->hand_lock, &cache->watch_lock};
+    pthread_mutex_t *const locks[] = {&cache->alone, &cache->hand_lock, &cache->watch_lock, &cache->open_lock};
     for (size_t i = 0; i < sizeof locks / sizeof *locks; i++)
         if (pthread_mutex_init(locks[i], NULL) != 0) return FACING_NO_MEMORY;
-    if (status == FACING_DONE) status = facing_bytes_open(options->buckets, (uint32_t)stores, &server->map);
+    cache->stores = (uint32_t)stores;
+    if (status == FACING_DONE) status = database_open(cache, 0, options->buckets);
     if (status != FACING_DONE) return status;
     cache->seed = seed[0];
     cache->workers = heap_zeros(options->threads * sizeof *cache->workers);
@@ -121,7 +122,7 @@ static uint32_t open_map(struct server *server) {
     for (size_t i = 0; i < options->threads; i++)
         worker_begin(&cache->workers[i], &cache->seats[i]);
     server->store.seat = &cache->seats[options->threads];
-    return store_open(&server->store, cache, &server->map);
+    return store_open(&server->store, cache);
 }
 
 static bool start(struct server *server) {
@@ -132,7 +133,7 @@ static bool start(struct server *server) {
         return false;
     }
     for (; server->opened < cache->workers_len; server->opened++)
-        if (!worker_open(&cache->workers[server->opened], cache, &server->map)) return failed("cannot start");
+        if (!worker_open(&cache->workers[server->opened], cache)) return failed("cannot start");
     heap_tell();
     if (heap_used() > cache->limits.memory) {
         fprintf(stderr, "cache: --memory is too little: the map and the threads take %" PRIu64 " bytes\n", heap_used());
@@ -188,14 +189,15 @@ static bool accept_some(struct server *server, size_t *turn) {
 /* Removes what is live no more, for a slice of time. A turn takes a step of the walk. Once a walk that began in a generation
  * is at its end, no value of an older one is stored. */
 static void sweep(struct server *server, uint64_t until) {
-    struct cache *cache = &server->cache;
+    struct store *store = &server->store;
     uint32_t status;
     do {
-        turn_share(&server->store);
-        if (server->walk.at == 0) server->sweeping = atomic_load(&cache->generation);
-        status = walk_sweep(&server->walk, &server->store);
-        if (status == FACING_DONE && server->walk.at == 0) atomic_store(&cache->swept, server->sweeping);
-        turn_end(&server->store);
+        turn_share(store);
+        status = store_select(store, server->db);
+        if (server->walk.at == 0) server->sweeping = atomic_load(&store->database->generation);
+        if (status == FACING_DONE) status = walk_sweep(&server->walk, store);
+        if (status == FACING_DONE && server->walk.at == 0) atomic_store(&store->database->swept, server->sweeping);
+        turn_end(store);
     } while (status == FACING_DONE && server->walk.at != 0 && now_ms() < until);
 }
 
@@ -211,14 +213,26 @@ static void trim(struct server *server, uint64_t now) {
     server->is_flushed = false;
 }
 
+/* Goes on to the next database that has something to remove, or may have. */
+static void next_database(struct server *server) {
+    const struct database *of;
+    for (int i = 0; i < DATABASES; i++) {
+        server->db = (server->db + 1) % DATABASES;
+        of = &server->cache.databases[server->db];
+        if (atomic_load(&of->is_open) && (atomic_load(&of->dead) > 0 || atomic_load(&of->timed) > 0)) return;
+    }
+    server->db = 0;
+}
+
 /* Removes what is live no more, if there may be some. Returns in how many milliseconds there is more to do. Once all is removed
  * that a FLUSHALL left its memory is given back. */
 static uint64_t sweep_slice(struct server *server) {
     struct cache *cache = &server->cache;
-    bool has_dead = COUNT_OF(cache, dead) > 0;
-    if (!has_dead && COUNT_OF(cache, timed) <= 0) return TICK;
+    bool has_dead = dead_of_all(cache) > 0;
+    if (!has_dead && timed_of_all(cache) <= 0) return TICK;
+    if (server->walk.at == 0) next_database(server);
     sweep(server, now_ms() + SLICE);
-    server->is_flushed = server->is_flushed || (has_dead && COUNT_OF(cache, dead) <= 0);
+    server->is_flushed = server->is_flushed || (has_dead && dead_of_all(cache) <= 0);
     return has_dead ? SHORT_PAUSE : PAUSE;
 }
 
@@ -278,7 +292,7 @@ static void close_all(struct server *server) {
     heap_free(cache->workers);
     walk_free(&server->walk);
     store_close(&server->store);
-    facing_bytes_free(&server->map);
+    databases_close(cache);
     if (server->signals >= 0) close(server->signals);
 }
 

@@ -100,6 +100,10 @@ void run_request(struct connection *c) {
     c->base = c->in.at + c->begin;
     c->answered = 0;
     c->worker->store.now = 0;
+    if (store_select(&c->worker->store, c->db) != FACING_DONE) {
+        reply_error(c, error_of(FACING_NO_MEMORY));
+        return;
+    }
     c->worker->store.counts.calls++;
     c->command = command_of(arg(c, 0));
     if (c->command == NULL && is_of_http(arg(c, 0))) {

@@ -163,6 +163,7 @@ static const char *run_job(struct connection *c, struct scripting *it, struct jo
     const char *error;
     it->inner.worker = c->worker;
     it->inner.is_known = true;
+    it->inner.db = c->db;
     it->inner.is_broken = false;
     it->is_read_only = (c->command->flags & READS) != 0;
     lua_settop(lua, 0);
@@ -174,6 +175,7 @@ static const char *run_job(struct connection *c, struct scripting *it, struct jo
     if (it->inner.out.room > KEPT) buffer_free(&it->inner.out);
     if (it->words.room > KEPT) buffer_free(&it->words);
     hold_nothing(&it->inner);
+    (void)store_select(&c->worker->store, c->db);
     return error;
 }
 

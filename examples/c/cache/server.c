@@ -28,7 +28,7 @@ static bool is_asked(const struct connection *c, const char *name) {
     return c->count == 1;
 }
 
-enum { PART = 512 };
+enum { PART = 1024 };
 
 static void write_server(struct cache *cache, char part[PART]) {
     snprintf(part, PART,
@@ -68,26 +68,37 @@ static void write_stats(struct cache *cache, char part[PART]) {
              COUNT_OF(cache, evicted), COUNT_OF(cache, hits), COUNT_OF(cache, misses));
 }
 
+/* A line for each database that has keys. */
+static void write_keyspace(struct connection *c, char part[PART]) {
+    struct store *store = &c->worker->store;
+    size_t len = 0;
+    part[0] = 0;
+    for (unsigned db = 0; db < DATABASES; db++) {
+        uint32_t status;
+        uint64_t keys;
+        if (!atomic_load(&store->cache->databases[db].is_open) || store_select(store, db) != FACING_DONE) continue;
+        keys = store_count(store, &status);
+        if (keys == 0 || len >= PART) continue;
+        len += (size_t)snprintf(part + len, PART - len, "db%u:keys=%" PRIu64 ",expires=%" PRId64 ",avg_ttl=0\r\n", db, keys,
+                                atomic_load_explicit(&store->database->timed, memory_order_relaxed));
+    }
+    (void)store_select(store, c->db);
+}
+
 /* Replies with the sections that are asked for, and an empty line between them. */
 const char *run_info(struct connection *c) {
     static const char *const names[] = {"Server", "Clients", "Memory", "Stats", "Closed", "Cluster", "Keyspace"};
     struct cache *cache = c->worker->cache;
     char parts[sizeof names / sizeof *names][PART], text[sizeof parts + sizeof parts / 4];
     size_t len = 0;
-    uint32_t status;
-    uint64_t keys;
     store_tell(&c->worker->store);
-    keys = store_count(&c->worker->store, &status);
-    if (status != FACING_DONE) return error_of(status);
     write_server(cache, parts[0]);
     write_clients(cache, parts[1]);
     write_memory(cache, parts[2]);
     write_stats(cache, parts[3]);
     write_closings(cache, parts[4], PART);
     snprintf(parts[5], PART, "cluster_enabled:%d\r\n", is_in_cluster());
-    parts[6][0] = 0;
-    if (keys > 0)
-        snprintf(parts[6], PART, "db0:keys=%" PRIu64 ",expires=%" PRId64 ",avg_ttl=0\r\n", keys, COUNT_OF(cache, timed));
+    write_keyspace(c, parts[6]);
     text[0] = 0;
     for (size_t i = 0; i < sizeof names / sizeof *names; i++)
         if (is_asked(c, names[i]))

@@ -39,7 +39,7 @@ static uint64_t deadline_of(uint64_t head) {
 }
 
 static uint64_t generation_of(const struct store *store) {
-    return atomic_load_explicit(&store->cache->generation, memory_order_relaxed);
+    return atomic_load_explicit(&store->database->generation, memory_order_relaxed);
 }
 
 /* == The store == */
@@ -54,14 +54,17 @@ bool has_passed(struct store *store, uint64_t deadline) {
     return deadline != 0 && deadline <= store_now(store);
 }
 
-uint32_t store_open(struct store *store, struct cache *cache, facing_bytes_handle *map) {
+uint32_t store_open(struct store *store, struct cache *cache) {
     store->cache = cache;
     if (!buffer_reserve(&store->seen, KEPT) || !buffer_reserve(&store->next, KEPT)) return FACING_NO_MEMORY;
-    return facing_bytes_client(map, &store->client);
+    store->database = &cache->databases[0];
+    store->client = &store->clients[0];
+    return facing_bytes_client(&store->database->map, store->client);
 }
 
 void store_close(struct store *store) {
-    facing_bytes_free(&store->client);
+    for (unsigned db = 0; db < DATABASES; db++)
+        facing_bytes_free(&store->clients[db]);
     buffer_free(&store->seen);
     buffer_free(&store->next);
     walk_free(&store->candidates.walk);
@@ -73,6 +76,9 @@ void store_tell(struct store *store) {
     for (size_t i = 0; i < COUNTS; i++)
         if (own[i] != 0) atomic_fetch_add_explicit(&store->cache->counts[i], own[i], memory_order_relaxed);
     store->counts = (struct counts){0};
+    if (store->timed != 0) atomic_fetch_add_explicit(&store->database->timed, store->timed, memory_order_relaxed);
+    if (store->dead != 0) atomic_fetch_add_explicit(&store->database->dead, store->dead, memory_order_relaxed);
+    store->timed = store->dead = 0;
     heap_tell();
 }
 
@@ -152,9 +158,9 @@ uint32_t store_view(struct store *store, struct bytes key, struct found *found, 
     *found = (struct found){0};
     held->at = NULL;
     if (seen->at == NULL && !buffer_reserve(seen, KEPT)) return FACING_NO_MEMORY;
-    status = facing_bytes_get(&store->client, key.at, key.len, seen->at, seen->room, &answer);
+    status = facing_bytes_get(store->client, key.at, key.len, seen->at, seen->room, &answer);
     if (status == FACING_NO_ROOM) {
-        status = facing_bytes_hold(&store->client, key.at, key.len, held, &answer);
+        status = facing_bytes_hold(store->client, key.at, key.len, held, &answer);
         if (status == FACING_DONE && held->at != NULL) status = facing_bytes_read(held, 0, seen->at, HEAD, &answer);
     }
     if (status == FACING_DONE) find_answer(store, answer, seen->at, found);
@@ -198,8 +204,8 @@ static void count_gone(struct store *store, struct bytes key, const struct found
     if (before->is_stored) {
         store->counts.dataset -= (int64_t)(before->stored_len + key.len);
         store->counts.stored--;
-        store->counts.dead -= before->is_dead;
-        store->counts.timed -= before->deadline != 0;
+        store->dead -= before->is_dead;
+        store->timed -= before->deadline != 0;
     }
     if (before->is_live) changed(store, key);
 }
@@ -209,7 +215,7 @@ static void count_stored(struct store *store, struct bytes key, const struct fou
     count_gone(store, key, before);
     store->counts.dataset += (int64_t)(store->next.len + key.len);
     store->counts.stored++;
-    store->counts.timed += store->next_deadline != 0;
+    store->timed += store->next_deadline != 0;
     before->is_live ? touch(store, key) : changed(store, key);
 }
 
@@ -230,7 +236,7 @@ uint32_t store_put(struct store *store, struct bytes key, struct found *before) 
         if (status == FACING_DONE) status = make_room_for_next(store, key, before);
     }
     if (status != FACING_DONE) return status;
-    status = facing_bytes_put(&store->client, key.at, key.len, store->next.at, store->next.len, store->head, HEAD, &answer);
+    status = facing_bytes_put(store->client, key.at, key.len, store->next.at, store->next.len, store->head, HEAD, &answer);
     if (status != FACING_DONE) return status;
     find_answer(store, answer, store->head, before);
     count_stored(store, key, before);
@@ -240,7 +246,7 @@ uint32_t store_put(struct store *store, struct bytes key, struct found *before) 
 /* Removes a key, and finds what was there, but for the bytes of its value. */
 uint32_t store_remove(struct store *store, struct bytes key, struct found *before) {
     facing_bytes_answer answer = {0, 0};
-    uint32_t status = facing_bytes_remove(&store->client, key.at, key.len, store->head, HEAD, &answer);
+    uint32_t status = facing_bytes_remove(store->client, key.at, key.len, store->head, HEAD, &answer);
     find_answer(store, answer, store->head, before);
     if (before->is_stored) count_gone(store, key, before);
     return status;
@@ -253,10 +259,10 @@ static uint32_t try_store(struct store *store, struct bytes key, const struct fo
     if (status == FACING_DONE) status = make_room_for_next(store, key, found);
     if (status != FACING_DONE) return status;
     if (found->is_stored)
-        status = facing_bytes_replace_if(&store->client, key.at, key.len, store->seen.at, found->stored_len, store->next.at,
+        status = facing_bytes_replace_if(store->client, key.at, key.len, store->seen.at, found->stored_len, store->next.at,
                                          store->next.len, &answer);
     else
-        status = facing_bytes_put_if_absent(&store->client, key.at, key.len, store->next.at, store->next.len, NULL, 0,
+        status = facing_bytes_put_if_absent(store->client, key.at, key.len, store->next.at, store->next.len, NULL, 0,
                                             &answer);
     *is_made = status == FACING_DONE && (answer.found != 0) == found->is_stored;
     if (*is_made) count_stored(store, key, found);
@@ -268,7 +274,7 @@ static uint32_t try_remove(struct store *store, struct bytes key, const struct f
     facing_bytes_answer answer = {0, 0};
     uint32_t status = FACING_DONE;
     if (found->is_stored)
-        status = facing_bytes_remove_if(&store->client, key.at, key.len, store->seen.at, found->stored_len, &answer);
+        status = facing_bytes_remove_if(store->client, key.at, key.len, store->seen.at, found->stored_len, &answer);
     *is_made = status == FACING_DONE && (answer.found != 0) == found->is_stored;
     if (*is_made && found->is_stored) count_gone(store, key, found);
     return status;
@@ -326,8 +332,8 @@ int64_t read_count(struct cache *cache, size_t offset) {
 /* How many keys there are. Expired keys count until they are removed. */
 uint64_t store_count(struct store *store, uint32_t *status) {
     uint64_t count = 0;
-    int64_t dead = COUNT_OF(store->cache, dead) + store->counts.dead;
-    *status = facing_bytes_count(&store->client, &count);
+    int64_t dead = atomic_load_explicit(&store->database->dead, memory_order_relaxed) + store->dead;
+    *status = facing_bytes_count(store->client, &count);
     return dead < 0 ? count : count > (uint64_t)dead ? count - (uint64_t)dead : 0;
 }
 
@@ -339,22 +345,22 @@ static uint32_t remove_dead(struct store *store) {
         status = walk_sweep(&walk, store);
     while (status == FACING_DONE && walk.at != 0);
     walk_free(&walk);
-    if (status == FACING_DONE) atomic_store(&store->cache->swept, generation_of(store));
+    if (status == FACING_DONE) atomic_store(&store->database->swept, generation_of(store));
     return status;
 }
 
-/* Removes all keys at one moment: a new generation begins. The request runs alone. Where values may still be stored whose
+/* Removes all keys of the database at one moment: a new generation begins. The request runs alone. Where values may still be stored whose
  * generation has the same number as the new one, they are removed first. */
 uint32_t store_clear(struct store *store) {
-    struct cache *cache = store->cache;
-    uint64_t count = 0, next = atomic_load(&cache->generation) + 1;
-    uint64_t most = (uint64_t)1 << (64 - (atomic_load(&cache->has_far) ? FAR_GENERATION_AT : GENERATION_AT));
-    uint32_t status = facing_bytes_count(&store->client, &count);
-    if (status == FACING_DONE && count > 0 && next - atomic_load(&cache->swept) >= most) status = remove_dead(store);
+    struct database *of = store->database;
+    uint64_t count = 0, next = atomic_load(&of->generation) + 1;
+    uint64_t most = (uint64_t)1 << (64 - (atomic_load(&store->cache->has_far) ? FAR_GENERATION_AT : GENERATION_AT));
+    uint32_t status = facing_bytes_count(store->client, &count);
+    if (status == FACING_DONE && count > 0 && next - atomic_load(&of->swept) >= most) status = remove_dead(store);
     if (status != FACING_DONE || count == 0) return status;
     store_tell(store);
-    atomic_store(&cache->counts[offsetof(struct counts, dead) / sizeof(int64_t)], (int64_t)count);
-    atomic_store(&cache->counts[offsetof(struct counts, timed) / sizeof(int64_t)], 0);
-    atomic_store(&cache->generation, next);
+    atomic_store(&of->dead, (int64_t)count);
+    atomic_store(&of->timed, 0);
+    atomic_store(&of->generation, next);
     return status;
 }

@@ -85,11 +85,12 @@ const char *run_discard(struct connection *c) {
 /* Whether a key is not as it was when the connection began to watch it. */
 static bool is_another(struct connection *c, const struct watch *watch) {
     struct store *store = &c->worker->store;
-    struct found found;
+    struct found found = {0};
     if (is_changed(store->cache, watch)) return true;
     if (!watch->is_live) return false;
-    if (watch->generation != atomic_load_explicit(&store->cache->generation, memory_order_relaxed)) return true;
-    return store_look(store, (struct bytes){watch->key, watch->key_len}, &found) != FACING_DONE || !found.is_live;
+    if (watch->generation != atomic_load_explicit(&store->cache->databases[watch->db].generation, memory_order_relaxed)) return true;
+    if (store_select(store, watch->db) == FACING_DONE) (void)store_look(store, (struct bytes){watch->key, watch->key_len}, &found);
+    return store_select(store, c->db) != FACING_DONE || !found.is_live;
 }
 
 /* Runs the requests of a transaction, each of which replies. */
@@ -145,13 +146,13 @@ static const char *watch_one(struct connection *c, struct bytes key) {
         t->watches = watches;
         t->watches_room = room;
     }
-    if (!watch_key(store->cache, key, &t->watches[t->watches_len])) return error_of(FACING_NO_MEMORY);
+    if (!watch_key(store, key, &t->watches[t->watches_len])) return error_of(FACING_NO_MEMORY);
     t->watches_len++;
     t->watched += key.len;
     if (t->watched > KEPT && !may_hold(c, 0)) break_connection(c, BY_BUFFERS);
     status = store_look(store, key, &found);
     t->watches[t->watches_len - 1].is_live = found.is_live;
-    t->watches[t->watches_len - 1].generation = atomic_load_explicit(&store->cache->generation, memory_order_relaxed);
+    t->watches[t->watches_len - 1].generation = atomic_load_explicit(&store->database->generation, memory_order_relaxed);
     return error_of(status);
 }
 

@@ -15,8 +15,8 @@ static uint64_t mixed(uint64_t a, uint64_t b) {
 }
 
 /* A hash of a key, for what lies beside the map. */
-uint64_t hash_of(const struct cache *cache, struct bytes key) {
-    uint64_t hash = cache->seed ^ key.len, word = 0;
+uint64_t hash_of(const struct store *store, struct bytes key) {
+    uint64_t seed = store->cache->seed, hash = seed ^ key.len ^ (uint64_t)store->db << 32, word = 0;
     size_t i = 0;
     for (; i + sizeof word <= key.len; i += sizeof word) {
         memcpy(&word, key.at + i, sizeof word);
@@ -24,7 +24,7 @@ uint64_t hash_of(const struct cache *cache, struct bytes key) {
     }
     word = 0;
     if (i < key.len) memcpy(&word, key.at + i, key.len - i);
-    return mixed(mixed(hash, word), cache->seed);
+    return mixed(mixed(hash, word), seed);
 }
 
 static struct watched **find(struct cache *cache, uint64_t hash) {
@@ -36,10 +36,11 @@ static struct watched **find(struct cache *cache, uint64_t hash) {
 
 /* Watches a key from now on. The number of watched keys is raised before the key is read: a request that changes the key
  * after that reads the number after its change. Returns false where there is no memory. */
-bool watch_key(struct cache *cache, struct bytes key, struct watch *watch) {
-    uint64_t hash = hash_of(cache, key);
+bool watch_key(const struct store *store, struct bytes key, struct watch *watch) {
+    struct cache *cache = store->cache;
+    uint64_t hash = hash_of(store, key);
     struct watched **at;
-    *watch = (struct watch){.key = heap_resize(NULL, key.len + 1), .key_len = key.len};
+    *watch = (struct watch){.key = heap_resize(NULL, key.len + 1), .key_len = key.len, .db = store->db};
     if (watch->key == NULL) return false;
     if (key.len > 0) memcpy(watch->key, key.at, key.len);
     pthread_mutex_lock(&cache->watch_lock);
@@ -89,7 +90,7 @@ void changed(const struct store *store, struct bytes key) {
     struct watched *it;
     uint64_t hash;
     if (atomic_load(&cache->watching) == 0) return;
-    hash = hash_of(cache, key);
+    hash = hash_of(store, key);
     if (atomic_load(&crowds[hash % CHAINS]) == 0) return;
     pthread_mutex_lock(&cache->watch_lock);
     it = cache->chains == NULL ? NULL : *find(cache, hash);

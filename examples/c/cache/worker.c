@@ -23,10 +23,10 @@ void worker_begin(struct worker *worker, struct seat *seat) {
     pthread_mutex_init(&worker->list_lock, NULL);
 }
 
-bool worker_open(struct worker *worker, struct cache *cache, facing_bytes_handle *map) {
+bool worker_open(struct worker *worker, struct cache *cache) {
     int ends[2];
     worker->cache = cache;
-    if (store_open(&worker->store, cache, map) != FACING_DONE) return false;
+    if (store_open(&worker->store, cache) != FACING_DONE) return false;
     worker->epoll = epoll_create1(EPOLL_CLOEXEC);
     if (worker->epoll < 0 || pipe2(ends, O_CLOEXEC) != 0) return false;
     worker->inbox = ends[0];
