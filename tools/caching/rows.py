@@ -94,8 +94,20 @@ def of_scripts():
     yield from (["COMMAND", "INFO", it] for it in ("eval", "evalsha", "eval_ro", "evalsha_ro", "script"))
 
 
+def of_channels():
+    """Lists of requests of one reply each, on channels, and RESET."""
+    for name in ("SUBSCRIBE", "PSUBSCRIBE"):
+        for more in (["GET", "n"], ["PING"], ["PING", "x"], ["PING", "x", "y"], ["SUBSCRIBE", "b"], ["PSUBSCRIBE", "a*"], ["UNSUBSCRIBE", "a"], ["UNSUBSCRIBE"], ["PUNSUBSCRIBE"],
+                     ["PUNSUBSCRIBE", "a"], ["PUBLISH", "a", "x"], ["MULTI"], ["SUBSCRIBE"], ["NONE"], ["SET", "n"], ["RESET"], ["RESET", "x"], ["INFO", "x"], ["ECHO", "x"]):
+            yield [[name, "a"], more, ["GET", "t"], ["RESET"], ["GET", "n"]]
+    yield [["PUBLISH", "a", "x"], ["PUBLISH", "a"], ["PUBLISH", "a", "x", "y"], ["UNSUBSCRIBE"], ["PUNSUBSCRIBE"], ["UNSUBSCRIBE", "none"]]
+    yield [["PUBSUB", *it] for it in ([], ["CHANNELS"], ["CHANNELS", "x"], ["CHANNELS", "x", "y"], ["NUMSUB"], ["NUMSUB", "a", "b"], ["NUMPAT"], ["NUMPAT", "x"], ["x"])]
+    yield [["COMMAND", "INFO", it] for it in ("publish", "subscribe", "psubscribe", "unsubscribe", "punsubscribe", "pubsub", "reset", "move")]
+
+
 def transactions():
     """Lists of requests, each with a transaction, right and wrong ones; and AUTH where there is no password."""
+    yield from of_channels()
     words = ("MULTI", "EXEC", "DISCARD", "UNWATCH", "WATCH")
     for names in itertools.product(words, repeat=3):
         for more in ([], ["n"], ["n", "none"]):

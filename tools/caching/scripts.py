@@ -280,7 +280,7 @@ OF_THIS_SERVER = {
         (["command", "docs"], []),
         (["CONFIG", "GET", "databases"], [b"databases", b"16"]),
         (["CONFIG", "GET", "MAXMEMORY", "maxclients"], [b"maxclients", b"10000", b"maxmemory", b"1073741824"]),
-        (["SELECT", "1"], DATABASE),
+        (["SELECT", "16"], DATABASE),
         (["OBJECT", "IDLETIME", "a"], 0),
     ],
 }

@@ -3,7 +3,7 @@
  * options.c reads the options. main.c opens the map, starts the threads, accepts connections and deals them out, and removes
  * expired keys in slices. worker.c has a thread's loop over its connections; request.c takes requests apart, run.c runs
  * them, reply.c writes replies. store.c changes the value of a key by one atomic call, databases.c has a map for each database, walk.c goes over the keys, evict.c
- * makes room; holding.c bounds what connections hold, closing.c counts why connections were closed; turn.c lets a request run alone, watch.c tells whether a key was changed. scripts.c runs scripts in Lua. clock.c has deadlines, cluster.c the
+ * makes room; holding.c bounds what connections hold, closing.c counts why connections were closed; pubsub.c has channels, turn.c lets a request run alone, watch.c tells whether a key was changed. scripts.c runs scripts in Lua. clock.c has deadlines, cluster.c the
  * servers beside this one. heap.c counts memory, slabs.c has small blocks. commands.c has the table of commands; commands.h tells where each is. */
 #ifndef CACHE_H
 #define CACHE_H
@@ -308,6 +308,8 @@ struct worker {
     struct store store;
     struct walk walk;
     int epoll, inbox, outbox; /* the main thread writes descriptors of connections to the outbox, and closes it to stop */
+    int bell;                 /* rings when connections have mail */
+    struct connection *mailed;
     struct connection *first, *last; /* those that were served last are first */
     pthread_mutex_t list_lock;       /* of the list, and of what its connections hold */
     struct buffer in, out;           /* empty, to be lent */
@@ -358,12 +360,26 @@ struct connection {
     uint64_t answered;             /* how many bytes of replies the request has that runs */
     struct transaction transaction;
     unsigned db;
+    struct subscription *subscribed;
+    size_t subscriptions[2]; /* to channels, to patterns */
+    bool was_subscribed;
+    bool has_mail; /* under the lock of pubsub.c, with what follows */
+    struct connection *next_mailed;
+    struct buffer mail;
 };
 
 void worker_begin(struct worker *worker, struct seat *seat);
 bool worker_open(struct worker *worker, struct cache *cache);
 void worker_close(struct worker *worker);
 void *worker_run(void *of);
+
+/* == pubsub.c: channels == */
+
+/* A subscriber is closed that leaves more bytes than this unread. */
+enum { MOST_MAIL = 1 << 25 };
+
+struct connection *next_mailed(struct worker *worker, struct buffer *mail);
+void leave_channels(struct connection *c);
 
 /* == holding.c: what connections hold == */
 

@@ -85,9 +85,10 @@ static bool add_line(struct buffer *lines, const struct connection *c, uint64_t 
     write_address(own, getsockname, c->socket);
     lines->len += (size_t)snprintf((char *)lines->at + lines->len, LINE + name.len,
                                    "id=%" PRIu64 " addr=%s laddr=%s fd=%d name=%.*s age=%" PRIu64 " idle=%" PRIu64
-                                   " flags=N db=%u user=default resp=2\n",
+                                   " flags=%s db=%u sub=%zu psub=%zu user=default resp=2\n",
                                    c->id, peer, own, c->socket, (int)name.len, name.len > 0 ? (const char *)name.at : "",
-                                   (now - c->began) / 1000, now > c->served ? (now - c->served) / 1000 : 0, c->db);
+                                   (now - c->began) / 1000, now > c->served ? (now - c->served) / 1000 : 0,
+                                   c->subscribed != NULL ? "P" : "N", c->db, c->subscriptions[0], c->subscriptions[1]);
     return true;
 }
 

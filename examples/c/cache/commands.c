@@ -3,6 +3,7 @@
 #include <ctype.h>
 #include <string.h>
 
+#define SUBSCRIBES (PUBSUB | NO_SCRIPT | LOADING | STALE | SUBSCRIBED)
 #define SCRIPTS (NO_SCRIPT | STALE | SKIP_MONITOR | NO_KEYS | COUNTED | ALONE)
 
 /* Name, function, number of words, flags, first and last key, step, number; in the order of the files. */
@@ -77,6 +78,13 @@ static const struct command all[] = {
     {"discard", run_discard, 1, NO_SCRIPT | LOADING | STALE | FAST | BUSY | UNQUEUED, 0, 0, 0, 0},
     {"watch", run_watch, -2, NO_SCRIPT | LOADING | STALE | FAST | BUSY | UNQUEUED, 1, -1, 1, 0},
     {"unwatch", run_unwatch, 1, NO_SCRIPT | LOADING | STALE | FAST | BUSY, 0, 0, 0, 0},
+    /* pubsub.c */
+    {"publish", run_publish, 3, PUBSUB | LOADING | STALE | FAST, 0, 0, 0, 0},
+    {"subscribe", run_subscribe, -2, SUBSCRIBES, 0, 0, 0, 0},
+    {"psubscribe", run_subscribe, -2, SUBSCRIBES, 0, 0, 0, 1},
+    {"unsubscribe", run_unsubscribe, -1, SUBSCRIBES, 0, 0, 0, 0},
+    {"punsubscribe", run_unsubscribe, -1, SUBSCRIBES, 0, 0, 0, 1},
+    {"pubsub", run_pubsub, -2, 0, 0, 0, 0, 0},
 #ifdef CACHE_LUA
     /* scripts.c */
     {"eval", run_eval, -3, SCRIPTS, 0, 0, 0, 0},
@@ -86,11 +94,12 @@ static const struct command all[] = {
     {"script", run_script, -2, OUT_OF_SCRIPTS, 0, 0, 0, 0},
 #endif
     /* server.c */
-    {"ping", run_ping, -1, FAST, 0, 0, 0, 0},
+    {"reset", run_reset, 1, NO_SCRIPT | LOADING | STALE | FAST | NO_AUTH | BUSY | UNQUEUED | SUBSCRIBED, 0, 0, 0, 0},
+    {"ping", run_ping, -1, FAST | SUBSCRIBED, 0, 0, 0, 0},
     {"echo", run_ping, 2, LOADING | STALE | FAST, 0, 0, 0, 0},
     {"info", run_info, -1, LOADING | STALE, 0, 0, 0, 0},
     {"auth", run_auth, -2, NO_SCRIPT | LOADING | STALE | FAST | NO_AUTH | BUSY, 0, 0, 0, 0},
-    {"quit", run_quit, -1, NO_SCRIPT | LOADING | STALE | FAST | NO_AUTH | BUSY | UNQUEUED, 0, 0, 0, 0},
+    {"quit", run_quit, -1, NO_SCRIPT | LOADING | STALE | FAST | NO_AUTH | BUSY | UNQUEUED | SUBSCRIBED, 0, 0, 0, 0},
 };
 
 enum { COUNT = sizeof all / sizeof *all, PLACES = 512 };

@@ -20,9 +20,11 @@ enum {
     SKIP_SLOWLOG = 1 << 10,
     SKIP_MONITOR = 1 << 11,
     NO_KEYS = 1 << 12,   /* no_mandatory_keys */
+    PUBSUB = 1 << 14,
     COUNTED = 1 << 13, /* movablekeys: the third word is the number of keys behind it */
     ALONE = 1 << 16,    /* runs while no other request does */
     UNQUEUED = 1 << 17, /* runs at once in a transaction too */
+    SUBSCRIBED = 1 << 19, /* also of a connection that subscribed something */
     OUT_OF_SCRIPTS = 1 << 18, /* for parts of Redis's command that are */
 };
 
@@ -79,10 +81,12 @@ bool cluster_open(const char *slots, const char *path);
 const char *cluster_refuses(struct connection *c);
 /* transactions.c */
 run_fn run_multi, run_exec, run_discard, run_watch, run_unwatch;
+/* pubsub.c */
+run_fn run_publish, run_subscribe, run_unsubscribe, run_pubsub;
 /* scripts.c */
 run_fn run_eval, run_script;
 /* server.c */
-run_fn run_ping, run_info, run_auth, run_quit;
+run_fn run_ping, run_info, run_auth, run_quit, run_reset;
 
 /* == run.c, transactions.c, server.c == */
 

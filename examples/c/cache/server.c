@@ -7,6 +7,12 @@
 
 const char *run_ping(struct connection *c) {
     if (c->count > 2) return wrong_count(c);
+    if (c->subscribed != NULL) {
+        reply_list(c, 2);
+        reply_bulk(c, bytes_of("pong"));
+        reply_bulk(c, c->count == 2 ? arg(c, 1) : NOTHING);
+        return NULL;
+    }
     c->count == 1 ? reply_simple(c, "PONG") : reply_bulk(c, arg(c, 1));
     return NULL;
 }
@@ -14,6 +20,19 @@ const char *run_ping(struct connection *c) {
 const char *run_quit(struct connection *c) {
     reply_simple(c, "OK");
     end_connection(c, BY_QUIT);
+    return NULL;
+}
+
+/* Makes the connection as it was at first. */
+const char *run_reset(struct connection *c) {
+    forget_transaction(c);
+    leave_channels(c);
+    c->is_known = c->worker->cache->limits.password.len == 0;
+    c->db = 0;
+    heap_free(c->name);
+    c->name = NULL;
+    c->name_len = 0;
+    reply_simple(c, "RESET");
     return NULL;
 }
 

@@ -7,6 +7,7 @@
 #include <fcntl.h>
 #include <string.h>
 #include <sys/epoll.h>
+#include <sys/eventfd.h>
 #include <sys/socket.h>
 #include <unistd.h>
 
@@ -19,7 +20,7 @@ static bool watch(int epoll, int how, int file, uint32_t events, void *of) {
 
 /* A worker that is not opened yet, and may be closed. */
 void worker_begin(struct worker *worker, struct seat *seat) {
-    *worker = (struct worker){.epoll = -1, .inbox = -1, .outbox = -1, .store = {.seat = seat}};
+    *worker = (struct worker){.epoll = -1, .inbox = -1, .outbox = -1, .bell = -1, .store = {.seat = seat}};
     pthread_mutex_init(&worker->list_lock, NULL);
 }
 
@@ -31,6 +32,8 @@ bool worker_open(struct worker *worker, struct cache *cache) {
     if (worker->epoll < 0 || pipe2(ends, O_CLOEXEC) != 0) return false;
     worker->inbox = ends[0];
     worker->outbox = ends[1];
+    worker->bell = eventfd(0, EFD_CLOEXEC | EFD_NONBLOCK);
+    if (worker->bell < 0 || !watch(worker->epoll, EPOLL_CTL_ADD, worker->bell, EPOLLIN, worker)) return false;
     return watch(worker->epoll, EPOLL_CTL_ADD, worker->inbox, EPOLLIN, NULL);
 }
 
@@ -42,6 +45,7 @@ void worker_close(struct worker *worker) {
     if (worker->epoll >= 0) close(worker->epoll);
     if (worker->inbox >= 0) close(worker->inbox);
     if (worker->outbox >= 0) close(worker->outbox);
+    if (worker->bell >= 0) close(worker->bell);
 }
 
 /* == The list of connections: those that were served last are first. It changes under its lock == */
@@ -73,6 +77,7 @@ static void drop(struct connection *c, enum closing why) {
     turn_share(store);
     take_out(c);
     forget_transaction(c);
+    leave_channels(c);
     atomic_fetch_sub_explicit(&store->cache->connections, 1, memory_order_relaxed);
     close(c->socket);
     buffer_free(&c->in);
@@ -232,6 +237,22 @@ static void look_into_inbox(struct worker *worker) {
     }
 }
 
+/* Sends the messages of channels that came for connections. It may close one, so no event of them is looked at after it. */
+static void deliver(struct worker *worker) {
+    uint64_t rings;
+    struct buffer mail;
+    (void)!read(worker->bell, &rings, sizeof rings);
+    for (struct connection *c = next_mailed(worker, &mail); c != NULL; c = next_mailed(worker, &mail)) {
+        turn_share(&worker->store);
+        c->answered = 0;
+        if (unsent(c) + mail.len > MOST_MAIL) break_connection(c, BY_BUFFERS);
+        reply_raw(c, (struct bytes){mail.at, mail.len});
+        turn_end(&worker->store);
+        buffer_free(&mail);
+        settle(c);
+    }
+}
+
 /* Answers what has come on each connection. */
 static void drain(struct worker *worker) {
     for (struct connection *c = worker->first, *after; c != NULL; c = after) {
@@ -241,11 +262,19 @@ static void drain(struct worker *worker) {
     }
 }
 
-/* Closes the connections that were idle for too long. */
+/* Closes the connections that were idle for too long, but for those that wait for messages. */
 static void close_idle(struct worker *worker) {
     uint64_t timeout = 1000 * worker->cache->limits.timeout;
-    while (timeout > 0 && worker->last != NULL && worker->last->served + timeout <= worker->now)
-        drop(worker->last, BY_TIMEOUT);
+    while (timeout > 0 && worker->last != NULL && worker->last->served + timeout <= worker->now) {
+        struct connection *c = worker->last;
+        if (c->subscribed == NULL) {
+            drop(c, BY_TIMEOUT);
+            continue;
+        }
+        c->served = worker->now;
+        take_out(c);
+        put_first(c);
+    }
 }
 
 /* How many milliseconds to wait for events: -1 for as long as there are none. */
@@ -269,14 +298,17 @@ void *worker_run(void *of) {
     struct epoll_event events[EVENTS];
     while (worker->drain_by == 0 || (worker->first != NULL && now_ms() < worker->drain_by)) {
         int count = wait_for_events(worker, events);
-        bool was_stopping = worker->drain_by != 0;
+        bool was_stopping = worker->drain_by != 0, has_rung = false;
         worker->now = now_ms();
         for (int i = 0; i < count; i++) {
             if (events[i].data.ptr == NULL)
                 look_into_inbox(worker);
+            else if (events[i].data.ptr == worker)
+                has_rung = true;
             else
                 serve(events[i].data.ptr, events[i].events);
         }
+        if (has_rung) deliver(worker);
         if (worker->drain_by != 0 && !was_stopping) drain(worker);
         close_idle(worker);
     }
