@@ -57,6 +57,14 @@ def each_command():
     yield from (["SCAN", "0", "COUNT", "1000", "TYPE", *it] for it in ([], ["string"], ["STRING"], ["hash"], [""], ["string", "MATCH", "n*"]))
     yield from (["KEYS", *it] for it in ([], ["*"], ["n*"], ["?"], [""], ["x"], ["*", "*"]))
     yield from of_scripts()
+    yield from (["COMMAND", "INFO", it] for it in ("slowlog", "latency", "time", "role"))
+    yield from (["CONFIG", "SET", *it] for it in (["maxmemory", "x"], ["nothing", "1"], ["maxmemory"], [], ["timeout", "-1"], ["timeout", "x", "maxmemory", "0"]))
+    yield from ([name, *it] for name in ("ROLE", "TIME") for it in (["x"], ["x", "y"]))
+    yield ["ROLE"]
+    yield from (["CLIENT", "KILL", *it] for it in ([], ["1.2.3.4:5"], ["ID", "x"], ["ID", "0"], ["ID", "999999999"], ["TYPE", "x"], ["USER", "x"], ["ID", "1", "x"], ["x", "y"]))
+    yield from (["SLOWLOG", *it] for it in (["GET", "x"], ["GET", "-2"], ["GET", "1", "2"], ["LEN", "x"], ["RESET", "x"], ["x"], []))
+    yield from (["LATENCY", *it] for it in (["LATEST"], ["LATEST", "x"], ["HISTORY"], ["HISTORY", "x"], ["RESET"], ["RESET", "x"], ["x"], []))
+    yield from (["CLUSTER", "INFO", *it] for it in ([], ["x"]))
     for name in ("FLUSHALL", "FLUSHDB"):
         yield from ([name, *it] for it in ([], ["sync"], ["ASYNC"], ["x"], ["SYNC", "SYNC"], [""]))
 

@@ -60,7 +60,9 @@ enum evicts { EVICT_NONE, EVICT_LRU, EVICT_TTL };
 
 /* What the server may use, by its options; the password, which is empty where there is none. */
 struct limits {
-    uint64_t connections, request, output, memory, buffers, timeout, grace, instructions;
+    _Atomic uint64_t connections, memory, timeout;
+    uint64_t request, output, buffers, grace, instructions;
+    _Atomic int64_t slow, slow_len, latency; /* of SLOWLOG, in microseconds, and its length; of LATENCY, in milliseconds */
     enum evicts evicts;
     struct bytes password;
 };
@@ -88,6 +90,7 @@ enum closing {
     BY_OUTPUT, /* the replies to one request go past --output */
     BY_MEMORY, /* the limit of memory or the system has none for its request or replies */
     BY_BUFFERS, /* it held the most where connections together held more than --buffers */
+    BY_KILL, /* CLIENT KILL */
     BY_STOP,
     CLOSINGS
 };
@@ -137,6 +140,7 @@ struct cache {
     atomic_bool is_barren;   /* a write looked for keys to evict and found none */
     struct watched **chains; /* watch_lock is held */
     _Alignas(64) _Atomic int64_t counts[COUNTS];
+    _Atomic uint64_t ticks_a_ms, slow_ticks; /* how long a tick of the processor is; and a command that is slow */
     _Alignas(64) _Atomic uint64_t holding[2]; /* what connections hold, those without a password first */
     _Alignas(64) _Atomic uint64_t connections, accepted, ids, refused[REFUSALS], closed[CLOSINGS];
 };
@@ -303,6 +307,11 @@ void scripts_close(struct cache *cache);
 
 /* == worker.c: a thread and its connections == */
 
+/* What a thread counts of a command. */
+struct command_stats {
+    _Atomic uint64_t calls, ticks, rejected, failed;
+};
+
 struct worker {
     struct cache *cache;
     struct store store;
@@ -315,6 +324,7 @@ struct worker {
     struct buffer in, out;           /* empty, to be lent */
     uint64_t now, drain_by;          /* when a stopping worker closes all that is left, or 0 */
     char error[1024];                /* the last error with an argument in it */
+    struct command_stats *stats;     /* of each command */
     bool is_rested;                  /* it had nothing to do, and gave its free blocks back */
     pthread_t thread;
 };
@@ -430,6 +440,10 @@ void reply_no_list(struct connection *c);
 void reply_list(struct connection *c, size_t count);
 const char *error_of(uint32_t status);
 const char *done_or_error(struct connection *c, uint32_t status, int64_t number);
+
+/* == main.c == */
+
+void allow_connections(uint64_t connections, uint64_t threads);
 
 #include "commands.h"
 

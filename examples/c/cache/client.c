@@ -8,8 +8,9 @@
 #include <stdlib.h>
 #include <string.h>
 #include <sys/socket.h>
+#include <sys/un.h>
 
-enum { ADDRESS = 32, LINE = 256 };
+enum { ADDRESS = 128, LINE = 512 };
 
 /* Whether a name is of visible characters alone, as clients' names are. */
 static bool is_name(struct bytes name) {
@@ -67,13 +68,31 @@ static const char *no_evict(struct connection *c) {
     return NULL;
 }
 
-static void write_address(char text[ADDRESS], int (*get)(int, struct sockaddr *, socklen_t *), int socket) {
-    struct sockaddr_in address = {0};
+/* Writes an end of a connection: `host:port`, `[host]:port`, or the path of a socket as Redis writes it. */
+static void write_address(char *text, size_t most, int (*get)(int, struct sockaddr *, socklen_t *), int socket) {
+    union {
+        struct sockaddr any;
+        struct sockaddr_in four;
+        struct sockaddr_in6 six;
+        struct sockaddr_un local;
+    } address = {0};
     socklen_t len = sizeof address;
-    char host[INET_ADDRSTRLEN] = "?";
-    (void)get(socket, (struct sockaddr *)&address, &len);
-    (void)inet_ntop(AF_INET, &address.sin_addr, host, sizeof host);
-    snprintf(text, ADDRESS, "%s:%d", host, ntohs(address.sin_port));
+    char host[INET6_ADDRSTRLEN] = "?";
+    (void)get(socket, &address.any, &len);
+    if (address.any.sa_family == AF_INET6) {
+        (void)inet_ntop(AF_INET6, &address.six.sin6_addr, host, sizeof host);
+        snprintf(text, most, "[%s]:%d", host, ntohs(address.six.sin6_port));
+    } else if (address.any.sa_family == AF_UNIX) {
+        (void)getsockname(socket, &address.any, &len);
+        snprintf(text, most, "%.100s:0", address.local.sun_path);
+    } else {
+        (void)inet_ntop(AF_INET, &address.four.sin_addr, host, sizeof host);
+        snprintf(text, most, "%s:%d", host, ntohs(address.four.sin_port));
+    }
+}
+
+void write_peer(char *text, size_t most, const struct connection *c) {
+    write_address(text, most, getpeername, c->socket);
 }
 
 /* Adds a connection's line. Returns false where there is no memory. */
@@ -81,8 +100,8 @@ static bool add_line(struct buffer *lines, const struct connection *c, uint64_t 
     char peer[ADDRESS], own[ADDRESS];
     struct bytes name = name_of(c);
     if (!buffer_reserve(lines, LINE + name.len)) return false;
-    write_address(peer, getpeername, c->socket);
-    write_address(own, getsockname, c->socket);
+    write_address(peer, ADDRESS, getpeername, c->socket);
+    write_address(own, ADDRESS, getsockname, c->socket);
     lines->len += (size_t)snprintf((char *)lines->at + lines->len, LINE + name.len,
                                    "id=%" PRIu64 " addr=%s laddr=%s fd=%d name=%.*s age=%" PRIu64 " idle=%" PRIu64
                                    " flags=%s db=%u sub=%zu psub=%zu user=default resp=2\n",
@@ -134,10 +153,95 @@ static const char *list(struct connection *c) {
     return reply_lines(c, &lines, is_whole);
 }
 
+/* == CLIENT KILL == */
+
+/* Which connections are to be closed. */
+struct killing {
+    int64_t id;
+    struct bytes peer, own, type;
+    bool skips_me;
+};
+
+/* Reads the filters. Returns an error, or NULL. */
+static const char *read_filters(struct connection *c, struct killing *it) {
+    static const char *const types[] = {"normal", "pubsub", "master", "replica", "slave"};
+    bool is_type = false;
+    for (size_t i = 2; i < c->count; i += 2) {
+        if (i + 1 == c->count) return NO_SYNTAX;
+        if (is_word(arg(c, i), "ID")) {
+            if (!number_of(arg(c, i + 1), &it->id) || it->id <= 0) return "ERR client-id should be greater than 0";
+        } else if (is_word(arg(c, i), "ADDR")) {
+            it->peer = arg(c, i + 1);
+        } else if (is_word(arg(c, i), "LADDR")) {
+            it->own = arg(c, i + 1);
+        } else if (is_word(arg(c, i), "TYPE")) {
+            it->type = arg(c, i + 1);
+            for (size_t at = 0; at < sizeof types / sizeof *types; at++)
+                is_type = is_type || is_word(it->type, types[at]);
+            if (!is_type) return error_with(c, "Unknown client type", it->type, "");
+        } else if (is_word(arg(c, i), "USER")) {
+            if (!is_word(arg(c, i + 1), "default")) return error_with(c, "No such user", arg(c, i + 1), "");
+        } else if (is_word(arg(c, i), "SKIPME") && (is_word(arg(c, i + 1), "yes") || is_word(arg(c, i + 1), "no"))) {
+            it->skips_me = is_word(arg(c, i + 1), "yes");
+        } else {
+            return NO_SYNTAX;
+        }
+    }
+    return NULL;
+}
+
+static bool is_at(struct bytes place, int (*get)(int, struct sockaddr *, socklen_t *), int socket) {
+    char text[ADDRESS];
+    if (place.at == NULL) return true;
+    write_address(text, ADDRESS, get, socket);
+    return place.len == strlen(text) && memcmp(text, place.at, place.len) == 0;
+}
+
+static bool is_meant(const struct killing *it, const struct connection *other) {
+    bool is_type = it->type.at == NULL || is_word(it->type, other->subscribed != NULL ? "pubsub" : "normal");
+    return is_type && (it->id == 0 || it->id == (int64_t)other->id) && is_at(it->peer, getpeername, other->socket)
+           && is_at(it->own, getsockname, other->socket);
+}
+
+/* Has the connections closed that are meant. Returns how many; the own one is closed when it has the reply. */
+static int64_t kill_all(struct connection *c, const struct killing *killing) {
+    struct cache *cache = c->worker->cache;
+    int64_t killed = 0;
+    for (size_t i = 0; i < cache->workers_len; i++) {
+        pthread_mutex_lock(&cache->workers[i].list_lock);
+        for (struct connection *it = cache->workers[i].first; it != NULL; it = it->after) {
+            if ((it == c && killing->skips_me) || !is_meant(killing, it)) continue;
+            it == c ? end_connection(c, BY_KILL) : shed(it, BY_KILL);
+            killed++;
+        }
+        pthread_mutex_unlock(&cache->workers[i].list_lock);
+    }
+    return killed;
+}
+
+/* It runs alone: what connections subscribed stays as it is. */
+static const char *run_kill(struct connection *c) {
+    struct killing killing = {.skips_me = c->count > 3};
+    const char *error = NULL;
+    if (c->count == 3)
+        killing.peer = arg(c, 2);
+    else
+        error = read_filters(c, &killing);
+    if (error != NULL) return error;
+    if (c->count > 3) {
+        reply_number(c, kill_all(c, &killing));
+        return NULL;
+    }
+    if (kill_all(c, &killing) == 0) return "ERR No such client";
+    reply_simple(c, "OK");
+    return NULL;
+}
+
 const char *run_client(struct connection *c) {
     static const struct command parts[] = {
         {"client|getname", get_name, 2, 0, 0, 0, 0, 0},  {"client|id", get_id, 2, 0, 0, 0, 0, 0},
-        {"client|info", info, 2, 0, 0, 0, 0, 0},         {"client|list", list, -2, ALONE, 0, 0, 0, 0},
+        {"client|info", info, 2, 0, 0, 0, 0, 0},         {"client|kill", run_kill, -3, ALONE, 0, 0, 0, 0},
+        {"client|list", list, -2, ALONE, 0, 0, 0, 0},
         {"client|no-evict", no_evict, 3, 0, 0, 0, 0, 0}, {"client|setinfo", set_info, 4, 0, 0, 0, 0, 0},
         {"client|setname", set_name, 3, 0, 0, 0, 0, 0},
     };

@@ -207,8 +207,22 @@ static const char *list(struct connection *c) {
     return is_whole ? NULL : error_of(FACING_NO_MEMORY);
 }
 
+/* All slots have a server; whether these are up the others do not know. */
+static const char *info(struct connection *c) {
+    char text[LINE * 2];
+    snprintf(text, sizeof text,
+             "cluster_state:ok\r\ncluster_slots_assigned:%d\r\ncluster_slots_ok:%d\r\ncluster_slots_pfail:0\r\n"
+             "cluster_slots_fail:0\r\ncluster_known_nodes:%zu\r\ncluster_size:%zu\r\ncluster_current_epoch:0\r\n"
+             "cluster_my_epoch:0\r\ncluster_stats_messages_sent:0\r\ncluster_stats_messages_received:0\r\n"
+             "total_cluster_links_buffer_limit_exceeded:0\r\n",
+             SLOTS, SLOTS, count, count);
+    reply_bulk(c, bytes_of(text));
+    return NULL;
+}
+
 const char *run_cluster(struct connection *c) {
     static const struct command parts[] = {
+        {"cluster|info", info, 2, 0, 0, 0, 0, 0},
         {"cluster|keyslot", key_slot, 3, 0, 0, 0, 0, 0}, {"cluster|myid", own_id, 2, 0, 0, 0, 0, 0},
         {"cluster|nodes", list, 2, 0, 0, 0, 0, 0},       {"cluster|shards", shards, 2, 0, 0, 0, 0, 0},
         {"cluster|slots", slots, 2, 0, 0, 0, 0, 0},

@@ -78,6 +78,9 @@ static const struct command all[] = {
     {"discard", run_discard, 1, NO_SCRIPT | LOADING | STALE | FAST | BUSY | UNQUEUED, 0, 0, 0, 0},
     {"watch", run_watch, -2, NO_SCRIPT | LOADING | STALE | FAST | BUSY | UNQUEUED, 1, -1, 1, 0},
     {"unwatch", run_unwatch, 1, NO_SCRIPT | LOADING | STALE | FAST | BUSY, 0, 0, 0, 0},
+    /* stats.c */
+    {"slowlog", run_slowlog, -2, OUT_OF_SCRIPTS, 0, 0, 0, 0},
+    {"latency", run_latency, -2, OUT_OF_SCRIPTS, 0, 0, 0, 0},
     /* pubsub.c */
     {"publish", run_publish, 3, PUBSUB | LOADING | STALE | FAST, 0, 0, 0, 0},
     {"subscribe", run_subscribe, -2, SUBSCRIBES, 0, 0, 0, 0},
@@ -96,6 +99,8 @@ static const struct command all[] = {
     /* server.c */
     {"reset", run_reset, 1, NO_SCRIPT | LOADING | STALE | FAST | NO_AUTH | BUSY | UNQUEUED | SUBSCRIBED, 0, 0, 0, 0},
     {"ping", run_ping, -1, FAST | SUBSCRIBED, 0, 0, 0, 0},
+    {"time", run_time, 1, LOADING | STALE | FAST, 0, 0, 0, 0},
+    {"role", run_role, 1, NO_SCRIPT | LOADING | STALE | FAST, 0, 0, 0, 0},
     {"echo", run_ping, 2, LOADING | STALE | FAST, 0, 0, 0, 0},
     {"info", run_info, -1, LOADING | STALE, 0, 0, 0, 0},
     {"auth", run_auth, -2, NO_SCRIPT | LOADING | STALE | FAST | NO_AUTH | BUSY, 0, 0, 0, 0},
@@ -130,6 +135,11 @@ size_t commands_count(void) {
 
 const struct command *command_at(size_t number) {
     return &all[number];
+}
+
+/* The number of a command of the table; for another one, such as a part of one, how many there are. */
+size_t command_number(const struct command *command) {
+    return command >= all && command < all + COUNT ? (size_t)(command - all) : COUNT;
 }
 
 /* The command of a name, whatever the case of its letters; NULL where there is none. */

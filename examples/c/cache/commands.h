@@ -44,6 +44,7 @@ enum { LONGEST_NAME = 32 };
 void commands_begin(void);
 size_t commands_count(void);
 const struct command *command_at(size_t number);
+size_t command_number(const struct command *command);
 const struct command *command_of(struct bytes name);
 bool takes_count(const struct command *command, size_t count);
 
@@ -68,6 +69,9 @@ run_fn run_scan, run_keys, run_randomkey;
 bool is_like(struct bytes text, struct bytes pattern);
 /* client.c */
 run_fn run_client, run_hello;
+void write_peer(char *text, size_t most, const struct connection *c);
+/* options.c */
+bool bytes_from(struct bytes text, uint64_t *bytes);
 /* config.c */
 run_fn run_config, run_object, run_memory;
 /* describe.c */
@@ -81,12 +85,22 @@ bool cluster_open(const char *slots, const char *path);
 const char *cluster_refuses(struct connection *c);
 /* transactions.c */
 run_fn run_multi, run_exec, run_discard, run_watch, run_unwatch;
+/* stats.c */
+run_fn run_slowlog, run_latency;
+uint64_t ticks_now(void);
+void ticks_learn(struct cache *cache);
+void set_slow_ticks(struct cache *cache);
+void count_rejected(struct connection *c);
+void command_ran(struct connection *c, const struct command *command, uint64_t ticks, bool has_failed);
+void write_stats_of_commands(struct cache *cache, struct buffer *text);
+void forget_stats(struct cache *cache);
+void stats_close(void);
 /* pubsub.c */
 run_fn run_publish, run_subscribe, run_unsubscribe, run_pubsub;
 /* scripts.c */
 run_fn run_eval, run_script;
 /* server.c */
-run_fn run_ping, run_info, run_auth, run_quit, run_reset;
+run_fn run_ping, run_info, run_auth, run_quit, run_reset, run_time, run_role;
 
 /* == run.c, transactions.c, server.c == */
 

@@ -81,9 +81,9 @@ static bool take_signals(struct server *server, sigset_t *set) {
 }
 
 /* Allows as many descriptors as connections need, where the system lets it. */
-static void allow_connections(const struct options *options) {
+void allow_connections(uint64_t connections, uint64_t threads) {
     struct rlimit files;
-    rlim_t wanted = options->limits.connections + 4 * options->threads + 16;
+    rlim_t wanted = connections + 5 * threads + 16;
     if (getrlimit(RLIMIT_NOFILE, &files) != 0 || files.rlim_cur >= wanted) return;
     files.rlim_cur = files.rlim_max < wanted ? files.rlim_max : wanted;
     (void)setrlimit(RLIMIT_NOFILE, &files);
@@ -261,6 +261,7 @@ static void accept_all(struct server *server) {
             uint64_t pause = sweep_slice(server);
             log_refusals(server, now);
             trim(server, now);
+            set_slow_ticks(&server->cache);
             files[1].events = POLLIN;
             next = now_ms() + pause;
         }
@@ -289,6 +290,7 @@ static void close_all(struct server *server) {
     for (size_t i = 0; i < cache->workers_len; i++)
         worker_close(&cache->workers[i]);
     scripts_close(cache);
+    stats_close();
     heap_free(cache->workers);
     walk_free(&server->walk);
     store_close(&server->store);
@@ -319,7 +321,8 @@ int main(int count, char **words) {
     if (options->threads > MOST_THREADS) options->threads = MOST_THREADS;
     server.cache.limits = options->limits;
     server.cache.started = now_ms();
-    allow_connections(options);
+    allow_connections(options->limits.connections, options->threads);
+    set_slow_ticks(&server.cache);
     mallopt(M_MMAP_THRESHOLD, LARGE); /* what a client did not read in time goes back to the system */
     is_started = take_signals(&server, &set) && start(&server);
     if (is_started) {

@@ -1,7 +1,6 @@
 /* Reads the options of the server. */
 #define _GNU_SOURCE
 #include "options.h"
-#include <errno.h>
 #include <getopt.h>
 #include <inttypes.h>
 #include <stdio.h>
@@ -51,11 +50,25 @@ static int usage(FILE *to, int status) {
     return status;
 }
 
+/* Reads a number of bytes, with a unit or without: `4gb` as Redis takes it, of 1,024 each; `4g` of 1,000. */
+bool bytes_from(struct bytes text, uint64_t *bytes) {
+    static const struct {
+        const char *unit;
+        uint64_t size;
+    } units[] = {{"", 1}, {"b", 1}, {"k", 1000}, {"kb", 1 << 10}, {"m", 1000000}, {"mb", 1 << 20}, {"g", 1000000000}, {"gb", 1 << 30}};
+    uint64_t number = 0;
+    size_t at = 0;
+    for (; at < text.len && text.at[at] >= '0' && text.at[at] <= '9'; at++)
+        if (__builtin_mul_overflow(number, 10, &number) || __builtin_add_overflow(number, (uint64_t)(text.at[at] - '0'), &number))
+            return false;
+    for (size_t i = 0; at > 0 && i < sizeof units / sizeof *units; i++)
+        if (is_word((struct bytes){text.at + at, text.len - at}, units[i].unit))
+            return !__builtin_mul_overflow(number, units[i].size, bytes);
+    return false;
+}
+
 static bool number_from(const char *text, const struct option_number *of, uint64_t *number) {
-    char *end;
-    errno = 0;
-    *number = strtoull(text, &end, 10);
-    return text[0] >= '0' && text[0] <= '9' && *end == 0 && errno == 0 && *number >= of->least && *number <= of->most;
+    return bytes_from(bytes_of(text), number) && *number >= of->least && *number <= of->most;
 }
 
 static int take_number(const struct option_number *of, const char *text, struct options *options) {
@@ -111,7 +124,7 @@ int read_options(int count, char **words, struct options *options) {
     static const char *const names[] = {"address", "password", "evict", "slots", "nodes", "open", "help"};
     struct option known[OPTIONS + 1] = {{0}};
     int which = 0, status = -1, at;
-    *options = (struct options){.address = "127.0.0.1", .limits.evicts = EVICT_LRU};
+    *options = (struct options){.address = "127.0.0.1", .limits = {.evicts = EVICT_LRU, .slow = 10000, .slow_len = 128}};
     for (int i = 0; i < OPTIONS; i++) {
         const char *name = i < NUMBERS ? numbers[i].name : names[i - NUMBERS];
         known[i] = (struct option){name, i < OPEN ? required_argument : no_argument, NULL, i};

@@ -91,12 +91,15 @@ static const char *void_transaction(struct connection *c, const char *error) {
 /* Runs a command: alone, where it is one of those. */
 const char *run_command_of(struct connection *c, const struct command *command) {
     struct store *store = &c->worker->store;
+    bool is_taken = (command->flags & ALONE) && !store->is_alone;
     const char *error;
+    uint64_t began;
     c->command = command;
-    if ((command->flags & ALONE) == 0 || store->is_alone) return command->run(c);
-    turn_take_alone(store);
+    if (is_taken) turn_take_alone(store);
+    began = ticks_now();
     error = command->run(c);
-    turn_leave_alone(store);
+    command_ran(c, command, ticks_now() - began, error != NULL);
+    if (is_taken) turn_leave_alone(store);
     return error;
 }
 
@@ -119,11 +122,13 @@ void run_request(struct connection *c) {
         return;
     }
     error = refused(c);
-    if (error != NULL)
+    if (error != NULL) {
+        count_rejected(c);
         error = void_transaction(c, error);
-    else if (c->transaction.is_open && (c->command->flags & UNQUEUED) == 0)
+    } else if (c->transaction.is_open && (c->command->flags & UNQUEUED) == 0) {
         error = queue_request(c);
-    else
+    } else {
         error = run_command_of(c, c->command);
+    }
     if (error != NULL) reply_error(c, error);
 }

@@ -1,8 +1,10 @@
 /* The commands on the server and the connection. */
+#define _GNU_SOURCE
 #include "cache.h"
 #include <inttypes.h>
 #include <stdio.h>
 #include <string.h>
+#include <time.h>
 #include <unistd.h>
 
 const char *run_ping(struct connection *c) {
@@ -33,6 +35,27 @@ const char *run_reset(struct connection *c) {
     c->name = NULL;
     c->name_len = 0;
     reply_simple(c, "RESET");
+    return NULL;
+}
+
+const char *run_time(struct connection *c) {
+    struct timespec now;
+    char seconds[24], rest[24];
+    clock_gettime(CLOCK_REALTIME, &now);
+    snprintf(seconds, sizeof seconds, "%lld", (long long)now.tv_sec);
+    snprintf(rest, sizeof rest, "%ld", now.tv_nsec / 1000);
+    reply_list(c, 2);
+    reply_bulk(c, bytes_of(seconds));
+    reply_bulk(c, bytes_of(rest));
+    return NULL;
+}
+
+/* A server without replicas. */
+const char *run_role(struct connection *c) {
+    reply_list(c, 3);
+    reply_bulk(c, bytes_of("master"));
+    reply_number(c, 0);
+    reply_list(c, 0);
     return NULL;
 }
 
@@ -104,6 +127,31 @@ static void write_keyspace(struct connection *c, char part[PART]) {
     (void)store_select(store, c->db);
 }
 
+/* Whether the counts of commands are asked for: they are not among the sections by default. */
+static bool asks_for_commands(const struct connection *c) {
+    bool is_so = false;
+    for (size_t i = 1; i < c->count; i++)
+        is_so = is_so || is_word(arg(c, i), "commandstats") || is_word(arg(c, i), "all") || is_word(arg(c, i), "everything");
+    return is_so;
+}
+
+/* Replies with the text, and with the counts of commands behind it where they are asked for. */
+static const char *reply_info(struct connection *c, const char *text, size_t len) {
+    struct buffer all = {0};
+    bool is_whole = buffer_reserve(&all, len + 64);
+    if (is_whole) {
+        memcpy(all.at, text, len);
+        all.len = len;
+    }
+    if (is_whole && asks_for_commands(c)) {
+        all.len += (size_t)snprintf((char *)all.at + len, 64, "%s# Commandstats\r\n", len > 0 ? "\r\n" : "");
+        write_stats_of_commands(c->worker->cache, &all);
+    }
+    if (is_whole) reply_bulk(c, (struct bytes){all.at, all.len});
+    buffer_free(&all);
+    return is_whole ? NULL : error_of(FACING_NO_MEMORY);
+}
+
 /* Replies with the sections that are asked for, and an empty line between them. */
 const char *run_info(struct connection *c) {
     static const char *const names[] = {"Server", "Clients", "Memory", "Stats", "Closed", "Cluster", "Keyspace"};
@@ -123,8 +171,7 @@ const char *run_info(struct connection *c) {
         if (is_asked(c, names[i]))
             len +=
                 (size_t)snprintf(text + len, sizeof text - len, "%s# %s\r\n%s", len > 0 ? "\r\n" : "", names[i], parts[i]);
-    reply_bulk(c, bytes_of(text));
-    return NULL;
+    return reply_info(c, text, len);
 }
 
 /* == Passwords == */

@@ -27,6 +27,8 @@ void worker_begin(struct worker *worker, struct seat *seat) {
 bool worker_open(struct worker *worker, struct cache *cache) {
     int ends[2];
     worker->cache = cache;
+    worker->stats = heap_zeros(commands_count() * sizeof *worker->stats);
+    if (worker->stats == NULL) return false;
     if (store_open(&worker->store, cache) != FACING_DONE) return false;
     worker->epoll = epoll_create1(EPOLL_CLOEXEC);
     if (worker->epoll < 0 || pipe2(ends, O_CLOEXEC) != 0) return false;
@@ -39,6 +41,7 @@ bool worker_open(struct worker *worker, struct cache *cache) {
 
 void worker_close(struct worker *worker) {
     store_close(&worker->store);
+    heap_free(worker->stats);
     walk_free(&worker->walk);
     buffer_free(&worker->in);
     buffer_free(&worker->out);
@@ -99,10 +102,10 @@ static void take_in(struct worker *worker, int socket) {
     c->worker = worker;
     c->socket = socket;
     c->watched = EPOLLIN;
-    c->is_known = worker->cache->limits.password.len == 0;
     c->id = atomic_fetch_add_explicit(&worker->cache->ids, 1, memory_order_relaxed) + 1;
     c->began = c->served = now_ms();
     turn_share(&worker->store);
+    c->is_known = worker->cache->limits.password.len == 0;
     put_first(c);
     turn_end(&worker->store);
 }
