@@ -15,7 +15,6 @@ from .together import must
 
 KEYS = 3000
 # Calls that may fail where a server stops: the one that meets it, for each of the proxy's connections.
-MOST_FAILED = 3
 
 
 def free_port():
@@ -61,7 +60,7 @@ def count_of(server):
 
 
 def behind_a_proxy(program):
-    """Three servers share the keys. With one of them stopped at most some calls fail, and its keys alone are gone."""
+    """Three servers share the keys. With one of them stopped the calls on its keys fail, and on no others."""
     need("nutcracker", "redis-benchmark")
     python = python_with("redis")
     with contextlib.ExitStack() as stack:
@@ -69,7 +68,7 @@ def behind_a_proxy(program):
         port = stack.enter_context(proxy(servers))
         ran(python, "-B", f"{HERE}/by_proxy.py", "fill", port)
         shares = [count_of(it) for it in servers]
-        must(sum(shares) == KEYS and min(shares) > KEYS // 10, f"the servers have {shares} of {KEYS} keys")
+        must(sum(shares) == KEYS and min(shares) > KEYS // 4, f"the servers have {shares} of {KEYS} keys")
         said = ran("redis-benchmark", "-p", port, "-t", "set,get,incr,mset", "-n", 20000, "-c", 50, "-P", 16, "-r", 1000, "-q")
         must(said.count("requests per second") == 4, f"redis-benchmark: {said[-500:]}")
         with Connection(servers[0].port) as it:
@@ -77,8 +76,7 @@ def behind_a_proxy(program):
         must(lost == shares[0], "a key is not where it was stored")
         servers[0].stop()
         failed, there, gone = (int(it) for it in ran(python, "-B", f"{HERE}/by_proxy.py", "read", port).split())
-        must(failed <= MOST_FAILED, f"{failed} of {KEYS} calls failed")
-        must(there == KEYS - lost and gone + failed == lost, f"{there} keys are there, {gone} are gone, and {lost} were on the server that stopped")
+        must((there, failed, gone) == (KEYS - lost, lost, 0), f"{there} keys are there, {failed} fail, {gone} are gone, and {lost} were on the server that stopped")
 
 
 # == Slots ==

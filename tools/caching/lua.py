@@ -1,5 +1,6 @@
 """Scripts in Lua: their replies, their limits, and that they are one step."""
 import hashlib
+import subprocess
 import threading
 
 from .client import OK, PONG, Connection, Error, Simple
@@ -160,3 +161,5 @@ def without_lua(program):
     with Server(program) as server, Connection(server.port) as it:
         must(str(it.call("EVAL", "return 1", "0")).startswith("ERR unknown command 'EVAL'"), "EVAL is taken")
         must(it.call("COMMAND", "INFO", "EVAL") == [None], "EVAL is described")
+    ran = subprocess.run([program, "--version"], capture_output=True, text=True, timeout=60, check=False)
+    must("without scripts" in ran.stdout, f"{ran}")

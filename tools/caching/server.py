@@ -110,6 +110,7 @@ class Server:
         self.said = tempfile.TemporaryFile("w+")
         # What ThreadSanitizer is told of a walk takes long for each bucket.
         words = [program, "--port", "0", *(["--buckets", "256"] if program.endswith("thread") else []), *(str(it) for it in options)]
+        words += [] if "--threads" in words or "--config" in words else ["--threads", "0"]
         more = {**os.environ, **SANITIZERS}
         self.process = subprocess.Popen(words, stdout=subprocess.PIPE, stderr=self.said, text=True, env=more, preexec_fn=limit)
         line = self.process.stdout.readline()

@@ -1,6 +1,6 @@
 /* A cache server: strings under keys, many connections, one map of facing_bytes.h, and the Redis protocol (RESP2).
  *
- * options.c reads the options. main.c opens the map, starts the threads, accepts connections and deals them out, and removes
+ * options.c reads the options, listen.c listens. main.c opens the map, starts the threads, accepts connections and deals them out, and removes
  * expired keys in slices. worker.c has a thread's loop over its connections; request.c takes requests apart, run.c runs
  * them, reply.c writes replies. store.c changes the value of a key by one atomic call, databases.c has a map for each database, walk.c goes over the keys, evict.c
  * makes room; holding.c bounds what connections hold, closing.c counts why connections were closed; pubsub.c has channels, turn.c lets a request run alone, watch.c tells whether a key was changed. scripts.c runs scripts in Lua. clock.c has deadlines, cluster.c the
@@ -302,6 +302,7 @@ void changed(const struct store *store, struct bytes key);
 enum { SHA1_HEX = 41 };
 
 __attribute__((format(printf, 1, 2))) void log_line(const char *format, ...);
+void notify_system(const char *state);
 void sha1_hex(struct bytes text, char hex[SHA1_HEX]);
 void scripts_close(struct cache *cache);
 

@@ -3,7 +3,6 @@
  * usage: cache [OPTION..]; `cache --help` lists the options. */
 #define _GNU_SOURCE
 #include "options.h"
-#include <arpa/inet.h>
 #include <errno.h>
 #include <inttypes.h>
 #include <malloc.h>
@@ -20,7 +19,7 @@
 #include <unistd.h>
 
 /* A script's patterns and functions may nest deep on the stack, which takes memory where it is used. */
-enum { STACK = 1 << 23, BACKLOG = 511, BATCH = 64, LARGE = 1 << 17 };
+enum { STACK = 1 << 23, BATCH = 64, LARGE = 1 << 17 };
 
 /* In milliseconds: how often the main thread looks around, and how long it removes keys at a time: a tenth of the time,
  * or half of it after a FLUSHALL. */
@@ -41,40 +40,24 @@ struct server {
     struct store store; /* of the main thread, which removes expired keys */
     struct walk walk;
     unsigned db; /* of the walk */
-    int listener, signals;
+    int listener, local, signals;
     uint64_t sweeping, trimmed;         /* the generation of the walk; when memory was given back */
     bool is_flushed;                    /* since then what a FLUSHALL left was removed */
     uint64_t refused[REFUSALS], logged; /* what the log has of refusals, and when */
 };
 
-static bool failed(const char *what) {
+bool failed(const char *what) {
     fprintf(stderr, "cache: %s: %s\n", what, strerror(errno));
     return false;
 }
 
-/* Listens. The port is the one that was taken then. */
-static bool listen_on(struct server *server) {
-    struct sockaddr_in address = {.sin_family = AF_INET, .sin_port = htons((uint16_t)server->options.port)};
-    socklen_t len = sizeof address;
-    int on = 1;
-    if (inet_pton(AF_INET, server->options.address, &address.sin_addr) != 1) {
-        errno = EINVAL;
-        return failed(server->options.address);
-    }
-    server->listener = socket(AF_INET, SOCK_STREAM | SOCK_NONBLOCK | SOCK_CLOEXEC, 0);
-    if (server->listener < 0 || setsockopt(server->listener, SOL_SOCKET, SO_REUSEADDR, &on, sizeof on) != 0
-        || bind(server->listener, (struct sockaddr *)&address, len) != 0 || listen(server->listener, BACKLOG) != 0
-        || getsockname(server->listener, (struct sockaddr *)&address, &len) != 0)
-        return failed("cannot listen");
-    server->options.port = ntohs(address.sin_port);
-    return true;
-}
-
-/* Takes SIGTERM and SIGINT from now on, in all threads, from a descriptor. */
+/* Takes SIGTERM and SIGINT from now on, in all threads, from a descriptor. A terminal that goes away ends nothing. */
 static bool take_signals(struct server *server, sigset_t *set) {
     sigemptyset(set);
     sigaddset(set, SIGTERM);
     sigaddset(set, SIGINT);
+    signal(SIGHUP, SIG_IGN);
+    signal(SIGPIPE, SIG_IGN);
     if (sigprocmask(SIG_BLOCK, set, NULL) != 0) return failed("cannot block signals");
     server->signals = signalfd(-1, set, SFD_CLOEXEC | SFD_NONBLOCK);
     return server->signals >= 0 || failed("cannot take signals");
@@ -139,7 +122,10 @@ static bool start(struct server *server) {
         fprintf(stderr, "cache: --memory is too little: the map and the threads take %" PRIu64 " bytes\n", heap_used());
         return false;
     }
-    return listen_on(server) && start_threads(server);
+    server->listener = listen_on(&server->options);
+    if (server->listener < 0) return false;
+    server->local = listen_locally(&server->options);
+    return server->local != -2 && start_threads(server);
 }
 
 /* Replies go out at once, and a connection ends whose client is gone without a word. */
@@ -177,9 +163,9 @@ static void deal_out(struct server *server, int accepted, size_t *turn) {
 }
 
 /* Accepts some connections. Returns false where the system has no descriptor or no memory for the next one. */
-static bool accept_some(struct server *server, size_t *turn) {
+static bool accept_some(struct server *server, int listener, size_t *turn) {
     for (int i = 0; i < BATCH; i++) {
-        int accepted = accept4(server->listener, NULL, NULL, SOCK_NONBLOCK | SOCK_CLOEXEC);
+        int accepted = accept4(listener, NULL, NULL, SOCK_NONBLOCK | SOCK_CLOEXEC);
         if (accepted < 0) return errno != EMFILE && errno != ENFILE && errno != ENOBUFS && errno != ENOMEM;
         deal_out(server, accepted, turn);
     }
@@ -252,8 +238,8 @@ static void log_refusals(struct server *server, uint64_t now) {
 /* Accepts connections and removes expired keys, until a signal comes. Where there are no more descriptors, connections wait
  * until the next slice. */
 static void accept_all(struct server *server) {
-    struct pollfd files[2] = {{.fd = server->signals, .events = POLLIN}, {.fd = server->listener, .events = POLLIN}};
-    uint64_t next = now_ms() + TICK;
+    struct pollfd files[3] = {{.fd = server->signals, .events = POLLIN}, {.fd = server->listener}, {.fd = server->local}};
+    uint64_t next = now_ms();
     size_t turn = 0;
     while ((files[0].revents & POLLIN) == 0) {
         uint64_t now = now_ms();
@@ -262,12 +248,13 @@ static void accept_all(struct server *server) {
             log_refusals(server, now);
             trim(server, now);
             set_slow_ticks(&server->cache);
-            files[1].events = POLLIN;
+            files[1].events = files[2].events = POLLIN;
             next = now_ms() + pause;
         }
         now = now_ms();
-        if (poll(files, 2, now < next ? (int)(next - now) : 0) <= 0) continue;
-        if ((files[1].revents & POLLIN) && !accept_some(server, &turn)) files[1].events = 0;
+        if (poll(files, 3, now < next ? (int)(next - now) : 0) <= 0) continue;
+        for (int i = 1; i < 3; i++)
+            if ((files[i].revents & POLLIN) && !accept_some(server, files[i].fd, &turn)) files[1].events = files[2].events = 0;
     }
 }
 
@@ -277,6 +264,10 @@ static void stop(struct server *server, const sigset_t *set) {
     if (server->signals >= 0) (void)!read(server->signals, &taken, sizeof taken);
     sigprocmask(SIG_UNBLOCK, set, NULL);
     if (server->listener >= 0) close(server->listener);
+    if (server->local >= 0) {
+        close(server->local);
+        unlink(server->options.unixsocket);
+    }
     for (size_t i = 0; i < server->opened; i++) {
         close(server->cache.workers[i].outbox);
         server->cache.workers[i].outbox = -1;
@@ -298,18 +289,8 @@ static void close_all(struct server *server) {
     if (server->signals >= 0) close(server->signals);
 }
 
-/* Without a password, clients of other machines are taken only where that is meant. Returns whether the server may start. */
-static bool is_safe(const struct options *options) {
-    struct in_addr address;
-    bool is_local = inet_pton(AF_INET, options->address, &address) == 1 && (ntohl(address.s_addr) >> 24) == 127;
-    if (is_local || options->limits.password.len > 0 || inet_pton(AF_INET, options->address, &address) != 1) return true;
-    fprintf(stderr, "cache: %s without --password: who reaches it may read and write everything%s\n", options->address,
-            options->is_open ? "" : "; --open says that this is meant");
-    return options->is_open;
-}
-
 int main(int count, char **words) {
-    static struct server server = {.listener = -1, .signals = -1};
+    static struct server server = {.listener = -1, .local = -1, .signals = -1};
     struct options *options = &server.options;
     sigset_t set;
     bool is_started;
@@ -326,9 +307,13 @@ int main(int count, char **words) {
     mallopt(M_MMAP_THRESHOLD, LARGE); /* what a client did not read in time goes back to the system */
     is_started = take_signals(&server, &set) && start(&server);
     if (is_started) {
-        log_line("listens on %s:%" PRIu64 ", %zu threads", options->address, options->port, server.started);
+        bool is_six = strchr(options->address, ':') != NULL;
+        log_line("listens on %s%s%s:%" PRIu64 ", %zu threads", is_six ? "[" : "", options->address, is_six ? "]" : "",
+                 options->port, server.started);
+        notify_system("READY=1");
         accept_all(&server);
     }
+    notify_system("STOPPING=1");
     stop(&server, &set);
     if (is_started)
         log_line("stopped, %" PRIu64 " connections, %" PRId64 " requests", atomic_load(&server.cache.accepted),
