@@ -118,6 +118,22 @@ class Place:
         is_found = "data race" in ran.stderr and "facing_put" in ran.stderr
         return is_found, "found" if is_found else f"not found: {ran.stderr}"
 
+    def plugins(self):
+        """Hosts and plugins with either library, the host with and without its symbols for what it loads."""
+        need("cc")
+        shared = ["-L" + f"{self.prefix}/lib", "-lfacing", f"-Wl,-rpath,{self.prefix}/lib"]
+        static, words = [f"{self.prefix}/lib/libfacing.a"], [*C, *WARNED, f"-I{self.prefix}/include"]
+        commands = []
+        for name, library in (("static", static), ("shared", shared)):
+            self.built([*words, "-fPIC", "-shared", f"{HERE}/c/tests/plugin.c", *library, "-lpthread", "-o", f"{self.folder}/{name}.so"])
+            for more in ([], ["-rdynamic"]):
+                host = f"{self.folder}/host_{name}{''.join(more)}"
+                self.built([*words, *more, f"{HERE}/c/tests/plugin_host.c", *library, "-lpthread", "-ldl", "-o", host])
+                for plugin in ("static", "shared"):
+                    is_one = plugin == "shared" if name == "shared" else bool(more)
+                    commands.append([host, f"{self.folder}/{plugin}.so", *(["shared"] if is_one else [])])
+        return run(*commands)
+
     def under_valgrind(self, compiler, source, more=()):
         need("valgrind")
         return [*VALGRIND, self.program(compiler, source, more=more)]
@@ -256,6 +272,9 @@ WORKS = [
     ("C, at most 1,024 buckets a call", lambda it: run(it.program(C, "c/tests/bounded.c"))),
     ("C, children of a fork", lambda it: run(it.program(C, "c/tests/fork.c", more=STOPPED))),
     ("C, sanitized, children of a fork", lambda it: run(it.sanitized(C, "c/tests/fork.c", STOPPED))),
+    ("C, a plugin that is unloaded, and forks", lambda it: it.plugins()),
+    ("C, threads that are cancelled", lambda it: run(it.program(C, "c/tests/cancel.c"))),
+    ("C, ThreadSanitizer, threads that are cancelled", lambda it: run(it.watched(C, "c/tests/cancel.c"))),
     ("C, sanitized, answers to wrong arguments", lambda it: run(it.sanitized(C, "c/tests/answers.c"))),
     ("C, exchanges and bounded sums", lambda it: run(it.program(C, "c/tests/change.c"))),
     ("C++, exchanges and bounded sums", lambda it: run(it.program(CPP, "c/tests/change.c"))),

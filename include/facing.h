@@ -8,6 +8,7 @@
  *  4. malloc, realloc and free belong to one allocator and align to 16 bytes. Make no call in a signal handler.
  *  5. Output handles are overwritten, not freed.
  *  6. In the child of a fork use no handle that another thread was using during the fork. What a child may do stands below.
+ *  7. Cancel no thread asynchronously. No call is a cancellation point: where its thread is cancelled it is made first.
  * The functions check the rest: they reject null pointers and lengths that no array has, and set a handle to null once it
  * is freed. With FACING_DEBUG defined, in all files of a program or in none, they also tell on stderr of a handle of another
  * header and of a copy of one of the last 1,024 handles that were freed.
@@ -60,7 +61,7 @@ uint32_t facing_c_try_pairs(facing_handle any, facing_handle *out, uint64_t at, 
 FACING_INNER uint32_t facing_open_with(size_t capacity, uint32_t clients, uint32_t salt, const uint64_t seed[2],
                                        facing_handle *map) {
     facing_handle made = {FACING_NULL};
-    uint32_t status = facing_watch_forks();
+    uint32_t status = facing_forks_watch();
     if (status != FACING_DONE) return status;
     FACING_ENTER(0);
     status = facing_c_open_seeded(capacity, clients, salt, seed[0], seed[1], &made);
@@ -127,7 +128,7 @@ FACING_CHECKED FACING_API uint32_t facing_client(facing_handle *map, facing_hand
     if (client == FACING_NULL) return FACING_BAD_ARGUMENT;                                                                  \
     FACING_TRY(export_and_arguments);                                                                                       \
     while (status == FACING_BUSY) {                                                                                         \
-        round = facing_next_round(round, 0);                                                                                \
+        round = facing_back_off(round, 0);                                                                                \
         if (round == FACING_NEVER) return FACING_AFTER_FORK;                                                                \
         FACING_TRY(export_and_arguments);                                                                                   \
     }                                                                                                                       \
@@ -315,7 +316,7 @@ FACING_CHECKED FACING_API uint32_t facing_pairs(facing_handle *any, facing_curso
             buckets++;
             round = 0;
         } else if (status == FACING_BUSY) {
-            round = facing_next_round(round, 0);
+            round = facing_back_off(round, 0);
             if (round == FACING_NEVER) status = FACING_AFTER_FORK;
         }
     } while (status == FACING_BUSY

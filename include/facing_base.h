@@ -9,7 +9,6 @@
 #include <stddef.h>
 #include <stdint.h>
 #include <sys/random.h>
-#include <sys/stat.h>
 #ifdef FACING_DEBUG
 #include <stdio.h>
 #include <stdlib.h>
@@ -197,6 +196,18 @@ uint32_t facing_c_reopen(facing_handle closed, facing_handle *out, uint32_t clie
 uint32_t facing_c_again(facing_handle closed, facing_handle *out, facing_handle *more);
 void facing_c_free(facing_handle any);
 
+/* Lets no cancellation of this thread take effect until facing_let_cancel is given what this returns: a call that was
+ * cancelled in the middle would never give back what it has. */
+FACING_INNER int facing_hold_cancel(void) {
+    int before = PTHREAD_CANCEL_ENABLE;
+    pthread_setcancelstate(PTHREAD_CANCEL_DISABLE, &before);
+    return before;
+}
+
+FACING_INNER void facing_let_cancel(int before) {
+    pthread_setcancelstate(before, FACING_NULL);
+}
+
 /* What a handle leads to, for the functions of the headers. The libraries are numbered.
  *
  * Where FACING_DEBUG is defined, in all files of a program or in none, a handle leads to a box with its library's word. A
@@ -226,7 +237,9 @@ FACING_INNER void facing_retire(facing_box *box) {
 /* Returns the box of a handle of this library; null where it is none, and then it says why unless the handle is null. */
 FACING_INNER facing_box *facing_box_of(void *at, uint32_t library) {
     facing_box *box = FACING_TO(facing_box *, at);
+    int cancels;
     if (box == FACING_NULL || box->word == (FACING_WORD | library)) return box;
+    cancels = facing_hold_cancel();
     if (box->word == FACING_FREED) {
         fputs("facing: this handle is a copy of one that was freed\n", stderr);
     } else if ((box->word | 15) == (FACING_WORD | 15)) {
@@ -234,6 +247,7 @@ FACING_INNER facing_box *facing_box_of(void *at, uint32_t library) {
     } else {
         fputs("facing: this is no handle\n", stderr);
     }
+    facing_let_cancel(cancels);
     return FACING_NULL;
 }
 #endif
@@ -278,7 +292,7 @@ FACING_INNER void *facing_boxed(void *at, uint32_t library) {
 #endif
 }
 
-/* Backs off: spins for a short while, later yields, and then sleeps for a millisecond. */
+/* Backs off: spins for a short while, later yields, and then sleeps for a millisecond. It is no cancellation point. */
 FACING_API void facing_wait(unsigned round) {
     if (round < 7) {
         for (unsigned i = 0; i < 1u << round; i++) {
@@ -289,64 +303,36 @@ FACING_API void facing_wait(unsigned round) {
     } else if (round < 64) {
         sched_yield();
     } else {
+        int cancels = facing_hold_cancel();
         poll(FACING_NULL, 0, 1);
+        facing_let_cancel(cancels);
     }
 }
 
-/* How often this process, or one that it was forked from, was forked since it opened its first map or took its first client;
- * and whether forks are counted. There is one of each in a program. */
-#ifdef __GNUC__
-extern unsigned facing_forks;
-extern int facing_watches_forks;
-__attribute__((weak)) unsigned facing_forks;
-__attribute__((weak)) int facing_watches_forks;
-#else
-static unsigned facing_forks;
-static int facing_watches_forks;
-#endif
+/* Lets the library count each fork from now on, in the child. Returns FACING_NO_MEMORY where the system cannot. */
+FACING_CHECKED uint32_t facing_forks_watch(void);
 
-FACING_INNER void facing_count_fork(void) {
-    facing_forks++;
-}
+/* Returns how often this process, or one that it was forked from, was forked since forks are counted. */
+uint32_t facing_forks_seen(void);
 
-/* Lets each fork from now on be counted in the child. Returns FACING_NO_MEMORY where the system cannot. */
-FACING_CHECKED FACING_INNER uint32_t facing_watch_forks(void) {
-    if (__atomic_load_n(&facing_watches_forks, __ATOMIC_SEQ_CST) != 0
-        || __atomic_exchange_n(&facing_watches_forks, 1, __ATOMIC_SEQ_CST) != 0
-        || pthread_atfork(FACING_NULL, FACING_NULL, facing_count_fork) == 0)
-        return FACING_DONE;
-    __atomic_store_n(&facing_watches_forks, 0, __ATOMIC_SEQ_CST);
-    return FACING_NO_MEMORY;
-}
-
-/* Whether this process has one thread. */
-FACING_INNER int facing_is_alone(void) {
-    struct stat threads;
-    return stat("/proc/self/task", &threads) == 0 && threads.st_nlink == 3;
-}
-
-/* Backs off before the next try, and returns the next round. It returns FACING_NEVER where no try will succeed: this is the
- * child of a fork, and what the call waits for was in use by a thread that the fork left behind. In a child of one thread
- * that is sure once a try failed while it had no other; in one of more threads it is taken to be so after ten seconds. */
-enum { FACING_NEVER = 0, FACING_FIRST_YIELD = 7, FACING_FIRST_SLEEP = 64, FACING_LAST_SLEEP = 10064, FACING_LAST_TRY = 10065 };
+enum { FACING_NEVER = 0 };
 #ifdef __GNUC__
 __attribute__((cold))
 #endif
-FACING_INNER unsigned facing_next_round(unsigned round, unsigned forks_before) {
-    if (round == FACING_LAST_TRY) return FACING_NEVER;
-    facing_wait(round);
-    if (facing_forks == forks_before) return round + (round < FACING_FIRST_SLEEP);
-    /* (a thread that ended meanwhile may have unlocked what the try before found locked) */
-    if (round >= FACING_LAST_SLEEP || (round >= FACING_FIRST_YIELD && facing_is_alone())) return FACING_LAST_TRY;
-    return round + 1;
-}
+/* Backs off before the next try, and returns the next round; the first is 0. Returns FACING_NEVER where no try will succeed:
+ * there was a fork since there had been `forks_before`, so this is the child of one, and what the call waits for was in use
+ * by a thread that the fork left behind. In a child of one thread that is sure once a try failed while it had no other; in
+ * one of more threads it is taken to be so after ten seconds. */
+uint32_t facing_back_off(uint32_t round, uint32_t forks_before);
 
 /* Fills `seed` with 16 random bytes of the system. Returns FACING_NO_SEED where it gives none. */
 FACING_CHECKED FACING_INNER uint32_t facing_seed(uint64_t seed[2]) {
+    int cancels = facing_hold_cancel();
     ssize_t got;
     do
         got = getrandom(seed, 16, 0);
     while (got < 0 && errno == EINTR);
+    facing_let_cancel(cancels);
     return got == 16 ? FACING_DONE : FACING_NO_SEED;
 }
 
@@ -369,7 +355,7 @@ FACING_INNER uint32_t facing_fill(void **at, facing_handle made, uint32_t librar
 
 FACING_INNER uint32_t facing_any_client(void **map, void **client, uint32_t library) {
     facing_handle lent, back = {FACING_NULL}, made = {FACING_NULL};
-    uint32_t status = facing_watch_forks();
+    uint32_t status = facing_forks_watch();
     if (status != FACING_DONE) return status;
     lent = facing_lend(*map, library);
     FACING_ENTER(0);
@@ -403,7 +389,7 @@ FACING_INNER uint32_t facing_any_close(void **map, uint32_t library) {
 
 FACING_INNER uint32_t facing_any_reopen(void **closed, uint32_t clients, void **map, uint32_t library) {
     facing_handle lent, back = {FACING_NULL}, made = {FACING_NULL};
-    uint32_t status = facing_watch_forks();
+    uint32_t status = facing_forks_watch();
     if (status != FACING_DONE) return status;
     lent = facing_lend(*closed, library);
     FACING_ENTER(0);

@@ -291,13 +291,13 @@ template <class Library> class readers {
     // A slot that no other thread uses while this lives.
     struct taken {
         slot *it;
-        taken(slot *slots, std::size_t count, std::size_t start, unsigned forks) {
-            unsigned round = 0;
+        taken(slot *slots, std::size_t count, std::size_t start, std::uint32_t forks) {
+            std::uint32_t round = 0;
             for (std::size_t i = 0;; i++) {
                 it = &slots[(start + i) % count];
                 if (!it->in_use.load() && !it->in_use.exchange(true)) return;
                 if (i % count != count - 1) continue;
-                round = facing_next_round(round, forks);
+                round = facing_back_off(round, forks);
                 if (round == FACING_NEVER) throw error(FACING_AFTER_FORK);
             }
         }
@@ -309,7 +309,7 @@ template <class Library> class readers {
     };
     std::array<slot, 32> slots_;
     slot first_;
-    unsigned forks_ = facing_forks;
+    std::uint32_t forks_ = facing_forks_seen();
 };
 
 } // namespace facing

@@ -120,7 +120,7 @@ FACING_CHECKED FACING_API uint32_t facing_bytes_open_seeded(size_t capacity, uin
     if (map == FACING_NULL) return FACING_BAD_ARGUMENT;
     map->at = FACING_NULL;
     if (seed == FACING_NULL) return FACING_BAD_ARGUMENT;
-    status = facing_watch_forks();
+    status = facing_forks_watch();
     if (status != FACING_DONE) return status;
     FACING_ENTER(0);
     status = facing_c_bytes_open(capacity, clients, seed[0], seed[1], &made);
@@ -185,7 +185,7 @@ FACING_INNER void facing_bytes_tell(facing_bytes_answer *answer, facing_answer t
     if (client == FACING_NULL || (is_wrong)) return FACING_BAD_ARGUMENT;                                                    \
     FACING_TRY(export_and_arguments);                                                                                       \
     while (status == FACING_BUSY) {                                                                                         \
-        round = facing_next_round(round, 0);                                                                                \
+        round = facing_back_off(round, 0);                                                                                \
         if (round == FACING_NEVER) return FACING_AFTER_FORK;                                                                \
         FACING_TRY(export_and_arguments);                                                                                   \
     }                                                                                                                       \
@@ -221,7 +221,7 @@ FACING_CHECKED FACING_API uint32_t facing_bytes_hold(facing_bytes_handle *client
         status = facing_c_bytes_try_hold(lent, &back, facing_bytes_at(key), key_len, &made, &told);
         FACING_LEAVE(FACING_BYTES_PLACE(key, key_len));
         client->at = facing_back(client->at, lent.at, back.at);
-        if (status == FACING_BUSY) round = facing_next_round(round, 0);
+        if (status == FACING_BUSY) round = facing_back_off(round, 0);
     } while (status == FACING_BUSY && round != FACING_NEVER);
     if (status == FACING_BUSY) status = FACING_AFTER_FORK;
     status = facing_fill(&held->at, made, FACING_BYTES, status);
@@ -378,7 +378,7 @@ FACING_CHECKED FACING_API uint32_t facing_bytes_sizes_of(facing_bytes_handle *an
             round = 0;
             status = FACING_DONE;
         } else if (status == FACING_BUSY) {
-            round = facing_next_round(round, 0);
+            round = facing_back_off(round, 0);
             if (round == FACING_NEVER) status = FACING_AFTER_FORK;
         }
     } while (status == FACING_BUSY || (status == FACING_DONE && at != UINT64_MAX));
@@ -429,7 +429,7 @@ FACING_INNER uint32_t facing_bytes_copy(facing_bytes_handle *any, facing_cursor 
             buckets++;
             round = 0;
         } else if (status == FACING_BUSY) {
-            round = facing_next_round(round, 0);
+            round = facing_back_off(round, 0);
             if (round == FACING_NEVER) status = FACING_AFTER_FORK;
         }
     } while (status == FACING_BUSY

@@ -55,7 +55,7 @@ FACING_CHECKED FACING_API uint32_t facing_counts_open_seeded(size_t capacity, ui
     if (map == FACING_NULL) return FACING_BAD_ARGUMENT;
     map->at = FACING_NULL;
     if (seed == FACING_NULL) return FACING_BAD_ARGUMENT;
-    status = facing_watch_forks();
+    status = facing_forks_watch();
     if (status != FACING_DONE) return status;
     FACING_ENTER(0);
     status = facing_c_counts_open(capacity, clients, seed[0], seed[1], &made);
@@ -113,7 +113,7 @@ FACING_CHECKED FACING_API uint32_t facing_counts_client(facing_counts_handle *ma
     if (client == FACING_NULL || facing_bytes_are_none(key, key_len)) return FACING_BAD_ARGUMENT;                           \
     FACING_TRY(export_and_arguments);                                                                                       \
     while (status == FACING_BUSY) {                                                                                         \
-        round = facing_next_round(round, 0);                                                                                \
+        round = facing_back_off(round, 0);                                                                                \
         if (round == FACING_NEVER) return FACING_AFTER_FORK;                                                                \
         FACING_TRY(export_and_arguments);                                                                                   \
     }                                                                                                                       \
@@ -325,7 +325,7 @@ FACING_CHECKED FACING_API uint32_t facing_counts_sizes_of(facing_counts_handle *
             round = 0;
             status = FACING_DONE;
         } else if (status == FACING_BUSY) {
-            round = facing_next_round(round, 0);
+            round = facing_back_off(round, 0);
             if (round == FACING_NEVER) status = FACING_AFTER_FORK;
         }
     } while (status == FACING_BUSY || (status == FACING_DONE && at != UINT64_MAX));
@@ -370,7 +370,7 @@ FACING_CHECKED FACING_API uint32_t facing_counts_pairs(facing_counts_handle *any
             buckets++;
             round = 0;
         } else if (status == FACING_BUSY) {
-            round = facing_next_round(round, 0);
+            round = facing_back_off(round, 0);
             if (round == FACING_NEVER) status = FACING_AFTER_FORK;
         }
     } while (status == FACING_BUSY

@@ -6,6 +6,9 @@
  * makes a call is not said: two calls of one thread may be made by two clients. Both are made one after the other all the
  * same, and the second sees the first.
  *
+ * Where a thread is cancelled its call is made first, and gives its client back. What facing_pool_take took the thread gives
+ * back itself: by pthread_cleanup_push, where it may be cancelled meanwhile.
+ *
  * A pool is used by its address: do not copy it. Each call returns FACING_BAD_ARGUMENT where the pool is NULL or empty,
  * FACING_AFTER_FORK in the child of a fork where all clients were in use during it, and else what the client's call of that
  * name returns. */
@@ -54,7 +57,7 @@ typedef struct facing_counts_pool {
 /* Returns one of so many slots that no other thread uses, once there is one. Give it back with facing_pool_give. Returns
  * null where there are none, and in the child of a fork where none will be free. */
 FACING_INNER facing_pool_slot *facing_slot(facing_pool_slot *slots, uint32_t clients, uint32_t forks) {
-    unsigned round = 0;
+    uint32_t round = 0;
     uint64_t thread = pthread_self(), start = (thread >> 12) * 11400714819323198485u >> 32;
     if (clients == 0) return FACING_NULL;
     do {
@@ -65,7 +68,7 @@ FACING_INNER facing_pool_slot *facing_slot(facing_pool_slot *slots, uint32_t cli
                 && __atomic_exchange_n(&slot->in_use, 1, __ATOMIC_SEQ_CST) == 0)
                 return slot;
         }
-        round = facing_next_round(round, forks);
+        round = facing_back_off(round, forks);
     } while (round != FACING_NEVER);
     return FACING_NULL;
 }
@@ -113,7 +116,7 @@ FACING_CHECKED FACING_API uint32_t facing_pool_open(size_t capacity, uint32_t cl
     if (pool == FACING_NULL) return FACING_BAD_ARGUMENT;
     pool->slots = FACING_NULL;
     pool->clients = 0;
-    pool->forks = facing_forks;
+    pool->forks = facing_forks_seen();
     status = facing_open(capacity, clients, salt, &pool->map);
     if (status != FACING_DONE) return status;
     pool->slots = FACING_TO(facing_pool_slot *, calloc(clients, sizeof *pool->slots));
@@ -250,7 +253,7 @@ FACING_CHECKED FACING_API uint32_t facing_bytes_pool_open(size_t capacity, uint3
     if (pool == FACING_NULL) return FACING_BAD_ARGUMENT;
     pool->slots = FACING_NULL;
     pool->clients = 0;
-    pool->forks = facing_forks;
+    pool->forks = facing_forks_seen();
     status = facing_bytes_open(capacity, clients, &pool->map);
     if (status != FACING_DONE) return status;
     pool->slots = FACING_TO(facing_pool_slot *, calloc(clients, sizeof *pool->slots));
@@ -377,7 +380,7 @@ FACING_CHECKED FACING_API uint32_t facing_counts_pool_open(size_t capacity, uint
     if (pool == FACING_NULL) return FACING_BAD_ARGUMENT;
     pool->slots = FACING_NULL;
     pool->clients = 0;
-    pool->forks = facing_forks;
+    pool->forks = facing_forks_seen();
     status = facing_counts_open(capacity, clients, &pool->map);
     if (status != FACING_DONE) return status;
     pool->slots = FACING_TO(facing_pool_slot *, calloc(clients, sizeof *pool->slots));

@@ -2,12 +2,13 @@
  * allocates under the lock of its bucket. In a child a call on that bucket fails with FACING_AFTER_FORK, and never hangs; calls
  * on other buckets, and on maps of the child's own, go on. In the parent the calls wait, and are made.
  *
- * Linked so that the library's malloc, and the header's sched_yield, are those below (--wrap). */
+ * Linked so that the library's malloc and sched_yield are those below (--wrap). */
 #define _GNU_SOURCE
 #include "facing_pool.h"
 #include <semaphore.h>
 #include <stdio.h>
 #include <string.h>
+#include <sys/stat.h>
 #include <sys/wait.h>
 #include <unistd.h>
 
@@ -42,6 +43,12 @@ void *__wrap_malloc(size_t size) {
     return __real_malloc(size);
 }
 
+/* Whether this process has one thread. */
+static int is_alone(void) {
+    struct stat threads;
+    return stat("/proc/self/task", &threads) == 0 && threads.st_nlink == 3;
+}
+
 /* A thread of the child that is stopped, and ends when a call of another yields for the first time; and what lets it go. */
 static pthread_t ending;
 static sem_t *ends;
@@ -60,7 +67,7 @@ int __wrap_sched_yield(void) {
         is_ending = 0;
         sem_post(ends);
         pthread_join(ending, NULL);
-        while (!facing_is_alone()) __real_sched_yield();
+        while (!is_alone()) __real_sched_yield();
     }
     return __real_sched_yield();
 }

@@ -328,12 +328,14 @@ extern "C" {
     ) -> u32;
 }
 
+// Forks.
+extern "C" {
+    pub(crate) fn facing_forks_watch() -> u32;
+    pub(crate) fn facing_forks_seen() -> u32;
+    pub(crate) fn facing_back_off(round: u32, forks_before: u32) -> u32;
+}
+
 // Of the system's C library.
 extern "C" {
     pub(crate) fn getrandom(room: *mut c_void, len: usize, flags: u32) -> isize;
-    pub(crate) fn pthread_atfork(
-        before: Option<extern "C" fn()>,
-        in_parent: Option<extern "C" fn()>,
-        in_child: Option<extern "C" fn()>,
-    ) -> i32;
 }
