@@ -6,7 +6,7 @@ use crate::exports::{
     facing_c_bytes_try_replace_if, Answer, Handle, Seen, Sizes,
 };
 use crate::fault::{fault, Fault, DONE, NO_ROOM};
-use crate::handle::{done, Owned};
+use crate::handle::{ask, done, Owned};
 use crate::maps::{ClientOf, ClosedOf, Kind, MapOf};
 use crate::pairs::{copied, Room, Told};
 use crate::seed::{seed, size};
@@ -29,6 +29,7 @@ impl Kind for Bytes {
 
     fn open(capacity: usize, clients: u32, map: &mut Owned) -> Result<(), Fault> {
         let [first, second] = seed()?;
+        // SAFETY: the handle is room that nobody else uses.
         done(unsafe { facing_c_bytes_open(capacity, clients, first, second, &raw mut map.handle) })
     }
 
@@ -37,9 +38,11 @@ impl Kind for Bytes {
         let (lens, values, len) = (room.keys.as_mut_ptr(), room.values.as_mut_ptr(), room.keys.len());
         let (bytes, room_len) = (room.bytes.as_mut_ptr(), room.bytes.len());
         let (next, copied) = (&raw mut told.next, &raw mut sizes);
-        let status = any.lend_until_done(|any, out| unsafe {
+        // SAFETY: as of `ask!`; the pointers are those of lists that live until the call returns, with their lengths.
+        let pairs = |any, out| unsafe {
             facing_c_bytes_try_pairs(any, out, at, next, lens, len, values, len, bytes, room_len, copied)
-        })?;
+        };
+        let status = any.lend_until_done(pairs)?;
         (told.pairs, told.bytes) = (size(sizes.pairs), size(sizes.bytes));
         Ok(status)
     }
@@ -54,6 +57,16 @@ impl Kind for Bytes {
         }
         Ok(())
     }
+}
+
+/// Makes a call by an export that answers with a value, with these byte strings between the handle and the room for it.
+macro_rules! value {
+    ($client:expr, $export:ident $(, $bytes:expr)*) => {
+        $client.value(|handle, out, room, len, answer| {
+            // SAFETY: as of `ask!`; `room` has `len` bytes, and nobody else uses it.
+            unsafe { $export(handle, out, $($bytes.as_ptr(), $bytes.len(),)* room, len, answer) }
+        })
+    };
 }
 
 impl MapOf<Bytes> {
@@ -103,7 +116,7 @@ impl Held {
     /// [`Fault::WrongHandle`] alone, which does not happen.
     pub fn read(&mut self, from: usize, room: &mut [u8]) -> Result<(), Fault> {
         let (at, len) = (room.as_mut_ptr(), room.len());
-        self.owned.ask(|held, out, answer| unsafe { facing_c_bytes_read(held, out, from, at, len, answer) }).map(drop)
+        ask!(self.owned, facing_c_bytes_read, from, at, len).map(drop)
     }
 
     /// Returns all its bytes.
@@ -136,7 +149,7 @@ impl ClientOf<Bytes> {
         if !answer.truth() {
             return Ok(None);
         }
-        // The call wrote so many bytes: no value of this map is longer.
+        // SAFETY: the call wrote so many bytes, for which there is room: no value of this map is longer.
         unsafe { room.set_len(answer.len().min(longest)) };
         // (the call was made, so it does not fail: where there is no memory for a copy the room itself is returned)
         Ok(Some(copied(room).unwrap_or_else(|_| std::mem::take(room))))
@@ -153,9 +166,7 @@ impl ClientOf<Bytes> {
 
     /// Returns a copy of the value at the key.
     pub fn get(&mut self, key: &[u8]) -> Result<Option<Vec<u8>>, Fault> {
-        self.value(|c, out, room, len, answer| unsafe {
-            facing_c_bytes_try_get(c, out, key.as_ptr(), key.len(), room, len, answer)
-        })
+        value!(self, facing_c_bytes_try_get, key)
     }
 
     /// Returns the value at the key, which is not copied.
@@ -163,72 +174,50 @@ impl ClientOf<Bytes> {
         let mut owned = Owned::null(self.0.origin);
         let held = &raw mut owned.handle;
         let (at, len) = (key.as_ptr(), key.len());
-        let answer = self.0.ask(|c, out, answer| unsafe { facing_c_bytes_try_hold(c, out, at, len, held, answer) })?;
+        let answer = ask!(self.0, facing_c_bytes_try_hold, at, len, held)?;
         Ok(answer.truth().then(|| Held { owned, len: answer.len() }))
     }
 
     /// Returns whether the key has a value.
     pub fn contains(&mut self, key: &[u8]) -> Result<bool, Fault> {
-        let told =
-            self.0.ask(|c, out, answer| unsafe { facing_c_bytes_try_contains(c, out, key.as_ptr(), key.len(), answer) })?;
+        let told = ask!(self.0, facing_c_bytes_try_contains, key.as_ptr(), key.len())?;
         Ok(told.truth())
     }
 
     /// Stores the value, and returns the one before.
     pub fn put(&mut self, key: &[u8], value: &[u8]) -> Result<Option<Vec<u8>>, Fault> {
         self.bound(value)?;
-        self.value(|c, out, room, len, answer| unsafe {
-            facing_c_bytes_try_put(c, out, key.as_ptr(), key.len(), value.as_ptr(), value.len(), room, len, answer)
-        })
+        value!(self, facing_c_bytes_try_put, key, value)
     }
 
     /// Stores the value where the key has none, and returns the one before.
     pub fn put_if_absent(&mut self, key: &[u8], value: &[u8]) -> Result<Option<Vec<u8>>, Fault> {
         self.bound(value)?;
-        self.value(|c, out, room, len, answer| unsafe {
-            facing_c_bytes_try_put_if_absent(c, out, key.as_ptr(), key.len(), value.as_ptr(), value.len(), room, len, answer)
-        })
+        value!(self, facing_c_bytes_try_put_if_absent, key, value)
     }
 
     /// Removes the key, and returns its value.
     pub fn remove(&mut self, key: &[u8]) -> Result<Option<Vec<u8>>, Fault> {
-        self.value(|c, out, room, len, answer| unsafe {
-            facing_c_bytes_try_remove(c, out, key.as_ptr(), key.len(), room, len, answer)
-        })
+        value!(self, facing_c_bytes_try_remove, key)
     }
 
     /// Removes the key where it has this value, and returns whether it had.
     pub fn remove_if(&mut self, key: &[u8], value: &[u8]) -> Result<bool, Fault> {
-        let told = self.0.ask(|c, out, answer| unsafe {
-            facing_c_bytes_try_remove_if(c, out, key.as_ptr(), key.len(), value.as_ptr(), value.len(), answer)
-        })?;
+        let told = ask!(self.0, facing_c_bytes_try_remove_if, key.as_ptr(), key.len(), value.as_ptr(), value.len())?;
         Ok(told.truth())
     }
 
     /// Stores the value where the key has one, and returns the one before.
     pub fn replace(&mut self, key: &[u8], value: &[u8]) -> Result<Option<Vec<u8>>, Fault> {
         self.bound(value)?;
-        self.value(|c, out, room, len, answer| unsafe {
-            facing_c_bytes_try_replace(c, out, key.as_ptr(), key.len(), value.as_ptr(), value.len(), room, len, answer)
-        })
+        value!(self, facing_c_bytes_try_replace, key, value)
     }
 
     /// Stores the new value where the key has the old one, and returns whether it had.
     pub fn replace_if(&mut self, key: &[u8], old: &[u8], new: &[u8]) -> Result<bool, Fault> {
         self.bound(new)?;
-        let told = self.0.ask(|c, out, answer| unsafe {
-            facing_c_bytes_try_replace_if(
-                c,
-                out,
-                key.as_ptr(),
-                key.len(),
-                old.as_ptr(),
-                old.len(),
-                new.as_ptr(),
-                new.len(),
-                answer,
-            )
-        })?;
+        let (at, len) = (key.as_ptr(), key.len());
+        let told = ask!(self.0, facing_c_bytes_try_replace_if, at, len, old.as_ptr(), old.len(), new.as_ptr(), new.len(),)?;
         Ok(told.truth())
     }
 
@@ -244,24 +233,15 @@ impl ClientOf<Bytes> {
             let next = change(now.as_deref());
             let (expected, value) = (now.as_deref().unwrap_or_default(), next.as_deref().unwrap_or_default());
             self.bound(value)?;
-            let mut seen = Seen::default();
-            done(self.0.lend_until_done(|c, out| unsafe {
-                facing_c_bytes_try_exchange(
-                    c,
-                    out,
-                    key.as_ptr(),
-                    key.len(),
-                    u32::from(now.is_some()),
-                    expected.as_ptr(),
-                    expected.len(),
-                    u32::from(next.is_some()),
-                    value.as_ptr(),
-                    value.len(),
-                    [].as_mut_ptr(),
-                    0,
-                    &raw mut seen,
-                )
-            })?)?;
+            let (has, sets, mut seen) = (u32::from(now.is_some()), u32::from(next.is_some()), Seen::default());
+            let ((key, key_len), none) = ((key.as_ptr(), key.len()), [].as_mut_ptr());
+            let ((from, from_len), (to, to_len)) = ((expected.as_ptr(), expected.len()), (value.as_ptr(), value.len()));
+            let told = &raw mut seen;
+            // SAFETY: as of `ask!`; `seen` is room for this call alone.
+            let exchange = |c, out| unsafe {
+                facing_c_bytes_try_exchange(c, out, key, key_len, has, from, from_len, sets, to, to_len, none, 0, told)
+            };
+            done(self.0.lend_until_done(exchange)?)?;
             if seen.exchanged == 1 {
                 return Ok(next);
             }
@@ -280,9 +260,10 @@ impl ClosedOf<Bytes> {
             let (mut value, mut answer) = (Vec::<u8>::new(), Answer::default());
             loop {
                 let (at, len) = (value.as_mut_ptr(), value.len());
-                match closed.lend(|it, out| unsafe {
-                    facing_c_bytes_find(it, out, key.as_ptr(), key.len(), at, len, &raw mut answer)
-                }) {
+                // SAFETY: as of `ask!`.
+                let find =
+                    |it, out| unsafe { facing_c_bytes_find(it, out, key.as_ptr(), key.len(), at, len, &raw mut answer) };
+                match closed.lend(find) {
                     DONE => return Ok(answer.truth().then_some(value)),
                     NO_ROOM => {
                         value.try_reserve_exact(answer.len()).map_err(|_| Fault::NoMemory)?;

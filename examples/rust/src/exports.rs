@@ -1,5 +1,5 @@
 //! What the static library exports, as the headers have it, and the system's random bytes.
-use std::os::raw::c_void;
+use std::os::raw::{c_char, c_void};
 
 /// What an export takes and gives back.
 #[repr(C)]
@@ -328,8 +328,9 @@ extern "C" {
     ) -> u32;
 }
 
-// Forks.
+// Forks, and the version.
 extern "C" {
+    pub(crate) fn facing_version() -> *const c_char;
     pub(crate) fn facing_forks_watch() -> u32;
     pub(crate) fn facing_forks_seen() -> u32;
     pub(crate) fn facing_back_off(round: u32, forks_before: u32) -> u32;

@@ -4,6 +4,19 @@ use crate::fault::{fault, Fault, BUSY, DONE, WRONG_HANDLE};
 use crate::fork::next_round;
 use std::sync::{Mutex, MutexGuard, TryLockError};
 
+/// Makes a call by an export that answers, with these arguments between the handle and the answer.
+macro_rules! ask {
+    ($owned:expr, $export:ident $(, $argument:expr)* $(,)?) => {
+        $owned.ask(|handle, out, answer| {
+            // SAFETY: `handle` is what an export gave back last, and nobody else has it. `out` and `answer` are room for this
+            // call alone. A pointer among the arguments is that of a slice, or of room for a handle, which lives until the
+            // call returns, and a slice's length is passed with it.
+            unsafe { $export(handle, out, $($argument,)* answer) }
+        })
+    };
+}
+pub(crate) use ask;
+
 /// What all handles of a map have in common.
 #[derive(Clone, Copy, Debug)]
 pub(crate) struct Origin {
@@ -20,8 +33,11 @@ pub struct Owned {
     pub(crate) origin: Origin,
 }
 
-// The library proves `Send` of what a handle stands for.
+// SAFETY: the library proves `Send` of what a handle stands for.
 unsafe impl Send for Owned {}
+
+// SAFETY: nothing is done with a handle by `&Owned`.
+unsafe impl Sync for Owned {}
 
 impl Owned {
     pub(crate) const fn null(origin: Origin) -> Owned {
@@ -56,13 +72,14 @@ impl Owned {
     }
 
     pub(crate) fn count(&mut self) -> Result<u64, Fault> {
-        Ok(self.ask(|any, out, answer| unsafe { facing_c_count(any, out, answer) })?.value)
+        Ok(ask!(self, facing_c_count)?.value)
     }
 }
 
 impl Drop for Owned {
     fn drop(&mut self) {
         if !self.handle.at.is_null() {
+            // SAFETY: the handle is what an export gave back last, and nobody has it any more.
             unsafe { facing_c_free(self.handle) }
         }
     }

@@ -29,7 +29,7 @@
 //!
 //! The child of a fork has a copy of each map. A call there fails with [`Fault::AfterFork`] where another thread was using
 //! what it waits for during the fork.
-#![deny(missing_docs, missing_debug_implementations)]
+#![deny(missing_docs, missing_debug_implementations, clippy::undocumented_unsafe_blocks)]
 mod bytes;
 mod counts;
 mod exports;
@@ -47,7 +47,20 @@ pub use counts::Counts;
 pub use fault::Fault;
 pub use maps::{ClientOf, ClosedOf, Cursor, Kind, MapOf, NotClosed};
 pub use numbers::Numbers;
+pub use pairs::PairsOf;
 pub use pool::PoolOf;
+
+/// Returns the version of the library that is linked, as "0.1.0"; "0.1.0 unproved" of one that was built without its proofs.
+#[must_use]
+pub fn version() -> &'static str {
+    // SAFETY: the function takes nothing, and returns a constant string that ends with 0.
+    let told = unsafe { std::ffi::CStr::from_ptr(exports::facing_version()) };
+    told.to_str().unwrap_or_default()
+}
+
+#[cfg(doctest)]
+#[doc = include_str!("../README.md")]
+struct ExamplesOfReadme;
 
 /// An open map from numbers to numbers.
 pub type Map = MapOf<Numbers>;

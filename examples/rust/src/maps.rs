@@ -4,7 +4,7 @@ use crate::exports::{facing_c_again, facing_c_client, facing_c_close, facing_c_r
 use crate::fault::Fault;
 use crate::fork::forks;
 use crate::handle::{done, take, Origin, Owned};
-use crate::pairs::{read, Room, Told};
+use crate::pairs::{read, PairsOf, Room, Told};
 use std::marker::PhantomData;
 use std::sync::atomic::{AtomicUsize, Ordering};
 use std::sync::Mutex;
@@ -141,7 +141,9 @@ impl<K: Kind> MapOf<K> {
     /// [`Fault::NoClient`] where all are in use; [`Fault::NoMemory`].
     pub fn client(&mut self) -> Result<ClientOf<K>, Fault> {
         let mut client = ClientOf(Owned::null(self.0.origin), Vec::new(), PhantomData);
-        done(self.0.lend(|map, out| unsafe { facing_c_client(map, out, &raw mut client.0.handle) }))?;
+        let made = &raw mut client.0.handle;
+        // SAFETY: as of `ask!`; `made` is room for a handle.
+        done(self.0.lend(|map, out| unsafe { facing_c_client(map, out, made) }))?;
         Ok(client)
     }
 
@@ -161,6 +163,7 @@ impl<K: Kind> MapOf<K> {
     /// [`Fault::ClientOut`] where a client is not dropped, and [`Fault::NoMemory`]: the map comes back. [`Fault::BinMissing`]:
     /// it has ended; no run has met this.
     pub fn close(mut self) -> Result<ClosedOf<K>, NotClosed<K>> {
+        // SAFETY: as of `ask!`.
         match done(self.0.lend(|map, out| unsafe { facing_c_close(map, out) })) {
             Ok(()) => Ok(ClosedOf::of(self.0)),
             Err(Fault::BinMissing) => Err(NotClosed { fault: Fault::BinMissing, map: None }),
@@ -182,6 +185,36 @@ impl<K: Kind> ClientOf<K> {
         read::<K>(&mut self.0, &mut at, len, &mut Room::default(), &mut pairs)?;
         cursor.0 = at;
         Ok(pairs)
+    }
+
+    /// Goes over all pairs, some buckets at a time: each bucket is as it is when it is read. A key that is there all the while
+    /// is met once; one that comes or goes meanwhile may be met or not.
+    ///
+    /// ```
+    /// use facing::{Fault, Map};
+    ///
+    /// let mut map = Map::open(16, 1)?;
+    /// let mut client = map.client()?;
+    /// (1..=3).try_for_each(|key| client.put(key, 10 * key).map(drop))?;
+    /// let values: Vec<u64> = client.iter().map(|pair| Ok(pair?.1)).collect::<Result<_, Fault>>()?;
+    /// assert_eq!(values.iter().sum::<u64>(), 60);
+    /// for pair in &mut client {
+    ///     let (key, value) = pair?;
+    ///     assert_eq!(value, 10 * key);
+    /// }
+    /// # Ok::<(), Fault>(())
+    /// ```
+    pub fn iter(&mut self) -> PairsOf<'_, K> {
+        PairsOf::of_client(&mut self.0)
+    }
+}
+
+impl<'a, K: Kind> IntoIterator for &'a mut ClientOf<K> {
+    type Item = Result<K::Pair, Fault>;
+    type IntoIter = PairsOf<'a, K>;
+
+    fn into_iter(self) -> PairsOf<'a, K> {
+        self.iter()
     }
 }
 
@@ -208,6 +241,7 @@ impl<K: Kind> ClosedOf<K> {
         if own.handle.at.is_null() {
             let mut first = take(&self.first, 0, self.origin.forks)?;
             let made = &raw mut own.handle;
+            // SAFETY: as of `ask!`; `made` is room for a handle.
             if done(first.lend(|closed, out| unsafe { facing_c_again(closed, out, made) })).is_err() {
                 return call(&mut first);
             }
@@ -239,6 +273,22 @@ impl<K: Kind> ClosedOf<K> {
         })
     }
 
+    /// Goes over all pairs, some buckets at a time.
+    ///
+    /// ```
+    /// use facing::{CountsMap, Fault};
+    ///
+    /// let mut map = CountsMap::open(16, 1)?;
+    /// map.client()?.add(b"word", 4)?;
+    /// for pair in &map.close()? {
+    ///     assert_eq!(pair?, (b"word".to_vec(), 4));
+    /// }
+    /// # Ok::<(), Box<dyn std::error::Error + Send + Sync>>(())
+    /// ```
+    pub fn iter(&self) -> PairsOf<'_, K> {
+        PairsOf::of_closed(self)
+    }
+
     /// Opens a map with copies of the pairs. This one stays as it is.
     ///
     /// # Errors
@@ -247,7 +297,17 @@ impl<K: Kind> ClosedOf<K> {
     pub fn reopen(&self, clients: u32) -> Result<MapOf<K>, Fault> {
         let mut map = MapOf(Owned::null(Origin { forks: forks()?, ..self.origin }), PhantomData);
         let made = &raw mut map.0.handle;
+        // SAFETY: as of `ask!`; `made` is room for a handle.
         self.read(|closed| done(closed.lend(|closed, out| unsafe { facing_c_reopen(closed, out, clients, made) })))?;
         Ok(map)
+    }
+}
+
+impl<'a, K: Kind> IntoIterator for &'a ClosedOf<K> {
+    type Item = Result<K::Pair, Fault>;
+    type IntoIter = PairsOf<'a, K>;
+
+    fn into_iter(self) -> PairsOf<'a, K> {
+        self.iter()
     }
 }

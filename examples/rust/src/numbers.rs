@@ -6,7 +6,7 @@ use crate::exports::{
     facing_c_try_set, Answer, Seen,
 };
 use crate::fault::Fault;
-use crate::handle::{done, Owned};
+use crate::handle::{ask, done, Owned};
 use crate::maps::{ClientOf, ClosedOf, Kind};
 use crate::pairs::{Room, Told};
 use crate::seed::seed;
@@ -22,6 +22,7 @@ impl Kind for Numbers {
 
     fn open(capacity: usize, clients: u32, map: &mut Owned) -> Result<(), Fault> {
         let [first, second] = seed()?;
+        // SAFETY: the handle is room that nobody else uses.
         done(unsafe { facing_c_open_seeded(capacity, clients, 0, first, second, &raw mut map.handle) })
     }
 
@@ -29,9 +30,9 @@ impl Kind for Numbers {
         let mut answer = Answer::default();
         let (keys, values, len) = (room.keys.as_mut_ptr(), room.values.as_mut_ptr(), room.keys.len());
         let (next, answered) = (&raw mut told.next, &raw mut answer);
-        let status = any.lend_until_done(|any, out| unsafe {
-            facing_c_try_pairs(any, out, at, next, keys, len, values, len, answered)
-        })?;
+        // SAFETY: as of `ask!`; the pointers are those of lists that live until the call returns, with their lengths.
+        let pairs = |any, out| unsafe { facing_c_try_pairs(any, out, at, next, keys, len, values, len, answered) };
+        let status = any.lend_until_done(pairs)?;
         told.pairs = answer.len();
         Ok(status)
     }
@@ -47,52 +48,52 @@ impl Kind for Numbers {
 impl ClientOf<Numbers> {
     /// Returns the value at the key.
     pub fn get(&mut self, key: u64) -> Result<Option<u64>, Fault> {
-        Ok(self.0.ask(|c, out, answer| unsafe { facing_c_try_get(c, out, key, answer) })?.value())
+        Ok(ask!(self.0, facing_c_try_get, key)?.value())
     }
 
     /// Returns whether the key has a value.
     pub fn contains(&mut self, key: u64) -> Result<bool, Fault> {
-        Ok(self.0.ask(|c, out, answer| unsafe { facing_c_try_contains(c, out, key, answer) })?.truth())
+        Ok(ask!(self.0, facing_c_try_contains, key)?.truth())
     }
 
     /// Stores the value, and returns the one before.
     pub fn put(&mut self, key: u64, value: u64) -> Result<Option<u64>, Fault> {
-        Ok(self.0.ask(|c, out, answer| unsafe { facing_c_try_put(c, out, key, value, answer) })?.value())
+        Ok(ask!(self.0, facing_c_try_put, key, value)?.value())
     }
 
     /// Stores the value where the key has none, and returns the one before.
     pub fn put_if_absent(&mut self, key: u64, value: u64) -> Result<Option<u64>, Fault> {
-        Ok(self.0.ask(|c, out, answer| unsafe { facing_c_try_put_if_absent(c, out, key, value, answer) })?.value())
+        Ok(ask!(self.0, facing_c_try_put_if_absent, key, value)?.value())
     }
 
     /// Removes the key, and returns its value.
     pub fn remove(&mut self, key: u64) -> Result<Option<u64>, Fault> {
-        Ok(self.0.ask(|c, out, answer| unsafe { facing_c_try_remove(c, out, key, answer) })?.value())
+        Ok(ask!(self.0, facing_c_try_remove, key)?.value())
     }
 
     /// Removes the key where it has this value, and returns whether it had.
     pub fn remove_if(&mut self, key: u64, value: u64) -> Result<bool, Fault> {
-        Ok(self.0.ask(|c, out, answer| unsafe { facing_c_try_remove_if(c, out, key, value, answer) })?.truth())
+        Ok(ask!(self.0, facing_c_try_remove_if, key, value)?.truth())
     }
 
     /// Stores the value where the key has one, and returns the one before.
     pub fn replace(&mut self, key: u64, value: u64) -> Result<Option<u64>, Fault> {
-        Ok(self.0.ask(|c, out, answer| unsafe { facing_c_try_replace(c, out, key, value, answer) })?.value())
+        Ok(ask!(self.0, facing_c_try_replace, key, value)?.value())
     }
 
     /// Stores the new value where the key has the old one, and returns whether it had.
     pub fn replace_if(&mut self, key: u64, old: u64, new: u64) -> Result<bool, Fault> {
-        Ok(self.0.ask(|c, out, answer| unsafe { facing_c_try_replace_if(c, out, key, old, new, answer) })?.truth())
+        Ok(ask!(self.0, facing_c_try_replace_if, key, old, new)?.truth())
     }
 
     /// Adds to the value at the key, up to `u64::MAX`, and returns the value after.
     pub fn add(&mut self, key: u64, value: u64) -> Result<u64, Fault> {
-        Ok(self.0.ask(|c, out, answer| unsafe { facing_c_try_add(c, out, key, value, answer) })?.value)
+        Ok(ask!(self.0, facing_c_try_add, key, value)?.value)
     }
 
     /// Adds to the value at the key, or to 0, where the sum is at most `most`, and returns whether it is.
     pub fn add_up_to(&mut self, key: u64, amount: u64, most: u64) -> Result<bool, Fault> {
-        Ok(self.0.ask(|c, out, answer| unsafe { facing_c_try_add_up_to(c, out, key, amount, most, answer) })?.truth())
+        Ok(ask!(self.0, facing_c_try_add_up_to, key, amount, most)?.truth())
     }
 
     /// Stores what the closure makes of the key's value, or removes the key where it makes none, and returns that. No bucket
@@ -102,10 +103,10 @@ impl ClientOf<Numbers> {
         loop {
             let next = change(now);
             let (expected, value, mut seen) = (now.unwrap_or(0), next.unwrap_or(0), Seen::default());
-            done(self.0.lend_until_done(|c, out| unsafe {
-                let (has, sets) = (u32::from(now.is_some()), u32::from(next.is_some()));
-                facing_c_try_exchange(c, out, key, has, expected, sets, value, &raw mut seen)
-            })?)?;
+            let (has, sets) = (u32::from(now.is_some()), u32::from(next.is_some()));
+            // SAFETY: as of `ask!`; `seen` is room for this call alone.
+            let exchange = |c, out| unsafe { facing_c_try_exchange(c, out, key, has, expected, sets, value, &raw mut seen) };
+            done(self.0.lend_until_done(exchange)?)?;
             if seen.exchanged == 1 {
                 return Ok(next);
             }
@@ -115,12 +116,12 @@ impl ClientOf<Numbers> {
 
     /// Stores the greater of the key's value and this one, and returns it.
     pub fn greatest(&mut self, key: u64, value: u64) -> Result<u64, Fault> {
-        Ok(self.0.ask(|c, out, answer| unsafe { facing_c_try_greatest(c, out, key, value, answer) })?.value)
+        Ok(ask!(self.0, facing_c_try_greatest, key, value)?.value)
     }
 
     /// Stores the value, and returns it.
     pub fn set(&mut self, key: u64, value: u64) -> Result<u64, Fault> {
-        Ok(self.0.ask(|c, out, answer| unsafe { facing_c_try_set(c, out, key, value, answer) })?.value)
+        Ok(ask!(self.0, facing_c_try_set, key, value)?.value)
     }
 }
 
@@ -131,6 +132,6 @@ impl ClosedOf<Numbers> {
     ///
     /// [`Fault::AfterFork`] alone.
     pub fn get(&self, key: u64) -> Result<Option<u64>, Fault> {
-        self.read(|it| Ok(it.ask(|closed, out, answer| unsafe { facing_c_find(closed, out, key, answer) })?.value()))
+        self.read(|it| Ok(ask!(it, facing_c_find, key)?.value()))
     }
 }

@@ -1,7 +1,9 @@
 //! Walks over the pairs of a map, a bucket at a time.
 use crate::fault::{fault, Fault, DONE, NO_ROOM};
 use crate::handle::Owned;
-use crate::maps::Kind;
+use crate::maps::{ClosedOf, Kind};
+use std::iter::FusedIterator;
+use std::vec::IntoIter;
 
 /// The most buckets of one step.
 const MOST_BUCKETS: u32 = 1024;
@@ -69,4 +71,74 @@ pub(crate) fn read<K: Kind>(
         }
     }
     Ok(())
+}
+
+/// About how many pairs an iterator reads at a time.
+const STEP: usize = 1024;
+
+/// An iterator over the pairs of a map, of [`ClientOf::iter`](crate::ClientOf::iter) and [`ClosedOf::iter`]. It ends after a
+/// failure: [`Fault::NoMemory`] or [`Fault::AfterFork`].
+pub struct PairsOf<'a, K: Kind> {
+    source: Source<'a, K>,
+    at: u64,
+    room: Room,
+    ahead: IntoIter<K::Pair>,
+}
+
+/// Whose pairs they are.
+enum Source<'a, K> {
+    Client(&'a mut Owned),
+    Closed(&'a ClosedOf<K>),
+}
+
+impl<'a, K: Kind> PairsOf<'a, K> {
+    pub(crate) fn of_client(client: &'a mut Owned) -> PairsOf<'a, K> {
+        PairsOf::of(Source::Client(client))
+    }
+
+    pub(crate) fn of_closed(closed: &'a ClosedOf<K>) -> PairsOf<'a, K> {
+        PairsOf::of(Source::Closed(closed))
+    }
+
+    fn of(source: Source<'a, K>) -> PairsOf<'a, K> {
+        PairsOf { source, at: 0, room: Room::default(), ahead: Vec::new().into_iter() }
+    }
+
+    /// Reads the pairs of the next buckets, of which there may be none.
+    fn step(&mut self) -> Result<(), Fault> {
+        let (at, room, mut pairs) = (&mut self.at, &mut self.room, Vec::new());
+        match &mut self.source {
+            Source::Client(client) => read::<K>(client, at, STEP, room, &mut pairs)?,
+            Source::Closed(closed) => closed.read(|it| read::<K>(it, at, STEP, room, &mut pairs))?,
+        }
+        self.ahead = pairs.into_iter();
+        Ok(())
+    }
+}
+
+impl<K: Kind> Iterator for PairsOf<'_, K> {
+    type Item = Result<K::Pair, Fault>;
+
+    fn next(&mut self) -> Option<Result<K::Pair, Fault>> {
+        loop {
+            if let Some(pair) = self.ahead.next() {
+                return Some(Ok(pair));
+            }
+            if self.at == u64::MAX {
+                return None;
+            }
+            if let Err(fault) = self.step() {
+                self.at = u64::MAX;
+                return Some(Err(fault));
+            }
+        }
+    }
+}
+
+impl<K: Kind> FusedIterator for PairsOf<'_, K> {}
+
+impl<K: Kind> std::fmt::Debug for PairsOf<'_, K> {
+    fn fmt(&self, f: &mut std::fmt::Formatter<'_>) -> std::fmt::Result {
+        f.debug_struct("PairsOf").field("kind", &K::NAME).field("at", &self.at).finish_non_exhaustive()
+    }
 }

@@ -1,4 +1,5 @@
 //! A map with clients of its own, which any thread calls.
+use crate::bytes::Bytes;
 use crate::fault::Fault;
 use crate::handle::take;
 use crate::maps::{ClientOf, ClosedOf, Kind, MapOf, NotClosed};
@@ -40,24 +41,37 @@ impl<K: Kind> PoolOf<K> {
     ///
     /// As [`MapOf::open`].
     pub fn open(capacity: usize, clients: u32) -> Result<PoolOf<K>, Fault> {
-        let mut map = MapOf::open(capacity, clients)?;
+        PoolOf::of(MapOf::open(capacity, clients)?, clients)
+    }
+
+    /// A pool of all clients of a map.
+    fn of(mut map: MapOf<K>, clients: u32) -> Result<PoolOf<K>, Fault> {
         let forks = map.0.origin.forks;
         let clients = (0..clients).map(|_| map.client().map(Mutex::new)).collect::<Result<_, _>>()?;
         Ok(PoolOf { map: Mutex::new(map), clients, next: AtomicUsize::new(0), forks })
     }
 
     /// Makes calls by a client that no other thread uses meanwhile, and returns what the closure returns. A panic of the
-    /// closure gives the client back.
+    /// closure gives the client back. The closure fails with any error that a [`Fault`] can become.
     ///
     /// # Errors
     ///
     /// What the closure fails with. [`Fault::Nested`] in a closure that was given to this very function, of the same pool.
     /// [`Fault::AfterFork`] in the child of a fork where all clients were in use during the fork.
-    pub fn with<T>(&self, calls: impl FnOnce(&mut ClientOf<K>) -> Result<T, Fault>) -> Result<T, Fault> {
-        let _only = Using::begin(std::ptr::from_ref(self).addr())?;
+    pub fn with<T, E: From<Fault>>(&self, calls: impl FnOnce(&mut ClientOf<K>) -> Result<T, E>) -> Result<T, E> {
+        let _only = Using::begin(std::ptr::from_ref(self) as usize)?;
         let start = self.next.fetch_add(1, Ordering::Relaxed);
         let mut client = take(&self.clients, start, self.forks)?;
         calls(&mut client)
+    }
+
+    /// Returns how many keys there are; an estimate while calls run.
+    ///
+    /// # Errors
+    ///
+    /// [`Fault::AfterFork`] in the child of a fork during which another thread was counting.
+    pub fn count(&self) -> Result<u64, Fault> {
+        take(std::slice::from_ref(&self.map), 0, self.forks)?.count()
     }
 
     /// Closes the map.
@@ -68,6 +82,18 @@ impl<K: Kind> PoolOf<K> {
     pub fn close(self) -> Result<ClosedOf<K>, NotClosed<K>> {
         drop(self.clients);
         self.map.into_inner().unwrap_or_else(PoisonError::into_inner).close()
+    }
+}
+
+impl PoolOf<Bytes> {
+    /// Opens a pool as [`PoolOf::open`] does, for values of up to so many bytes: up to 2^29. Each client has room for so many,
+    /// which takes memory where it is used.
+    ///
+    /// # Errors
+    ///
+    /// As [`MapOf::open_for_values`].
+    pub fn open_for_values(capacity: usize, clients: u32, longest: usize) -> Result<PoolOf<Bytes>, Fault> {
+        PoolOf::of(MapOf::open_for_values(capacity, clients, longest)?, clients)
     }
 }
 

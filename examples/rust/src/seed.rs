@@ -6,6 +6,7 @@ use crate::fault::Fault;
 pub(crate) fn seed() -> Result<[u64; 2], Fault> {
     let mut seed = [0u64; 2];
     loop {
+        // SAFETY: the seed has 16 bytes.
         match unsafe { getrandom(seed.as_mut_ptr().cast(), 16, 0) } {
             16 => return Ok(seed),
             -1 if std::io::Error::last_os_error().kind() == std::io::ErrorKind::Interrupted => {}

@@ -36,7 +36,7 @@ pub extern "C" fn sched_yield() -> i32 {
 
 fn add_after_a_thread(pool: &'static Pool) -> Result<u64, Fault> {
     let thread = std::thread::spawn(|| {
-        let held = pool.with(|_| {
+        let held: Result<(), Fault> = pool.with(|_| {
             IS_TAKEN.store(true, Ordering::SeqCst);
             while !IS_LET_GO.load(Ordering::SeqCst) {
                 std::hint::spin_loop();

@@ -1,5 +1,5 @@
 //! What calls answer, and what is refused.
-use facing::{BytesMap, CountsMap, CountsPool, Cursor, Fault, Map, Pool, LONGEST, LONGEST_VALUE};
+use facing::{BytesMap, CountsMap, Cursor, Fault, Map, Pool, LONGEST, LONGEST_VALUE};
 use std::sync::mpsc::channel;
 
 #[test]
@@ -62,28 +62,6 @@ fn a_client_outlives_its_map() -> Result<(), Fault> {
     let its = std::thread::spawn(move || second.get(1));
     assert_eq!(its.join().expect("the thread ended"), Ok(Some(5)));
     Ok(())
-}
-
-#[test]
-fn threads_share_a_pool() -> Result<(), Fault> {
-    let pool = Pool::open(16, 2)?;
-    std::thread::scope(|scope| {
-        for _ in 0..8 {
-            scope.spawn(|| (0..1000).try_for_each(|key| pool.with(|client| client.add(key % 10, 1)).map(drop)));
-        }
-    });
-    let closed = pool.close().map_err(|refused| refused.fault)?;
-    assert_eq!(closed.count()?, 10);
-    for key in 0..10 {
-        assert_eq!(closed.get(key)?, Some(800));
-    }
-    Ok(())
-}
-
-#[test]
-fn a_pool_that_cannot_be_opened() {
-    assert_eq!(Pool::open(16, 0).err(), Some(Fault::BadClients));
-    assert_eq!(Pool::open(0, 1).err(), Some(Fault::BadCapacity));
 }
 
 #[test]
@@ -179,33 +157,6 @@ fn a_held_value_is_read_in_parts() -> Result<(), Fault> {
 }
 
 #[test]
-fn a_cursor_is_any_number() -> Result<(), Fault> {
-    let mut map = Map::open(16, 1)?;
-    let mut client = map.client()?;
-    client.put(7, 8)?;
-    for number in [u64::MAX, u64::MAX - 1, 1 << 63, 77] {
-        let mut cursor = Cursor(number);
-        while !cursor.is_at_end() {
-            assert!(client.pairs(&mut cursor, 10)?.into_iter().all(|pair| pair == (7, 8)));
-        }
-    }
-    Ok(())
-}
-
-#[test]
-fn threads_share_a_pool_of_counts() -> Result<(), Fault> {
-    let pool = CountsPool::open(16, 2)?;
-    std::thread::scope(|scope| {
-        for _ in 0..4 {
-            scope.spawn(|| (0..1000).try_for_each(|_| pool.with(|client| client.add(b"key", 1)).map(drop)));
-        }
-    });
-    let closed = pool.close().map_err(|refused| refused.fault)?;
-    assert_eq!(closed.get(b"key")?, Some(4000));
-    Ok(())
-}
-
-#[test]
 fn values_are_changed_by_a_closure() -> Result<(), Fault> {
     let mut map = Map::open(16, 2)?;
     let mut client = map.client()?;
@@ -229,20 +180,6 @@ fn values_are_changed_by_a_closure() -> Result<(), Fault> {
     assert_eq!(client.get(b"a")?, Some(b"xyy".to_vec()));
     assert_eq!(client.update(b"a", |_| None)?, None);
     assert!(!client.contains(b"a")?);
-    Ok(())
-}
-
-#[test]
-fn two_threads_change_one_value() -> Result<(), Fault> {
-    let pool = Pool::open(16, 2)?;
-    std::thread::scope(|scope| {
-        for _ in 0..2 {
-            scope.spawn(|| {
-                (0..5000).try_for_each(|_| pool.with(|c| c.update(7, |seen| Some(seen.unwrap_or(0) + 1))).map(drop))
-            });
-        }
-    });
-    assert_eq!(pool.with(|client| client.get(7))?, Some(10_000));
     Ok(())
 }
 
@@ -274,74 +211,6 @@ fn threads_read_a_closed_map() -> Result<(), Fault> {
             .collect();
         readers.into_iter().try_for_each(|reader| reader.join().expect("the thread ended"))
     })
-}
-
-#[test]
-fn a_pool_is_not_called_by_its_own_closure() -> Result<(), Fault> {
-    for clients in 1..3 {
-        let (pool, other) = (Pool::open(16, clients)?, Pool::open(16, 1)?);
-        assert_eq!(pool.with(|_| pool.with(|client| client.put(1, 2))), Err(Fault::Nested));
-        assert_eq!(pool.with(|_| other.with(|client| client.put(1, 2)))?, None);
-        assert_eq!(pool.with(|client| client.put(1, 2))?, None);
-        assert_eq!(Fault::Nested.to_string(), "the thread already uses a client of this pool");
-    }
-    Ok(())
-}
-
-#[test]
-fn a_panic_gives_the_client_back() -> Result<(), Fault> {
-    let pool = Pool::open(16, 1)?;
-    let panics = std::panic::AssertUnwindSafe(|| pool.with(|_| -> Result<(), Fault> { panic!("wanted") }));
-    assert!(std::panic::catch_unwind(panics).is_err());
-    assert_eq!(pool.with(|client| client.add(1, 2))?, 2);
-    Ok(())
-}
-
-#[test]
-fn large_lengths_are_no_allocation() -> Result<(), Fault> {
-    let mut map = Map::open(16, 1)?;
-    let mut client = map.client()?;
-    (0..100).try_for_each(|key| client.put(key, key).map(drop))?;
-    for len in [1 << 55, usize::MAX] {
-        assert_eq!(client.pairs(&mut Cursor::default(), len)?.len(), 100);
-    }
-    assert!(!client.pairs(&mut Cursor::default(), 0)?.is_empty());
-    let mut texts = BytesMap::open(16, 1)?;
-    let mut client = texts.client()?;
-    client.put(b"a", b"b")?;
-    assert_eq!(client.pairs(&mut Cursor::default(), usize::MAX)?, vec![(b"a".to_vec(), b"b".to_vec())]);
-    Ok(())
-}
-
-#[test]
-fn a_step_looks_at_1024_buckets() -> Result<(), Fault> {
-    let mut map = Map::open(65_536, 1)?;
-    let mut client = map.client()?;
-    client.put(1, 2)?;
-    let (mut cursor, mut steps, mut pairs) = (Cursor::default(), 0, Vec::new());
-    while !cursor.is_at_end() {
-        pairs.append(&mut client.pairs(&mut cursor, 10)?);
-        steps += 1;
-    }
-    assert!(steps >= 64, "{steps} steps");
-    assert_eq!(pairs, vec![(1, 2)]);
-    Ok(())
-}
-
-#[test]
-fn a_step_returns_as_many_pairs_as_it_may() -> Result<(), Fault> {
-    let mut map = Map::open(1024, 1)?;
-    let mut client = map.client()?;
-    (0..100).try_for_each(|key| client.put(key, 2 * key).map(drop))?;
-    let (mut cursor, mut pairs) = (Cursor::default(), Vec::new());
-    while !cursor.is_at_end() {
-        let mut step = client.pairs(&mut cursor, 10)?;
-        assert!(step.len() <= 10, "{} pairs", step.len());
-        pairs.append(&mut step);
-    }
-    pairs.sort();
-    assert_eq!(pairs, (0..100).map(|key| (key, 2 * key)).collect::<Vec<_>>());
-    Ok(())
 }
 
 /// The keys 0 to 99 in the order in which new maps of each kind have them.
@@ -457,7 +326,7 @@ fn a_child_does_not_wait_for_a_client_that_its_parent_uses() -> Result<(), Fault
             pool.with(|client| {
                 client.put(1, 5)?;
                 taken.send(()).expect("the test waits");
-                is_done.recv().map_or(Ok(()), |()| Ok(()))
+                is_done.recv().map_or(Ok::<(), Fault>(()), |()| Ok(()))
             })
         });
         is_taken.recv().expect("the thread takes the client");
@@ -469,4 +338,9 @@ fn a_child_does_not_wait_for_a_client_that_its_parent_uses() -> Result<(), Fault
     let closed = pool.close().map_err(|refused| refused.fault)?;
     assert_eq!(child_of(|| Ok(closed.get(1)? == Some(5))), 0);
     Ok(())
+}
+
+#[test]
+fn the_version_is_that_of_the_crate() {
+    assert_eq!(facing::version().split(' ').next(), Some(env!("CARGO_PKG_VERSION")));
 }
