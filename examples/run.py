@@ -211,6 +211,13 @@ class Place:
         found = {"LD_LIBRARY_PATH": f"{self.prefix}/lib", "PYTHONPATH": f"{HERE}/python", "PYTHONDONTWRITEBYTECODE": "1", "PATH": ""}
         return run([sys.executable, "-c", "import facing; print(facing.version())"], env=found)
 
+    def python_types(self):
+        """What the package says of its types, to mypy, and a program that relies on it."""
+        need("mypy")
+        words = ["mypy", "--strict", f"--cache-dir={self.folder}/mypy", f"{HERE}/python/facing", f"{HERE}/python/typed.py"]
+        is_right, said = run(words)
+        return self.python("typed.py") if is_right else (False, said)
+
     def python(self, program):
         more = {"FACING": f"{self.prefix}/lib/libfacing.so", "PYTHONDONTWRITEBYTECODE": "1"}
         return run([sys.executable, f"{HERE}/python/{program}"], env={**os.environ, **more})
@@ -265,6 +272,7 @@ WORKS = [
     ("Rust, tests", lambda it: counted(it.cargo("test"))),
     ("Python, word count", lambda it: it.python("word_count.py")),
     ("Python, the library by its name", lambda it: it.python_by_name()),
+    ("Python, types", lambda it: it.python_types()),
     ("Python, tests", lambda it: counted(it.python("test_facing.py"))),
     ("C, many keys at once", lambda it: run(it.program(C, "c/tests/many.c"))),
     ("C, ordinary programs by gcc and clang", lambda it: it.without_warnings()),
@@ -299,6 +307,8 @@ WORKS = [
     ("C, ThreadSanitizer, misuses one by one", lambda it: run(it.watched(C, "c/tests/rows.c"))),
     ("bytes, C, a pool of clients", lambda it: run(it.program(C, "c/tests/bytes_pool.c"))),
     ("bytes, C++, sanitized, a pool of clients", lambda it: run(it.sanitized(CPP, "c/tests/bytes_pool.c"))),
+    ("bytes, C, many keys at once", lambda it: run(it.program(C, "c/tests/bytes_many.c"))),
+    ("bytes, C++, sanitized, many keys at once", lambda it: run(it.sanitized(CPP, "c/tests/bytes_many.c"))),
     ("bytes, C, threads", lambda it: run(it.program(C, "c/tests/bytes_threads.c"))),
     ("bytes, C, memory refused", lambda it: run(it.program(C, "c/tests/bytes_refused.c", more=WRAPPED))),
     ("bytes, C, values of 512 MB", lambda it: run(it.program(C, "c/tests/large.c"))),

@@ -128,7 +128,7 @@ FACING_CHECKED FACING_API uint32_t facing_client(facing_handle *map, facing_hand
     if (client == FACING_NULL) return FACING_BAD_ARGUMENT;                                                                  \
     FACING_TRY(export_and_arguments);                                                                                       \
     while (status == FACING_BUSY) {                                                                                         \
-        round = facing_back_off(round, 0);                                                                                \
+        round = facing_back_off(round, 0);                                                                                  \
         if (round == FACING_NEVER) return FACING_AFTER_FORK;                                                                \
         FACING_TRY(export_and_arguments);                                                                                   \
     }                                                                                                                       \

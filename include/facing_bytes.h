@@ -185,7 +185,7 @@ FACING_INNER void facing_bytes_tell(facing_bytes_answer *answer, facing_answer t
     if (client == FACING_NULL || (is_wrong)) return FACING_BAD_ARGUMENT;                                                    \
     FACING_TRY(export_and_arguments);                                                                                       \
     while (status == FACING_BUSY) {                                                                                         \
-        round = facing_back_off(round, 0);                                                                                \
+        round = facing_back_off(round, 0);                                                                                  \
         if (round == FACING_NEVER) return FACING_AFTER_FORK;                                                                \
         FACING_TRY(export_and_arguments);                                                                                   \
     }                                                                                                                       \
@@ -313,6 +313,87 @@ FACING_CHECKED FACING_API uint32_t facing_bytes_replace_if(facing_bytes_handle *
 
 #undef FACING_BYTES_CALL
 #undef FACING_TRY
+
+/* == Many calls at once ==
+ *
+ * Each makes one call a key, in order, and is no transaction. Keys lie one after another, and `key_lens` are their lengths;
+ * where these add up to more bytes than there are the status is FACING_BAD_ARGUMENT and no call is made. It stores in `done`,
+ * unless that is NULL, how many calls were made; where the status is not FACING_DONE the call on the key behind those
+ * failed, and those after it were not made. */
+
+/* Whether these are no keys: there is nothing where something must be, or the keys have more bytes than there are. */
+FACING_SEEN int facing_bytes_keys_are_wrong(const uint64_t *key_lens, size_t len, const void *keys, size_t keys_len,
+                                            const void *others) {
+    size_t i;
+    if (len >> 59 != 0 || (len != 0 && (key_lens == FACING_NULL || others == FACING_NULL))) return 1;
+    if (facing_bytes_are_none(keys, keys_len)) return 1;
+    for (i = 0; i < len && key_lens[i] <= keys_len; i++)
+        keys_len -= key_lens[i];
+    return i < len;
+}
+
+/* The same of pairs, each a key and a value. */
+FACING_SEEN int facing_bytes_pairs_are_wrong(const uint64_t *key_lens, const uint64_t *value_lens, size_t len,
+                                             const void *pairs, size_t pairs_len) {
+    size_t i;
+    if (len >> 59 != 0 || (len != 0 && (key_lens == FACING_NULL || value_lens == FACING_NULL))) return 1;
+    if (facing_bytes_are_none(pairs, pairs_len)) return 1;
+    for (i = 0; i < len; i++) {
+        if (key_lens[i] > pairs_len || value_lens[i] > pairs_len - key_lens[i]) return 1;
+        pairs_len -= key_lens[i] + value_lens[i];
+    }
+    return 0;
+}
+
+/* Stores each value at its key. `pairs` has the first key and its value, the second key and its value, and so on, as
+ * facing_bytes_pairs copies them. */
+FACING_CHECKED FACING_API uint32_t facing_bytes_put_all(facing_bytes_handle *client, const uint64_t *key_lens,
+                                                        const uint64_t *value_lens, size_t len, const void *pairs,
+                                                        size_t pairs_len, size_t *done) {
+    const uint8_t *key = facing_bytes_at(pairs);
+    size_t i = 0;
+    uint32_t status = FACING_DONE;
+    if (client == FACING_NULL || facing_bytes_pairs_are_wrong(key_lens, value_lens, len, pairs, pairs_len))
+        status = FACING_BAD_ARGUMENT;
+    while (status == FACING_DONE && i < len) {
+        const uint8_t *value = key + key_lens[i];
+        status = facing_bytes_put(client, key, key_lens[i], value, value_lens[i], FACING_NULL, 0, FACING_NULL);
+        key = value + value_lens[i];
+        i += status == FACING_DONE;
+    }
+    if (done != FACING_NULL) *done = i;
+    return status;
+}
+
+/* Copies the value at each key into `room`, one after another; each answer is whether there is one, and its length. Where
+ * the next value is longer than what is left of the room the status is FACING_NO_ROOM, and its answer is {1, its length}:
+ * call again from that key on. */
+FACING_CHECKED FACING_API uint32_t facing_bytes_get_all(facing_bytes_handle *client, const uint64_t *key_lens, size_t len,
+                                                        const void *keys, size_t keys_len, void *room, size_t room_len,
+                                                        facing_bytes_answer *answers, size_t *done) {
+    const uint8_t *key = facing_bytes_at(keys);
+    uint8_t *value = facing_bytes_at(room);
+    facing_answer none = {0, 0};
+    size_t i = 0, rest;
+    uint32_t status = FACING_DONE;
+    if (client == FACING_NULL || facing_bytes_keys_are_wrong(key_lens, len, keys, keys_len, answers)
+        || facing_bytes_are_wrong(keys, keys_len, room, room_len)
+        || facing_bytes_meet(key_lens, len * sizeof *key_lens, room, room_len)
+        || facing_bytes_meet(answers, len * sizeof *answers, room, room_len))
+        status = FACING_BAD_ARGUMENT;
+    while (status == FACING_DONE && i < len) {
+        status = facing_bytes_get(client, key, key_lens[i], value, room_len, &answers[i]);
+        if (status != FACING_DONE) break;
+        key += key_lens[i];
+        value += answers[i].len;
+        room_len -= answers[i].len;
+        i++;
+    }
+    if (done != FACING_NULL) *done = i;
+    for (rest = i + (status == FACING_NO_ROOM); answers != FACING_NULL && len >> 59 == 0 && rest < len; rest++)
+        facing_bytes_tell(&answers[rest], none);
+    return status;
+}
 
 /* == Without a client == */
 

@@ -66,7 +66,7 @@ uint32_t facing_c_bytes_try_exchange(facing_handle client, facing_handle *out, c
         status = export_and_arguments;                                                                                      \
         FACING_LEAVE(place);                                                                                                \
         client->at = facing_back(client->at, lent.at, back.at);                                                             \
-        if (status == FACING_BUSY) round = facing_back_off(round, 0);                                                     \
+        if (status == FACING_BUSY) round = facing_back_off(round, 0);                                                       \
     } while (status == FACING_BUSY && round != FACING_NEVER);                                                               \
     if (status == FACING_BUSY) status = FACING_AFTER_FORK
 

@@ -113,7 +113,7 @@ FACING_CHECKED FACING_API uint32_t facing_counts_client(facing_counts_handle *ma
     if (client == FACING_NULL || facing_bytes_are_none(key, key_len)) return FACING_BAD_ARGUMENT;                           \
     FACING_TRY(export_and_arguments);                                                                                       \
     while (status == FACING_BUSY) {                                                                                         \
-        round = facing_back_off(round, 0);                                                                                \
+        round = facing_back_off(round, 0);                                                                                  \
         if (round == FACING_NEVER) return FACING_AFTER_FORK;                                                                \
         FACING_TRY(export_and_arguments);                                                                                   \
     }                                                                                                                       \
@@ -196,17 +196,6 @@ FACING_CHECKED FACING_API uint32_t facing_counts_set(facing_counts_handle *clien
  * made. It stores in `done`, unless that is NULL, how many calls were made; where the status is not FACING_DONE the call on
  * the key behind those failed, and those after it were not made. */
 
-/* Whether these are no keys: there is nothing where something must be, or the keys have more bytes than there are. */
-FACING_SEEN int facing_counts_are_wrong(const uint64_t *key_lens, size_t len, const void *keys, size_t keys_len,
-                                        const void *others) {
-    size_t i;
-    if (len >> 59 != 0 || (len != 0 && (key_lens == FACING_NULL || others == FACING_NULL))) return 1;
-    if (facing_bytes_are_none(keys, keys_len)) return 1;
-    for (i = 0; i < len && key_lens[i] <= keys_len; i++)
-        keys_len -= key_lens[i];
-    return i < len;
-}
-
 /* Stores each value at its key. */
 FACING_CHECKED FACING_API uint32_t facing_counts_put_all(facing_counts_handle *client, const uint64_t *key_lens, size_t len,
                                                          const void *keys, size_t keys_len, const uint64_t *values,
@@ -214,7 +203,7 @@ FACING_CHECKED FACING_API uint32_t facing_counts_put_all(facing_counts_handle *c
     const uint8_t *key = facing_bytes_at(keys);
     size_t i = 0;
     uint32_t status = FACING_DONE;
-    if (client == FACING_NULL || facing_counts_are_wrong(key_lens, len, keys, keys_len, values))
+    if (client == FACING_NULL || facing_bytes_keys_are_wrong(key_lens, len, keys, keys_len, values))
         status = FACING_BAD_ARGUMENT;
     while (status == FACING_DONE && i < len) {
         status = facing_counts_put(client, key, key_lens[i], values[i], FACING_NULL);
@@ -232,7 +221,7 @@ FACING_CHECKED FACING_API uint32_t facing_counts_get_all(facing_counts_handle *c
     const uint8_t *key = facing_bytes_at(keys);
     size_t i = 0;
     uint32_t status = FACING_DONE;
-    if (client == FACING_NULL || facing_counts_are_wrong(key_lens, len, keys, keys_len, answers))
+    if (client == FACING_NULL || facing_bytes_keys_are_wrong(key_lens, len, keys, keys_len, answers))
         status = FACING_BAD_ARGUMENT;
     while (status == FACING_DONE && i < len) {
         status = facing_counts_get(client, key, key_lens[i], &answers[i]);
@@ -251,7 +240,7 @@ FACING_CHECKED FACING_API uint32_t facing_counts_add_all(facing_counts_handle *c
     const uint8_t *key = facing_bytes_at(keys);
     size_t i = 0;
     uint32_t status = FACING_DONE;
-    if (client == FACING_NULL || facing_counts_are_wrong(key_lens, len, keys, keys_len, values))
+    if (client == FACING_NULL || facing_bytes_keys_are_wrong(key_lens, len, keys, keys_len, values))
         status = FACING_BAD_ARGUMENT;
     while (status == FACING_DONE && i < len) {
         status = facing_counts_add(client, key, key_lens[i], values[i], FACING_NULL);

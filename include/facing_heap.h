@@ -5,7 +5,8 @@
  * where the program has them. libfacing.so has them in itself, and does not call a program's.
  *
  * Several threads call them at once, also while a bucket is locked. So they are thread-safe, return soon, have no
- * cancellation point, and make no call of a map. Every block is freed by facing_dealloc or moved by facing_realloc, by any thread. */
+ * cancellation point, and make no call of a map. Every block is freed by facing_dealloc or moved by facing_realloc, by any
+ * thread. */
 #ifndef FACING_HEAP_H
 #define FACING_HEAP_H
 #include <stddef.h>

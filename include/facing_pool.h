@@ -346,6 +346,18 @@ FACING_CHECKED FACING_API uint32_t facing_bytes_pool_count(facing_bytes_pool *po
     FACING_BY_BYTES(facing_bytes_count(client, count));
 }
 
+FACING_CHECKED FACING_API uint32_t facing_bytes_pool_put_all(facing_bytes_pool *pool, const uint64_t *key_lens,
+                                                             const uint64_t *value_lens, size_t len, const void *pairs,
+                                                             size_t pairs_len, size_t *done) {
+    FACING_BY_BYTES(facing_bytes_put_all(client, key_lens, value_lens, len, pairs, pairs_len, done));
+}
+
+FACING_CHECKED FACING_API uint32_t facing_bytes_pool_get_all(facing_bytes_pool *pool, const uint64_t *key_lens, size_t len,
+                                                             const void *keys, size_t keys_len, void *room, size_t room_len,
+                                                             facing_bytes_answer *answers, size_t *done) {
+    FACING_BY_BYTES(facing_bytes_get_all(client, key_lens, len, keys, keys_len, room, room_len, answers, done));
+}
+
 /* Frees the clients and closes the map: `closed` is then the closed map, and the pool is empty. No call may run any more.
  * Where the close fails the map is in `closed` all the same, and facing_bytes_close can be tried again, but after
  * FACING_BIN_MISSING, when it has ended. */

@@ -1,7 +1,10 @@
 """What calls answer, and what is refused."""
 import array
+import asyncio
 import collections
+import contextlib
 import copy
+import inspect
 import os
 import pickle
 import resource
@@ -33,6 +36,26 @@ def raises_after_fork(*calls):
         except facing.AfterFork as why:
             failed += why.name != "AFTER_FORK" or str(os.getppid()) not in str(why)
     return failed
+
+
+@contextlib.contextmanager
+def held_by_a_thread(lock):
+    """Another thread has the lock for as long as the block runs."""
+    is_held, let_go = threading.Event(), threading.Event()
+
+    def hold():
+        with lock:
+            is_held.set()
+            let_go.wait()
+
+    thread = threading.Thread(target=hold)
+    thread.start()
+    is_held.wait()
+    try:
+        yield
+    finally:
+        let_go.set()
+        thread.join()
 
 
 class Calls(unittest.TestCase):
@@ -204,6 +227,50 @@ class Calls(unittest.TestCase):
                 thread.join()
             self.assertEqual((client.get(1), text.get(b"a")), (5, None))
 
+    def test_a_signal_handler_calls_by_the_client_that_it_interrupts(self):
+        def work():
+            with facing.Map(16, 1) as shared, shared.client() as client, facing.BytesMap(16, 1) as texts, texts.client() as text:
+                text.update({b"a": b"value of a", b"b": b"b"})
+                seen = []
+                signal.signal(signal.SIGUSR1, lambda *_: seen.append((client.add(1), text.get(b"b"), text.put(b"c", b"of c"))))
+                with client._lock, text._lock:
+                    signal.raise_signal(signal.SIGUSR1)
+                get, signals = text._functions["get"], [signal.SIGUSR1]
+
+                def get_and_interrupt(*arguments):
+                    status = get(*arguments)
+                    if signals:
+                        signal.raise_signal(signals.pop())
+                    return status
+
+                # The signal comes when the value lies in the client's room, and is not copied yet.
+                text._functions = {**text._functions, "get": get_and_interrupt}
+                return 0 if text.get(b"a") == b"value of a" and seen == [(1, b"b", None), (2, b"b", b"of c")] else 1
+
+        self.assertEqual(child_of(work), 0)
+
+    def test_a_batch_runs_beside_an_event_loop(self):
+        async def count(client, words):
+            await asyncio.to_thread(client.add_all, collections.Counter(words))
+            return await asyncio.to_thread(client.get_all, [b"a", b"b", b"c"])
+
+        with facing.CountsMap(16, 1) as shared, shared.client() as client:
+            self.assertEqual(asyncio.run(count(client, [b"a", b"b", b"a"])), [2, 1, None])
+
+    def test_all_public_names_have_docstrings(self):
+        missing = []
+        for name in facing.__all__:
+            it = getattr(facing, name)
+            if not callable(it):
+                continue
+            members = {f"{name}.{key}": value for key, value in inspect.getmembers(it) if not key.startswith("_")} if inspect.isclass(it) else {}
+            for path, value in {name: it, **members}.items():
+                if (inspect.isclass(value) or inspect.isroutine(value)) and not inspect.getdoc(value):
+                    missing.append(path)
+        self.assertEqual(missing, [])
+        with open(os.path.join(os.path.dirname(facing.__file__), "py.typed"), encoding="utf-8") as marker:
+            self.assertEqual(marker.read(), "")
+
     def test_threads_change_one_value(self):
         def count(client):
             for _ in range(500):
@@ -224,7 +291,7 @@ class Calls(unittest.TestCase):
         with facing.Map(16, 1) as shared, shared.client() as client, facing.BytesMap(16, 1) as texts, texts.client() as text:
             client.put(1, 5)
             calls = [lambda: client.get(1), client.copy, lambda: client.put_all({1: 2}), shared.count, shared.client, shared.close]
-            with client._lock, text._lock:
+            with held_by_a_thread(client._lock), held_by_a_thread(text._lock):
                 self.assertEqual(child_of(lambda: raises_after_fork(*calls, lambda: text.get(b"a"))), 0)
                 self.assertEqual(child_of(lambda: client.free() or shared.free() or 0), 0)
             self.assertEqual(client.get(1), 5)
@@ -234,7 +301,7 @@ class Calls(unittest.TestCase):
             shared.update({1: 5})
             with shared.close() as closed:
                 self.assertEqual(child_of(lambda: closed[1] + len(closed)), 6)
-                with closed._lock:
+                with held_by_a_thread(closed._lock):
                     self.assertEqual(child_of(lambda: raises_after_fork(lambda: closed[1])), 0)
                 self.assertEqual(closed[1], 5)
 
@@ -324,6 +391,30 @@ class Bytes(unittest.TestCase):
                 self.assertEqual(closed.items(), [(b"a", b"x" * 65536)])
                 self.assertEqual((len(closed), closed[b"a"], closed.get(b"b")), (1, b"x" * 65536, None))
 
+
+    def test_many_byte_strings_at_once(self):
+        many = {b"key %d" % key: b"v" * (key * 10) for key in range(500)}
+        with facing.BytesMap(16, 1) as shared, shared.client() as client:
+            client.put_all(many)
+            self.assertEqual(client.copy(), many)
+            self.assertEqual(client.get_all(many), list(many.values()))
+            self.assertEqual(client.get_all([b"?", b"key 3", b"key 0", b"?"]), [None, b"v" * 30, b"", None])
+            self.assertEqual((client.get_all([]), client.put_all([])), ([], None))
+            client.put_all(iter([(bytearray(b"a"), memoryview(b"one")), (b"a", b"two")]))
+            self.assertEqual(client.get_all(iter([b"a"])), [b"two"])
+            for wrong in ([(b"b", b"x" * 65537)], [(b"b", b"1"), (b"y" * 65537, b"")]):
+                with self.assertRaises(facing.Fault) as caught:
+                    client.put_all(wrong)
+                self.assertEqual(caught.exception.name, "TOO_LONG")
+            self.assertEqual(client.get(b"b"), b"1")
+            with self.assertRaises(TypeError):
+                client.get_all(["text"])
+
+    def test_long_values_at_once(self):
+        with facing.BytesMap(16, 1, 1 << 20) as shared, shared.client() as client:
+            many = {b"%d" % key: bytes([key]) * (1 << 20) for key in range(5)}
+            client.put_all(many)
+            self.assertEqual(client.get_all([b"4", b"0", b"?", b"3"]), [many[b"4"], many[b"0"], None, many[b"3"]])
 
     def test_long_values(self):
         longest = b"y" * (1 << 20)
