@@ -18,7 +18,7 @@ import tempfile
 
 HERE = os.path.dirname(os.path.realpath(__file__))
 TOP = os.path.dirname(HERE)
-C, CPP, CPP17 = ["cc", "-std=c11"], ["c++", "-std=c++17", "-x", "c++"], ["c++", "-std=c++17"]
+C, CPP, CPP17, CPP20 = ["cc", "-std=c11"], ["c++", "-std=c++17", "-x", "c++"], ["c++", "-std=c++17"], ["c++", "-std=c++20"]
 SANITIZED = ["-g", "-O1", "-fsanitize=address,undefined", "-fno-sanitize-recover=all"]
 WATCHED = ["-g", "-O1", "-fsanitize=thread"]
 VALGRIND = ["valgrind", "-q", "--leak-check=full", "--show-leak-kinds=all", "--error-exitcode=9"]
@@ -258,6 +258,10 @@ WORKS = [
     ("C, the first program by CMake", lambda it: it.by_cmake()),
     ("C++, the first program", lambda it: run(it.program(CPP17, "cpp/first.cpp"))),
     ("C++, calls", lambda it: run(it.program(CPP17, "cpp/calls.cpp"))),
+    ("C++, ranges, pools and many keys", lambda it: run(it.program(CPP17, "cpp/ranges.cpp"))),
+    ("C++20, ranges, pools and many keys", lambda it: run(it.program(CPP20, "cpp/ranges.cpp"))),
+    ("C++, sanitized, ranges, pools and many keys", lambda it: run(it.sanitized(CPP17, "cpp/ranges.cpp"))),
+    ("C++, ThreadSanitizer, ranges, pools and many keys", lambda it: run(it.watched(CPP17, "cpp/ranges.cpp"))),
     ("C++, macros", lambda it: it.leaks_no_macros()),
     ("C++, ThreadSanitizer, calls", lambda it: run(it.watched(CPP17, "cpp/calls.cpp"))),
     ("C++, sanitized, calls", lambda it: run(it.sanitized(CPP17, "cpp/calls.cpp"))),

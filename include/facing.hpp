@@ -1,19 +1,28 @@
 // Concurrent hash maps for C++17, over facing.h, facing_counts.h and facing_bytes.h: move-only classes, std::optional for
 // values, exceptions for failures.
 //
-//     facing::map         numbers to numbers       facing::client         facing::closed_map
-//     facing::counts_map  byte strings to numbers  facing::counts_client  facing::closed_counts
-//     facing::bytes_map   byte strings to the same facing::bytes_client   facing::closed_bytes
+//     facing::map         numbers to numbers       facing::client         facing::closed_map     facing::pool
+//     facing::counts_map  byte strings to numbers  facing::counts_client  facing::closed_counts  facing::counts_pool
+//     facing::bytes_map   byte strings to the same facing::bytes_client   facing::closed_bytes   facing::bytes_pool
 //
-// A client is used by one thread at a time, and may be moved to another. The const functions of a closed map may be called
+// A client is used by one thread at a time, and may be moved to another. Any thread calls a pool. The const functions of a closed map may be called
 // by several threads at once. Every function throws facing::error where its status is not FACING_DONE; nothing was changed
 // then, but by a close that failed with FACING_BIN_MISSING. Where there is no memory for a string that it returns it throws
 // std::bad_alloc, after the call was made.
 #ifndef FACING_HPP
 #define FACING_HPP
-#include "facing_base.hpp"
+#include "facing_pairs.hpp"
 
 namespace facing {
+
+// What an exchange saw: whether the value was the expected one, and the value that was there.
+template <class Value> struct exchanged {
+    bool done;
+    std::optional<Value> seen;
+    explicit operator bool() const noexcept {
+        return done;
+    }
+};
 
 // A client of a map whose values are numbers. It goes back to its map when it is destroyed.
 template <class Library> class client_of : public owned<Library> {
@@ -61,13 +70,45 @@ template <class Library> class client_of : public owned<Library> {
     // meanwhile; no bucket is locked while it runs.
     template <class Change> std::optional<std::uint64_t> update(key_type key, Change change) {
         std::optional<std::uint64_t> now = get(key), next;
-        facing_seen seen{0, 0, 0};
+        exchanged<std::uint64_t> seen{false, {}};
         do {
             next = change(std::as_const(now));
-            seen = exchanged(key, now ? &*now : nullptr, next ? &*next : nullptr);
-            now = seen.found != 0 ? std::optional<std::uint64_t>(seen.value) : std::nullopt;
-        } while (seen.exchanged == 0);
+            seen = exchange(key, now, next);
+            now = seen.seen;
+        } while (!seen);
         return next;
+    }
+    // Stores the value, or removes the key where it is none, if the key's value is the expected one, or if it has none and
+    // none is expected.
+    exchanged<std::uint64_t> exchange(key_type key, std::optional<std::uint64_t> expected,
+                                      std::optional<std::uint64_t> value) {
+        const std::uint64_t *from = expected ? &*expected : nullptr, *to = value ? &*value : nullptr;
+        facing_seen seen{0, 0, 0};
+        if constexpr (std::is_integral_v<key_type>)
+            check(Library::exchange(&this->at_, key, from, to, &seen));
+        else
+            check(Library::exchange(&this->at_, key.data(), key.size(), from, to, &seen));
+        return {seen.exchanged != 0, seen.found != 0 ? std::optional<std::uint64_t>(seen.value) : std::nullopt};
+    }
+    // One call for each pair of a range, in order, such as a std::map: stores its value, or adds it. They throw many_error,
+    // which says how many calls were made.
+    template <class Pairs> void put_all(const Pairs &pairs) {
+        store(Library::put_all, pairs);
+    }
+    template <class Pairs> void add_all(const Pairs &pairs) {
+        store(Library::add_all, pairs);
+    }
+    // The value at each key of a range.
+    template <class Keys> std::vector<std::optional<std::uint64_t>> get_all(const Keys &keys) {
+        const many_keys<key_type> all(keys);
+        std::vector<facing_answer> answers(all.size());
+        std::vector<std::optional<std::uint64_t>> values;
+        std::size_t done = 0;
+        std::uint32_t status = all.get(Library::get_all, &this->at_, answers.data(), &done);
+        check_many(status, done);
+        for (const facing_answer &it : answers)
+            values.push_back(value_of(it));
+        return values;
     }
     // An estimate of how many keys the map has.
     std::uint64_t count() {
@@ -88,13 +129,11 @@ template <class Library> class client_of : public owned<Library> {
     void pairs() && = delete;
 
   private:
-    facing_seen exchanged(key_type key, const std::uint64_t *expected, const std::uint64_t *value) {
-        facing_seen seen{0, 0, 0};
-        if constexpr (std::is_integral_v<key_type>)
-            check(Library::exchange(&this->at_, key, expected, value, &seen));
-        else
-            check(Library::exchange(&this->at_, key.data(), key.size(), expected, value, &seen));
-        return seen;
+    template <class Call, class Pairs> void store(Call call, const Pairs &pairs) {
+        const many_keys<key_type> all(pairs, std::true_type());
+        std::size_t done = 0;
+        std::uint32_t status = all.store(call, &this->at_, &done);
+        check_many(status, done);
     }
     friend class map_of<Library>;
     client_of() = default;
@@ -178,6 +217,41 @@ template <> class client_of<bytes> : public owned<bytes> {
         } while (seen.exchanged == 0);
         return next;
     }
+    // As that of a client of numbers.
+    exchanged<std::string> exchange(std::string_view key, std::optional<std::string_view> expected,
+                                    std::optional<std::string_view> value_) {
+        if (value_) bound(*value_);
+        facing_bytes_seen seen{0, 0, 0};
+        facing_bytes_view from = view(expected), to = view(value_);
+        if (!room_) room_.reset(new char[longest_ + 1]);
+        check(facing_bytes_exchange(&at_, key.data(), key.size(), expected ? &from : nullptr, value_ ? &to : nullptr,
+                                    room_.get(), longest_, &seen));
+        return {seen.exchanged != 0,
+                seen.found != 0 ? std::optional<std::string>(std::string(room_.get(), seen.len)) : std::nullopt};
+    }
+    // One call for each pair of a range, in order: stores its value. Throws many_error, which says how many were made.
+    template <class Pairs> void put_all(const Pairs &pairs) {
+        std::vector<std::uint64_t> key_lens, value_lens;
+        std::string all;
+        std::size_t done = 0;
+        for (const auto &[key, value_] : pairs) {
+            const std::string_view from = key, to = value_;
+            bound(to);
+            key_lens.push_back(from.size());
+            value_lens.push_back(to.size());
+            all.append(from).append(to);
+        }
+        std::uint32_t status =
+            facing_bytes_put_all(&at_, key_lens.data(), value_lens.data(), key_lens.size(), all.data(), all.size(), &done);
+        check_many(status, done);
+    }
+    // The value at each key of a range.
+    template <class Keys> std::vector<std::optional<std::string>> get_all(const Keys &keys) {
+        std::vector<std::optional<std::string>> values;
+        for (const std::string_view key : keys)
+            values.push_back(get(key));
+        return values;
+    }
     // An estimate of how many keys the map has.
     std::uint64_t count() {
         return counted();
@@ -195,7 +269,7 @@ template <> class client_of<bytes> : public owned<bytes> {
     void pairs() && = delete;
 
   private:
-    static facing_bytes_view view(const std::optional<std::string> &text) {
+    template <class Text> static facing_bytes_view view(const std::optional<Text> &text) {
         return text ? facing_bytes_view{text->data(), text->size()} : facing_bytes_view{nullptr, 0};
     }
     // What the map stores finds room in each of its clients.
@@ -250,6 +324,22 @@ template <class Library> class closed_of : public owned<Library> {
                 read_pairs(at, &cursor, most_pairs, all);
             return all;
         });
+    }
+    // The pairs of the next buckets, about as many as `len`, or none; the cursor ends as {UINT64_MAX}.
+    pairs_type pairs(facing_cursor &cursor, std::size_t len) const {
+        return read([&cursor, len](auto *at) {
+            pairs_type all;
+            read_pairs(at, &cursor, std::min(len, most_pairs), all);
+            return all;
+        });
+    }
+    // All pairs: for (const auto &[key, value] : closed).
+    using const_iterator = typename pairs_range<const closed_of, pairs_type>::iterator;
+    const_iterator begin() const {
+        return const_iterator(this);
+    }
+    const_iterator end() const {
+        return const_iterator();
     }
     // A new map with copies of the pairs.
     map_of<Library> reopen(std::uint32_t clients) const {
@@ -328,6 +418,12 @@ template <class Library> class map_of : public owned<Library> {
     }
 };
 
+} // namespace facing
+
+#include "facing_pool.hpp"
+
+namespace facing {
+
 using map = map_of<numbers>;
 using client = client_of<numbers>;
 using closed_map = closed_of<numbers>;
@@ -337,6 +433,9 @@ using closed_counts = closed_of<counts>;
 using bytes_map = map_of<bytes>;
 using bytes_client = client_of<bytes>;
 using closed_bytes = closed_of<bytes>;
+using pool = pool_of<numbers>;
+using counts_pool = pool_of<counts>;
+using bytes_pool = pool_of<bytes>;
 
 } // namespace facing
 

@@ -1,5 +1,5 @@
-// What facing.hpp is made of: failures, the functions of each header by one name, handles, lists of pairs, and readers of a
-// closed map. Include facing.hpp.
+// What facing.hpp is made of: failures, the functions of each header by one name, handles, and readers of a closed map.
+// Include facing.hpp.
 #ifndef FACING_BASE_HPP
 #define FACING_BASE_HPP
 #include "facing.h"
@@ -7,7 +7,6 @@
 #include "facing_change.h"
 #include "facing_counts.h"
 #include "facing_pool.h"
-#include <algorithm>
 #include <array>
 #include <atomic>
 #include <cstddef>
@@ -43,6 +42,23 @@ inline void check(std::uint32_t status) {
     if (status != FACING_DONE) throw error(status);
 }
 
+// A failure of calls on many keys: those on the first `done` keys were made, and the one on the next failed.
+class many_error : public error {
+  public:
+    many_error(std::uint32_t status, std::size_t done) : error(status), done_(done) {
+    }
+    std::size_t done() const noexcept {
+        return done_;
+    }
+
+  private:
+    std::size_t done_;
+};
+
+inline void check_many(std::uint32_t status, std::size_t done) {
+    if (status != FACING_DONE) throw many_error(status, done);
+}
+
 // The functions of each header by one name.
 struct numbers {
     using handle = facing_handle;
@@ -62,6 +78,8 @@ struct numbers {
     static constexpr auto exchange = facing_exchange;
     static constexpr auto add_up_to = facing_add_up_to;
     static constexpr auto again = facing_again;
+    static constexpr auto put_all = facing_put_all, add_all = facing_add_all;
+    static constexpr auto get_all = facing_get_all;
 };
 
 struct counts {
@@ -84,6 +102,8 @@ struct counts {
     static constexpr auto exchange = facing_counts_exchange;
     static constexpr auto add_up_to = facing_counts_add_up_to;
     static constexpr auto again = facing_counts_again;
+    static constexpr auto put_all = facing_counts_put_all, add_all = facing_counts_add_all;
+    static constexpr auto get_all = facing_counts_get_all;
 };
 
 struct bytes {
@@ -156,110 +176,24 @@ inline std::optional<std::uint64_t> value_of(facing_answer answered) {
     return answered.found != 0 ? std::optional<std::uint64_t>(answered.value) : std::nullopt;
 }
 
-// A list of pairs.
-using number_pairs = std::vector<std::pair<std::uint64_t, std::uint64_t>>;
-using counts_pairs = std::vector<std::pair<std::string, std::uint64_t>>;
-using bytes_pairs = std::vector<std::pair<std::string, std::string>>;
-
-// The most pairs of one step, unless one bucket has more.
-constexpr std::size_t most_pairs = 4096;
-
-// Adds the pairs of the next buckets, at most so many unless one bucket has more.
-inline void read_pairs(facing_handle *any, facing_cursor *cursor, std::size_t len, number_pairs &all) {
-    std::vector<std::uint64_t> keys(len + 1), values(len + 1);
-    std::size_t copied;
-    std::uint32_t status = facing_pairs(any, cursor, keys.data(), values.data(), len, &copied);
-    if (status == FACING_NO_ROOM) return read_pairs(any, cursor, copied, all);
-    check(status);
-    for (std::size_t i = 0; i < copied; i++)
-        all.emplace_back(keys[i], values[i]);
-}
-
-inline void read_pairs(facing_counts_handle *any, facing_cursor *cursor, std::size_t len, counts_pairs &all,
-                       std::size_t room_len = 0) {
-    std::vector<std::uint64_t> lens(len + 1), values(len + 1);
-    std::vector<char> room(room_len != 0 ? room_len : 64 * len + 1);
-    facing_bytes_sizes copied;
-    std::uint32_t status =
-        facing_counts_pairs(any, cursor, lens.data(), values.data(), len, room.data(), room.size(), &copied);
-    if (status == FACING_NO_ROOM) return read_pairs(any, cursor, copied.pairs, all, copied.bytes);
-    check(status);
-    const char *at = room.data();
-    for (std::size_t i = 0; i < copied.pairs; at += lens[i++])
-        all.emplace_back(std::string(at, lens[i]), values[i]);
-}
-
-inline void read_pairs(facing_bytes_handle *any, facing_cursor *cursor, std::size_t len, bytes_pairs &all,
-                       std::size_t room_len = 0) {
-    std::vector<std::uint64_t> key_lens(len + 1), value_lens(len + 1);
-    std::vector<char> room(room_len != 0 ? room_len : 256 * len + 1);
-    facing_bytes_sizes copied;
-    std::uint32_t status =
-        facing_bytes_pairs(any, cursor, key_lens.data(), value_lens.data(), len, room.data(), room.size(), &copied);
-    if (status == FACING_NO_ROOM) return read_pairs(any, cursor, copied.pairs, all, copied.bytes);
-    check(status);
-    const char *at = room.data();
-    for (std::size_t i = 0; i < copied.pairs; i++) {
-        all.emplace_back(std::string(at, key_lens[i]), std::string(at + key_lens[i], value_lens[i]));
-        at += key_lens[i] + value_lens[i];
+// One of so many slots that no other thread uses while this lives: the one at `start` if it can, once there is one.
+template <class Slot> struct taken {
+    Slot *it;
+    taken(Slot *slots, std::size_t count, std::size_t start, std::uint32_t forks) {
+        std::uint32_t round = 0;
+        for (std::size_t i = 0;; i++) {
+            it = &slots[(start + i) % count];
+            if (!it->in_use.load() && !it->in_use.exchange(true)) return;
+            if (i % count != count - 1) continue;
+            round = facing_back_off(round, forks);
+            if (round == FACING_NEVER) throw error(FACING_AFTER_FORK);
+        }
     }
-}
-
-// The pairs of an open map, for a range-based for: some buckets are read at a time, each as it is when it is read.
-template <class Client, class Pairs> class pairs_range {
-  public:
-    class iterator {
-      public:
-        using iterator_category = std::input_iterator_tag;
-        using value_type = typename Pairs::value_type;
-        using difference_type = std::ptrdiff_t;
-        using pointer = const value_type *;
-        using reference = const value_type &;
-        explicit iterator(Client *client) : client_(client) {
-            read();
-        }
-        reference operator*() const {
-            return pairs_[at_];
-        }
-        pointer operator->() const {
-            return &pairs_[at_];
-        }
-        iterator &operator++() {
-            at_++;
-            read();
-            return *this;
-        }
-        // (each is compared with the end alone)
-        bool operator!=(std::nullptr_t) const {
-            return at_ != pairs_.size();
-        }
-        bool operator==(std::nullptr_t) const {
-            return at_ == pairs_.size();
-        }
-
-      private:
-        void read() {
-            while (at_ == pairs_.size() && cursor_.at != UINT64_MAX) {
-                pairs_ = client_->pairs(cursor_, 1024);
-                at_ = 0;
-            }
-        }
-        Client *client_;
-        facing_cursor cursor_{0};
-        Pairs pairs_{};
-        std::size_t at_ = 0;
-    };
-    explicit pairs_range(Client *client) : client_(client) {
+    ~taken() {
+        it->in_use.store(false);
     }
-    iterator begin() const {
-        return iterator(client_);
-    }
-    std::nullptr_t end() const {
-        return nullptr;
-    }
-
-  private:
-    Client *client_;
+    taken(const taken &) = delete;
+    taken &operator=(const taken &) = delete;
 };
 
 // Further handles of a closed map, for threads that read it at the same time.
@@ -275,9 +209,9 @@ template <class Library> class readers {
     // Makes a call by a handle that no other thread uses. Where there is no memory for one, threads take turns.
     template <class Call> auto read(typename Library::handle *first, Call call) {
         const std::size_t start = std::hash<std::thread::id>()(std::this_thread::get_id());
-        const taken own(slots_.data(), slots_.size(), start, forks_);
+        const taken<slot> own(slots_.data(), slots_.size(), start, forks_);
         if (own.it->handle.at == nullptr) {
-            const taken only(&first_, 1, 0, forks_);
+            const taken<slot> only(&first_, 1, 0, forks_);
             if (Library::again(first, &own.it->handle) != FACING_DONE) return call(first);
         }
         return call(&own.it->handle);
@@ -287,25 +221,6 @@ template <class Library> class readers {
     struct alignas(64) slot {
         std::atomic<bool> in_use{false};
         typename Library::handle handle{nullptr};
-    };
-    // A slot that no other thread uses while this lives.
-    struct taken {
-        slot *it;
-        taken(slot *slots, std::size_t count, std::size_t start, std::uint32_t forks) {
-            std::uint32_t round = 0;
-            for (std::size_t i = 0;; i++) {
-                it = &slots[(start + i) % count];
-                if (!it->in_use.load() && !it->in_use.exchange(true)) return;
-                if (i % count != count - 1) continue;
-                round = facing_back_off(round, forks);
-                if (round == FACING_NEVER) throw error(FACING_AFTER_FORK);
-            }
-        }
-        ~taken() {
-            it->in_use.store(false);
-        }
-        taken(const taken &) = delete;
-        taken &operator=(const taken &) = delete;
     };
     std::array<slot, 32> slots_;
     slot first_;

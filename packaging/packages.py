@@ -83,6 +83,10 @@ class Build:
         kit, commit = text_of(f"{TOP}/KIT").strip(), run("git", "-C", TOP, "rev-parse", "HEAD").strip()
         return f"version: {self.version}\nkit: {kit}\ncommit: {commit}\nproofs: {self.proofs}\nlicence: {LICENCE}\n"
 
+    def about(self):
+        """The line that describes a package of Debian's."""
+        return ABOUT.replace("A concurrent", "concurrent") + ("" if self.is_proved else ", unproved")
+
     def date(self, form):
         return time.strftime(form, time.gmtime(self.time))
 
