@@ -5,7 +5,7 @@ They stand on the shared library that tools/install makes. ctypes lets other thr
 call at a time, for which it has a lock; give each thread a client of its own. A signal handler may use any client, also the one
 whose call it interrupted.
 
-A call from Python takes some eight times as long as one on a dict under a lock, nearly all of it on the way to the library. put_all,
+A call from Python takes six to seven times the instructions of one on a dict under a lock, nearly all on the way to the library. put_all,
 get_all and add_all pass many keys at once: from some 20 keys on they are faster than the dict, and with 1,000 keys they take a third
 of its time or less. So pass keys in batches, or keep the dict.
 
