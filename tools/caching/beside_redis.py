@@ -106,7 +106,7 @@ def info_of(port, *words):
 
 def compare_info(port, port_of_redis):
     """Each section and field of our INFO is one of Redis's, but for our own sections, and sections are chosen as there."""
-    own = {"Closed"}
+    own = {"Closed", "Commandstats"}
     for words in ((), ("memory",), ("MEMORY", "clients"), ("all",), ("default",), ("everything",), ("what",)):
         ours, theirs = info_of(port, *words), info_of(port_of_redis, *words)
         ours = {name: fields for name, fields in ours.items() if name not in own}
@@ -139,6 +139,21 @@ def compare_connections(both, drawn, count):
                 both.fault(words, ours, theirs)
 
 
+def compare_moments(both, drawn, count):
+    """Deadlines at random, up to the last one: what is stored is what is told, and conditions compare with it exactly."""
+    for _ in range(count):
+        moment = drawn.randrange(2 * 10**12, 2 ** drawn.randrange(42, 63))
+        condition, by = drawn.choice(("GT", "LT", "NX", "XX")), drawn.choice((-1, 0, 0, 1, drawn.randrange(-1000, 1000)))
+        requests = [["SET", "k", "v"], ["PEXPIREAT", "k", moment], ["PEXPIRETIME", "k"], ["EXPIRETIME", "k"], ["PEXPIREAT", "k", moment + by, condition],
+                    ["PEXPIRETIME", "k"], ["EXPIREAT", "k", moment // 1000, condition], ["PEXPIRETIME", "k"], ["GETEX", "k", "PXAT", moment], ["PEXPIRETIME", "k"],
+                    ["SET", "k", "w", "PXAT", moment + 1], ["APPEND", "k", "x"], ["PEXPIRETIME", "k"], ["COPY", "k", "l", "REPLACE"], ["PEXPIRETIME", "l"]]
+        ours, theirs = (it.calls(requests) for it in both.both)
+        both.compared += len(requests)
+        for words, our, their in zip(requests, ours, theirs):
+            if our != their:
+                both.fault(words, our, their)
+
+
 def compare(port, port_of_redis, is_quick, seed):
     """Compares all, and returns how many replies were."""
     drawn = random.Random(f"beside {seed}")
@@ -156,6 +171,7 @@ def compare(port, port_of_redis, is_quick, seed):
         for _ in range(5 if is_quick else 100):
             both.calls([["FLUSHALL"]])
             compare_connections(both, drawn, 500)
+        compare_moments(both, drawn, 300 if is_quick else 5000)
         compare_patterns(both, drawn, 100 if is_quick else 3000)
         for data in rows.RAW:
             ours, theirs = answered(port, data), answered(port_of_redis, data)

@@ -14,7 +14,6 @@ from .server import SOURCES, Failed, Server, need, redis_server
 from .together import must
 
 KEYS = 3000
-# Calls that may fail where a server stops: the one that meets it, for each of the proxy's connections.
 
 
 def free_port():

@@ -102,6 +102,14 @@ def of_scripts():
     yield from (["COMMAND", "INFO", it] for it in ("eval", "evalsha", "eval_ro", "evalsha_ro", "script"))
 
 
+def expiring():
+    """Transactions in which a key has less time than they take: it is there for all of it, and gone behind it."""
+    for ms in (1, 2, 5):
+        there = [["GET", "soon"], ["EXISTS", "soon", "n"], ["STRLEN", "soon"], ["MGET", "n", "soon"]] * 400
+        yield [["MULTI"], ["SET", "soon", "x", "PX", ms], *there, ["APPEND", "soon", "y"], ["GETDEL", "soon"], ["SET", "soon", "z", "PX", ms], *there, ["EXEC"]]
+        yield [["MULTI"], ["SET", "soon", "x"], ["PEXPIRE", "soon", ms], *there, ["SETNX", "soon", "y"], ["INCR", "soon"], ["PERSIST", "soon"], ["EXEC"], ["GET", "soon"], ["DEL", "soon"]]
+
+
 def of_channels():
     """Lists of requests of one reply each, on channels, and RESET."""
     for name in ("SUBSCRIBE", "PSUBSCRIBE"):
@@ -116,6 +124,7 @@ def of_channels():
 def transactions():
     """Lists of requests, each with a transaction, right and wrong ones; and AUTH where there is no password."""
     yield from of_channels()
+    yield from expiring()
     words = ("MULTI", "EXEC", "DISCARD", "UNWATCH", "WATCH")
     for names in itertools.product(words, repeat=3):
         for more in ([], ["n"], ["n", "none"]):

@@ -129,7 +129,6 @@ struct cache {
     struct touched touched;
     uint64_t seed; /* of the hashes of touched and of watched keys */
     _Alignas(64) atomic_bool is_alone; /* a request runs alone, or waits to */
-    atomic_bool has_far;               /* a deadline was stored that is kept coarsely */
     _Atomic uint64_t watching;         /* how many keys connections watch */
     pthread_mutex_t alone, hand_lock, watch_lock, open_lock;
     struct database databases[DATABASES];
@@ -182,7 +181,7 @@ int64_t day_of(uint64_t deadline);
 
 /* A value in the map has a head before its bytes: a generation, and a deadline in milliseconds of CLOCK_MONOTONIC, if it has
  * one. Without one the head is short, so that a value of up to 18 bytes lies in the map's node. */
-enum { HEAD = 8, SHORT_HEAD = 4 };
+enum { HEAD = 8, SHORT_HEAD = 4, LONGEST_HEAD = 16 };
 
 #define LONGEST_VALUE ((size_t)FACING_LONGEST_VALUE - HEAD)
 
@@ -205,7 +204,7 @@ struct store {
     facing_bytes_handle *client;
     int64_t timed, dead;       /* of its counts, what is not yet told */
     struct buffer seen, next; /* what was there, and what is to be stored */
-    uint8_t head[HEAD];       /* of what was there, where the rest is not copied */
+    uint8_t head[LONGEST_HEAD]; /* of what was there, where the rest is not copied */
     uint64_t next_deadline;
     size_t next_head; /* how many bytes the head of `next` has */
     uint32_t next_status; /* why `next` cannot be stored; FACING_DONE where it can */

@@ -5,8 +5,9 @@
 #include <stdlib.h>
 #include <time.h>
 
-/* Two clocks that are read one after the other differ by up to so many milliseconds more than they should. */
-enum { JITTER = 5 };
+/* Two clocks that are read one after the other differ by up to so many milliseconds more than they should; and how often they are
+ * read again where the thread was stopped between. */
+enum { JITTER = 5, TRIES = 10 };
 
 /* How far the time of day is ahead. It stays until the system's time is changed, so that a time of day that a client gives
  * is the one it gets back. */
@@ -24,7 +25,12 @@ uint64_t now_ms(void) {
 }
 
 static int64_t day_ahead(void) {
-    int64_t is = ms_of(CLOCK_REALTIME) - ms_of(CLOCK_MONOTONIC), was = atomic_load_explicit(&ahead, memory_order_relaxed);
+    int64_t was = atomic_load_explicit(&ahead, memory_order_relaxed), before, is;
+    int tries = 0;
+    do {
+        before = ms_of(CLOCK_MONOTONIC);
+        is = ms_of(CLOCK_REALTIME) - before;
+    } while (ms_of(CLOCK_MONOTONIC) - before > 1 && ++tries < TRIES);
     if (llabs(is - was) <= JITTER) return was;
     atomic_store_explicit(&ahead, is, memory_order_relaxed);
     return is;

@@ -5,7 +5,7 @@
 #include <string.h>
 #include <strings.h>
 
-enum { LONGEST_HEAD = 32, LONGEST_LINE = 65536, MOST_ARGS = 1048576, KEPT_ARGS = 256 };
+enum { LONGEST_MARK = 32, LONGEST_LINE = 65536, MOST_ARGS = 1048576, KEPT_ARGS = 256 };
 
 /* What a request may have before the password was given. */
 enum { UNKNOWN_ARGS = 10, UNKNOWN_BULK = 16384 };
@@ -72,8 +72,8 @@ static enum parsed read_head(struct connection *c, int64_t *number, const char *
         c->at += i + 2;
         return PARSED;
     }
-    end = memchr(line, '\r', len < LONGEST_HEAD ? len : LONGEST_HEAD);
-    if (end == NULL) return len < LONGEST_HEAD ? MORE : wrong(c, too_long);
+    end = memchr(line, '\r', len < LONGEST_MARK ? len : LONGEST_MARK);
+    if (end == NULL) return len < LONGEST_MARK ? MORE : wrong(c, too_long);
     if ((size_t)(end - line) + 2 > len) return MORE;
     if (end[1] != '\n' || !number_of((struct bytes){line + 1, (size_t)(end - line) - 1}, number)) return wrong(c, no_number);
     c->at += (size_t)(end - line) + 2;

@@ -23,9 +23,11 @@ const char *error_with(struct connection *c, const char *before, struct bytes by
     return c->worker->error;
 }
 
-/* The error of an option that a command does not have. */
+/* The error of an option that a command does not have, without line ends at its end. */
 const char *error_of_option(struct connection *c, struct bytes option) {
     char shown[SHOWN + 1];
+    while (option.len > 0 && (option.at[option.len - 1] == '\r' || option.at[option.len - 1] == '\n'))
+        option.len--;
     show(shown, SHOWN, option);
     snprintf(c->worker->error, sizeof c->worker->error, "ERR Unsupported option %s", shown);
     return c->worker->error;

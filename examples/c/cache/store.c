@@ -9,33 +9,36 @@
 #include <string.h>
 
 /* The last two bits of a head tell its kind. A near head has the generation's last 16 bits and the deadline. A far one, for
- * deadlines of 2^46 milliseconds or more, has the last 8 bits, and the deadline in units of 512. A bare one has the last 16
- * bits alone, in 4 bytes. */
+ * deadlines of 2^46 milliseconds or more, has the deadline behind these, in 8 bytes more. A bare one has the generation's bits
+ * alone, in 4 bytes. */
 enum { NEAR_HEAD = 0, FAR_HEAD = 1, BARE_HEAD = 2, KIND = 3, KIND_BITS = 2 };
-enum { NEAR = 46, GENERATION_AT = 48, FAR_GENERATION_AT = 56, BARE_GENERATION_AT = 16, COARSE = 9 };
+enum { NEAR = 46, GENERATION_AT = 48, BARE_GENERATION_AT = 16 };
 
-static uint64_t head_of(uint64_t generation, uint64_t deadline) {
-    if (deadline == 0) return (generation & UINT16_MAX) << BARE_GENERATION_AT | BARE_HEAD;
-    if (deadline >> NEAR == 0) return generation << GENERATION_AT | deadline << KIND_BITS | NEAR_HEAD;
-    return generation << FAR_GENERATION_AT | deadline >> COARSE << KIND_BITS | FAR_HEAD;
+/* Writes a head, and returns its length. */
+static size_t write_head(uint8_t at[LONGEST_HEAD], uint64_t generation, uint64_t deadline) {
+    uint64_t word = generation << GENERATION_AT | (deadline >> NEAR == 0 ? deadline << KIND_BITS | NEAR_HEAD : FAR_HEAD);
+    if (deadline == 0) word = (generation & UINT16_MAX) << BARE_GENERATION_AT | BARE_HEAD;
+    memcpy(at, &word, sizeof word);
+    memcpy(at + sizeof word, &deadline, sizeof deadline);
+    return deadline == 0 ? SHORT_HEAD : deadline >> NEAR == 0 ? HEAD : LONGEST_HEAD;
 }
 
-/* Whether a head is of another generation. */
-static bool is_of_other(uint64_t head, uint64_t generation) {
-    switch (head & KIND) {
-    case BARE_HEAD: return ((head >> BARE_GENERATION_AT ^ generation) & UINT16_MAX) != 0;
-    case FAR_HEAD: return (head >> FAR_GENERATION_AT ^ (generation & UINT8_MAX)) != 0;
-    default: return (head >> GENERATION_AT ^ (generation & UINT16_MAX)) != 0;
-    }
+static size_t length_of(uint8_t first) {
+    return (first & KIND) == BARE_HEAD ? SHORT_HEAD : (first & KIND) == FAR_HEAD ? LONGEST_HEAD : HEAD;
+}
+
+/* Whether the first word of a head is of another generation. */
+static bool is_of_other(uint64_t word, uint64_t generation) {
+    uint64_t own = (word & KIND) == BARE_HEAD ? word >> BARE_GENERATION_AT : word >> GENERATION_AT;
+    return ((own ^ generation) & UINT16_MAX) != 0;
 }
 
 /* The deadline of a head, or 0. */
-static uint64_t deadline_of(uint64_t head) {
-    switch (head & KIND) {
-    case BARE_HEAD: return 0;
-    case FAR_HEAD: return (head & (((uint64_t)1 << FAR_GENERATION_AT) - 1)) >> KIND_BITS << COARSE;
-    default: return (head & (((uint64_t)1 << GENERATION_AT) - 1)) >> KIND_BITS;
-    }
+static uint64_t deadline_of(const uint8_t *head, uint64_t word) {
+    uint64_t deadline = 0;
+    if ((word & KIND) == NEAR_HEAD) return (word & (((uint64_t)1 << GENERATION_AT) - 1)) >> KIND_BITS;
+    if ((word & KIND) == FAR_HEAD) memcpy(&deadline, head + sizeof word, sizeof deadline);
+    return deadline;
 }
 
 static uint64_t generation_of(const struct store *store) {
@@ -97,16 +100,17 @@ static uint32_t reserve(struct store *store, struct buffer *buffer, size_t more)
 
 /* Says what is to be stored: a deadline, and the bytes of both parts. They may not lie in store->next. */
 void store_next(struct store *store, uint64_t deadline, struct bytes front, struct bytes back) {
-    uint64_t head = head_of(generation_of(store), deadline);
+    uint8_t head[LONGEST_HEAD];
+    size_t head_len = write_head(head, generation_of(store), deadline);
+    size_t most = (size_t)FACING_LONGEST_VALUE - (head_len > HEAD ? head_len : HEAD);
     struct buffer *next = &store->next;
-    bool is_long = front.len > LONGEST_VALUE || back.len > LONGEST_VALUE - front.len;
+    bool is_long = front.len > most || back.len > most - front.len;
     store->next_deadline = deadline;
-    if (deadline >> NEAR != 0) atomic_store(&store->cache->has_far, true);
     next->len = 0;
-    store->next_head = deadline == 0 ? SHORT_HEAD : HEAD;
-    store->next_status = is_long ? FACING_TOO_LONG : reserve(store, next, HEAD + front.len + back.len);
+    store->next_head = head_len;
+    store->next_status = is_long ? FACING_TOO_LONG : reserve(store, next, head_len + front.len + back.len);
     if (store->next_status != FACING_DONE) return;
-    memcpy(next->at, &head, store->next_head);
+    memcpy(next->at, head, head_len);
     next->len = store->next_head;
     if (front.len > 0) memcpy(next->at + next->len, front.at, front.len);
     next->len += front.len;
@@ -131,15 +135,15 @@ void store_over(struct store *store, size_t at, struct bytes bytes) {
 
 /* What the head of a value that is stored says. */
 void store_find(struct store *store, struct stored stored, struct found *found) {
-    uint64_t head = 0;
+    uint64_t word = 0;
     *found = (struct found){.is_stored = true, .stored_len = stored.len};
     if (stored.len < SHORT_HEAD) return;
-    found->head_len = (stored.head[0] & KIND) == BARE_HEAD ? SHORT_HEAD : HEAD;
+    found->head_len = length_of(stored.head[0]);
     if (stored.len < found->head_len) return;
-    memcpy(&head, stored.head, found->head_len);
-    found->is_dead = is_of_other(head, generation_of(store));
+    memcpy(&word, stored.head, found->head_len < sizeof word ? found->head_len : sizeof word);
+    found->is_dead = is_of_other(word, generation_of(store));
     if (found->is_dead) return;
-    found->deadline = deadline_of(head);
+    found->deadline = deadline_of(stored.head, word);
     found->is_live = !has_passed(store, found->deadline);
     found->value.len = stored.len - found->head_len;
 }
@@ -161,7 +165,7 @@ uint32_t store_view(struct store *store, struct bytes key, struct found *found, 
     status = facing_bytes_get(store->client, key.at, key.len, seen->at, seen->room, &answer);
     if (status == FACING_NO_ROOM) {
         status = facing_bytes_hold(store->client, key.at, key.len, held, &answer);
-        if (status == FACING_DONE && held->at != NULL) status = facing_bytes_read(held, 0, seen->at, HEAD, &answer);
+        if (status == FACING_DONE && held->at != NULL) status = facing_bytes_read(held, 0, seen->at, LONGEST_HEAD, &answer);
     }
     if (status == FACING_DONE) find_answer(store, answer, seen->at, found);
     if (found->is_live && held->at == NULL) found->value.at = seen->at + found->head_len;
@@ -236,7 +240,8 @@ uint32_t store_put(struct store *store, struct bytes key, struct found *before) 
         if (status == FACING_DONE) status = make_room_for_next(store, key, before);
     }
     if (status != FACING_DONE) return status;
-    status = facing_bytes_put(store->client, key.at, key.len, store->next.at, store->next.len, store->head, HEAD, &answer);
+    status = facing_bytes_put(store->client, key.at, key.len, store->next.at, store->next.len, store->head, LONGEST_HEAD,
+                              &answer);
     if (status != FACING_DONE) return status;
     find_answer(store, answer, store->head, before);
     count_stored(store, key, before);
@@ -246,7 +251,7 @@ uint32_t store_put(struct store *store, struct bytes key, struct found *before) 
 /* Removes a key, and finds what was there, but for the bytes of its value. */
 uint32_t store_remove(struct store *store, struct bytes key, struct found *before) {
     facing_bytes_answer answer = {0, 0};
-    uint32_t status = facing_bytes_remove(store->client, key.at, key.len, store->head, HEAD, &answer);
+    uint32_t status = facing_bytes_remove(store->client, key.at, key.len, store->head, LONGEST_HEAD, &answer);
     find_answer(store, answer, store->head, before);
     if (before->is_stored) count_gone(store, key, before);
     return status;
@@ -354,7 +359,7 @@ static uint32_t remove_dead(struct store *store) {
 uint32_t store_clear(struct store *store) {
     struct database *of = store->database;
     uint64_t count = 0, next = atomic_load(&of->generation) + 1;
-    uint64_t most = (uint64_t)1 << (64 - (atomic_load(&store->cache->has_far) ? FAR_GENERATION_AT : GENERATION_AT));
+    uint64_t most = (uint64_t)1 << (64 - GENERATION_AT);
     uint32_t status = facing_bytes_count(store->client, &count);
     if (status == FACING_DONE && count > 0 && next - atomic_load(&of->swept) >= most) status = remove_dead(store);
     if (status != FACING_DONE || count == 0) return status;

@@ -31,7 +31,7 @@ static uint32_t copy_bucket(struct walk *walk, struct store *store, size_t most,
     uint32_t status;
     unsigned round = 0;
     do {
-        status = facing_bytes_try_copy(store->client, walk->at, &next, HEAD, walk->key_lens + walk->pairs,
+        status = facing_bytes_try_copy(store->client, walk->at, &next, LONGEST_HEAD, walk->key_lens + walk->pairs,
                                        walk->value_lens + walk->pairs, most - walk->pairs, walk->room + *bytes,
                                        walk->room_len - *bytes, sizes);
         if (status == FACING_BUSY) facing_wait(round);
@@ -75,7 +75,7 @@ void walk_free(struct walk *walk) {
 
 /* How many bytes of a value are copied. */
 size_t copied_of(struct stored stored) {
-    return stored.len < HEAD ? stored.len : HEAD;
+    return stored.len < LONGEST_HEAD ? stored.len : LONGEST_HEAD;
 }
 
 /* Shows the function each key that was copied, until it returns false. */
