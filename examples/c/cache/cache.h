@@ -1,10 +1,12 @@
 /* A cache server: strings under keys, many connections, one map of facing_bytes.h, and the Redis protocol (RESP2).
  *
- * options.c reads the options, listen.c listens. main.c opens the map, starts the threads, accepts connections and deals them out, and removes
- * expired keys in slices. worker.c has a thread's loop over its connections; request.c takes requests apart, run.c runs
- * them, reply.c writes replies. store.c changes the value of a key by one atomic call, databases.c has a map for each database, walk.c goes over the keys, evict.c
- * makes room; holding.c bounds what connections hold, closing.c counts why connections were closed; pubsub.c has channels, turn.c lets a request run alone, watch.c tells whether a key was changed. scripts.c runs scripts in Lua. clock.c has deadlines, cluster.c the
- * servers beside this one. heap.c counts memory, slabs.c has small blocks. commands.c has the table of commands; commands.h tells where each is. */
+ * options.c reads the options, listen.c listens. main.c opens the map, starts the threads, accepts connections and deals
+ * them out, and removes expired keys in slices. worker.c has a thread's loop over its connections; request.c takes requests
+ * apart, run.c runs them, reply.c writes replies. store.c changes the value of a key by one atomic call, databases.c has a
+ * map for each database, walk.c goes over the keys, evict.c makes room; holding.c bounds what connections hold, closing.c
+ * counts why connections were closed; pubsub.c has channels, turn.c lets a request run alone, watch.c tells whether a key
+ * was changed. scripts.c runs scripts in Lua. clock.c has deadlines, cluster.c the servers beside this one. heap.c counts
+ * memory, slabs.c has small blocks. commands.c has the table of commands; commands.h tells where each is. */
 #ifndef CACHE_H
 #define CACHE_H
 #include "facing_bytes.h"
@@ -87,10 +89,10 @@ enum closing {
     BY_PROTOCOL, /* a request that cannot be taken apart */
     BY_HTTP,
     BY_TIMEOUT,
-    BY_OUTPUT, /* the replies to one request go past --output */
-    BY_MEMORY, /* the limit of memory or the system has none for its request or replies */
+    BY_OUTPUT,  /* the replies to one request go past --output */
+    BY_MEMORY,  /* the limit of memory or the system has none for its request or replies */
     BY_BUFFERS, /* it held the most where connections together held more than --buffers */
-    BY_KILL, /* CLIENT KILL */
+    BY_KILL,    /* CLIENT KILL */
     BY_STOP,
     CLOSINGS
 };
@@ -127,19 +129,19 @@ struct cache {
     struct seat *seats; /* one for each store */
     size_t seats_len;
     struct touched touched;
-    uint64_t seed; /* of the hashes of touched and of watched keys */
+    uint64_t seed;                     /* of the hashes of touched and of watched keys */
     _Alignas(64) atomic_bool is_alone; /* a request runs alone, or waits to */
     _Atomic uint64_t watching;         /* how many keys connections watch */
     pthread_mutex_t alone, hand_lock, watch_lock, open_lock;
     struct database databases[DATABASES];
-    uint32_t stores; /* each has a client of each map */
+    uint32_t stores;             /* each has a client of each map */
     struct scripting *scripting; /* NULL before the first script; who runs alone touches it */
-    uint64_t hand;           /* where eviction goes on, in which database; hand_lock is held */
+    uint64_t hand;               /* where eviction goes on, in which database; hand_lock is held */
     unsigned hand_db;
     atomic_bool is_barren;   /* a write looked for keys to evict and found none */
     struct watched **chains; /* watch_lock is held */
     _Alignas(64) _Atomic int64_t counts[COUNTS];
-    _Atomic uint64_t ticks_a_ms, slow_ticks; /* how long a tick of the processor is; and a command that is slow */
+    _Atomic uint64_t ticks_a_ms, slow_ticks;  /* how long a tick of the processor is; and a command that is slow */
     _Alignas(64) _Atomic uint64_t holding[2]; /* what connections hold, those without a password first */
     _Alignas(64) _Atomic uint64_t connections, accepted, ids, refused[REFUSALS], closed[CLOSINGS];
 };
@@ -199,14 +201,14 @@ struct store {
     struct cache *cache;
     struct seat *seat;
     facing_bytes_handle clients[DATABASES];
-    unsigned db;               /* the database of the request, of which these are the map's client and the counts */
+    unsigned db; /* the database of the request, of which these are the map's client and the counts */
     struct database *database;
     facing_bytes_handle *client;
-    int64_t timed, dead;       /* of its counts, what is not yet told */
-    struct buffer seen, next; /* what was there, and what is to be stored */
+    int64_t timed, dead;        /* of its counts, what is not yet told */
+    struct buffer seen, next;   /* what was there, and what is to be stored */
     uint8_t head[LONGEST_HEAD]; /* of what was there, where the rest is not copied */
     uint64_t next_deadline;
-    size_t next_head; /* how many bytes the head of `next` has */
+    size_t next_head;     /* how many bytes the head of `next` has */
     uint32_t next_status; /* why `next` cannot be stored; FACING_DONE where it can */
     struct candidates candidates;
     struct counts counts; /* what is not yet told */
@@ -353,10 +355,10 @@ struct connection {
     bool is_held;   /* has too many replies to send, and takes no requests until they are sent */
     bool is_known;  /* gave the password, or needs none */
     enum closing why;
-    atomic_int shed;          /* why another thread has it closed, or 0 */
-    atomic_bool is_spared;    /* by CLIENT NO-EVICT */
-    _Atomic size_t holds;     /* what cache->holding has of it; it changes under the worker's list_lock */
-    atomic_bool holds_known;  /* and where */
+    atomic_int shed;            /* why another thread has it closed, or 0 */
+    atomic_bool is_spared;      /* by CLIENT NO-EVICT */
+    _Atomic size_t holds;       /* what cache->holding has of it; it changes under the worker's list_lock */
+    atomic_bool holds_known;    /* and where */
     uint64_t id, began, served; /* when it was served last */
     uint8_t *name;              /* its bytes and a 0, or NULL */
     size_t name_len;

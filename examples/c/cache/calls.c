@@ -98,7 +98,8 @@ static const char *take_words(lua_State *lua, struct scripting *it) {
         char number[NUMBER];
         struct bytes word;
         if (!word_at(lua, i, number, &word)) return "ERR Lua redis lib command arguments must be strings or integers";
-        if (!buffer_reserve(&it->words, word.len + 1) || !add_arg(c, it->words.len, word.len)) return error_of(FACING_NO_MEMORY);
+        if (!buffer_reserve(&it->words, word.len + 1) || !add_arg(c, it->words.len, word.len))
+            return error_of(FACING_NO_MEMORY);
         if (word.len > 0) memcpy(it->words.at + it->words.len, word.at, word.len);
         it->words.len += word.len;
     }
@@ -218,14 +219,15 @@ static int ignore(lua_State *lua) {
 /* Adds the table `redis` to the globals. */
 void add_calls(lua_State *lua) {
     static const luaL_Reg functions[] = {
-        {"sha1hex", sha1hex}, {"log", write_log}, {"setresp", set_resp}, {"replicate_commands", agree}, {"set_repl", ignore},
-        {NULL, NULL},
+        {"sha1hex", sha1hex},          {"log", write_log},   {"setresp", set_resp},
+        {"replicate_commands", agree}, {"set_repl", ignore}, {NULL, NULL},
     };
     static const struct {
         const char *name;
         int number;
-    } numbers[] = {{"LOG_DEBUG", 0}, {"LOG_VERBOSE", 1}, {"LOG_NOTICE", 2},   {"LOG_WARNING", 3}, {"REPL_NONE", 0},
-                   {"REPL_AOF", 1},  {"REPL_SLAVE", 2},  {"REPL_REPLICA", 2}, {"REPL_ALL", 3},    {"REDIS_VERSION_NUM", 0x07000f}};
+    } numbers[] = {
+        {"LOG_DEBUG", 0}, {"LOG_VERBOSE", 1}, {"LOG_NOTICE", 2},   {"LOG_WARNING", 3}, {"REPL_NONE", 0},
+        {"REPL_AOF", 1},  {"REPL_SLAVE", 2},  {"REPL_REPLICA", 2}, {"REPL_ALL", 3},    {"REDIS_VERSION_NUM", 0x07000f}};
     luaL_register(lua, "redis", functions);
     for (int raises = 0; raises < 2; raises++) {
         lua_pushboolean(lua, raises);
@@ -250,7 +252,8 @@ void add_calls(lua_State *lua) {
 /* == Values of Lua as replies == */
 
 /* Replies with the text of a field of the table at the top. Returns false where it has none. */
-static bool reply_field_of(struct connection *c, lua_State *lua, const char *name, void (*reply)(struct connection *, const char *)) {
+static bool reply_field_of(struct connection *c, lua_State *lua, const char *name,
+                           void (*reply)(struct connection *, const char *)) {
     lua_pushstring(lua, name);
     lua_rawget(lua, -2);
     if (lua_type(lua, -1) != LUA_TSTRING) {

@@ -239,11 +239,10 @@ static const char *run_kill(struct connection *c) {
 
 const char *run_client(struct connection *c) {
     static const struct command parts[] = {
-        {"client|getname", get_name, 2, 0, 0, 0, 0, 0},  {"client|id", get_id, 2, 0, 0, 0, 0, 0},
-        {"client|info", info, 2, 0, 0, 0, 0, 0},         {"client|kill", run_kill, -3, ALONE, 0, 0, 0, 0},
-        {"client|list", list, -2, ALONE, 0, 0, 0, 0},
-        {"client|no-evict", no_evict, 3, 0, 0, 0, 0, 0}, {"client|setinfo", set_info, 4, 0, 0, 0, 0, 0},
-        {"client|setname", set_name, 3, 0, 0, 0, 0, 0},
+        {"client|getname", get_name, 2, 0, 0, 0, 0, 0}, {"client|id", get_id, 2, 0, 0, 0, 0, 0},
+        {"client|info", info, 2, 0, 0, 0, 0, 0},        {"client|kill", run_kill, -3, ALONE, 0, 0, 0, 0},
+        {"client|list", list, -2, ALONE, 0, 0, 0, 0},   {"client|no-evict", no_evict, 3, 0, 0, 0, 0, 0},
+        {"client|setinfo", set_info, 4, 0, 0, 0, 0, 0}, {"client|setname", set_name, 3, 0, 0, 0, 0, 0},
     };
     return run_part(c, parts, sizeof parts / sizeof *parts);
 }

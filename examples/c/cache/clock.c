@@ -5,8 +5,8 @@
 #include <stdlib.h>
 #include <time.h>
 
-/* Two clocks that are read one after the other differ by up to so many milliseconds more than they should; and how often they are
- * read again where the thread was stopped between. */
+/* Two clocks that are read one after the other differ by up to so many milliseconds more than they should; and how often
+ * they are read again where the thread was stopped between. */
 enum { JITTER = 5, TRIES = 10 };
 
 /* How far the time of day is ahead. It stays until the system's time is changed, so that a time of day that a client gives

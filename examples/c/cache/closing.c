@@ -5,8 +5,9 @@
 
 /* The names of the counters in INFO. */
 static const char *const names[CLOSINGS] = {
-    [BY_CLIENT] = "client", [BY_QUIT] = "quit",       [BY_SOCKET] = "socket", [BY_PROTOCOL] = "protocol", [BY_HTTP] = "http",
-    [BY_TIMEOUT] = "timeout", [BY_OUTPUT] = "output", [BY_MEMORY] = "memory", [BY_BUFFERS] = "buffers", [BY_KILL] = "kill", [BY_STOP] = "stop",
+    [BY_CLIENT] = "client",   [BY_QUIT] = "quit",       [BY_SOCKET] = "socket", [BY_PROTOCOL] = "protocol",
+    [BY_HTTP] = "http",       [BY_TIMEOUT] = "timeout", [BY_OUTPUT] = "output", [BY_MEMORY] = "memory",
+    [BY_BUFFERS] = "buffers", [BY_KILL] = "kill",       [BY_STOP] = "stop",
 };
 
 /* The first reason stays. */

@@ -222,10 +222,9 @@ static const char *info(struct connection *c) {
 
 const char *run_cluster(struct connection *c) {
     static const struct command parts[] = {
-        {"cluster|info", info, 2, 0, 0, 0, 0, 0},
-        {"cluster|keyslot", key_slot, 3, 0, 0, 0, 0, 0}, {"cluster|myid", own_id, 2, 0, 0, 0, 0, 0},
-        {"cluster|nodes", list, 2, 0, 0, 0, 0, 0},       {"cluster|shards", shards, 2, 0, 0, 0, 0, 0},
-        {"cluster|slots", slots, 2, 0, 0, 0, 0, 0},
+        {"cluster|info", info, 2, 0, 0, 0, 0, 0},     {"cluster|keyslot", key_slot, 3, 0, 0, 0, 0, 0},
+        {"cluster|myid", own_id, 2, 0, 0, 0, 0, 0},   {"cluster|nodes", list, 2, 0, 0, 0, 0, 0},
+        {"cluster|shards", shards, 2, 0, 0, 0, 0, 0}, {"cluster|slots", slots, 2, 0, 0, 0, 0, 0},
     };
     const char *error = find_part(c, parts, sizeof parts / sizeof *parts);
     if (error != NULL) return error;

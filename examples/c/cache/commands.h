@@ -19,12 +19,12 @@ enum {
     BUSY = 1 << 9, /* allow_busy */
     SKIP_SLOWLOG = 1 << 10,
     SKIP_MONITOR = 1 << 11,
-    NO_KEYS = 1 << 12,   /* no_mandatory_keys */
+    NO_KEYS = 1 << 12, /* no_mandatory_keys */
     PUBSUB = 1 << 14,
-    COUNTED = 1 << 13, /* movablekeys: the third word is the number of keys behind it */
-    ALONE = 1 << 16,    /* runs while no other request does */
-    UNQUEUED = 1 << 17, /* runs at once in a transaction too */
-    SUBSCRIBED = 1 << 19, /* also of a connection that subscribed something */
+    COUNTED = 1 << 13,        /* movablekeys: the third word is the number of keys behind it */
+    ALONE = 1 << 16,          /* runs while no other request does */
+    UNQUEUED = 1 << 17,       /* runs at once in a transaction too */
+    SUBSCRIBED = 1 << 19,     /* also of a connection that subscribed something */
     OUT_OF_SCRIPTS = 1 << 18, /* for parts of Redis's command that are */
 };
 

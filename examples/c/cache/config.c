@@ -24,9 +24,18 @@ enum { SETTINGS = 12 };
 static void read_settings(const struct connection *c, struct setting_of settings[SETTINGS]) {
     struct limits *limits = &c->worker->cache->limits;
     const struct setting_of all[SETTINGS] = {
-        {"appendonly", "no"}, {"databases", "16"}, {"latency-monitor-threshold", ""}, {"maxclients", ""}, {"maxmemory", ""},
-        {"maxmemory-policy", ""}, {"proto-max-bulk-len", ""}, {"requirepass", ""}, {"save", ""}, {"slowlog-log-slower-than", ""},
-        {"slowlog-max-len", ""}, {"timeout", ""},
+        {"appendonly", "no"},
+        {"databases", "16"},
+        {"latency-monitor-threshold", ""},
+        {"maxclients", ""},
+        {"maxmemory", ""},
+        {"maxmemory-policy", ""},
+        {"proto-max-bulk-len", ""},
+        {"requirepass", ""},
+        {"save", ""},
+        {"slowlog-log-slower-than", ""},
+        {"slowlog-max-len", ""},
+        {"timeout", ""},
     };
     memcpy(settings, all, sizeof all);
     snprintf(settings[2].value, SETTING, "%" PRId64, limits->latency);
@@ -34,7 +43,8 @@ static void read_settings(const struct connection *c, struct setting_of settings
     snprintf(settings[4].value, SETTING, "%" PRIu64, limits->memory);
     snprintf(settings[5].value, SETTING, "%s", policy_of(limits));
     snprintf(settings[6].value, SETTING, "%" PRIu64, limits->request);
-    snprintf(settings[7].value, SETTING, "%.*s", (int)limits->password.len, limits->password.len > 0 ? (const char *)limits->password.at : "");
+    snprintf(settings[7].value, SETTING, "%.*s", (int)limits->password.len,
+             limits->password.len > 0 ? (const char *)limits->password.at : "");
     snprintf(settings[9].value, SETTING, "%" PRId64, limits->slow);
     snprintf(settings[10].value, SETTING, "%" PRId64, limits->slow_len);
     snprintf(settings[11].value, SETTING, "%" PRIu64, limits->timeout);
@@ -119,7 +129,8 @@ static const char *take_clients(struct bytes value, struct limits *limits) {
 
 static const char *take_slow(struct bytes value, struct limits *limits) {
     int64_t number;
-    const char *wrong = take_range(value, -1, INT64_MAX / 1000000, "argument must be between -1 and 9223372036854 inclusive", &number);
+    const char *wrong =
+        take_range(value, -1, INT64_MAX / 1000000, "argument must be between -1 and 9223372036854 inclusive", &number);
     if (wrong == NULL) limits->slow = number;
     return wrong;
 }
@@ -133,7 +144,8 @@ static const char *take_slow_len(struct bytes value, struct limits *limits) {
 
 static const char *take_latency(struct bytes value, struct limits *limits) {
     int64_t number;
-    const char *wrong = take_range(value, 0, INT64_MAX / 1000000, "argument must be between 0 and 9223372036854 inclusive", &number);
+    const char *wrong =
+        take_range(value, 0, INT64_MAX / 1000000, "argument must be between 0 and 9223372036854 inclusive", &number);
     if (wrong == NULL) limits->latency = number;
     return wrong;
 }
@@ -142,7 +154,7 @@ static const struct {
     const char *name;
     take_fn *take;
 } settable[] = {
-    {"latency-monitor-threshold", take_latency}, {"maxclients", take_clients}, {"maxmemory", take_memory},
+    {"latency-monitor-threshold", take_latency}, {"maxclients", take_clients},   {"maxmemory", take_memory},
     {"maxmemory-policy", take_policy},           {"requirepass", take_password}, {"slowlog-log-slower-than", take_slow},
     {"slowlog-max-len", take_slow_len},          {"timeout", take_timeout},
 };
@@ -154,8 +166,8 @@ static const char *take_setting(struct connection *c, size_t at, struct limits *
         if (!is_word(arg(c, at), settable[i].name)) continue;
         wrong = settable[i].take(arg(c, at + 1), limits);
         if (wrong == NULL) return NULL;
-        snprintf(c->worker->error, sizeof c->worker->error,
-                 "ERR CONFIG SET failed (possibly related to argument '%s') - %s", settable[i].name, wrong);
+        snprintf(c->worker->error, sizeof c->worker->error, "ERR CONFIG SET failed (possibly related to argument '%s') - %s",
+                 settable[i].name, wrong);
         return c->worker->error;
     }
     error_with(c, "Unknown option or number of arguments for CONFIG SET -", arg(c, at), "");

@@ -8,10 +8,21 @@ static const struct {
     unsigned flag;
     const char *word;
 } words[] = {
-    {WRITES, "write"},       {READS, "readonly"},  {GROWS, "denyoom"},   {ADMIN, "admin"},     {PUBSUB, "pubsub"},
-    {NO_SCRIPT, "noscript"}, {LOADING, "loading"}, {STALE, "stale"},     {SKIP_SLOWLOG, "skip_slowlog"},
-    {FAST, "fast"},          {NO_AUTH, "no_auth"}, {BUSY, "allow_busy"},   {SKIP_MONITOR, "skip_monitor"},
-    {NO_KEYS, "no_mandatory_keys"}, {COUNTED, "movablekeys"},
+    {WRITES, "write"},
+    {READS, "readonly"},
+    {GROWS, "denyoom"},
+    {ADMIN, "admin"},
+    {PUBSUB, "pubsub"},
+    {NO_SCRIPT, "noscript"},
+    {LOADING, "loading"},
+    {STALE, "stale"},
+    {SKIP_SLOWLOG, "skip_slowlog"},
+    {FAST, "fast"},
+    {NO_AUTH, "no_auth"},
+    {BUSY, "allow_busy"},
+    {SKIP_MONITOR, "skip_monitor"},
+    {NO_KEYS, "no_mandatory_keys"},
+    {COUNTED, "movablekeys"},
 };
 enum { WORDS = sizeof words / sizeof *words };
 

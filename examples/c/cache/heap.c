@@ -1,5 +1,5 @@
-/* The memory of the server and of the library, which is counted: small blocks of slabs.c, larger ones from malloc. A key and a
- * value that are short lie in the table, or in one small block of 64 bytes. The library calls the three functions of
+/* The memory of the server and of the library, which is counted: small blocks of slabs.c, larger ones from malloc. A key and
+ * a value that are short lie in the table, or in one small block of 64 bytes. The library calls the three functions of
  * facing_heap.h, which are defined at the end. */
 #define _GNU_SOURCE
 #include "cache.h"

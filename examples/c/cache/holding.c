@@ -83,8 +83,8 @@ static bool is_beyond(struct cache *cache, bool of_known, size_t more) {
     return of_known ? known + unknown + more > most : unknown + more > most / UNKNOWN_PART;
 }
 
-/* Sees to it that a connection may hold so much more. Returns false where it would be the one that holds the most: it is to be
- * closed then. */
+/* Sees to it that a connection may hold so much more. Returns false where it would be the one that holds the most: it is to
+ * be closed then. */
 bool may_hold(struct connection *c, size_t more) {
     struct cache *cache = c->worker->cache;
     tell(c);

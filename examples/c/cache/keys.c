@@ -31,8 +31,8 @@ const char *run_dbsize(struct connection *c) {
     return done_or_error(c, status, (int64_t)count);
 }
 
-/* FLUSHDB; with the number 1 FLUSHALL. All keys are gone at one moment. The main thread gives their memory back, also where SYNC
- * is asked for. */
+/* FLUSHDB; with the number 1 FLUSHALL. All keys are gone at one moment. The main thread gives their memory back, also where
+ * SYNC is asked for. */
 const char *run_flush(struct connection *c) {
     struct store *store = &c->worker->store;
     uint32_t status = FACING_DONE;

@@ -58,12 +58,14 @@ int listen_on(struct options *options) {
 static void take_away_old(const struct sockaddr_un *address) {
     struct stat is;
     int file = socket(AF_UNIX, SOCK_STREAM | SOCK_CLOEXEC, 0);
-    bool is_old = file >= 0 && connect(file, (const struct sockaddr *)address, sizeof *address) != 0 && errno == ECONNREFUSED;
+    bool is_old =
+        file >= 0 && connect(file, (const struct sockaddr *)address, sizeof *address) != 0 && errno == ECONNREFUSED;
     if (file >= 0) close(file);
     if (is_old && stat(address->sun_path, &is) == 0 && S_ISSOCK(is.st_mode)) unlink(address->sun_path);
 }
 
-/* Listens at the socket of the file system. Returns it; -1 where none is asked for, and -2, and says why, where it cannot. */
+/* Listens at the socket of the file system. Returns it; -1 where none is asked for, and -2, and says why, where it cannot.
+ */
 int listen_locally(const struct options *options) {
     struct sockaddr_un address = {.sun_family = AF_UNIX};
     int file;

@@ -210,8 +210,8 @@ static void next_database(struct server *server) {
     server->db = 0;
 }
 
-/* Removes what is live no more, if there may be some. Returns in how many milliseconds there is more to do. Once all is removed
- * that a FLUSHALL left its memory is given back. */
+/* Removes what is live no more, if there may be some. Returns in how many milliseconds there is more to do. Once all is
+ * removed that a FLUSHALL left its memory is given back. */
 static uint64_t sweep_slice(struct server *server) {
     struct cache *cache = &server->cache;
     bool has_dead = dead_of_all(cache) > 0;
@@ -254,7 +254,8 @@ static void accept_all(struct server *server) {
         now = now_ms();
         if (poll(files, 3, now < next ? (int)(next - now) : 0) <= 0) continue;
         for (int i = 1; i < 3; i++)
-            if ((files[i].revents & POLLIN) && !accept_some(server, files[i].fd, &turn)) files[1].events = files[2].events = 0;
+            if ((files[i].revents & POLLIN) && !accept_some(server, files[i].fd, &turn))
+                files[1].events = files[2].events = 0;
     }
 }
 

@@ -18,14 +18,16 @@ struct option_number {
 #define AT(of) offsetof(struct options, of)
 static const struct option_number numbers[] = {
     {"port", "the port to listen on; 0 takes one that is free", AT(port), 6379, 0, 65535, false},
-    {"threads", "threads that serve connections; more for pipelines; 0: as many as processors", AT(threads), 1, 0, MOST_THREADS, false},
+    {"threads", "threads that serve connections; more for pipelines; 0: as many as processors", AT(threads), 1, 0,
+     MOST_THREADS, false},
     {"buckets", "buckets of the map to begin with; it grows", AT(buckets), 4096, 1, 1 << 26, false},
     {"connections", "the most connections", AT(limits.connections), 10000, 1, 1 << 20, false},
     {"request", "the most bytes of a request", AT(limits.request), 1 << 29, 64, 1 << 30, true},
     {"output", "the most bytes of the replies to a request", AT(limits.output), 1 << 30, 1 << 17, (uint64_t)1 << 33, true},
     {"memory", "the most bytes of memory, for keys, values and replies", AT(limits.memory), 1 << 30, 1 << 20,
      (uint64_t)1 << 48, true},
-    {"buffers", "the most bytes that connections hold together; 0: half of --memory", AT(limits.buffers), 0, 0, (uint64_t)1 << 48, true},
+    {"buffers", "the most bytes that connections hold together; 0: half of --memory", AT(limits.buffers), 0, 0,
+     (uint64_t)1 << 48, true},
     {"timeout", "seconds after which a connection is closed that sends nothing; 0: never", AT(limits.timeout), 0, 0,
      100000000, false},
     {"instructions", "the most instructions of a script", AT(limits.instructions), 10000000, 1000, (uint64_t)1 << 40, false},
@@ -35,7 +37,8 @@ enum { NUMBERS = sizeof numbers / sizeof *numbers };
 
 /* The options with a word, or with nothing. */
 enum { ADDRESS = NUMBERS, PASSWORD, PASSWORD_FILE, UNIXSOCKET, EVICT, SLOTS, NODES, CONFIG, OPEN, VERSION, HELP, OPTIONS };
-static const char *const names[] = {"address", "password", "password-file", "unixsocket", "evict", "slots", "nodes", "config", "open", "version", "help"};
+static const char *const names[] = {"address", "password", "password-file", "unixsocket", "evict", "slots",
+                                    "nodes",   "config",   "open",          "version",    "help"};
 
 /* The longest line of a file of options. */
 enum { LINE = 1024 };
@@ -55,7 +58,9 @@ static int usage(FILE *to, int status) {
                 "  --nodes FILE       its servers: a line ADDRESS PORT FROM-TO for each\n");
     for (size_t i = 0; i < NUMBERS; i++)
         fprintf(to, "  --%-12s N  %s (%" PRIu64 ")\n", numbers[i].name, numbers[i].text, numbers[i].value);
-    fprintf(to, "  --version          what this is built of\nBytes may have a unit: kb, mb, gb of 1,024 each, k, m, g of 1,000.\n");
+    fprintf(
+        to,
+        "  --version          what this is built of\nBytes may have a unit: kb, mb, gb of 1,024 each, k, m, g of 1,000.\n");
     return status;
 }
 
@@ -64,11 +69,13 @@ bool bytes_from(struct bytes text, uint64_t *bytes) {
     static const struct {
         const char *unit;
         uint64_t size;
-    } units[] = {{"", 1}, {"b", 1}, {"k", 1000}, {"kb", 1 << 10}, {"m", 1000000}, {"mb", 1 << 20}, {"g", 1000000000}, {"gb", 1 << 30}};
+    } units[] = {{"", 1},        {"b", 1},        {"k", 1000},       {"kb", 1 << 10},
+                 {"m", 1000000}, {"mb", 1 << 20}, {"g", 1000000000}, {"gb", 1 << 30}};
     uint64_t number = 0;
     size_t at = 0;
     for (; at < text.len && text.at[at] >= '0' && text.at[at] <= '9'; at++)
-        if (__builtin_mul_overflow(number, 10, &number) || __builtin_add_overflow(number, (uint64_t)(text.at[at] - '0'), &number))
+        if (__builtin_mul_overflow(number, 10, &number)
+            || __builtin_add_overflow(number, (uint64_t)(text.at[at] - '0'), &number))
             return false;
     for (size_t i = 0; at > 0 && i < sizeof units / sizeof *units; i++)
         if (is_word((struct bytes){text.at + at, text.len - at}, units[i].unit))

@@ -165,7 +165,8 @@ static enum parsed read_line(struct connection *c) {
         }
         word_end = read_word(from, end, &i);
         if (word_end == NULL) return wrong(c, "ERR Protocol error: unbalanced quotes in request");
-        if (!c->is_known && c->count == UNKNOWN_ARGS) return wrong(c, "ERR Protocol error: unauthenticated multibulk length");
+        if (!c->is_known && c->count == UNKNOWN_ARGS)
+            return wrong(c, "ERR Protocol error: unauthenticated multibulk length");
         if (!add_arg(c, start, (size_t)(word_end - from) - start)) return wrong(c, "OOM out of memory");
     }
     return PARSED;

@@ -1,5 +1,5 @@
-/* Where scripts run: Lua without files, modules, bytecode and debugging, with tables that no script can change, and with a limit
- * of memory and of instructions. */
+/* Where scripts run: Lua without files, modules, bytecode and debugging, with tables that no script can change, and with a
+ * limit of memory and of instructions. */
 #define _GNU_SOURCE
 #include "scripts.h"
 #ifdef CACHE_LUA
@@ -154,8 +154,10 @@ static int protect_plainly(lua_State *lua) {
     lua_insert(lua, -2);
     if (lua_istable(lua, -1)) {
         lua_getfield(lua, -1, "err");
-        if (lua_isstring(lua, -1)) lua_replace(lua, -2);
-        else lua_pop(lua, 1);
+        if (lua_isstring(lua, -1))
+            lua_replace(lua, -2);
+        else
+            lua_pop(lua, 1);
     }
     return 2;
 }
@@ -241,7 +243,8 @@ static void seal_library(lua_State *lua, const char *name) {
 
 /* Makes what scripts see: in the registry, `globals`, and `scripts` by their names. */
 static int fill(lua_State *lua) {
-    static const char *const gone[] = {"dofile", "getfenv", "load", "loadfile", "module", "newproxy", "print", "require", "setfenv", NULL};
+    static const char *const gone[] = {"dofile",   "getfenv", "load",    "loadfile", "module",
+                                       "newproxy", "print",   "require", "setfenv",  NULL};
     static const char *const libraries[] = {"coroutine", "math", "redis", "string", "table"};
     open_library(lua, "", luaopen_base);
     open_library(lua, LUA_TABLIBNAME, luaopen_table);

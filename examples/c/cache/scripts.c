@@ -244,8 +244,10 @@ static const char *script_kill(struct connection *c) {
 
 const char *run_script(struct connection *c) {
     static const struct command parts[] = {
-        {"script|exists", script_exists, -3, ALONE, 0, 0, 0, 0}, {"script|flush", script_flush, -2, ALONE, 0, 0, 0, 0},
-        {"script|kill", script_kill, 2, 0, 0, 0, 0, 0},          {"script|load", script_load, 3, ALONE, 0, 0, 0, 0},
+        {"script|exists", script_exists, -3, ALONE, 0, 0, 0, 0},
+        {"script|flush", script_flush, -2, ALONE, 0, 0, 0, 0},
+        {"script|kill", script_kill, 2, 0, 0, 0, 0, 0},
+        {"script|load", script_load, 3, ALONE, 0, 0, 0, 0},
     };
     return run_part(c, parts, sizeof parts / sizeof *parts);
 }

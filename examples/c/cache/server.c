@@ -92,7 +92,8 @@ const char *policy_of(const struct limits *limits) {
 static void write_memory(struct cache *cache, char part[PART]) {
     uint64_t used = heap_used(), resident = heap_resident();
     snprintf(part, PART,
-             "used_memory:%" PRIu64 "\r\nused_memory_rss:%" PRIu64 "\r\nused_memory_dataset:%" PRId64 "\r\nmaxmemory:%" PRIu64
+             "used_memory:%" PRIu64 "\r\nused_memory_rss:%" PRIu64 "\r\nused_memory_dataset:%" PRId64
+             "\r\nmaxmemory:%" PRIu64
              "\r\nmaxmemory_policy:%s\r\nmem_fragmentation_ratio:%.2f\r\nmem_clients_normal:%" PRIu64 "\r\n",
              used, resident, COUNT_OF(cache, dataset), cache->limits.memory, policy_of(&cache->limits),
              (double)resident / (double)(used > 0 ? used : 1),
@@ -103,8 +104,8 @@ static void write_memory(struct cache *cache, char part[PART]) {
 static void write_stats(struct cache *cache, char part[PART]) {
     snprintf(part, PART,
              "total_connections_received:%" PRIu64 "\r\ntotal_commands_processed:%" PRId64
-             "\r\nrejected_connections:%" PRIu64 "\r\nexpired_keys:%" PRId64 "\r\nevicted_keys:%" PRId64 "\r\nkeyspace_hits:%" PRId64
-             "\r\nkeyspace_misses:%" PRId64 "\r\n",
+             "\r\nrejected_connections:%" PRIu64 "\r\nexpired_keys:%" PRId64 "\r\nevicted_keys:%" PRId64
+             "\r\nkeyspace_hits:%" PRId64 "\r\nkeyspace_misses:%" PRId64 "\r\n",
              atomic_load_explicit(&cache->accepted, memory_order_relaxed), COUNT_OF(cache, calls),
              atomic_load_explicit(&cache->refused[TOO_MANY], memory_order_relaxed), COUNT_OF(cache, expired),
              COUNT_OF(cache, evicted), COUNT_OF(cache, hits), COUNT_OF(cache, misses));

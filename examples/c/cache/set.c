@@ -48,7 +48,8 @@ static const char *read_deadline(struct connection *c, struct setting *it) {
     if (time == NULL || time->unit == 0) return NULL;
     if (!number_of(it->count, &count)) return NOT_A_NUMBER;
     if (count <= 0) return no_deadline(c);
-    return deadline_from(count, time->unit, time->is_moment, store_now(&c->worker->store), &it->deadline) ? NULL : no_deadline(c);
+    return deadline_from(count, time->unit, time->is_moment, store_now(&c->worker->store), &it->deadline) ? NULL
+                                                                                                          : no_deadline(c);
 }
 
 /* What it replaced stays in store->seen. */

@@ -1,14 +1,22 @@
 /* Small blocks, without the header that malloc puts before each.
  *
  * A slab has blocks of one size, behind a head of its own. A thread keeps some free blocks of each size, and takes and gives
- * many at once; the others lie in their slabs, and are taken from slabs that are nearly full before others. A slab whose blocks
- * are all free serves any size, and its memory goes back to the system but for that of some slabs. */
+ * many at once; the others lie in their slabs, and are taken from slabs that are nearly full before others. A slab whose
+ * blocks are all free serves any size, and its memory goes back to the system but for that of some slabs. */
 #define _GNU_SOURCE
 #include "cache.h"
 #include <stdlib.h>
 #include <sys/mman.h>
 
-enum { SIZES = LARGEST_BLOCK / BLOCK_STEP, BATCH = 64, SLAB = 1 << 14, SLABS = 64, LEAF = 1 << 18, HEAD_OF_SLAB = 64, MOST_KEPT = 64 };
+enum {
+    SIZES = LARGEST_BLOCK / BLOCK_STEP,
+    BATCH = 64,
+    SLAB = 1 << 14,
+    SLABS = 64,
+    LEAF = 1 << 18,
+    HEAD_OF_SLAB = 64,
+    MOST_KEPT = 64
+};
 
 struct block {
     struct block *next;

@@ -79,8 +79,8 @@ void write_stats_of_commands(struct cache *cache, struct buffer *text) {
         text->len += (size_t)snprintf((char *)text->at + text->len, 256,
                                       "cmdstat_%s:calls=%" PRIu64 ",usec=%" PRIu64
                                       ",usec_per_call=%.2f,rejected_calls=%" PRIu64 ",failed_calls=%" PRIu64 "\r\n",
-                                      command_at(i)->name, calls, usec, calls > 0 ? (double)usec / (double)calls : 0.0, rejected,
-                                      failed);
+                                      command_at(i)->name, calls, usec, calls > 0 ? (double)usec / (double)calls : 0.0,
+                                      rejected, failed);
     }
 }
 
@@ -182,9 +182,11 @@ void command_ran(struct connection *c, const struct command *command, uint64_t t
 void set_slow_ticks(struct cache *cache) {
     uint64_t usec = UINT64_MAX / (1 << 20);
     if (cache->limits.slow >= 0) usec = (uint64_t)cache->limits.slow;
-    if (cache->limits.latency > 0 && (uint64_t)cache->limits.latency * 1000 < usec) usec = (uint64_t)cache->limits.latency * 1000;
+    if (cache->limits.latency > 0 && (uint64_t)cache->limits.latency * 1000 < usec)
+        usec = (uint64_t)cache->limits.latency * 1000;
     ticks_learn(cache);
-    atomic_store(&cache->slow_ticks, usec / 1000 * atomic_load(&cache->ticks_a_ms) + usec % 1000 * atomic_load(&cache->ticks_a_ms) / 1000);
+    atomic_store(&cache->slow_ticks,
+                 usec / 1000 * atomic_load(&cache->ticks_a_ms) + usec % 1000 * atomic_load(&cache->ticks_a_ms) / 1000);
 }
 
 void stats_close(void) {

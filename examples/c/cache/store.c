@@ -2,15 +2,15 @@
  * either the call does not depend on what was there, or it is made only if that is still there, and else all is done again.
  *
  * A value whose deadline has passed is gone for every function here. A request looks at the clock once, when it first needs
- * to, so all that it finds is of one moment; no clock of another thread is behind, so a request that begins after another found
- * a key expired finds it expired too. So is a value gone of another generation, since FLUSHALL begins a new one. Both take
- * memory until they are overwritten or removed. */
+ * to, so all that it finds is of one moment; no clock of another thread is behind, so a request that begins after another
+ * found a key expired finds it expired too. So is a value gone of another generation, since FLUSHALL begins a new one. Both
+ * take memory until they are overwritten or removed. */
 #include "cache.h"
 #include <string.h>
 
 /* The last two bits of a head tell its kind. A near head has the generation's last 16 bits and the deadline. A far one, for
- * deadlines of 2^46 milliseconds or more, has the deadline behind these, in 8 bytes more. A bare one has the generation's bits
- * alone, in 4 bytes. */
+ * deadlines of 2^46 milliseconds or more, has the deadline behind these, in 8 bytes more. A bare one has the generation's
+ * bits alone, in 4 bytes. */
 enum { NEAR_HEAD = 0, FAR_HEAD = 1, BARE_HEAD = 2, KIND = 3, KIND_BITS = 2 };
 enum { NEAR = 46, GENERATION_AT = 48, BARE_GENERATION_AT = 16 };
 
@@ -267,8 +267,8 @@ static uint32_t try_store(struct store *store, struct bytes key, const struct fo
         status = facing_bytes_replace_if(store->client, key.at, key.len, store->seen.at, found->stored_len, store->next.at,
                                          store->next.len, &answer);
     else
-        status = facing_bytes_put_if_absent(store->client, key.at, key.len, store->next.at, store->next.len, NULL, 0,
-                                            &answer);
+        status =
+            facing_bytes_put_if_absent(store->client, key.at, key.len, store->next.at, store->next.len, NULL, 0, &answer);
     *is_made = status == FACING_DONE && (answer.found != 0) == found->is_stored;
     if (*is_made) count_stored(store, key, found);
     return status;
@@ -354,8 +354,8 @@ static uint32_t remove_dead(struct store *store) {
     return status;
 }
 
-/* Removes all keys of the database at one moment: a new generation begins. The request runs alone. Where values may still be stored whose
- * generation has the same number as the new one, they are removed first. */
+/* Removes all keys of the database at one moment: a new generation begins. The request runs alone. Where values may still be
+ * stored whose generation has the same number as the new one, they are removed first. */
 uint32_t store_clear(struct store *store) {
     struct database *of = store->database;
     uint64_t count = 0, next = atomic_load(&of->generation) + 1;

@@ -88,8 +88,10 @@ static bool is_another(struct connection *c, const struct watch *watch) {
     struct found found = {0};
     if (is_changed(store->cache, watch)) return true;
     if (!watch->is_live) return false;
-    if (watch->generation != atomic_load_explicit(&store->cache->databases[watch->db].generation, memory_order_relaxed)) return true;
-    if (store_select(store, watch->db) == FACING_DONE) (void)store_look(store, (struct bytes){watch->key, watch->key_len}, &found);
+    if (watch->generation != atomic_load_explicit(&store->cache->databases[watch->db].generation, memory_order_relaxed))
+        return true;
+    if (store_select(store, watch->db) == FACING_DONE)
+        (void)store_look(store, (struct bytes){watch->key, watch->key_len}, &found);
     return store_select(store, c->db) != FACING_DONE || !found.is_live;
 }
 

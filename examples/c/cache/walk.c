@@ -45,8 +45,8 @@ static uint32_t copy_bucket(struct walk *walk, struct store *store, size_t most,
     return status;
 }
 
-/* Copies the keys of the next buckets and their values' heads: at most so many, and one bucket's at least where it has some. It
- * may find none before the end, since it looks into a bounded number of buckets. */
+/* Copies the keys of the next buckets and their values' heads: at most so many, and one bucket's at least where it has some.
+ * It may find none before the end, since it looks into a bounded number of buckets. */
 uint32_t walk_next(struct walk *walk, struct store *store, size_t most) {
     facing_bytes_sizes sizes = {most, 2 * (size_t)KEPT};
     uint32_t status = FACING_DONE;

@@ -191,8 +191,8 @@ static void run_requests(struct connection *c) {
     if (c->in.len == 0) buffer_move(&c->worker->in, &c->in);
 }
 
-/* Sends the replies, closes a connection that is at its end, and else says what it waits for. What a connection holds that is
- * not read goes out when the socket takes more: were all of it sent here, nothing would be left to wait for. */
+/* Sends the replies, closes a connection that is at its end, and else says what it waits for. What a connection holds that
+ * is not read goes out when the socket takes more: were all of it sent here, nothing would be left to wait for. */
 static void settle(struct connection *c) {
     uint32_t events;
     if (!c->is_held) send_replies(c);
