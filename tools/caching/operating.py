@@ -53,7 +53,10 @@ def killed(program):
             must(kill(*words) == Error(f"ERR {error}"), f"{words}: {kill(*words)}")
         must(kill("USER", "default") == 4 and all(at.is_closed() for at in all_of[4:]) and it.call("PING") == PONG, "others are closed")
         own = it.call("CLIENT", "ID")
-        must(closings(it)["kill"] == 8 and kill("ID", own, "SKIPME", "no") == 1 and it.is_closed(), "the own connection is not closed")
+        until = time.monotonic() + 60
+        while closings(it)["kill"] != 8:
+            must(time.monotonic() < until, f"{closings(it)} were closed")
+        must(kill("ID", own, "SKIPME", "no") == 1 and it.is_closed(), "the own connection is not closed")
 
 
 def watched(program):

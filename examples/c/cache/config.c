@@ -104,7 +104,6 @@ static const char *take_policy(struct bytes value, struct limits *limits) {
     return "argument(s) must be one of the following: volatile-ttl, allkeys-lru, noeviction";
 }
 
-/* What was there before is not freed: it may be the option's. */
 static const char *take_password(struct bytes value, struct limits *limits) {
     uint8_t *kept = value.len > MOST_PASSWORD ? NULL : malloc(value.len + 1);
     if (kept == NULL) return "argument is too long";
@@ -181,6 +180,8 @@ static const char *set(struct connection *c) {
     const char *error = c->count % 2 == 0 ? NULL : wrong_count(c);
     for (size_t i = 2; i < c->count && error == NULL; i += 2)
         error = take_setting(c, i, &limits);
+    if (limits.password.at != cache->limits.password.at)
+        free((void *)(uintptr_t)(error == NULL ? cache->limits.password.at : limits.password.at));
     if (error != NULL) return error;
     cache->limits.connections = limits.connections;
     cache->limits.memory = limits.memory;
