@@ -58,7 +58,7 @@ def each_command():
     yield from (["KEYS", *it] for it in ([], ["*"], ["n*"], ["?"], [""], ["x"], ["*", "*"]))
     yield from of_scripts()
     yield from (["COMMAND", "INFO", it] for it in ("slowlog", "latency", "time", "role"))
-    yield from (["CONFIG", "SET", *it] for it in (["maxmemory", "x"], ["nothing", "1"], ["maxmemory"], [], ["timeout", "-1"], ["timeout", "x", "maxmemory", "0"]))
+    yield from (["CONFIG", "SET", *it] for it in (["maxmemory", "x"], ["nothing", "1"], ["maxmemory"], [], ["timeout", "-1"], ["timeout", "0", "timeout", "0"], ["timeout", "x", "maxmemory", "0"]))
     yield from ([name, *it] for name in ("ROLE", "TIME") for it in (["x"], ["x", "y"]))
     yield ["ROLE"]
     yield from (["CLIENT", "KILL", *it] for it in ([], ["1.2.3.4:5"], ["ID", "x"], ["ID", "0"], ["ID", "999999999"], ["TYPE", "x"], ["USER", "x"], ["ID", "1", "x"], ["x", "y"]))

@@ -163,7 +163,10 @@ static const char *take_setting(struct connection *c, size_t at, struct limits *
     for (size_t i = 0; i < sizeof settable / sizeof *settable; i++) {
         const char *wrong;
         if (!is_word(arg(c, at), settable[i].name)) continue;
-        wrong = settable[i].take(arg(c, at + 1), limits);
+        wrong = NULL;
+        for (size_t before = 2; before < at; before += 2)
+            if (is_word(arg(c, before), settable[i].name)) wrong = "duplicate parameter";
+        if (wrong == NULL) wrong = settable[i].take(arg(c, at + 1), limits);
         if (wrong == NULL) return NULL;
         snprintf(c->worker->error, sizeof c->worker->error, "ERR CONFIG SET failed (possibly related to argument '%s') - %s",
                  settable[i].name, wrong);
