@@ -10,6 +10,22 @@ class Simple(str):
     """A reply that begins with a plus."""
 
 
+class Map(list):
+    """A reply of pairs, one behind the other."""
+
+
+class Set(list):
+    """A reply that is a set."""
+
+
+class Push(list):
+    """What is not the reply to a request."""
+
+
+class Verbatim(bytes):
+    """A reply that is a text for people."""
+
+
 class Closed(Exception):
     """The server closed the connection."""
 
@@ -92,6 +108,15 @@ class Connection:
             return int(rest)
         if mark == b"*":
             return None if rest == b"-1" else [self.reply() for _ in range(int(rest))]
+        if mark == b"_":
+            return None
+        if mark == b"#":
+            return rest == b"t"
+        if mark in (b"%", b"~", b">"):
+            kind = {b"%": Map, b"~": Set, b">": Push}[mark]
+            return kind(self.reply() for _ in range(int(rest) * (2 if kind is Map else 1)))
+        if mark == b"=":
+            return Verbatim(self.bytes(int(rest) + 2)[:-2])
         if mark in (b"+", b"-"):
             return (Simple if mark == b"+" else Error)(rest.decode(errors="replace"))
         raise AssertionError(f"no reply: {line[:80]!r}")

@@ -3,7 +3,7 @@ import contextlib
 import threading
 import time
 
-from .client import PONG, Connection, Error, packed
+from .client import PONG, Connection, Error, Map, Push, Verbatim, packed
 from .hostile import closings
 from .server import Server
 from .together import must
@@ -36,6 +36,18 @@ def replies(server):
         until = time.monotonic() + 60
         while it.call("PUBLISH", "gone", "x"):
             must(time.monotonic() < until, "a closed connection is subscribed")
+
+
+def pushed(server):
+    """By RESP3 messages are pushes, and a subscriber may make all commands."""
+    with Connection(server.port) as it, Connection(server.port) as one:
+        must(type(one.call("HELLO", "3")) is Map and one.call("SUBSCRIBE", "a") == Push([b"subscribe", b"a", 1]), "no push")
+        must(one.call("PSUBSCRIBE", "a*") == Push([b"psubscribe", b"a*", 2]) and it.call("PUBLISH", "a", "x") == 2, "no push")
+        for wanted in ([b"message", b"a", b"x"], [b"pmessage", b"a*", b"a", b"x"]):
+            got = one.reply()
+            must(type(got) is Push and got == wanted, f"{got!r}")
+        must(one.call("SET", "k", "1") == "OK" and one.call("GET", "k") == b"1" and one.call("GET", "none") is None and one.call("PING") == PONG, "no command")
+        must(type(one.call("INFO")) is Verbatim and b" resp=3" in one.call("CLIENT", "INFO") and type(one.call("CONFIG", "GET", "save")) is Map, "another type")
 
 
 def all_arrive(program):

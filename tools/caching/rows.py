@@ -146,7 +146,7 @@ def parts_of_commands():
     lists = (["x"], ["x", "y"], ["ID"], ["ID", "0"], ["ID", "-1"], ["ID", "x"], ["ID", "1", ""], ["ID", "999999999"], ["TYPE"], ["TYPE", "normal", "x"])
     yield from (["CLIENT", "LIST", *it] for it in lists)
     yield from (["CLIENT", "INFO", *it] for it in (["x"], ["x", "y"]))
-    hellos = ([], ["2"], ["1"], ["4"], ["-1"], ["x"], [""], ["2", "x"], ["2", "SETNAME"], ["2", "setname", "me"], ["2", "SETNAME", "a b"])
+    hellos = ([], ["2"], ["3"], ["3", "SETNAME", "me"], ["1"], ["4"], ["-1"], ["x"], [""], ["2", "x"], ["2", "SETNAME"], ["2", "setname", "me"], ["2", "SETNAME", "a b"])
     for words in (*hellos, ["2", "SETNAME", "", "SETNAME", "you"], ["2", "SETNAME", "me", "x"]):
         yield ["HELLO", *words]
         yield ["CLIENT", "GETNAME"]

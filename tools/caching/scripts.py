@@ -271,7 +271,7 @@ SCRIPTS = {
 # What Redis replies otherwise: it has RESP3, and tells more of a command.
 OF_THIS_SERVER = {
     "resp2 alone": [
-        (["HELLO", "3"], Error("NOPROTO unsupported protocol version")),
+        (["HELLO", "4"], Error("NOPROTO unsupported protocol version")),
         (["SET", "a", "1"], OK),
         (["COMMAND", "INFO", "get", "MSET"], [
             [b"get", 2, ["readonly", "fast"], 1, 1, 1],

@@ -1,4 +1,4 @@
-/* A cache server: strings under keys, many connections, one map of facing_bytes.h, and the Redis protocol (RESP2).
+/* A cache server: strings under keys, many connections, one map of facing_bytes.h, and the Redis protocol (RESP2, RESP3).
  *
  * options.c reads the options, listen.c listens. main.c opens the map, starts the threads, accepts connections and deals
  * them out, and removes expired keys in slices. worker.c has a thread's loop over its connections; request.c takes requests
@@ -372,6 +372,7 @@ struct connection {
     uint64_t answered;             /* how many bytes of replies the request has that runs */
     struct transaction transaction;
     unsigned db;
+    _Atomic int resp; /* the version of the protocol: 3, or another number for 2 */
     struct subscription *subscribed;
     size_t subscriptions[2]; /* to channels, to patterns */
     bool was_subscribed;
@@ -440,6 +441,11 @@ void reply_count(struct connection *c, const char *name, int64_t number);
 void reply_none(struct connection *c);
 void reply_no_list(struct connection *c);
 void reply_list(struct connection *c, size_t count);
+void reply_map(struct connection *c, size_t count);
+void reply_set(struct connection *c, size_t count);
+void reply_push(struct connection *c, size_t count);
+void reply_true(struct connection *c, bool is_so);
+void reply_verbatim(struct connection *c, struct bytes text);
 const char *error_of(uint32_t status);
 const char *done_or_error(struct connection *c, uint32_t status, int64_t number);
 

@@ -301,7 +301,7 @@ void reply_value(struct connection *c, lua_State *lua) {
         number = lua_tonumber(lua, -1);
         reply_number(c, number > -9.2e18 && number < 9.2e18 ? (int64_t)number : INT64_MIN);
         break;
-    case LUA_TBOOLEAN: lua_toboolean(lua, -1) ? reply_number(c, 1) : reply_none(c); break;
+    case LUA_TBOOLEAN: reply_true(c, lua_toboolean(lua, -1)); break;
     case LUA_TTABLE: reply_table(c, lua); break;
     default: reply_none(c);
     }

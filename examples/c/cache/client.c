@@ -104,15 +104,16 @@ static bool add_line(struct buffer *lines, const struct connection *c, uint64_t 
     write_address(own, ADDRESS, getsockname, c->socket);
     lines->len += (size_t)snprintf((char *)lines->at + lines->len, LINE + name.len,
                                    "id=%" PRIu64 " addr=%s laddr=%s fd=%d name=%.*s age=%" PRIu64 " idle=%" PRIu64
-                                   " flags=%s db=%u sub=%zu psub=%zu user=default resp=2\n",
+                                   " flags=%s db=%u sub=%zu psub=%zu user=default resp=%d\n",
                                    c->id, peer, own, c->socket, (int)name.len, name.len > 0 ? (const char *)name.at : "",
                                    (now - c->began) / 1000, now > c->served ? (now - c->served) / 1000 : 0,
-                                   c->subscribed != NULL ? "P" : "N", c->db, c->subscriptions[0], c->subscriptions[1]);
+                                   c->subscribed != NULL ? "P" : "N", c->db, c->subscriptions[0], c->subscriptions[1],
+                                   c->resp == 3 ? 3 : 2);
     return true;
 }
 
 static const char *reply_lines(struct connection *c, struct buffer *lines, bool is_whole) {
-    if (is_whole) reply_bulk(c, (struct bytes){lines->at, lines->len});
+    if (is_whole) reply_verbatim(c, (struct bytes){lines->at, lines->len});
     buffer_free(lines);
     return is_whole ? NULL : error_of(FACING_NO_MEMORY);
 }
@@ -249,10 +250,10 @@ const char *run_client(struct connection *c) {
 
 /* Tells what a client asks for when it begins. */
 static void reply_server(struct connection *c) {
-    reply_list(c, 14);
+    reply_map(c, 7);
     reply_field(c, "server", "redis");
     reply_field(c, "version", REDIS_VERSION);
-    reply_count(c, "proto", 2);
+    reply_count(c, "proto", c->resp == 3 ? 3 : 2);
     reply_count(c, "id", (int64_t)c->id);
     reply_field(c, "mode", is_in_cluster() ? "cluster" : "standalone");
     reply_field(c, "role", "master");
@@ -260,12 +261,12 @@ static void reply_server(struct connection *c) {
     reply_list(c, 0);
 }
 
-/* HELLO: this server speaks RESP2 alone. */
+/* HELLO: this server speaks RESP2 and RESP3. */
 const char *run_hello(struct connection *c) {
     const char *error = NULL;
-    int64_t version = 2;
+    int64_t version = c->resp == 3 ? 3 : 2;
     if (c->count > 1 && !number_of(arg(c, 1), &version)) return "ERR Protocol version is not an integer or out of range";
-    if (version != 2) return "NOPROTO unsupported protocol version";
+    if (version != 2 && version != 3) return "NOPROTO unsupported protocol version";
     for (size_t i = 2; i < c->count && error == NULL; i++) {
         if (is_word(arg(c, i), "AUTH") && i + 2 < c->count) {
             error = authenticate(c, arg(c, i + 1), arg(c, i + 2));
@@ -279,6 +280,7 @@ const char *run_hello(struct connection *c) {
     if (error == NULL && !c->is_known)
         return "NOAUTH HELLO must be called with the client already authenticated, otherwise the HELLO <proto> AUTH <user> "
                "<pass> option can be used to authenticate the client and select the RESP protocol version at the same time";
+    if (error == NULL) c->resp = (int)version;
     if (error == NULL) reply_server(c);
     return error;
 }

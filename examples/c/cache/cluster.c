@@ -172,14 +172,14 @@ static const char *slots(struct connection *c) {
 static const char *shards(struct connection *c) {
     reply_list(c, count);
     for (const struct node *it = nodes; it < nodes + count; it++) {
-        reply_list(c, 4);
+        reply_map(c, 2);
         reply_bulk(c, bytes_of("slots"));
         reply_list(c, 2);
         reply_number(c, it->from);
         reply_number(c, it->to);
         reply_bulk(c, bytes_of("nodes"));
         reply_list(c, 1);
-        reply_list(c, 14);
+        reply_map(c, 7);
         reply_field(c, "id", it->id);
         reply_count(c, "port", it->port);
         reply_field(c, "ip", it->host);
@@ -202,7 +202,7 @@ static const char *list(struct connection *c) {
                 (size_t)snprintf((char *)lines.at + lines.len, LINE, "%s %s:%u@0 %smaster - 0 0 0 connected %u-%u\n", it->id,
                                  it->host, it->port, it == own ? "myself," : "", it->from, it->to);
     }
-    if (is_whole) reply_bulk(c, (struct bytes){lines.at, lines.len});
+    if (is_whole) reply_verbatim(c, (struct bytes){lines.at, lines.len});
     buffer_free(&lines);
     return is_whole ? NULL : error_of(FACING_NO_MEMORY);
 }
@@ -216,7 +216,7 @@ static const char *info(struct connection *c) {
              "cluster_my_epoch:0\r\ncluster_stats_messages_sent:0\r\ncluster_stats_messages_received:0\r\n"
              "total_cluster_links_buffer_limit_exceeded:0\r\n",
              SLOTS, SLOTS, count, count);
-    reply_bulk(c, bytes_of(text));
+    reply_verbatim(c, bytes_of(text));
     return NULL;
 }
 

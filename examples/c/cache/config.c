@@ -69,7 +69,7 @@ static const char *get(struct connection *c) {
     read_settings(c, settings);
     for (size_t i = 0; i < SETTINGS; i++)
         count += is_asked(c, settings[i].name);
-    reply_list(c, 2 * count);
+    reply_map(c, count);
     for (size_t i = 0; i < SETTINGS; i++)
         if (is_asked(c, settings[i].name)) reply_field(c, settings[i].name, settings[i].value);
     return NULL;

@@ -30,7 +30,7 @@ static void reply_flags(struct connection *c, unsigned flags) {
     size_t count = 0;
     for (size_t i = 0; i < WORDS; i++)
         count += (flags & words[i].flag) != 0;
-    reply_list(c, count);
+    reply_set(c, count);
     for (size_t i = 0; i < WORDS; i++)
         if (flags & words[i].flag) reply_simple(c, words[i].word);
 }
@@ -76,7 +76,7 @@ static const char *info(struct connection *c) {
 
 /* There are no texts on commands. */
 static const char *docs(struct connection *c) {
-    reply_list(c, 0);
+    reply_map(c, 0);
     return NULL;
 }
 

@@ -98,9 +98,9 @@ static void unsubscribe(struct subscription **own) {
 
 /* == Mail == */
 
-static bool add_text(struct buffer *mail, const char *head, struct bytes text) {
+static bool add_text(struct buffer *mail, const char *mark, const char *head, struct bytes text) {
     char line[HEADS];
-    size_t len = (size_t)snprintf(line, HEADS, "%s$%zu\r\n", head, text.len);
+    size_t len = (size_t)snprintf(line, HEADS, "%s%s$%zu\r\n", mark, head, text.len);
     if (!buffer_reserve(mail, len + text.len + 2)) return false;
     memcpy(mail->at + mail->len, line, len);
     if (text.len > 0) memcpy(mail->at + mail->len + len, text.at, text.len);
@@ -132,11 +132,12 @@ static size_t post(const struct channel *of, struct bytes channel, struct bytes 
         struct buffer *mail = &it->c->mail;
         size_t before = mail->len;
         bool is_posted = mail->len + message.len <= MOST_MAIL;
+        const char *as = it->c->resp == 3 ? ">" : "*";
         if (is_posted && of->is_pattern)
-            is_posted = add_text(mail, "*4\r\n$8\r\npmessage\r\n", name_of(of)) && add_text(mail, "", channel);
+            is_posted = add_text(mail, as, "4\r\n$8\r\npmessage\r\n", name_of(of)) && add_text(mail, "", "", channel);
         else if (is_posted)
-            is_posted = add_text(mail, "*3\r\n$7\r\nmessage\r\n", channel);
-        is_posted = is_posted && add_text(mail, "", message);
+            is_posted = add_text(mail, as, "3\r\n$7\r\nmessage\r\n", channel);
+        is_posted = is_posted && add_text(mail, "", "", message);
         if (!is_posted) mail->len = before;
         is_posted ? announce(it->c) : close_late(it->c);
     }
@@ -176,7 +177,7 @@ void leave_channels(struct connection *c) {
 /* == Commands == */
 
 static void reply_subscribed(struct connection *c, const char *what, const struct bytes *name) {
-    reply_list(c, 3);
+    reply_push(c, 3);
     reply_bulk(c, bytes_of(what));
     name != NULL ? reply_bulk(c, *name) : reply_none(c);
     reply_number(c, (int64_t)(c->subscriptions[0] + c->subscriptions[1]));

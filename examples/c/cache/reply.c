@@ -106,12 +106,37 @@ void reply_list(struct connection *c, size_t count) {
     reply_line(c, '*', (int64_t)count);
 }
 
+static bool is_resp3(const struct connection *c) {
+    return c->resp == 3;
+}
+
+/* So many pairs. */
+void reply_map(struct connection *c, size_t count) {
+    is_resp3(c) ? reply_line(c, '%', (int64_t)count) : reply_line(c, '*', 2 * (int64_t)count);
+}
+
+void reply_set(struct connection *c, size_t count) {
+    reply_line(c, is_resp3(c) ? '~' : '*', (int64_t)count);
+}
+
+/* What is not the reply to a request. */
+void reply_push(struct connection *c, size_t count) {
+    reply_line(c, is_resp3(c) ? '>' : '*', (int64_t)count);
+}
+
+void reply_true(struct connection *c, bool is_so) {
+    if (is_resp3(c))
+        reply_text(c, '#', is_so ? "t" : "f");
+    else
+        is_so ? reply_number(c, 1) : reply_none(c);
+}
+
 void reply_none(struct connection *c) {
-    reply_line(c, '$', -1);
+    is_resp3(c) ? reply_text(c, '_', "") : reply_line(c, '$', -1);
 }
 
 void reply_no_list(struct connection *c) {
-    reply_line(c, '*', -1);
+    is_resp3(c) ? reply_none(c) : reply_line(c, '*', -1);
 }
 
 /* Writes what is before and behind so many bytes, and returns where they go; NULL where the connection is to be closed. */
@@ -135,6 +160,22 @@ void reply_raw(struct connection *c, struct bytes bytes) {
 void reply_bulk(struct connection *c, struct bytes bytes) {
     uint8_t *to = write_bulk(c, bytes.len);
     if (to != NULL && bytes.len > 0) memcpy(to, bytes.at, bytes.len);
+}
+
+/* Replies with a text that is for people. */
+void reply_verbatim(struct connection *c, struct bytes text) {
+    uint8_t *to;
+    if (!is_resp3(c)) {
+        reply_bulk(c, text);
+        return;
+    }
+    reply_line(c, '=', (int64_t)text.len + 4);
+    to = more_out(c, text.len + 6);
+    if (to == NULL) return;
+    memcpy(to, "txt:", 4);
+    if (text.len > 0) memcpy(to + 4, text.at, text.len);
+    memcpy(to + 4 + text.len, "\r\n", 2);
+    wrote(c, text.len + 6);
 }
 
 /* Replies with bytes of a value that is held, from a place on. */

@@ -68,7 +68,7 @@ static const char *refused(struct connection *c) {
     if (c->command == NULL) return unknown(c);
     if (!takes_count(c->command, c->count)) return wrong_count(c);
     if (!c->is_known && (c->command->flags & NO_AUTH) == 0) return "NOAUTH Authentication required.";
-    if (c->subscribed != NULL && (c->command->flags & SUBSCRIBED) == 0) {
+    if (c->subscribed != NULL && c->resp != 3 && (c->command->flags & SUBSCRIBED) == 0) {
         snprintf(c->worker->error, sizeof c->worker->error,
                  "ERR Can't execute '%s': only (P|S)SUBSCRIBE / (P|S)UNSUBSCRIBE / PING / QUIT / RESET are allowed in this "
                  "context",

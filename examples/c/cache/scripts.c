@@ -135,7 +135,9 @@ static const char *run_at_top(struct connection *c, lua_State *lua, const struct
     if (!is_done) return error_at_top(c, lua, job->name);
     it->inner.out.len = it->inner.sent = 0;
     it->inner.answered = 0;
+    it->inner.resp = c->resp;
     reply_value(&it->inner, lua);
+    it->inner.resp = 2;
     return NULL;
 }
 
@@ -163,6 +165,7 @@ static const char *run_job(struct connection *c, struct scripting *it, struct jo
     const char *error;
     it->inner.worker = c->worker;
     it->inner.is_known = true;
+    it->inner.resp = 2;
     it->inner.db = c->db;
     it->inner.is_broken = false;
     it->is_read_only = (c->command->flags & READS) != 0;

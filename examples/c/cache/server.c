@@ -9,7 +9,7 @@
 
 const char *run_ping(struct connection *c) {
     if (c->count > 2) return wrong_count(c);
-    if (c->subscribed != NULL) {
+    if (c->subscribed != NULL && c->resp != 3) {
         reply_list(c, 2);
         reply_bulk(c, bytes_of("pong"));
         reply_bulk(c, c->count == 2 ? arg(c, 1) : NOTHING);
@@ -31,6 +31,7 @@ const char *run_reset(struct connection *c) {
     leave_channels(c);
     c->is_known = c->worker->cache->limits.password.len == 0;
     c->db = 0;
+    c->resp = 2;
     heap_free(c->name);
     c->name = NULL;
     c->name_len = 0;
@@ -148,7 +149,7 @@ static const char *reply_info(struct connection *c, const char *text, size_t len
         all.len += (size_t)snprintf((char *)all.at + len, 64, "%s# Commandstats\r\n", len > 0 ? "\r\n" : "");
         write_stats_of_commands(c->worker->cache, &all);
     }
-    if (is_whole) reply_bulk(c, (struct bytes){all.at, all.len});
+    if (is_whole) reply_verbatim(c, (struct bytes){all.at, all.len});
     buffer_free(&all);
     return is_whole ? NULL : error_of(FACING_NO_MEMORY);
 }
