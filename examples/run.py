@@ -328,6 +328,7 @@ WORKS = [
     ("bytes, cache server, sanitized", lambda it: it.cache("address")),
     ("bytes, cache server, ThreadSanitizer", lambda it: it.cache("thread")),
     ("bytes, cache server, with programs of Redis", lambda it: it.cache("redis")),
+    ("bytes, cache server, without Lua", lambda it: it.cache("without-lua")),
     ("bytes, C, valgrind, misuses", lambda it: run([*it.under_valgrind(C, "c/tests/bytes_misuse.c"), "2000"])),
 ]
 
