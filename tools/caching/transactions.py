@@ -183,7 +183,7 @@ def time_stands_still(server):
     several = {"EXEC": [["STRLEN", "k"]] * 30000, "MGET": [["MGET", *["k"] * 60000]], "PTTL": [["PTTL", "k"]] * 30000}
     with Connection(server.port) as it, Connection(server.port) as other:
         for name, requests in several.items():
-            for _ in range(4 if server.is_plain else 2):
+            for _ in range(3 if server.is_plain else 1):
                 it.calls([["MULTI"], *requests])
                 must(other.call("SET", "k", "v", "PX", "6") == OK, "no reply")
                 got = it.call("EXEC")
