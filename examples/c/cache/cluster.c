@@ -117,20 +117,28 @@ static unsigned slot_of(struct bytes key) {
     return crc % SLOTS;
 }
 
+/* Which words of a request are its keys: from `first` to `last`, every `step`-th one. Returns false where none is. */
+static bool find_keys(const struct connection *c, size_t *first, size_t *last, size_t *step) {
+    const struct command *command = c->command;
+    int64_t keys = 0;
+    if (command->flags & COUNTED) {
+        *first = 3;
+        *step = 1;
+        *last = number_of(arg(c, 2), &keys) && keys > 0 && keys < (int64_t)c->count ? 2 + (size_t)keys : 0;
+        return *last > 0;
+    }
+    *first = (size_t)command->first;
+    *step = (size_t)command->step;
+    *last = command->last < 0 ? c->count - (size_t)-command->last : (size_t)command->last;
+    return *first > 0;
+}
+
 /* Why this server does not run the request: its keys are of several slots, or of one that another server has. NULL where it
  * does. */
 const char *cluster_refuses(struct connection *c) {
-    const struct command *command = c->command;
-    size_t first = (size_t)command->first, step = (size_t)command->step;
-    size_t last = command->last < 0 ? c->count - (size_t)-command->last : (size_t)command->last;
+    size_t first, last, step;
     unsigned slot = SLOTS;
-    int64_t keys;
-    if (count > 0 && (command->flags & COUNTED) && number_of(arg(c, 2), &keys) && keys > 0 && keys < (int64_t)c->count) {
-        first = 3;
-        last = 2 + (size_t)keys;
-        step = 1;
-    }
-    if (count == 0 || first == 0) return NULL;
+    if (count == 0 || !find_keys(c, &first, &last, &step)) return NULL;
     for (size_t i = first; i <= last && i < c->count; i += step) {
         unsigned of = slot_of(arg(c, i));
         if (slot != SLOTS && of != slot) return "CROSSSLOT Keys in request don't hash to the same slot";

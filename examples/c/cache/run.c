@@ -112,7 +112,7 @@ void run_request(struct connection *c) {
     c->base = c->in.at + c->begin;
     c->answered = 0;
     c->worker->store.now = 0;
-    if (store_select(&c->worker->store, c->db) != FACING_DONE) {
+    if (c->db != c->worker->store.db && store_select(&c->worker->store, c->db) != FACING_DONE) {
         reply_error(c, error_of(FACING_NO_MEMORY));
         return;
     }
