@@ -10,7 +10,7 @@ import time
 
 from .client import OK, PONG, Closed, Connection, Error
 from .clients import HERE, python_with
-from .server import SOURCES, Failed, Server, need, redis_server
+from .server import SOURCES, Failed, Lacking, Server, lua_words, need, redis_server
 from .together import must
 
 KEYS = 3000
@@ -116,6 +116,22 @@ def slots_are_served(program):
         must(all_of[0].call("PING") == PONG and [it.call("DBSIZE") for it in all_of] == counts, "a command without keys")
         must(b"cluster_enabled:1" in all_of[0].call("INFO"), "INFO says that there is no cluster")
         told(servers, all_of)
+
+
+def scripts_of_slots(program):
+    """A script runs where its keys are, calls no others, and there is one database; CLUSTER INFO tells of all slots."""
+    if not lua_words():
+        raise Lacking("Lua 5.1 is not installed")
+    with cluster(program) as servers, contextlib.ExitStack() as stack:
+        one, _, it = (stack.enter_context(Connection(server.port)) for server in servers)
+        script = "return redis.call('INCR', KEYS[1])"
+        must(it.call("EVAL", script, "1", "foo") == 1, "the key's server does not run it")
+        must(one.call("EVAL", script, "1", "foo") == Error(f"MOVED 12182 127.0.0.1:{servers[2].port}"), "another server runs it")
+        must(it.call("EVAL", script, "2", "foo", "bar") == Error("CROSSSLOT Keys in request don't hash to the same slot"), "keys of two slots")
+        must("non local key" in str(it.call("EVAL", "return redis.call('GET', 'bar')", "0")), "a key of another server is read")
+        must(one.call("EVAL", "return 5", "0") == 5, "a script without keys is refused")
+        must(it.call("SELECT", "1") == Error("ERR SELECT is not allowed in cluster mode") and it.call("SELECT", "0") == OK, "another database")
+        must(b"cluster_state:ok\r\ncluster_slots_assigned:16384\r\n" in it.call("CLUSTER", "INFO"), "another state")
 
 
 def told(servers, all_of):
