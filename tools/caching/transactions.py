@@ -180,7 +180,8 @@ def transactions_are_one_step(server):
 
 def time_stands_still(server):
     """A key that expires while EXEC runs, or a command of many keys, is there for all of it or for none; so is a deadline that EXEC asks for."""
-    several = {"EXEC": [["STRLEN", "k"]] * 30000, "MGET": [["MGET", *["k"] * 60000]], "PTTL": [["PTTL", "k"]] * 30000}
+    count = 30000 if server.is_plain else 8000
+    several = {"EXEC": [["STRLEN", "k"]] * count, "MGET": [["MGET", *["k"] * (2 * count)]], "PTTL": [["PTTL", "k"]] * count}
     with Connection(server.port) as it, Connection(server.port) as other:
         for name, requests in several.items():
             for _ in range(3 if server.is_plain else 1):
