@@ -106,7 +106,7 @@ def expiring():
     """Transactions in which a key has less time than they take: it is there for all of it, and gone behind it."""
     for ms in (1, 2, 5):
         there = [["GET", "soon"], ["EXISTS", "soon", "n"], ["STRLEN", "soon"], ["MGET", "n", "soon"]] * 400
-        yield [["MULTI"], ["SET", "soon", "x", "PX", ms], *there, ["APPEND", "soon", "y"], ["GETDEL", "soon"], ["SET", "soon", "z", "PX", ms], *there, ["EXEC"]]
+        yield [["MULTI"], ["SET", "soon", "x", "PX", ms], *there, ["APPEND", "soon", "y"], ["GETDEL", "soon"], ["SET", "soon", "z", "PX", ms], *there, ["EXEC"], ["SET", "soon", "w"], ["DEL", "soon"]]
         yield [["MULTI"], ["SET", "soon", "x"], ["PEXPIRE", "soon", ms], *there, ["SETNX", "soon", "y"], ["INCR", "soon"], ["PERSIST", "soon"], ["EXEC"], ["GET", "soon"], ["DEL", "soon"]]
 
 
