@@ -12,7 +12,7 @@ import time
 
 from unproved.crates import Repository
 
-from .parts import STARTED, TOP, Part, wait_for
+from .parts import STARTED, STOPS, TOP, Part, wait_for
 
 # What `rt ci` tells of a proof of a crate that has ended.
 ENDED = re.compile(r"rt: (\w+) (?:proved|NOT PROVED|is kept)\b")
@@ -30,18 +30,26 @@ def without_unproved(repository, text):
 def copy_of_proved():
     """Gives a copy of the tree that has no crate that is not proved, and in which `rt ci` finds all that it reads. It lies outside of any
     repository, as `rt ci` wants of a tree without a folder .git."""
+    with STOPS.held():
+        folder = tempfile.mkdtemp(prefix="gate-")
+    try:
+        copy_proved(f"{folder}/top")
+        yield f"{folder}/top"
+    finally:
+        with STOPS.held():
+            shutil.rmtree(folder, ignore_errors=True)
+
+
+def copy_proved(copy):
     repository = Repository(TOP)
-    with tempfile.TemporaryDirectory(prefix="gate-", ignore_cleanup_errors=True) as folder:
-        copy = f"{folder}/top"
-        shutil.copytree(TOP, copy, symlinks=True, ignore=LEFT_OUT)
-        for crate in repository.used:
-            if not repository.is_proved(crate):
-                shutil.rmtree(f"{copy}/crates/{crate}", ignore_errors=True)
-        with open(f"{TOP}/crates.txt", encoding="utf-8") as it:
-            text = it.read()
-        with open(f"{copy}/crates.txt", "w", encoding="utf-8") as it:
-            it.write(without_unproved(repository, text))
-        yield copy
+    shutil.copytree(TOP, copy, symlinks=True, ignore=LEFT_OUT)
+    for crate in repository.used:
+        if not repository.is_proved(crate):
+            shutil.rmtree(f"{copy}/crates/{crate}", ignore_errors=True)
+    with open(f"{TOP}/crates.txt", encoding="utf-8") as it:
+        text = it.read()
+    with open(f"{copy}/crates.txt", "w", encoding="utf-8") as it:
+        it.write(without_unproved(repository, text))
 
 
 def bring_back(copy):
